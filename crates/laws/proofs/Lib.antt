@@ -1,4 +1,5 @@
 pub mod Tests
+pub mod Facts
 pub mod Lists
 pub mod Bits
 pub mod Xor
