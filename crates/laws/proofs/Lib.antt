@@ -3,3 +3,4 @@ pub mod Facts
 pub mod Lists
 pub mod Bits
 pub mod Xor
+pub mod Unique

@@ -1,0 +1,5 @@
+pub mod Search
+pub mod Laws
+pub mod Rows
+pub mod Order
+pub mod Examples
