@@ -1,4 +1,5 @@
 pub mod Tests
 pub mod Lists
+pub mod Search
 pub mod Bits
 pub mod Xor
