@@ -1,8 +1,8 @@
 -- The bits of an or, an and, an exclusive or; and what a set of numbers has after adding.
 -- Assumes nothing.
-use mathlib.Core.Path.{_≡_, refl, ap, _∙_}
+use mathlib.Core.Path.{_≡_, refl, sym, ap, _∙_}
 use mathlib.Core.Logic.{by-cases}
-use mathlib.Core.Bool.{Bool, true, false, _||_}
+use mathlib.Core.Bool.{Bool, true, false, _&&_, _||_}
 use Prim.Native.Nat.{ℕ, zero, suc, _+_, _*_, _/_, _%_, _^_, _<_, _-_, max, min}
 use native.Mathlib.Nat.{one-mul, div-eq-of-lt, pow-suc}
 use native.Mathlib.Omega.{arith}
@@ -11,7 +11,7 @@ use mathlib.Core.List.{List, [], _∷_}
 use lib.ListN.{length, getD, length-set}
 use lib.Seq.{getD-set-same, getD-set-other}
 use lib.Pow.{shl-exact, pow-lt, pow-add, shl-shr}
-use lib.Bits.{bitOr, bitAnd, bitXor, differ, or-shr, or-step, and-shr, and-step, xor-shr, xor-step}
+use lib.Bits.{bitOr, bitAnd, bitXor, differ, or-shr, or-step, and-shr, and-step, xor-shr, xor-step, or-add-and, xor-add-and, and-le-l, and-le-r, xor-self}
 use lib.Dec.{eqb}
 use borrow.Author.Tests.{eq-eqb, ne-eqb}
 use Rattle.laws.specs.Bits.{bit, hasBit, addBit, addBits}
@@ -107,3 +107,18 @@ has-all w (p ∷ ps) q h =
     swap true false c = refl
     swap false true c = refl
     swap false false c = refl
+
+-- ---- nothing is left of an or, of an exclusive or
+
+pub or-zero : (a b : ℕ) → eqb (bitOr a b) 0 ≡ (eqb a 0 && eqb b 0)
+or-zero zero b = refl
+or-zero (suc a) b = rw (ne-eqb (suc a) 0 (λ (e : suc a ≡ 0). absurd (omega arith))) (ne-eqb (bitOr (suc a) b) 0 (λ (e : bitOr (suc a) b ≡ 0). absurd (omega (arith, or-add-and (suc a) b, and-le-r (suc a) b))))
+
+pub xor-zero : (a b : ℕ) → eqb (bitXor a b) 0 ≡ eqb a b
+xor-zero a b =
+    by-cases (ℕ-discrete a b)
+    (λ (e : a ≡ b). rw (e, xor-self b) (sym (eq-eqb b b refl)))
+    (λ (n : ¬ (a ≡ b)). rw (ne-eqb a b n) (ne-eqb (bitXor a b) 0 (λ (e : bitXor a b ≡ 0). n (same e))))
+  where
+    same : bitXor a b ≡ 0 → a ≡ b
+    same e = omega (arith, xor-add-and a b, and-le-l a b, and-le-r a b)

@@ -1,13 +1,13 @@
 -- Facts on lists that the kit lacks: parts, pastes, and one turn of a loop that reads or writes them.
 -- Assumes nothing.
 use mathlib.Core.Path.{_≡_, refl, sym, ap, _∙_}
-use mathlib.Core.List.{List, [], _∷_}
+use mathlib.Core.List.{List, [], _∷_, _++_, append-nil}
 use Prim.Native.Nat.{ℕ, zero, suc, _+_, _-_, _≤_, _<_, min}
 use native.Mathlib.Nat.{zero-add, suc-add, add-zero, sub-zero, zero-min, min-zero, suc-min-suc}
 use native.Mathlib.Numerals.{add-one}
 use native.Mathlib.Omega.{arith}
-use lib.ListN.{length, take, drop, getD, set, length-drop}
-use lib.Seq.{getD-drop, paste, paste-suc, drop-paste, take-nil, take-all, drop-cons}
+use lib.ListN.{length, take, drop, getD, set, replicate, length-drop, length-replicate, replicate-append-replicate, drop-of-length-le}
+use lib.Seq.{getD-drop, paste, paste-suc, drop-paste, take-nil, take-all, drop-cons, set-at, append-snoc}
 
 module _ {A : Type 0} where
   -- equal indices
@@ -44,6 +44,19 @@ module _ {A : Type 0} where
   pub paste-end : (d rows : List A) (at : ℕ) (s : List A) (j n : ℕ) → rows ≡ paste d at s j → j ≡ n → rows ≡ paste d at s n
   paste-end d rows at s j n e h = rw (← h) e
 
+  -- a turn of a loop that fills d with a, and its end
+  pub fill-turn : (d rows : List A) (a : A) (j : ℕ) → rows ≡ replicate j a ++ drop j d → length rows ≡ length d → j < length rows → set rows j a ≡ replicate (j + 1) a ++ drop (j + 1) d
+  fill-turn d rows a j e l h =
+      let s : replicate j a ++ (a ∷ []) ≡ replicate (suc j) a = replicate-append-replicate j 1 a ∙ rw (add-one j) in
+      rw (e, add-one j, drop-cons d j a (omega arith), set-at (replicate j a) (getD d j a) (drop (suc j) d) a j (length-replicate j a))
+      (sym (append-snoc (replicate j a) a (drop (suc j) d)) ∙ ap (λ (l : List A). l ++ drop (suc j) d) s)
+
+  pub fill-end : (d rows : List A) (a : A) (j : ℕ) → rows ≡ replicate j a ++ drop j d → length rows ≡ length d → length rows ≤ j → j ≤ length d → rows ≡ replicate (length d) a
+  fill-end d rows a j e l h k =
+      let s : j ≡ length d = omega arith in
+      let n : length d ≤ j = omega arith in
+      e ∙ rw (drop-of-length-le d n, s) (append-nil (replicate (length d) a))
+
   -- what a loop over the n elements from `from` on has before it at j
   pub part-step : (xs : List A) (z : A) (from n j : ℕ) → j < n → from + n ≤ length xs
       → take (n - j) (drop (from + j) xs) ≡ getD xs (from + j) z ∷ take (n - (j + 1)) (drop (from + (j + 1)) xs)
@@ -64,3 +77,9 @@ module _ {A : Type 0} where
 
   pub rest-length : (n : ℕ) (l : List A) → length (take (length l - n) (drop n l)) ≡ length l - n
   rest-length n l = rw rest-part (length-drop n l)
+
+-- copies of the default, and past them the default
+pub getD-none : {A : Type 0} (n i : ℕ) (a : A) → getD (replicate n a) i a ≡ a
+getD-none zero i a = refl
+getD-none (suc n) zero a = refl
+getD-none (suc n) (suc i) a = getD-none n i a

@@ -7,6 +7,7 @@ use mathlib.Core.Option.{Option, none, some, Option·none-ne-some}
 use Prim.Native.Nat.{ℕ, _≤_, _<_}
 use native.Mathlib.Decide.{decLt}
 use native.Mathlib.Omega.{arith}
+use borrow.Author.Tests.{eq-eqb, ne-eqb}
 use lib.Dec.{leb, eqb, eqb→eq, eqb-refl, leb→le, nleb→lt, T}
 
 pub and-true : (a b : Bool) → (a && b) ≡ true → (a ≡ true) × (b ≡ true)
@@ -51,3 +52,10 @@ none≢some {a = a} p q = Option·none-ne-some a (sym p ∙ q)
 pub cond-none : {A : Type 0} (b : Bool) (r : A) (o : Option A) → cond b (some r) o ≡ none → (b ≡ false) × (o ≡ none)
 cond-none true r o h = absurd (none≢some h refl)
 cond-none false r o h = (refl, h)
+
+pub eqb-sym : (a b : ℕ) → eqb a b ≡ eqb b a
+eqb-sym a b = go (eqb a b) refl
+  where
+    go : (t : Bool) → eqb a b ≡ t → t ≡ eqb b a
+    go true e = sym (eq-eqb b a (sym (eq-true a b e)))
+    go false e = sym (ne-eqb b a (λ (q : b ≡ a). eq-false a b e (sym q)))
