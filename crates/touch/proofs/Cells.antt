@@ -16,7 +16,7 @@ use Rattle.laws.proofs.Facts.{le-passes}
 use Rattle.touch.specs.Same.{Bytes, sameBytes}
 use Rattle.touch.specs.Slots.{someHeld}
 use Rattle.touch.specs.Row.{RowOf, Part, slotOf, keep, onRow, put}
-use Rattle.touch.specs.Cells.{Settings, Held, Cells, bytesOf, names, lowest, write, Place, into, noCell, ignored, conflicting, placeNew, placeHeld, place, heldIn, heldWhole}
+use Rattle.touch.specs.Cells.{Settings, Held, Cells, bytesOf, names, lowest, write, Place, into, noneFree, ignored, conflicting, placeNew, placeHeld, place, heldIn, roomWhole, heldWhole}
 use Rattle.touch.proofs.Same.{sameBytes-true, sameBytes-refl}
 use Rattle.touch.proofs.Row.{put-new, put-same, put-other, slot-on, keep-on, row-alike}
 
@@ -128,17 +128,21 @@ pub held-whole : (o : Settings) (cells : Cells) (c : ℕ) (bytes : Bytes) → c 
 unfolding heldWhole
 held-whole o cells c bytes l h k = true-and (le-passes (suc c) (length cells) l) (true-and (le-passes 12 (length bytes) h) (le-passes (length bytes) (o .cellSize) k))
 
--- the check of a slot asks only how many cells there are
+-- the checks for 10 ask only how many cells there are
 pub whole-held : (o : Settings) (cells cells′ : Cells) → length cells′ ≡ length cells → heldWhole o cells ≡ heldWhole o cells′
 unfolding heldWhole
 whole-held o cells cells′ e = λ i h. leb (suc (h .cell)) (sym e i) && (leb 12 (h .size) && leb (h .size) (o .cellSize))
+
+pub room-whole : (o : Settings) (cells cells′ : Cells) → length cells′ ≡ length cells → roomWhole o cells ≡ roomWhole o cells′
+unfolding roomWhole
+room-whole o cells cells′ e = λ i. leb 12 (o .cellSize) && (leb (o .cellSize) 4096 && leb (sym e i) 65535)
 
 -- ---- a section is placed
 
 -- what `place` found: slot is what the section's slot names
 pub data Placed (cells : Cells) (taken : ℕ → Bool) (bytes : Bytes) (slot : Option Held) : Place → Type 0 where
   laid : (c : ℕ) → slot ≡ none → LowestFree taken (length cells) c → Placed cells taken bytes slot (into c)
-  lacking : slot ≡ none → AllTaken taken (length cells) → Placed cells taken bytes slot noCell
+  lacking : slot ≡ none → AllTaken taken (length cells) → Placed cells taken bytes slot noneFree
   alike : (h : Held) → slot ≡ some h → bytesOf cells h ≡ bytes → Placed cells taken bytes slot ignored
   unlike : (h : Held) → slot ≡ some h → bytesOf cells h ≢ bytes → Placed cells taken bytes slot conflicting
 

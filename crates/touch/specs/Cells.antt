@@ -41,13 +41,13 @@ write cells c bytes = set cells c (bytes ++ drop (length bytes) (getD cells c []
 
 pub data Place : Type 0 where
   into : (cell : ℕ) → Place
-  noCell : Place
+  noneFree : Place
   ignored : Place
   conflicting : Place
 
 -- "The lowest free cell is used"; 21 where there is none
 unfoldable pub placeNew : Option ℕ → Place
-placeNew none = noCell
+placeNew none = noneFree
 placeNew (some c) = into c
 
 -- "identical bytes are ignored, others conflict"

@@ -1,0 +1,12 @@
+pub mod Keys
+pub mod Kept
+pub mod Rules
+pub mod Views
+pub mod Outcome
+pub mod Cells
+pub mod Demand
+pub mod Whole
+pub mod Exact
+pub mod History
+pub mod Examples
+pub mod Needed
