@@ -7,7 +7,7 @@ use Prim.Native.Nat.{ℕ, zero, suc, _+_, _-_, _*_, _/_, _%_, _^_, _≤_, _<_}
 use native.Mathlib.Nat.{zero-div, lt-of-le-of-lt}
 use native.Mathlib.Numerals.{add-one}
 use native.Mathlib.Omega.{arith}
-use borrow.Author.Tests.{eq-eqb, ne-eqb, le-leb, lt-leb, eqb-true, not-false}
+use borrow.Author.Tests.{eq-eqb, ne-eqb, le-leb, lt-leb, lt-ltb, ltb-true, leb-true, eqb-true, not-false}
 use mir.Val.{Fits}
 use mir.Syntax.{w64}
 use lib.Dec.{eqb, ltb, leb, lit<}
@@ -17,12 +17,32 @@ use lib.Seq.{drop-cons, paste}
 use Rattle.laws.specs.Lists.{every, any, firstFrom, sameList, below}
 use Rattle.laws.specs.Bits.{bit, addBit, hasBit}
 use Rattle.laws.proofs.Bits.{one-shl, has-added, length-addBit, or-zero, xor-zero}
-use Rattle.laws.proofs.Tests.{eqb-sym}
+use Rattle.laws.proofs.Tests.{eqb-sym, same-test, true-and, and-true as and-true-both}
 use Rattle.laws.proofs.Lists.{paste-end, getD-none}
 use Rattle.laws.proofs.Search.{every-turn, every-end, first-skip, first-same, first-within, first-before, below-all, same-lengths, same-turn, same-end}
 use Rattle.cells.specs.Cells.{keptLength, cellNumber, filled, slotWhole, allWhole, names, someNames, marked, markedAll, lacks, fullWords, clearFrom, lowestFree, lowestClear, partOf}
 
 -- ---- the slots
+
+-- the one comparison of a word is the two of its length
+pub word-whole : (w above count size : ℕ) → 12 ≤ size → size ≤ 4096 → (above + 786432) % 4294967296 ≡ w → above < 4294967296
+    → (ltb w 65536 || (ltb above ((size - 11) * 65536) && ltb (w % 65536) count)) ≡ slotWhole count size w
+unfolding slotWhole
+word-whole w above count size low small e h = rw (empty, within)
+  where
+    empty : ltb w 65536 ≡ eqb (w / 65536) 0
+    empty = same-test (ltb w 65536) (eqb (w / 65536) 0)
+        (λ t. let k : w < 65536 = ltb-true w 65536 t in eq-eqb (w / 65536) 0 (omega arith))
+        (λ t. let k : w / 65536 ≡ 0 = eqb-true (w / 65536) 0 t in lt-ltb w 65536 (omega arith))
+
+    within : ltb above ((size - 11) * 65536) ≡ (leb 12 (w / 65536) && leb (w / 65536) size)
+    within = same-test (ltb above ((size - 11) * 65536)) (leb 12 (w / 65536) && leb (w / 65536) size)
+        (λ t. let k : above < (size - 11) * 65536 = ltb-true above ((size - 11) * 65536) t in true-and (le-leb 12 (w / 65536) (omega arith)) (le-leb (w / 65536) size (omega arith)))
+        (λ t.
+        let c = and-true-both (leb 12 (w / 65536)) (leb (w / 65536) size) t in
+        let k : 12 ≤ w / 65536 = leb-true 12 (w / 65536) (c .0) in
+        let m : w / 65536 ≤ size = leb-true (w / 65536) size (c .1) in
+        lt-ltb above ((size - 11) * 65536) (omega arith))
 
 pub whole-turn : (slots : List ℕ) (count size j : ℕ) (ok r : Bool) → j < length slots → r ≡ slotWhole count size (getD slots j 0) → allWhole count size slots ≡ (ok && allWhole count size (drop j slots))
     → allWhole count size slots ≡ (ok && r && allWhole count size (drop (j + 1) slots))

@@ -38,19 +38,23 @@ pub fn is_filled(w: u32) -> bool
     w / 65536 != 0
 }
 
+// Whether a slot is empty, or names a cell below count with a length within 12 to size. Both bounds of the length are one comparison of
+// the whole word: less 12 * 65,536, it is below (size - 11) * 65,536 exactly when the length is within them.
 fn slot_whole(w: u32, count: u32, size: u32) -> bool
+    requires { ⌜ (12 ≤ size) × (size ≤ 4096) ⌝ }
     ensures { λ r. ⌜ r ≡ slotWhole count size w ⌝ }
 {
-    let kept = w / 65536;
-    let cell = w % 65536;
-    (kept == 0) | ((12 <= kept) & (kept <= size) & (cell < count))
+    let above = std::num::wrapping_sub_u32(w, 786432);
+    let room = (size - 11) * 65536;
+    (w < 65536) | ((above < room) & (w % 65536 < count))
 }
 
 // ---- the slots of a row
 
-// Whether each slot is empty, or names a cell below count with a length within 12 to size. Every call of a collector makes this pass
-// over all its slots, so it gathers and does not stop early: only so does it work on several slots at a time.
+// Whether each slot is whole. Every call of a collector makes this pass over all its slots, so it gathers and does not stop early: only
+// so does it work on several slots at a time.
 pub fn all_whole(slots: &[u32], count: u16, size: u16) -> bool
+    requires { ⌜ (12 ≤ size) × (size ≤ 4096) ⌝ }
     ensures { λ r. ⌜ r ≡ allWhole count size (now (slots .entry)) ⌝ }
 {
     let mut ok = true;

@@ -59,3 +59,9 @@ eqb-sym a b = go (eqb a b) refl
     go : (t : Bool) → eqb a b ≡ t → t ≡ eqb b a
     go true e = sym (eq-eqb b a (sym (eq-true a b e)))
     go false e = sym (ne-eqb b a (λ (q : b ≡ a). eq-false a b e (sym q)))
+
+-- two tests that pass together are one
+pub same-test : (p q : Bool) → (p ≡ true → q ≡ true) → (q ≡ true → p ≡ true) → p ≡ q
+same-test true q f g = sym (f refl)
+same-test false true f g = g refl
+same-test false false f g = refl

@@ -1,0 +1,163 @@
+-- One law for each turn, each end and each way out of the functions on rows.
+-- Assumes nothing.
+use mathlib.Core.Path.{_≡_, refl, sym, ap, _∙_}
+use mathlib.Core.List.{List, [], _∷_, _++_, append-assoc}
+use mathlib.Core.Bool.{Bool, true, false, cond, not, _&&_, _||_, and-assoc, and-true}
+use Prim.Native.Nat.{ℕ, zero, suc, _+_, _-_, _*_, _≤_, _<_, min}
+use native.Mathlib.Nat.{not-suc-le-zero, le-of-eq}
+use native.Mathlib.Numerals.{add-one}
+use native.Mathlib.Omega.{arith}
+use borrow.Author.Tests.{lt-ltb, le-ltb, eq-eqb, ne-eqb}
+use lib.Dec.{eqb, ltb, leb}
+use lib.ListN.{length, take, drop, getD, set, replicate, length-drop, length-replicate}
+use lib.Seq.{paste, set-getD, length-take-le, take-all, drop-drop}
+use Rattle.laws.proofs.Lists.{paste-end}
+use Rattle.cells.specs.Cells.{allWhole, allFilled, markedAll}
+use Rattle.rows.specs.declared.Key.{Key}
+use Rattle.rows.specs.declared.Entry.{Entry}
+use Rattle.rows.specs.declared.Room.{Room}
+use Rattle.rows.specs.Rows.{word, put, keyAt, sameKey, elderOf, oldestOf, older, aged, touched, freshHead, roomNew, keptHeads, slotsAt, slotCount, rowSlots, emptied, keptSlots, rowsWhole, markedRow, markedRows}
+
+pub before : (n : ℕ) → 0 < n → n ≡ suc (n - 1)
+before n h = omega arith
+
+-- ---- find
+
+pub key-words : (heads : List ℕ) (i a b c d e f : ℕ) → a ≡ word heads i 0 → b ≡ word heads i 1 → c ≡ word heads i 2 → d ≡ word heads i 3 → e ≡ word heads i 4 → f ≡ word heads i 5
+    → _≡_ {A = Key} (record { pid = a; «table_id» = b; extension = c; «current_next» = d; «transport_stream_id» = e; «original_network_id» = f }) (keyAt heads i)
+key-words heads i a b c d e f p q r s t u = rw (p, q, r, s, t, u)
+
+-- ---- oldest
+
+pub elder-new : (heads : List ℕ) (best i a b : ℕ) → a ≡ word heads best 9 → b ≡ word heads i 9 → a < b → i ≡ elderOf heads best i
+unfolding elderOf
+elder-new heads best i a b p q h = rw (← p, ← q, lt-ltb a b h)
+
+pub elder-old : (heads : List ℕ) (best i a b : ℕ) → a ≡ word heads best 9 → b ≡ word heads i 9 → b ≤ a → best ≡ elderOf heads best i
+unfolding elderOf
+elder-old heads best i a b p q h = rw (← p, ← q, le-ltb a b h)
+
+pub oldest-start : (heads : List ℕ) → 0 ≡ oldestOf heads 0
+unfolding oldestOf
+oldest-start heads = refl
+
+pub oldest-turn : (heads : List ℕ) (i b b' : ℕ) → b ≡ oldestOf heads i → b' ≡ elderOf heads b i → b' ≡ oldestOf heads (i + 1)
+unfolding oldestOf
+oldest-turn heads i b b' e k = rw (add-one i, ← e) k
+
+pub elder-below : (heads : List ℕ) (b i r n : ℕ) → r ≡ elderOf heads b i → b < n → i < n → r < n
+unfolding elderOf
+elder-below heads b i r n e h k = rw e (go (ltb (word heads b 9) (word heads i 9)))
+  where
+    go : (t : Bool) → cond t i b < n
+    go true = k
+    go false = h
+
+pub oldest-end : (heads : List ℕ) (i b used : ℕ) → b ≡ oldestOf heads i → used ≤ i → i ≤ used → b ≡ oldestOf heads used
+oldest-end heads i b used e h k = let s : i ≡ used = omega arith in rw (← s) e
+
+-- ---- touch
+
+pub aged-none : (n : ℕ) (h : List ℕ) → h ≡ aged 0 n h
+unfolding aged
+aged-none zero h = refl
+aged-none (suc n) h = rw (le-ltb (word h n 9) 0 (omega arith), set-getD h (n * 12 + 9) 0) (aged-none n h)
+
+pub aged-turn : (a used n : ℕ) (h₀ h h' : List ℕ) (w v : ℕ) → 0 < n → w ≡ word h (n - 1) 9 → v ≡ older a w → h' ≡ put (n - 1) 9 v h → aged a used h₀ ≡ aged a n h
+    → aged a used h₀ ≡ aged a (n - 1) h'
+unfolding aged
+aged-turn a used n h₀ h h' w v p e f g q = q ∙ ap (λ (k : ℕ). aged a k h) (before n p) ∙ rw (g, f, e)
+
+pub aged-end : (a used n : ℕ) (h₀ h : List ℕ) → n ≤ 0 → aged a used h₀ ≡ aged a n h → h ≡ aged a used h₀
+unfolding aged
+aged-end a used n h₀ h p q = let s : n ≡ 0 = omega arith in sym (q ∙ rw s)
+
+pub aged-zero : (a used : ℕ) (h : List ℕ) → a ≡ 0 → h ≡ aged a used h
+aged-zero a used h e = rw e (aged-none used h)
+
+pub touch-done : (used i a : ℕ) (h h' h'' : List ℕ) → a ≡ word h i 9 → h' ≡ aged a used h → h'' ≡ put i 9 0 h' → h'' ≡ touched used i h
+unfolding touched
+touch-done used i a h h' h'' e p q = rw (← e, ← p) q
+
+pub key-is : (heads : List ℕ) (i : ℕ) (key k : Key) (r : Bool) → k ≡ keyAt heads i → r ≡ sameKey k key → r ≡ sameKey (keyAt heads i) key
+key-is heads i key k r e q = rw (← e) q
+
+-- ---- a row for a section
+
+pub words-end : (h₀ h words : List ℕ) (at k : ℕ) → h ≡ paste h₀ at words k → length words ≤ k → k ≤ length words → h ≡ paste h₀ at words (length words)
+words-end h₀ h words at k e a b = paste-end h₀ h at words k (length words) e (omega arith)
+
+pub room-added : (heads : List ℕ) (limit used evictions : ℕ) → used < limit
+    → _≡_ {A = Room} (record { row = used; fresh = true; age = used; used = used + 1; evictions = evictions }) (roomNew heads limit used evictions)
+unfolding roomNew
+room-added heads limit used evictions h = rw (lt-ltb used limit h)
+
+pub room-evicted : (heads : List ℕ) (limit used evictions o a : ℕ) → limit ≤ used → o ≡ oldestOf heads used → a ≡ word heads o 9
+    → _≡_ {A = Room} (record { row = o; fresh = true; age = a; used = used; evictions = evictions + 1 }) (roomNew heads limit used evictions)
+unfolding roomNew
+room-evicted heads limit used evictions o a h e f = rw (le-ltb used limit h, ← e, ← f)
+
+pub head-fresh : (r : Room) (e : Entry) (h h' : List ℕ) → r .fresh ≡ true → h' ≡ freshHead (r .row) e (r .age) h → h' ≡ keptHeads r e h
+unfolding keptHeads
+head-fresh r e h h' t q = rw t q
+
+pub head-known : (r : Room) (e : Entry) (h h' : List ℕ) → r .fresh ≡ false → h' ≡ put (r .row) 8 0 h → h' ≡ keptHeads r e h
+unfolding keptHeads
+head-known r e h h' t q = rw t q
+
+-- ---- slots
+
+pub row-part : (heads slots : List ℕ) (i w n : ℕ) → w ≡ word heads i 7 → n ≡ slotCount w → take (i * 288 + 32 + n - (i * 288 + 32)) (drop (i * 288 + 32) slots) ≡ rowSlots heads slots i
+unfolding rowSlots
+row-part heads slots i w n e f = let s : i * 288 + 32 + n - (i * 288 + 32) ≡ n = omega arith in rw (s, f, e)
+
+pub part-emptied : (slots part : List ℕ) (at n : ℕ) → at + n ≤ length slots → part ≡ replicate (length (take (at + n - at) (drop at slots))) 0
+    → take at slots ++ (part ++ drop (at + n - at) (drop at slots)) ≡ emptied at n slots
+part-emptied slots part at n h e =
+    let s : at + n - at ≡ n = omega arith in
+    let l : length (take n (drop at slots)) ≡ n = length-take-le n (drop at slots) (rw (length-drop at slots) (omega arith)) in
+    let r : length (replicate {A = ℕ} n 0) ≤ n = le-of-eq (length-replicate n 0) in
+    rw (e, s, l, drop-drop n at slots, take-all n (replicate n 0) r) (sym (append-assoc (take at slots) (replicate n 0) (drop (at + n) slots)))
+
+pub slot-kept : (r : Room) (e : Entry) (w : ℕ) (l l' l'' : List ℕ) → l' ≡ cond (r .fresh) (emptied (slotsAt (r .row)) (e .last + 1) l) l → l'' ≡ set l' (r .row * 288 + 32 + e .number) w → l'' ≡ keptSlots r e w l
+unfolding keptSlots
+slot-kept r e w l l' l'' p q = rw (← p) q
+
+-- ---- all rows in use
+
+pub rows-turn : (heads slots : List ℕ) (count size used i : ℕ) (part : List ℕ) (ok r : Bool) → 0 < i → part ≡ rowSlots heads slots (i - 1) → r ≡ allWhole count size part
+    → rowsWhole heads slots count size used ≡ (ok && rowsWhole heads slots count size i)
+    → rowsWhole heads slots count size used ≡ (ok && r && rowsWhole heads slots count size (i - 1))
+unfolding rowsWhole
+rows-turn heads slots count size used i part ok r p d e q =
+    q ∙ ap (λ (k : ℕ). ok && rowsWhole heads slots count size k) (before i p)
+    ∙ sym (and-assoc ok (allWhole count size (rowSlots heads slots (i - 1))) (rowsWhole heads slots count size (i - 1))) ∙ rw (e, d)
+
+pub rows-end : (heads slots : List ℕ) (count size used i : ℕ) (ok : Bool) → i ≤ 0 → rowsWhole heads slots count size used ≡ (ok && rowsWhole heads slots count size i)
+    → ok ≡ rowsWhole heads slots count size used
+unfolding rowsWhole
+rows-end heads slots count size used i ok p q = let s : i ≡ 0 = omega arith in sym (q ∙ rw s (and-true ok))
+
+pub row-marked : (heads slots : List ℕ) (gone i : ℕ) (part m m' : List ℕ) → part ≡ rowSlots heads slots i → (i ≡ gone → ⊥) → m' ≡ markedAll part m → m' ≡ markedRow heads slots gone i m
+row-marked heads slots gone i part m m' d h e = rw (ne-eqb i gone h, ← d) e
+
+pub row-passed : (heads slots : List ℕ) (gone i : ℕ) (m : List ℕ) → i ≡ gone → m ≡ markedRow heads slots gone i m
+row-passed heads slots gone i m h = rw (eq-eqb i gone h)
+
+pub marked-turn : (heads slots : List ℕ) (gone used i : ℕ) (m₀ m m' : List ℕ) → 0 < i → m' ≡ markedRow heads slots gone (i - 1) m → markedRows heads slots gone used m₀ ≡ markedRows heads slots gone i m
+    → markedRows heads slots gone used m₀ ≡ markedRows heads slots gone (i - 1) m'
+unfolding markedRows
+marked-turn heads slots gone used i m₀ m m' p e q = q ∙ ap (λ (k : ℕ). markedRows heads slots gone k m) (before i p) ∙ rw e
+
+pub marked-end : (heads slots : List ℕ) (gone used i : ℕ) (m₀ m : List ℕ) → i ≤ 0 → markedRows heads slots gone used m₀ ≡ markedRows heads slots gone i m → m ≡ markedRows heads slots gone used m₀
+unfolding markedRows
+marked-end heads slots gone used i m₀ m p q = let s : i ≡ 0 = omega arith in sym (q ∙ rw s)
+
+pub where-fresh : (fresh : Bool) (l l' : List ℕ) (at n : ℕ) → fresh ≡ true → l' ≡ emptied at n l → l' ≡ cond fresh (emptied at n l) l
+where-fresh fresh l l' at n t e = rw t e
+
+pub where-not : (fresh : Bool) (l : List ℕ) (at n : ℕ) → fresh ≡ false → l ≡ cond fresh (emptied at n l) l
+where-not fresh l at n t = rw t
+
+pub full-row : (heads slots : List ℕ) (i : ℕ) (part : List ℕ) (r : Bool) → part ≡ rowSlots heads slots i → r ≡ allFilled part → r ≡ allFilled (rowSlots heads slots i)
+full-row heads slots i part r e q = rw (← e) q

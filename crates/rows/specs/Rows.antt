@@ -1,0 +1,147 @@
+-- The rows of a collector: what their heads and slots say, for every content of the two lent slices.
+-- `cond test a b` is a where the test is true, else b.
+use Prim.Native.Nat.{ℕ, zero, suc, _+_, _*_, _≤_, _<_, min}
+use mathlib.Core.Path.{_≡_}
+use mathlib.Core.List.{List, [], _∷_}
+use mathlib.Core.Bool.{Bool, true, false, cond, not, _&&_, _||_}
+use lib.ListN.{length, getD, take, drop, set, replicate}
+use lib.Seq.{paste}
+use lib.Dec.{ltb, leb, eqb}
+use Rattle.laws.specs.Lists.{firstFrom}
+use Rattle.cells.specs.Cells.{allWhole, allFilled, someNames, lowestFree, markedAll}
+use Rattle.rows.specs.declared.Key.{Key}
+use Rattle.rows.specs.declared.Entry.{Entry}
+use Rattle.rows.specs.declared.Room.{Room}
+
+-- ---- heads, 12 words a row: 0 PID (8192 is none), 1 table_id, 2 extension, 3 current_next, 4 transport_stream_id, 5 original_network_id,
+-- 6 version, 7 last_section_number, 8 mark (not 0: handed out), 9 age, 10 and 11 spare
+
+-- word k of row i's head
+abbrev pub word : List ℕ → ℕ → ℕ → ℕ
+word heads i k = getD heads (i * 12 + k) 0
+
+abbrev pub put : ℕ → ℕ → ℕ → List ℕ → List ℕ
+put i k v heads = set heads (i * 12 + k) v
+
+abbrev pub keyAt : List ℕ → ℕ → Key
+keyAt heads i = record {
+  pid = word heads i 0;
+  «table_id» = word heads i 1;
+  extension = word heads i 2;
+  «current_next» = word heads i 3;
+  «transport_stream_id» = word heads i 4;
+  «original_network_id» = word heads i 5;
+}
+
+unfoldable pub sameKey : Key → Key → Bool
+sameKey a b =
+    eqb (a .pid) (b .pid) && eqb (a .«table_id») (b .«table_id») && eqb (a .extension) (b .extension) && eqb (a .«current_next») (b .«current_next»)
+    && eqb (a .«transport_stream_id») (b .«transport_stream_id») && eqb (a .«original_network_id») (b .«original_network_id»)
+
+-- the first row in use that has the key, or `used` where none has it
+abbrev pub rowOf : List ℕ → Key → ℕ → ℕ
+rowOf heads key used = firstFrom (λ (i : ℕ). sameKey (keyAt heads i) key) used 0
+
+-- ---- the touch order: a row's age is 0 if it was touched last, and so on
+
+-- row i where it is older than the row best
+unfoldable pub elderOf : List ℕ → ℕ → ℕ → ℕ
+elderOf heads best i = cond (ltb (word heads best 9) (word heads i 9)) i best
+
+-- of the first n rows the least recently touched: the first of the largest age
+unfoldable pub oldestOf : List ℕ → ℕ → ℕ
+oldestOf heads zero = 0
+oldestOf heads (suc n) = elderOf heads (oldestOf heads n) n
+
+-- an age below a goes up by 1
+abbrev pub older : ℕ → ℕ → ℕ
+older a age = cond (ltb age a) (age + 1) age
+
+-- each of the first n rows whose age is below a is one older
+unfoldable pub aged : ℕ → ℕ → List ℕ → List ℕ
+aged a zero heads = heads
+aged a (suc n) heads = aged a n (put n 9 (older a (word heads n 9)) heads)
+
+-- row i becomes the newest: those that were newer are one older
+unfoldable pub touched : ℕ → ℕ → List ℕ → List ℕ
+touched used i heads = put i 9 0 (aged (word heads i 9) used heads)
+
+-- ---- a row for a section
+
+-- the head of a row that begins with the section: no mark
+abbrev pub headOf : Entry → ℕ → List ℕ
+headOf e age =
+    e .key .pid ∷ e .key .«table_id» ∷ e .key .extension ∷ e .key .«current_next» ∷ e .key .«transport_stream_id» ∷ e .key .«original_network_id»
+    ∷ e .version ∷ e .last ∷ 0 ∷ age ∷ 0 ∷ 0 ∷ []
+
+unfoldable pub freshHead : ℕ → Entry → ℕ → List ℕ → List ℕ
+freshHead i e age heads = paste heads (i * 12) (headOf e age) 12
+
+-- row i as it is, with `used` rows in use
+abbrev pub roomIn : ℕ → ℕ → ℕ → Room
+roomIn used evictions i = record { row = i; fresh = false; age = 0; used = used; evictions = evictions }
+
+-- row i emptied, of age a
+abbrev pub roomRenewed : ℕ → ℕ → ℕ → ℕ → Room
+roomRenewed used evictions i a = record { row = i; fresh = true; age = a; used = used; evictions = evictions }
+
+-- "A new key at a full limit removes the least recently touched key and counts one eviction": else a further row, older than all others
+unfoldable pub roomNew : List ℕ → ℕ → ℕ → ℕ → Room
+roomNew heads limit used evictions =
+    let o : ℕ = oldestOf heads used in
+    cond (ltb used limit)
+    (roomRenewed (used + 1) evictions used used)
+    (roomRenewed used (evictions + 1) o (word heads o 9))
+
+-- the row whose slots no longer count once there is such room, or `used` where there is none
+abbrev pub goneRow : Room → ℕ → ℕ
+goneRow r used = cond (r .fresh) (r .row) used
+
+-- "A new section clears the mark"
+unfoldable pub keptHeads : Room → Entry → List ℕ → List ℕ
+keptHeads r e heads = cond (r .fresh) (freshHead (r .row) e (r .age) heads) (put (r .row) 8 0 heads)
+
+-- ---- slots, 288 words a row: 32 of segments, then 256 slots
+
+abbrev pub slotsAt : ℕ → ℕ
+slotsAt i = i * 288 + 32
+
+-- how many slots a row has, by the last_section_number in its head
+abbrev pub slotCount : ℕ → ℕ
+slotCount last = min last 255 + 1
+
+unfoldable pub rowSlots : List ℕ → List ℕ → ℕ → List ℕ
+rowSlots heads slots i = take (slotCount (word heads i 7)) (drop (slotsAt i) slots)
+
+-- the n words from `at` on are 0
+abbrev pub emptied : ℕ → ℕ → List ℕ → List ℕ
+emptied at n slots = paste slots at (replicate n 0) n
+
+-- the section's slot gets the word w; a row that begins anew is emptied first
+unfoldable pub keptSlots : Room → Entry → ℕ → List ℕ → List ℕ
+keptSlots r e w slots = set (cond (r .fresh) (emptied (slotsAt (r .row)) (e .last + 1) slots) slots) (slotsAt (r .row) + e .number) w
+
+-- ---- all rows in use, the first n
+
+-- of 01's 10: each slot of each row is whole
+unfoldable pub rowsWhole : List ℕ → List ℕ → ℕ → ℕ → ℕ → Bool
+rowsWhole heads slots count size zero = true
+rowsWhole heads slots count size (suc n) = allWhole count size (rowSlots heads slots n) && rowsWhole heads slots count size n
+
+-- a slot of a row other than the row `gone` names cell c
+unfoldable pub takenIn : List ℕ → List ℕ → ℕ → ℕ → ℕ → Bool
+takenIn heads slots gone zero c = false
+takenIn heads slots gone (suc n) c = (not (eqb n gone) && someNames c (rowSlots heads slots n)) || takenIn heads slots gone n c
+
+-- the map with each cell that such a slot names
+abbrev pub markedRow : List ℕ → List ℕ → ℕ → ℕ → List ℕ → List ℕ
+markedRow heads slots gone i map = cond (eqb i gone) map (markedAll (rowSlots heads slots i) map)
+
+unfoldable pub markedRows : List ℕ → List ℕ → ℕ → ℕ → List ℕ → List ℕ
+markedRows heads slots gone zero map = map
+markedRows heads slots gone (suc n) map = markedRows heads slots gone n (markedRow heads slots gone n map)
+
+-- what a caller shows of its slices: they have the first n rows
+pub record Fit (heads slots : List ℕ) (n : ℕ) : Type 0 where
+  pub heads-long : n * 12 ≤ length heads
+  pub slots-long : n * 288 ≤ length slots
