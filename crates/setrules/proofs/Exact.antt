@@ -18,11 +18,10 @@ use Rattle.touch.specs.Cells.{Held, bytesOf, names, write}
 use Rattle.touch.proofs.Slots.{none-passes, passes-none}
 use Rattle.touch.proofs.All.{All, all-map, none-all, all-none, held-stays}
 use Rattle.touch.proofs.Row.{slot-on, start-held}
-use Rattle.touch.proofs.Cells.{LowestFree, AllTaken, write-other, write-front}
+use Rattle.touch.proofs.Cells.{LowestFree, AllTaken, write-other, write-front, Kept, kept-parts, parts-kept}
 use Rattle.setrules.specs.Rules.{Key, sameKey, SetOf, SetsOf, Section, partOf, Call, offer, conflict, noCell, asBefore, metRow, isKept, Answer, cleared, refused, nothing, handout, notWhole, counterFull}
 use Rattle.setrules.specs.Cells.{Store, Turn, onSets, onAnswer, view, takes, taken, storeWhole, ended, shows, rest, roomFor, call, callTells, callActs}
 use Rattle.setrules.proofs.Views.{met-on}
-use Rattle.setrules.proofs.Kept.{Kept, kept-parts, parts-kept}
 use Rattle.setrules.proofs.Outcome.{row, slot, Asks, Outcome, broken, stopped, clears, refuses, long, keyless, lacks, keeps, ignores, conflicts, outcome, accepting, judge-accepts, accepts-not}
 
 -- ---- whether the rules keep a section, read off the store
@@ -37,11 +36,13 @@ module _ (s : Store) (x : Section) where
   shown-slot = rw (met-on (bytesOf (s .cells)) x (s .sets)) (slot-on (bytesOf (s .cells)) (partOf x) (row s x))
 
   asked-kept : Asks s x → slot s x ≡ none → isKept (s .settings) (view s) x ≡ true
+  unfolding isKept
   asked-kept a e =
-      parts-kept (s .settings) (view s) x (record { short = a .short; some-key = a .some-key; free = shown-slot ∙ ap (Option·map (bytesOf (s .cells))) e })
+      parts-kept (s .settings) (x .bytes) _ (record { short = a .short; some-key = a .some-key; free = shown-slot ∙ ap (Option·map (bytesOf (s .cells))) e })
 
   kept-slot : isKept (s .settings) (view s) x ≡ true → slot s x ≡ none
-  kept-slot h = map-none (bytesOf (s .cells)) (slot s x) (sym shown-slot ∙ kept-parts (s .settings) (view s) x h .free)
+  unfolding isKept
+  kept-slot h = map-none (bytesOf (s .cells)) (slot s x) (sym shown-slot ∙ kept-parts (s .settings) (x .bytes) _ h .free)
 
 -- what judging a row answers changes something
 accepts-changes : (a : Answer) → accepting a ≡ true → asBefore a ≡ true → ⊥
@@ -82,11 +83,11 @@ only-then-21 s i e = go (outcome s i) e
     go (conflicts x a k q f) e = let z : _≡_ {A = ℕ} 0 1 = cc in absurd (omega arith)
 
 pub then-21 : (s : Store) (x : Section) → NeedsCell s x → callTells s (offer x) ≡ noCell
-unfolding callTells
+unfolding callTells isKept
 then-21 s x n = go (outcome s (offer x)) refl
   where
-    k : Kept (s .settings) (view s) x
-    k = kept-parts (s .settings) (view s) x (n .kept)
+    k : Kept (s .settings) (x .bytes) (slotOf (partOf x) (metRow x (view s)))
+    k = kept-parts (s .settings) (x .bytes) _ (n .kept)
 
     free : slot s x ≡ none
     free = kept-slot s x (n .kept)

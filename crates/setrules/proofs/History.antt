@@ -20,10 +20,10 @@ use Rattle.touch.specs.Runs.{storeAfter}
 use Rattle.touch.proofs.All.{All, all-aside, all-newest, all-find, length-aside, length-newest}
 use Rattle.touch.proofs.Distinct.{Distinct, distinct-aside, distinct-newest}
 use Rattle.touch.proofs.Row.{start-has, put-new, put-has, over-held}
+use Rattle.touch.proofs.Cells.{Kept, kept-parts, parts-kept}
 use Rattle.touch.proofs.Runs.{after-all}
 use Rattle.setrules.specs.Rules.{Key, sameKey, SetRow, Sets, Section, partOf, Call, clear, refuse, offer, Whole, refused, nothing, handout, conflict, Step, gives, full, whole, metRow, judged, judge, isKept, finish, push, admit, step, tells, acts, opened}
 use Rattle.setrules.proofs.Keys.{sameKey-true}
-use Rattle.setrules.proofs.Kept.{Kept, kept-parts, parts-kept}
 
 abbrev pub MarkedWhenFull : Key → SetRow → Type 0
 MarkedWhenFull k r = r .mark ≡ full (r .slots)
@@ -112,11 +112,11 @@ unfolding judge judged
 judge-full s k r p q = rw (p, q) refl
 
 pub goes-out : (o : Settings) (s : Sets) (x : Section) → Completes o s x → tells o s (offer x) ≡ handout (whole (x .key) (filled x s))
-unfolding tells step admit push finish keep
+unfolding tells step admit push finish keep isKept
 goes-out o s x c = ap (λ (b : Bool). (admit (o .limit) s x b) .answer) (le-passes (length (x .bytes)) (o .cellSize) (k .short)) ∙ go (o .limit) refl
   where
-    k : Kept o s x
-    k = kept-parts o s x (c .kept)
+    k : Kept o (x .bytes) (slotOf (partOf x) (metRow x s))
+    k = kept-parts o (x .bytes) _ (c .kept)
 
     go : (n : ℕ) → o .limit ≡ n → (push n s x) .answer ≡ handout (whole (x .key) (filled x s))
     go zero q = absurd (omega (arith, k .some-key))
@@ -146,7 +146,7 @@ judge-hands s k r w h = go (r .mark) (full (r .slots)) refl h
 
 pub goes-out-only : (o : Settings) (s : Sets) → Lived (o .limit) s → (x : Section) (w : Whole) → tells o s (offer x) ≡ handout w
     → Completes o s x × (whole (x .key) (filled x s) ≡ w)
-unfolding tells step admit push finish put putOver judge
+unfolding tells step admit push finish put putOver judge isKept
 goes-out-only o s h x w e = admitted (leb (length (x .bytes)) (o .cellSize)) refl e
   where
     Goal : Type 0
@@ -155,7 +155,7 @@ goes-out-only o s h x w e = admitted (leb (length (x .bytes)) (o .cellSize)) ref
     other : (t : Sets) (n : ℕ) → length (x .bytes) ≤ o .cellSize → o .limit ≡ suc n → (held : Option Bytes) → slotOf (partOf x) (metRow x s) ≡ held → (finish t (x .key) (metRow x s) (putOver (partOf x) (x .bytes) (metRow x s) held)) .answer ≡ handout w → Goal
     other t n l q none f j =
         let d = judge-hands t (x .key) (filled x s) w j in
-        (record { kept = parts-kept o s x (record { short = l; some-key = omega arith; free = f }); complete = d .0 }, d .1)
+        (record { kept = parts-kept o (x .bytes) _ (record { short = l; some-key = omega arith; free = f }); complete = d .0 }, d .1)
     other t n l q (some b) f j = held (putOver (partOf x) (x .bytes) (metRow x s) (some b)) refl j
       where
         held : (r : Option SetRow) → putOver (partOf x) (x .bytes) (metRow x s) (some b) ≡ r → (finish t (x .key) (metRow x s) r) .answer ≡ handout w → Goal

@@ -2,7 +2,7 @@
 -- Assumes nothing.
 use mathlib.Core.Path.{_≡_, refl, sym, ap, _∙_, subst}
 use mathlib.Core.Logic.{_≢_, _⊎_, inl, inr}
-use mathlib.Core.Bool.{Bool, true, false, cond, _&&_, true≢false}
+use mathlib.Core.Bool.{Bool, true, false, cond, not, _&&_, true≢false}
 use mathlib.Core.Option.{Option, none, some, Option·map, Option·some-injective}
 use mathlib.Core.List.{List, [], _∷_, _++_}
 use Prim.Native.Nat.{ℕ, zero, suc, _+_, _≤_, _<_}
@@ -11,12 +11,12 @@ use native.Mathlib.Omega.{arith}
 use lib.Dec.{leb}
 use lib.ListN.{length, getD, set, take, drop, length-set}
 use lib.Seq.{getD-set-same, getD-set-other, take-append-seam}
-use Rattle.laws.proofs.Tests.{true-and, eq-false, none≢some}
+use Rattle.laws.proofs.Tests.{and-true, true-and, le-true, eq-false, none≢some}
 use Rattle.laws.proofs.Facts.{le-passes}
 use Rattle.touch.specs.Same.{Bytes, sameBytes}
-use Rattle.touch.specs.Slots.{someHeld}
+use Rattle.touch.specs.Slots.{isHeld, someHeld}
 use Rattle.touch.specs.Row.{RowOf, Part, slotOf, keep, onRow, put}
-use Rattle.touch.specs.Cells.{Settings, Held, Cells, bytesOf, names, lowest, write, Place, into, noneFree, ignored, conflicting, placeNew, placeHeld, place, heldIn, roomWhole, heldWhole}
+use Rattle.touch.specs.Cells.{Settings, Held, Cells, bytesOf, names, lowest, write, Place, into, noneFree, ignored, conflicting, placeNew, placeHeld, place, wouldKeep, heldIn, roomWhole, heldWhole}
 use Rattle.touch.proofs.Same.{sameBytes-true, sameBytes-refl}
 use Rattle.touch.proofs.Row.{put-new, put-same, put-other, slot-on, keep-on, row-alike}
 
@@ -136,6 +136,30 @@ whole-held o cells cells′ e = λ i h. leb (suc (h .cell)) (sym e i) && (leb 12
 pub room-whole : (o : Settings) (cells cells′ : Cells) → length cells′ ≡ length cells → roomWhole o cells ≡ roomWhole o cells′
 unfolding roomWhole
 room-whole o cells cells′ e = λ i. leb 12 (o .cellSize) && (leb (o .cellSize) 4096 && leb (sym e i) 65535)
+
+-- ---- whether the rules keep a section, part by part
+
+pub record Kept {A : Type 0} (o : Settings) (bytes : Bytes) (held : Option A) : Type 0 where
+  pub short : length bytes ≤ o .cellSize
+  pub some-key : 1 ≤ o .limit
+  pub free : held ≡ none
+
+not-held : {A : Type 0} (a : Option A) → not (isHeld a) ≡ true → a ≡ none
+unfolding isHeld
+not-held none h = refl
+not-held (some a) h = absurd (true≢false (sym h))
+
+module _ {A : Type 0} (o : Settings) (bytes : Bytes) (held : Option A) where
+  pub kept-parts : wouldKeep o bytes held ≡ true → Kept o bytes held
+  unfolding wouldKeep
+  kept-parts h =
+      let p = and-true _ _ h in
+      let q = and-true _ _ (p .1) in
+      record { short = le-true _ _ (p .0); some-key = le-true _ _ (q .0); free = not-held _ (q .1) }
+
+  pub parts-kept : Kept o bytes held → wouldKeep o bytes held ≡ true
+  unfolding wouldKeep isHeld
+  parts-kept k = true-and (le-passes _ _ (k .short)) (true-and (le-passes _ _ (k .some-key)) (rw (k .free) refl))
 
 -- ---- a section is placed
 

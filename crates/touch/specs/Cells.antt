@@ -1,12 +1,13 @@
 -- Cells: where a section's bytes lie, which cell is free, what keeping a section changes (01, "Cells").
 -- Assumes nothing.
-use mathlib.Core.Bool.{Bool, true, false, cond, _&&_}
+use mathlib.Core.Bool.{Bool, true, false, cond, not, _&&_}
 use mathlib.Core.Option.{Option, none, some}
 use mathlib.Core.List.{List, [], _∷_, _++_}
 use Prim.Native.Nat.{ℕ, zero, suc, _-_, _^_}
 use lib.Dec.{leb, eqb}
 use lib.ListN.{length, getD, set, take, drop}
 use Rattle.touch.specs.Same.{Bytes, sameBytes}
+use Rattle.touch.specs.Slots.{isHeld}
 
 -- what a collector is opened with, beside its memory
 pub record Settings : Type 0 where
@@ -59,6 +60,10 @@ placeHeld false = conflicting
 unfoldable pub place : Cells → (taken : ℕ → Bool) → Bytes → (held : Option Held) → Place
 place cells taken bytes none = placeNew (lowest taken (length cells) 0)
 place cells taken bytes (some h) = placeHeld (sameBytes (bytesOf cells h) bytes)
+
+-- whether the rules keep a section, `held` being what its slot holds: 20 and the limit 0 let it in, and its slot is empty
+unfoldable pub wouldKeep : {A : Type 0} → Settings → Bytes → (held : Option A) → Bool
+wouldKeep o bytes held = leb (length bytes) (o .cellSize) && (leb 1 (o .limit) && not (isHeld held))
 
 abbrev pub heldIn : (cell : ℕ) → Bytes → Held
 heldIn c bytes = record { cell = c; size = length bytes }

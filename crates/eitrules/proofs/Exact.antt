@@ -1,0 +1,212 @@
+-- What the answers of the EIT collector with cells mean, for every store: 21 exactly, what is as before, what a conflict changes, which cell is used and
+-- when a cell changes.
+-- Assumes nothing.
+use mathlib.Core.Path.{_≡_, refl, sym, ap, _∙_, subst}
+use mathlib.Core.Logic.{_≢_, _⊎_, inl, inr}
+use mathlib.Core.Bool.{Bool, true, false, _||_, true≢false}
+use mathlib.Core.Option.{Option, none, some, Option·map, Option·some-injective}
+use mathlib.Core.List.{List, [], _∷_, _++_}
+use Prim.Native.Nat.{ℕ, _<_}
+use native.Mathlib.Omega.{arith}
+use lib.ListN.{length, getD, drop}
+use Rattle.laws.proofs.Tests.{or-false, eq-false, none≢some}
+use Rattle.laws.proofs.Facts.{eq-fails}
+use Rattle.touch.specs.Same.{Bytes}
+use Rattle.touch.specs.Touch.{under, find, remove, aside, newest}
+use Rattle.touch.specs.Row.{slotOf, onRow}
+use Rattle.touch.specs.Cells.{Held, bytesOf, names, write}
+use Rattle.touch.proofs.Slots.{none-passes, passes-none}
+use Rattle.touch.proofs.All.{All, all-map, none-all, all-none, held-stays}
+use Rattle.touch.proofs.Row.{slot-on, start-held}
+use Rattle.touch.proofs.Cells.{LowestFree, AllTaken, write-other, write-front, Kept, kept-parts, parts-kept}
+use Rattle.eitrules.specs.Keys.{Kind, kindOf, ScheduleKey, SetKey, sameSet}
+use Rattle.eitrules.specs.Segments.{SetOf}
+use Rattle.eitrules.specs.Schedules.{CopyOf, ScheduleOf}
+use Rattle.eitrules.specs.Rules.{EitOf, Section, keyOf, partOf, Call, offer, Answer, done, refused, nothing, handout, schedule, conflict, range, notWhole, counterFull, noCell, asBefore, metRow, setAside, setNewest, isKept}
+use Rattle.eitrules.specs.Cells.{Store, Turn, onEit, onAnswer, view, setTakes, copyTakes, scheduleTakes, taken, storeWhole, ended, shows, rest, roomFor, call, callTells, callActs}
+use Rattle.eitrules.proofs.Views.{met-on}
+use Rattle.eitrules.proofs.Outcome.{row, slot, Asks, Outcome, broken, stopped, clears, drops, keepsAll, refuses, foreign, long, keyless, lacks, keeps, ignores, conflicts, outcome, accepting, judge-accepts, accepts-not}
+
+-- ---- whether the rules keep a section, read off the store
+
+map-none : {A B : Type 0} (f : A → B) (o : Option A) → Option·map f o ≡ none → o ≡ none
+map-none f none h = refl
+map-none f (some a) h = absurd (none≢some h refl)
+
+module _ (s : Store) (x : Section) (k : SetKey) where
+  shown-slot : slotOf (partOf x) (metRow x k (view s)) ≡ Option·map (bytesOf (s .cells)) (slot s x k)
+  unfolding view
+  shown-slot = rw (met-on (bytesOf (s .cells)) x k (s .eit)) (slot-on (bytesOf (s .cells)) (partOf x) (row s x k))
+
+  pub asked-kept : Asks s x k → slot s x k ≡ none → isKept (s .settings) (view s) x k ≡ true
+  unfolding isKept
+  asked-kept a e =
+      parts-kept (s .settings) (x .bytes) _ (record { short = a .short; some-key = a .some-key; free = shown-slot ∙ ap (Option·map (bytesOf (s .cells))) e })
+
+  kept-slot : isKept (s .settings) (view s) x k ≡ true → slot s x k ≡ none
+  unfolding isKept
+  kept-slot h = map-none (bytesOf (s .cells)) (slot s x k) (sym shown-slot ∙ kept-parts (s .settings) (x .bytes) _ h .free)
+
+-- what judging a row answers changes something
+accepts-changes : (a : Answer) → accepting a ≡ true → asBefore a ≡ true → ⊥
+unfolding accepting asBefore
+accepts-changes nothing p q = true≢false (sym q)
+accepts-changes (handout w) p q = true≢false (sym q)
+accepts-changes (schedule g) p q = true≢false (sym q)
+accepts-changes range p q = true≢false (sym q)
+accepts-changes done p q = true≢false (sym p)
+accepts-changes (refused n) p q = true≢false (sym p)
+accepts-changes conflict p q = true≢false (sym p)
+accepts-changes notWhole p q = true≢false (sym p)
+accepts-changes counterFull p q = true≢false (sym p)
+accepts-changes noCell p q = true≢false (sym p)
+
+-- ---- 21
+
+-- the store is whole, no counter is at its end, the section is an EIT's, the rules would keep it, and every cell is named after the eviction or the
+-- emptying that it would cause
+pub record NeedsCell (s : Store) (x : Section) (kind : Kind) : Type 0 where
+  pub isWhole : storeWhole s ≡ true
+  pub running : ended s (offer x) ≡ false
+  pub isKind : kindOf (x .tableId) ≡ some kind
+  pub kept : isKept (s .settings) (view s) x (keyOf x kind) ≡ true
+  pub named : AllTaken (taken (roomFor s x (keyOf x kind))) (length (s .cells))
+
+pub only-then-21 : (s : Store) (i : Call) → callTells s i ≡ noCell → (x : Section) × (kind : Kind) × (i ≡ offer x) × NeedsCell s x kind
+unfolding callTells accepting onAnswer shows
+only-then-21 s i e = go (outcome s i) e
+  where
+    needs : (x : Section) (k : SetKey) (a : Asks s x k) → slot s x k ≡ none → AllTaken (taken (roomFor s x k)) (length (s .cells)) → NeedsCell s x (a .kind)
+    needs x k a q f = record {
+      isWhole = a .isWhole;
+      running = a .running;
+      isKind = a .isKind;
+      kept = subst (λ (j : SetKey). isKept (s .settings) (view s) x j ≡ true) (sym (a .isKey)) (asked-kept s x k a q);
+      named = subst (λ (j : SetKey). AllTaken (taken (roomFor s x j)) (length (s .cells))) (sym (a .isKey)) f;
+    }
+
+    go : {j : Call} {t : Turn} → Outcome s j t → t .answer ≡ noCell → (x : Section) × (kind : Kind) × (j ≡ offer x) × NeedsCell s x kind
+    go (broken j w) e = let z : _≡_ {A = ℕ} 0 1 = cc in absurd (omega arith)
+    go (stopped j w q) e = let z : _≡_ {A = ℕ} 0 1 = cc in absurd (omega arith)
+    go (clears w) e = let z : _≡_ {A = ℕ} 0 1 = cc in absurd (omega arith)
+    go (drops f w h) e = let z : _≡_ {A = ℕ} 0 1 = cc in absurd (omega arith)
+    go (keepsAll f w h) e = let z : _≡_ {A = ℕ} 0 1 = cc in absurd (omega arith)
+    go (refuses n w) e = let z : _≡_ {A = ℕ} 0 1 = cc in absurd (omega arith)
+    go (foreign x w h) e = let z : _≡_ {A = ℕ} 0 1 = cc in absurd (omega arith)
+    go (long x kind w h l) e = let z : _≡_ {A = ℕ} 0 1 = cc in absurd (omega arith)
+    go (keyless x kind w h l q) e = let z : _≡_ {A = ℕ} 0 1 = cc in absurd (omega arith)
+    go (lacks x k a q f) e = (x, a .kind, refl, needs x k a q f)
+    go (keeps x k a q c f) e = absurd (accepts-not _ _ (judge-accepts _ (s .settings .limit) (rest s k) k (x .lastTable) _) refl e)
+    go (ignores x k a h q f) e = absurd (accepts-not _ _ (judge-accepts _ (s .settings .limit) (rest s k) k (x .lastTable) _) refl e)
+    go (conflicts x k a h q f) e = let z : _≡_ {A = ℕ} 0 1 = cc in absurd (omega arith)
+
+pub then-21 : (s : Store) (x : Section) (kind : Kind) → NeedsCell s x kind → callTells s (offer x) ≡ noCell
+unfolding callTells isKept
+then-21 s x kind n = go (outcome s (offer x)) refl
+  where
+    p : Kept (s .settings) (x .bytes) (slotOf (partOf x) (metRow x (keyOf x kind) (view s)))
+    p = kept-parts (s .settings) (x .bytes) _ (n .kept)
+
+    free : slot s x (keyOf x kind) ≡ none
+    free = kept-slot s x (keyOf x kind) (n .kept)
+
+    -- the key that was asked for is the section's
+    its-key : (y : Section) (k : SetKey) → y ≡ x → Asks s y k → keyOf x kind ≡ k
+    its-key y k z a =
+        let same : kind ≡ a .kind = Option·some-injective kind (a .kind) (sym (n .isKind) ∙ ap (λ (v : Section). kindOf (v .tableId)) (sym z) ∙ a .isKind) in
+        let back = sym z in
+        (λ i. keyOf (back i) (same i)) ∙ a .isKey
+
+    held-not : (y : Section) (k : SetKey) (h : Held) → y ≡ x → Asks s y k → slot s y k ≡ some h → ⊥
+    held-not y k h z a q =
+        let e = sym (its-key y k z a) in
+        none≢some ((λ i. slot s (z i) (e i)) ∙ free) q
+
+    go : {j : Call} {t : Turn} → Outcome s j t → j ≡ offer x → t .answer ≡ noCell
+    go (broken j w) e = absurd (true≢false (sym (n .isWhole) ∙ w))
+    go (stopped j w q) e = absurd (true≢false (sym q ∙ ap (ended s) e ∙ n .running))
+    go (clears w) e = let z : _≡_ {A = ℕ} 0 1 = cc in absurd (omega arith)
+    go (drops f w h) e = let z : _≡_ {A = ℕ} 0 1 = cc in absurd (omega arith)
+    go (keepsAll f w h) e = let z : _≡_ {A = ℕ} 0 1 = cc in absurd (omega arith)
+    go (refuses m w) e = let z : _≡_ {A = ℕ} 0 1 = cc in absurd (omega arith)
+    go (foreign y w h) e = let z : y ≡ x = cc in absurd (none≢some (ap (λ (v : Section). kindOf (v .tableId)) (sym z) ∙ h) (n .isKind))
+    go (long y j w h l) e = let z : y ≡ x = cc in absurd (omega (arith, p .short, subst (λ (v : Section). s .settings .cellSize < length (v .bytes)) z l))
+    go (keyless y j w h l q) e = absurd (omega (arith, p .some-key))
+    go (lacks y k a q f) e = refl
+    go (keeps y k a q c f) e =
+        let z : y ≡ x = cc in
+        let j = sym (its-key y k z a) in
+        let g : LowestFree (taken (roomFor s x (keyOf x kind))) (length (s .cells)) c
+        = subst (λ (t : EitOf Held). LowestFree (taken t) (length (s .cells)) c) (λ i. roomFor s (z i) (j i)) f in
+        absurd (true≢false (sym (n .named c (g .inside)) ∙ g .free))
+    go (ignores y k a h q f) e = let z : y ≡ x = cc in absurd (held-not y k h z a q)
+    go (conflicts y k a h q f) e = let z : y ≡ x = cc in absurd (held-not y k h z a q)
+
+-- ---- "as before": on 10, 11, 21 and every refusal but 22 and 23
+
+pub as-before : (s : Store) (i : Call) → asBefore (callTells s i) ≡ true → callActs s i ≡ s
+unfolding callTells callActs asBefore onAnswer shows
+as-before s i e = go (outcome s i) e
+  where
+    go : {j : Call} {t : Turn} → Outcome s j t → asBefore (t .answer) ≡ true → t .store ≡ s
+    go (broken j w) e = refl
+    go (stopped j w q) e = refl
+    go (clears w) e = absurd (true≢false (sym e))
+    go (drops f w h) e = absurd (true≢false (sym e))
+    go (keepsAll f w h) e = refl
+    go (refuses n w) e = refl
+    go (foreign x w h) e = refl
+    go (long x kind w h l) e = refl
+    go (keyless x kind w h l q) e = refl
+    go (lacks x k a q f) e = refl
+    go (keeps x k a q c f) e = absurd (accepts-changes _ (judge-accepts _ (s .settings .limit) (rest s k) k (x .lastTable) _) e)
+    go (ignores x k a h q f) e = absurd (accepts-changes _ (judge-accepts _ (s .settings .limit) (rest s k) k (x .lastTable) _) e)
+    go (conflicts x k a h q f) e = absurd (true≢false (sym e))
+
+-- ---- 22: "key becomes newest, else as before"
+
+pub record Conflicting (s : Store) (x : Section) (k : SetKey) (after : Store) : Type 0 where
+  pub found : find sameSet k (s .eit .sets .rows) ≡ some (row s x k)
+  pub differs : (h : Held) × (slot s x k ≡ some h) × (bytesOf (s .cells) h ≢ x .bytes)
+  pub leaves : after ≡ record {
+    settings = s .settings;
+    eit = record {
+      sets = record { rows = remove sameSet k (s .eit .sets .rows) ++ (under k (row s x k) ∷ []); evicted = s .eit .sets .evicted };
+      schedules = s .eit .schedules;
+    };
+    cells = s .cells;
+  }
+
+pub conflict-touches : (s : Store) (i : Call) → callTells s i ≡ conflict → (x : Section) × (k : SetKey) × (i ≡ offer x) × Conflicting s x k (callActs s i)
+unfolding callTells callActs accepting onAnswer shows roomFor rest setAside setNewest newest metRow
+conflict-touches s i e = go (outcome s i) e
+  where
+    touched : (x : Section) (k : SetKey) (h : Held) → slot s x k ≡ some h
+        → newest k (row s x k) (aside sameSet (s .settings .limit) k (s .eit .sets))
+        ≡ record { rows = remove sameSet k (s .eit .sets .rows) ++ (under k (row s x k) ∷ []); evicted = s .eit .sets .evicted }
+    touched x k h q =
+        ap (newest k (row s x k)) (held-stays sameSet (s .settings .limit) k (s .eit .sets) (row s x k) (start-held (partOf x) (find sameSet k (s .eit .sets .rows)) h q))
+
+    go : {j : Call} {t : Turn} → Outcome s j t → t .answer ≡ conflict → (x : Section) × (k : SetKey) × (j ≡ offer x) × Conflicting s x k (t .store)
+    go (broken j w) e = let z : _≡_ {A = ℕ} 0 1 = cc in absurd (omega arith)
+    go (stopped j w q) e = let z : _≡_ {A = ℕ} 0 1 = cc in absurd (omega arith)
+    go (clears w) e = let z : _≡_ {A = ℕ} 0 1 = cc in absurd (omega arith)
+    go (drops f w h) e = let z : _≡_ {A = ℕ} 0 1 = cc in absurd (omega arith)
+    go (keepsAll f w h) e = let z : _≡_ {A = ℕ} 0 1 = cc in absurd (omega arith)
+    go (refuses n w) e = let z : _≡_ {A = ℕ} 0 1 = cc in absurd (omega arith)
+    go (foreign x w h) e = let z : _≡_ {A = ℕ} 0 1 = cc in absurd (omega arith)
+    go (long x kind w h l) e = let z : _≡_ {A = ℕ} 0 1 = cc in absurd (omega arith)
+    go (keyless x kind w h l q) e = let z : _≡_ {A = ℕ} 0 1 = cc in absurd (omega arith)
+    go (lacks x k a q f) e = let z : _≡_ {A = ℕ} 0 1 = cc in absurd (omega arith)
+    go (keeps x k a q c f) e = absurd (accepts-not _ _ (judge-accepts _ (s .settings .limit) (rest s k) k (x .lastTable) _) refl e)
+    go (ignores x k a h q f) e = absurd (accepts-not _ _ (judge-accepts _ (s .settings .limit) (rest s k) k (x .lastTable) _) refl e)
+    go (conflicts x k a h q f) e = (
+      x,
+      k,
+      refl,
+      record {
+        found = start-held (partOf x) (find sameSet k (s .eit .sets .rows)) h q;
+        differs = (h, q, f);
+        leaves = (let t = touched x k h q in λ i. record { settings = s .settings; eit = record { sets = t i; schedules = s .eit .schedules }; cells = s .cells });
+      },
+    )

@@ -1,0 +1,49 @@
+-- The tests of keys mean equality.
+-- Assumes nothing.
+use mathlib.Core.Path.{_≡_, refl, sym, ap, _∙_}
+use mathlib.Core.Bool.{true}
+use Prim.Native.Nat.{ℕ, zero, suc}
+use Rattle.laws.proofs.Tests.{and-true, eq-true, beq-true}
+use Rattle.touch.proofs.Same.{samePid-true}
+use Rattle.eitrules.specs.Keys.{Kind, presentActual, presentOther, scheduleActual, scheduleOther, kindNumber, sameKind, ScheduleKey, SetKey, sameSchedule, sameSet}
+
+kindAt : ℕ → Kind
+kindAt zero = presentActual
+kindAt (suc zero) = presentOther
+kindAt (suc (suc zero)) = scheduleActual
+kindAt (suc (suc (suc n))) = scheduleOther
+
+kind-back : (k : Kind) → kindAt (kindNumber k) ≡ k
+unfolding kindAt kindNumber
+kind-back presentActual = refl
+kind-back presentOther = refl
+kind-back scheduleActual = refl
+kind-back scheduleOther = refl
+
+pub sameKind-true : (a b : Kind) → sameKind a b ≡ true → a ≡ b
+unfolding sameKind
+sameKind-true a b h = sym (kind-back a) ∙ ap kindAt (eq-true (kindNumber a) (kindNumber b) h) ∙ kind-back b
+
+pub sameSchedule-true : (a b : ScheduleKey) → sameSchedule a b ≡ true → a ≡ b
+unfolding sameSchedule
+sameSchedule-true a b h =
+    let p = and-true _ _ h in
+    let q = and-true _ _ (p .1) in
+    let r = and-true _ _ (q .1) in
+    let s = and-true _ _ (r .1) in
+    let t = and-true _ _ (s .1) in
+    let e₁ = samePid-true _ _ (p .0) in
+    let e₂ = sameKind-true _ _ (q .0) in
+    let e₃ = eq-true _ _ (r .0) in
+    let e₄ = eq-true _ _ (s .0) in
+    let e₅ = eq-true _ _ (t .0) in
+    let e₆ = beq-true _ _ (t .1) in
+    λ i. record { pid = e₁ i; kind = e₂ i; serviceId = e₃ i; transportStreamId = e₄ i; originalNetworkId = e₅ i; currentNext = e₆ i }
+
+pub sameSet-true : (a b : SetKey) → sameSet a b ≡ true → a ≡ b
+unfolding sameSet
+sameSet-true a b h =
+    let p = and-true _ _ h in
+    let e₁ = sameSchedule-true _ _ (p .0) in
+    let e₂ = eq-true _ _ (p .1) in
+    λ i. record { schedule = e₁ i; tableId = e₂ i }

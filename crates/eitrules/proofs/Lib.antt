@@ -1,0 +1,14 @@
+pub mod Keys
+pub mod Segments
+pub mod Schedules
+pub mod Judged
+pub mod Views
+pub mod Outcome
+pub mod Cells
+pub mod Checked
+pub mod Whole
+pub mod History
+pub mod Exact
+pub mod Free
+pub mod Examples
+pub mod CellExamples

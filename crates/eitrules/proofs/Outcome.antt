@@ -1,0 +1,143 @@
+-- Every way that a call on the EIT collector with cells can go, with what is known there. The theorems on answers and cells are read off from it.
+-- Assumes nothing.
+use mathlib.Core.Path.{_≡_, refl, sym, ap, _∙_}
+use mathlib.Core.Logic.{_≢_}
+use mathlib.Core.Bool.{Bool, true, false, true≢false}
+use mathlib.Core.Option.{Option, none, some}
+use Prim.Native.Nat.{ℕ, zero, suc, _≤_, _<_}
+use native.Mathlib.Omega.{arith}
+use lib.Dec.{leb}
+use lib.ListN.{length}
+use Rattle.laws.proofs.Tests.{le-true, le-false}
+use Rattle.touch.specs.Same.{Bytes}
+use Rattle.touch.specs.Row.{slotOf, keep}
+use Rattle.touch.specs.Cells.{Held, bytesOf, write, Place, heldIn}
+use Rattle.touch.proofs.Cells.{LowestFree, AllTaken, Placed, laid, lacking, alike, unlike, placed}
+use Rattle.eitrules.specs.Keys.{Kind, kindOf, firstOf, SetKey, Filter, badPid}
+use Rattle.eitrules.specs.Segments.{SetOf, complete}
+use Rattle.eitrules.specs.Schedules.{ScheduleOf, allTables}
+use Rattle.eitrules.specs.Rules.{EitOf, Section, keyOf, partOf, Call, clear, drop, refuse, offer, done, refused, nothing, handout, schedule, conflict, range, notWhole, counterFull, noCell, gives, metRow, told, ranged, ready, judged, judge, cleared, dropped, Answer}
+use Rattle.eitrules.specs.Cells.{Store, Turn, onAnswer, taken, storeWhole, ended, shows, rest, roomFor, placeOf, carry, pushIn, admitIn, offerIn, dropIn, good, guarded, call}
+
+-- the row that a section meets
+abbrev pub row : Store → Section → SetKey → SetOf Held
+row s x k = metRow x k (s .eit)
+
+-- what the section's slot names there
+abbrev pub slot : Store → Section → SetKey → Option Held
+slot s x k = slotOf (partOf x) (row s x k)
+
+-- the store is whole, no counter is at its end, the section is an EIT's with key k and no longer than a cell, and the limit is not 0
+pub record Asks (s : Store) (x : Section) (k : SetKey) : Type 0 where
+  pub isWhole : storeWhole s ≡ true
+  pub running : ended s (offer x) ≡ false
+  pub kind : Kind
+  pub isKind : kindOf (x .tableId) ≡ some kind
+  pub isKey : keyOf x kind ≡ k
+  pub short : length (x .bytes) ≤ s .settings .cellSize
+  pub some-key : 1 ≤ s .settings .limit
+
+pub data Outcome (s : Store) : Call → Turn → Type 0 where
+  broken : (i : Call) → storeWhole s ≡ false → Outcome s i (record { answer = notWhole; store = s })
+  stopped : (i : Call) → storeWhole s ≡ true → ended s i ≡ true → Outcome s i (record { answer = counterFull; store = s })
+  clears : storeWhole s ≡ true → Outcome s clear (record { answer = done; store = record { settings = s .settings; eit = cleared (s .eit); cells = s .cells } })
+  drops : (f : Filter) → storeWhole s ≡ true → badPid (f .pid) ≡ false → Outcome s (drop f) (record { answer = done; store = record { settings = s .settings; eit = dropped f (s .eit); cells = s .cells } })
+  keepsAll : (f : Filter) → storeWhole s ≡ true → badPid (f .pid) ≡ true → Outcome s (drop f) (record { answer = refused 12; store = s })
+  refuses : (n : ℕ) → storeWhole s ≡ true → Outcome s (refuse n) (record { answer = refused n; store = s })
+  foreign : (x : Section) → storeWhole s ≡ true → kindOf (x .tableId) ≡ none → Outcome s (offer x) (record { answer = refused 18; store = s })
+  long : (x : Section) (kind : Kind) → storeWhole s ≡ true → kindOf (x .tableId) ≡ some kind → s .settings .cellSize < length (x .bytes)
+      → Outcome s (offer x) (record { answer = refused 20; store = s })
+  keyless : (x : Section) (kind : Kind) → storeWhole s ≡ true → kindOf (x .tableId) ≡ some kind → length (x .bytes) ≤ s .settings .cellSize → s .settings .limit ≡ 0
+      → Outcome s (offer x) (record { answer = nothing; store = s })
+  lacks : (x : Section) (k : SetKey) → Asks s x k → slot s x k ≡ none → AllTaken (taken (roomFor s x k)) (length (s .cells)) → Outcome s (offer x) (record { answer = noCell; store = s })
+  keeps : (x : Section) (k : SetKey) → Asks s x k → slot s x k ≡ none → (c : ℕ) → LowestFree (taken (roomFor s x k)) (length (s .cells)) c
+      → Outcome s (offer x) (shows s (write (s .cells) c (x .bytes)) (judge (s .settings .limit) (rest s k) k (x .lastTable) (keep (partOf x) (heldIn c (x .bytes)) (row s x k))))
+  ignores : (x : Section) (k : SetKey) → Asks s x k → (h : Held) → slot s x k ≡ some h → bytesOf (s .cells) h ≡ x .bytes
+      → Outcome s (offer x) (shows s (s .cells) (judge (s .settings .limit) (rest s k) k (x .lastTable) (row s x k)))
+  conflicts : (x : Section) (k : SetKey) → Asks s x k → (h : Held) → slot s x k ≡ some h → bytesOf (s .cells) h ≢ x .bytes
+      → Outcome s (offer x) (record { answer = conflict; store = record { settings = s .settings; eit = roomFor s x k; cells = s .cells } })
+
+module _ (s : Store) where
+  carried : (x : Section) (k : SetKey) → Asks s x k → {p : Place} → Placed (s .cells) (taken (roomFor s x k)) (x .bytes) (slot s x k) p → Outcome s (offer x) (carry s x k p)
+  unfolding carry shows onAnswer
+  carried x k a (laid c e f) = keeps x k a e c f
+  carried x k a (lacking e f) = lacks x k a e f
+  carried x k a (alike h e q) = ignores x k a h e q
+  carried x k a (unlike h e q) = conflicts x k a h e q
+
+  module _ (x : Section) (w : storeWhole s ≡ true) (e : ended s (offer x) ≡ false) (kind : Kind) (h : kindOf (x .tableId) ≡ some kind) where
+    pushed : length (x .bytes) ≤ s .settings .cellSize → (n : ℕ) → s .settings .limit ≡ n → Outcome s (offer x) (pushIn n s x (keyOf x kind))
+    unfolding pushIn shows onAnswer placeOf
+    pushed l zero q = keyless x kind w h l q
+    pushed l (suc n) q =
+        carried x (keyOf x kind) (record { isWhole = w; running = e; kind = kind; isKind = h; isKey = refl; short = l; some-key = omega arith })
+        (placed (s .cells) (taken (roomFor s x (keyOf x kind))) (x .bytes) (slot s x (keyOf x kind)))
+
+    admitted : (b : Bool) → leb (length (x .bytes)) (s .settings .cellSize) ≡ b → Outcome s (offer x) (admitIn s x (keyOf x kind) b)
+    unfolding admitIn shows onAnswer
+    admitted false q = long x kind w h (le-false (length (x .bytes)) (s .settings .cellSize) q)
+    admitted true q = pushed (le-true (length (x .bytes)) (s .settings .cellSize) q) (s .settings .limit) refl
+
+  offered : (x : Section) → storeWhole s ≡ true → ended s (offer x) ≡ false → (o : Option Kind) → kindOf (x .tableId) ≡ o → Outcome s (offer x) (offerIn s x o)
+  unfolding offerIn shows onAnswer
+  offered x w e none h = foreign x w h
+  offered x w e (some kind) h = admitted x w e kind h (leb (length (x .bytes)) (s .settings .cellSize)) refl
+
+  filtered : (f : Filter) → storeWhole s ≡ true → (b : Bool) → badPid (f .pid) ≡ b → Outcome s (drop f) (dropIn s f b)
+  unfolding dropIn shows onAnswer
+  filtered f w true h = keepsAll f w h
+  filtered f w false h = drops f w h
+
+  well : (i : Call) → storeWhole s ≡ true → ended s i ≡ false → Outcome s i (good s i)
+  unfolding good shows onAnswer
+  well clear w e = clears w
+  well (drop f) w e = filtered f w (badPid (f .pid)) refl
+  well (refuse n) w e = refuses n w
+  well (offer x) w e = offered x w e (kindOf (x .tableId)) refl
+
+  pub outcome : (i : Call) → Outcome s i (call s i)
+  unfolding call guarded
+  outcome i = go (storeWhole s) (ended s i) refl refl
+    where
+      go : (a b : Bool) → storeWhole s ≡ a → ended s i ≡ b → Outcome s i (guarded a b s i)
+      go false b w e = broken i w
+      go true true w e = stopped i w e
+      go true false w e = well i w e
+
+-- 4, 5, 6 or 23: what judging a row answers
+unfoldable pub accepting : Answer → Bool
+accepting done = false
+accepting (refused n) = false
+accepting nothing = true
+accepting (handout w) = true
+accepting (schedule g) = true
+accepting conflict = false
+accepting range = true
+accepting notWhole = false
+accepting counterFull = false
+accepting noCell = false
+
+pub judge-accepts : (f : Held → Bytes) (limit : ℕ) (e : EitOf Held) (k : SetKey) (last : ℕ) (r : SetOf Held) → accepting (onAnswer f ((judge limit e k last r) .answer)) ≡ true
+unfolding judge judged ready ranged told onAnswer accepting
+judge-accepts f limit e k last r = go (r .mark) (complete r)
+  where
+    tell : (first : ℕ) (s : ScheduleOf Held) (b : Bool) → accepting (onAnswer f (told (k .schedule) first s b)) ≡ true
+    tell first s true = refl
+    tell first s false = refl
+
+    in-range : (first : ℕ) (b : Bool) (s : ScheduleOf Held) → accepting (onAnswer f ((ranged limit e k r first b s) .answer)) ≡ true
+    in-range first true s = tell first s (allTables first s)
+    in-range first false s = refl
+
+    goes : (o : Option ℕ) → accepting (onAnswer f ((ready limit e k last r o) .answer)) ≡ true
+    goes none = refl
+    goes (some first) = in-range first (leb (k .tableId) last) _
+
+    go : (b c : Bool) → accepting (onAnswer f ((judged limit e k last r b c) .answer)) ≡ true
+    go true c = refl
+    go false false = refl
+    go false true = goes (firstOf (k .schedule .kind))
+
+-- so it is no other answer
+pub accepts-not : (a b : Answer) → accepting a ≡ true → accepting b ≡ false → a ≢ b
+accepts-not a b p q e = true≢false (sym p ∙ ap accepting e ∙ q)
