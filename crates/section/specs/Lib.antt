@@ -1,0 +1,4 @@
+pub mod Ids
+pub mod Header
+pub mod Eit
+pub mod Segment

@@ -1,0 +1,3 @@
+// What the bytes of a section say.
+pub mod eit;
+pub mod ids;
