@@ -2,19 +2,20 @@
 -- Assumes nothing.
 use mathlib.Core.Path.{_≡_, refl, ap, _∙_}
 use mathlib.Core.Logic.{by-cases}
-use mathlib.Core.Bool.{Bool, true, false, _||_}
+use mathlib.Core.Bool.{Bool, true, false, not, _&&_, _||_}
 use Prim.Native.Nat.{ℕ, zero, suc, _+_, _*_, _/_, _%_, _^_, _<_, _-_, max, min}
-use native.Mathlib.Nat.{one-mul, div-eq-of-lt, pow-suc}
+use native.Mathlib.Nat.{one-mul, div-eq-of-lt, zero-div, pow-suc}
 use native.Mathlib.Omega.{arith}
 use native.Mathlib.Decide.{decLt, ℕ-discrete}
-use mathlib.Core.List.{List, [], _∷_}
-use lib.ListN.{length, getD, length-set}
-use lib.Seq.{getD-set-same, getD-set-other}
+use mathlib.Core.List.{List, [], _∷_, _++_}
+use lib.ListN.{length, getD, take, replicate, length-set}
+use lib.Seq.{getD-set-same, getD-set-other, getD-take}
 use lib.Pow.{shl-exact, pow-lt, pow-add, shl-shr}
 use lib.Bits.{bitOr, bitAnd, bitXor, differ, or-shr, or-step, and-shr, and-step, xor-shr, xor-step}
 use lib.Dec.{eqb}
 use borrow.Author.Tests.{eq-eqb, ne-eqb}
-use Rattle.laws.specs.Bits.{bit, hasBit, addBit, addBits}
+use Rattle.laws.specs.Bits.{bit, hasBit, addBit, addBits, union, without, less}
+use Rattle.laws.proofs.Lists.{getD-zip}
 
 -- the shift that code makes is the power
 pub one-shl : (k : ℕ) → k < 64 → (1 * 2 ^ k) % 2 ^ 64 ≡ 2 ^ k
@@ -107,3 +108,51 @@ has-all w (p ∷ ps) q h =
     swap true false c = refl
     swap false true c = refl
     swap false false c = refl
+
+pub length-addBits : (w ps : List ℕ) → length (addBits w ps) ≡ length w
+unfolding addBits
+length-addBits w [] = refl
+length-addBits w (p ∷ ps) = length-addBits (addBit w p) ps ∙ length-addBit w p
+
+-- many, and then more
+pub addBits-append : (w ps qs : List ℕ) → addBits (addBits w ps) qs ≡ addBits w (ps ++ qs)
+unfolding addBits
+addBits-append w [] qs = refl
+addBits-append w (p ∷ ps) qs = addBits-append (addBit w p) ps qs
+
+-- the empty set
+pub has-none : (n q : ℕ) → hasBit (replicate n 0) q ≡ false
+has-none n q =
+    let e : getD {A = ℕ} (replicate n 0) (q / 64) 0 ≡ 0 = zeros n (q / 64) in
+    rw e (ne-eqb (bit 0 (q % 64)) 1 (let z : 0 / 2 ^ (q % 64) ≡ 0 = zero-div (2 ^ (q % 64)) in omega arith))
+  where
+    zeros : (n i : ℕ) → getD {A = ℕ} (replicate n 0) i 0 ≡ 0
+    zeros zero i = refl
+    zeros (suc n) zero = refl
+    zeros (suc n) (suc i) = zeros n i
+
+-- a set that stands first in a longer list
+pub has-first : (w : List ℕ) (n q : ℕ) → q / 64 < n → hasBit (take n w) q ≡ hasBit w q
+has-first w n q h = rw (getD-take n w (q / 64) 0 h)
+
+-- what holds of each two bits
+by-bits : (P : ℕ → ℕ → Type 0) → P 0 0 → P 0 1 → P 1 0 → P 1 1 → (x y : ℕ) → x < 2 → y < 2 → P x y
+by-bits P a b c d zero zero h l = a
+by-bits P a b c d zero (suc zero) h l = b
+by-bits P a b c d (suc zero) zero h l = c
+by-bits P a b c d (suc zero) (suc zero) h l = d
+by-bits P a b c d zero (suc (suc y)) h l = absurd (omega arith)
+by-bits P a b c d (suc zero) (suc (suc y)) h l = absurd (omega arith)
+by-bits P a b c d (suc (suc x)) y h l = absurd (omega arith)
+
+-- of two sets in as many words, with q within them
+module _ (a b : List ℕ) (q : ℕ) (e : length a ≡ length b) (h : q / 64 < length a) where
+  pub has-union : hasBit (union a b) q ≡ hasBit a q || hasBit b q
+  has-union =
+      rw (getD-zip bitOr a b (q / 64) 0 h (omega arith), bit-or) (by-bits (λ x y. eqb (max x y) 1 ≡ eqb x 1 || eqb y 1) refl refl refl refl
+      (bit (getD a (q / 64) 0) (q % 64)) (bit (getD b (q / 64) 0) (q % 64)) (omega arith) (omega arith))
+
+  pub has-less : hasBit (less a b) q ≡ hasBit a q && not (hasBit b q)
+  has-less =
+      rw (getD-zip without a b (q / 64) 0 h (omega arith), bit-less) (by-bits (λ x y. eqb (x - y) 1 ≡ eqb x 1 && not (eqb y 1)) refl refl refl refl
+      (bit (getD a (q / 64) 0) (q % 64)) (bit (getD b (q / 64) 0) (q % 64)) (omega arith) (omega arith))
