@@ -43,3 +43,19 @@ impl Pid {
         }
     }
 }
+
+// The eight well-known PIDs.
+pub fn well_known() -> [u16; 8]
+    ensures { λ r. ⌜ r ≡ knownPids ⌝ }
+{
+    [
+        Pid::PAT.0,
+        Pid::CAT.0,
+        Pid::NIT.0,
+        Pid::SDT_BAT.0,
+        Pid::EIT.0,
+        Pid::RST.0,
+        Pid::TDT_TOT.0,
+        Pid::SAT.0,
+    ]
+}
