@@ -5,3 +5,4 @@ pub mod Search
 pub mod Bits
 pub mod Xor
 pub mod Unique
+pub mod Entries

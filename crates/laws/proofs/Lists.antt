@@ -1,13 +1,13 @@
 -- Facts on lists that the kit lacks: parts, pastes, and one turn of a loop that reads or writes them.
 -- Assumes nothing.
 use mathlib.Core.Path.{_≡_, refl, sym, ap, _∙_}
-use mathlib.Core.List.{List, [], _∷_, _++_, append-nil}
+use mathlib.Core.List.{List, [], _∷_, _++_, append-nil, append-assoc, zipWith}
 use Prim.Native.Nat.{ℕ, zero, suc, _+_, _-_, _≤_, _<_, min}
 use native.Mathlib.Nat.{zero-add, suc-add, add-zero, sub-zero, zero-min, min-zero, suc-min-suc}
 use native.Mathlib.Numerals.{add-one}
 use native.Mathlib.Omega.{arith}
-use lib.ListN.{length, take, drop, getD, set, replicate, length-drop, length-replicate, replicate-append-replicate, drop-of-length-le}
-use lib.Seq.{getD-drop, paste, paste-suc, drop-paste, take-nil, take-all, drop-cons, set-at, append-snoc}
+use lib.ListN.{length, take, drop, getD, set, replicate, length-drop, length-replicate, replicate-append-replicate, drop-of-length-le, length-append}
+use lib.Seq.{getD-drop, paste, paste-suc, drop-paste, take-nil, take-all, drop-cons, set-at, append-snoc, take-at, drop-at}
 
 module _ {A : Type 0} where
   -- equal indices
@@ -77,6 +77,27 @@ module _ {A : Type 0} where
 
   pub rest-length : (n : ℕ) (l : List A) → length (take (length l - n) (drop n l)) ≡ length l - n
   rest-length n l = rw rest-part (length-drop n l)
+
+  -- a middle part replaced by another as long
+  pub paste-part : (a b c s : List A) (at n : ℕ) → length a ≡ at → length b ≡ n → length s ≡ n → paste (a ++ (b ++ c)) at s n ≡ a ++ (s ++ c)
+  paste-part a b c s at n ha hb hs =
+      let e : length (a ++ b) ≡ at + n = simp length-append (omega arith) in
+      let l : length s ≤ n = omega arith in
+      rw (take-at a (b ++ c) at ha, take-all n s l, ← append-assoc a b c, drop-at (a ++ b) c (at + n) e, append-assoc a s c)
+
+  -- two lists element by element
+  pub length-zip : (f : A → A → A) (xs ys : List A) → length xs ≡ length ys → length (zipWith f xs ys) ≡ length xs
+  unfolding zipWith
+  length-zip f [] ys h = refl
+  length-zip f (x ∷ xs) [] h = absurd (omega arith)
+  length-zip f (x ∷ xs) (y ∷ ys) h = ap suc (length-zip f xs ys (omega arith))
+
+  pub getD-zip : (f : A → A → A) (xs ys : List A) (i : ℕ) (d : A) → i < length xs → i < length ys → getD (zipWith f xs ys) i d ≡ f (getD xs i d) (getD ys i d)
+  unfolding zipWith
+  getD-zip f [] ys i d h l = absurd (omega arith)
+  getD-zip f (x ∷ xs) [] i d h l = absurd (omega arith)
+  getD-zip f (x ∷ xs) (y ∷ ys) zero d h l = refl
+  getD-zip f (x ∷ xs) (y ∷ ys) (suc i) d h l = getD-zip f xs ys i d (omega arith) (omega arith)
 
 -- copies of the default, and past them the default
 pub getD-none : {A : Type 0} (n i : ℕ) (a : A) → getD (replicate n a) i a ≡ a

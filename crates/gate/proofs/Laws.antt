@@ -1,0 +1,187 @@
+-- What the tests of an offer tell as orders of numbers, and one law for each way out of a function.
+-- Assumes nothing.
+use Prim.Native.Nat.{ℕ, _+_, _<_, _≤_, _^_}
+use mathlib.Core.Path.{_≡_, refl, sym, ap, _∙_}
+use mathlib.Core.List.{List}
+use mathlib.Core.Bool.{Bool, true, false, cond, not, _&&_, _||_}
+use lib.ListN.{length, replicate}
+use lib.Dec.{ltb, leb, eqb}
+use native.Mathlib.Omega.{arith}
+use borrow.Author.Tests.{leb-true, eqb-false, ne-eqb, lt-ltb, le-ltb, not-true, not-false}
+use Rattle.laws.proofs.Tests.{and-true, or-false}
+use Rattle.ring.specs.Store.{roomOf, Whole, stampOf, seenOf, keysAfter, changesAfter}
+use Rattle.ring.specs.Store.{wholeOf as ringWhole}
+use Rattle.ring.specs.declared.Ring.{Ring}
+use Rattle.ring.specs.declared.Seen.{Seen}
+use Rattle.ring.proofs.Laws.{whole as ring-whole}
+use Rattle.section.specs.Header.{tableId}
+use Rattle.section.specs.Key.{keyOf}
+use Rattle.section.specs.Judged.{judgedOf}
+use Rattle.section.specs.Pat.{readable, patOf, withPrograms}
+use Rattle.section.specs.declared.pat.Pat.{Pat}
+use Rattle.section.specs.declared.pat.Pat.the-variants.{Readable, Unreadable}
+use Rattle.section.specs.declared.header.Parts.{Parts}
+use Rattle.section.specs.declared.header.Judged.{Judged}
+use Rattle.section.specs.declared.header.Judged.the-variants.{Short, Mismatch, Sound}
+use Rattle.section.proofs.Facts.{judged-table, unreadable, made-one, made-none}
+use Rattle.section.specs.Ids.{pidMade}
+use Rattle.section.specs.declared.ids.Pid.{Pid}
+use Rattle.section.specs.declared.ids.Made.{Made}
+use Rattle.section.specs.declared.ids.Made.the-variants.{One, TooLarge}
+use Rattle.watched.specs.Store.{allPids, filled, following}
+use Rattle.gate.specs.Store.{begun, begunBy, hasRoom, opened, wholeOf, Fits, isFull, anyFull, CanCount, Store, Left, storeOf, leftBy, refused, failure, seenBy, programsOf, followedPat, watchAfter, soundOf, judgedAs, consideredOf, offered}
+use Rattle.gate.specs.declared.Gate.{Gate}
+use Rattle.gate.specs.declared.Counters.{Counters}
+use Rattle.gate.specs.declared.Offered.{Offered}
+use Rattle.gate.specs.declared.Settings.{Settings}
+use Rattle.gate.specs.declared.Opened.{Opened}
+use Rattle.watched.specs.declared.Opening.the-variants.{Opened as Opened′, TooLittle, BadPid as BadExtra}
+use Rattle.gate.specs.declared.Answer.the-variants.{NotWhole, CounterFull, BadPid}
+
+-- ---- 10 and 11
+
+pub fits : (g : Gate) (keys changes words : ℕ) (w : Bool) → w ≡ wholeOf g keys changes words → not w ≡ false → Fits g keys changes words
+fits g keys changes words w e h =
+    let a = and-true _ _ (sym e ∙ not-false w h) in
+    record { rows = ring-whole (g .ring) keys changes (ringWhole (g .ring) keys changes) refl (a .0); watch = leb-true _ _ (a .1) }
+
+below : (n : ℕ) → n < 2 ^ 64 → isFull n ≡ false → n + 1 < 2 ^ 64
+below n h e = let q : n ≡ 18446744073709551615 → ⊥ = eqb-false _ _ e in omega arith
+
+pub can-count :
+    (c : Counters) (t : Bool) → c .completed < 2 ^ 64 → c .emitted < 2 ^ 64 → c .suppressed < 2 ^ 64 → c .«crc_failures» < 2 ^ 64 → c .evictions < 2 ^ 64 →
+    t ≡ anyFull c → t ≡ false → CanCount c
+can-count c t h₁ h₂ h₃ h₄ h₅ e h =
+    let v = or-false _ _ (sym e ∙ h) in
+    let f = or-false _ _ (v .0) in
+    let s = or-false _ _ (f .0) in
+    let m = or-false _ _ (s .0) in
+    record {
+      completed = below _ h₁ (m .0);
+      emitted = below _ h₂ (m .1);
+      suppressed = below _ h₃ (s .1);
+      failures = below _ h₄ (f .1);
+      evictions = below _ h₅ (v .1);
+    }
+
+-- ---- following
+
+read-yes : (b : Bool) → Readable ≡ cond b Readable Unreadable → b ≡ true
+read-yes true e = refl
+read-yes false e = let z : _≡_ {A = ℕ} 0 1 = cc in absurd (omega arith)
+
+read-no : (b : Bool) → Unreadable ≡ cond b Readable Unreadable → b ≡ false
+read-no true e = let z : _≡_ {A = ℕ} 0 1 = cc in absurd (omega arith)
+read-no false e = refl
+
+module _ (words section : List ℕ) where
+  pub pat-followed :
+      (r : Pat) (n ws : List ℕ) → r ≡ patOf section → r ≡ Readable → n ≡ withPrograms section (replicate 128 0) → ws ≡ following words n → ws ≡ followedPat words section
+  unfolding followedPat patOf
+  pat-followed r n ws e h k j = rw (read-yes (readable section) (sym h ∙ e), ← k) j
+
+  pub pat-unread : (r : Pat) → r ≡ patOf section → r ≡ Unreadable → words ≡ followedPat words section
+  unfolding followedPat patOf
+  pat-unread r e h = rw (read-no (readable section) (sym h ∙ e))
+
+  pub follow-yes : (f : Bool) (ws : List ℕ) → f ≡ true → ws ≡ followedPat words section → ws ≡ watchAfter f words section
+  follow-yes f ws h j = rw h j
+
+  pub follow-no : (f : Bool) → f ≡ false → words ≡ watchAfter f words section
+  follow-no f h = rw h
+
+  -- no PAT has another table_id than 0
+  no-pat : (tableId section ≡ 0 → ⊥) → followedPat words section ≡ words
+  unfolding followedPat
+  no-pat h = rw (unreadable section (ne-eqb (tableId section) 0 h))
+
+  pub watch-sound :
+      (t : ℕ) (a b : Bool) (ws : List ℕ) → t ≡ tableId section → ws ≡ watchAfter (a && b && eqb t 0) words section → ws ≡ watchAfter (a && b) words section
+  watch-sound t a b ws e j = go (a && b) (eqb t 0) refl j
+    where
+      go : (c d : Bool) → d ≡ eqb t 0 → ws ≡ watchAfter (c && d) words section → ws ≡ watchAfter c words section
+      go true true p j = j
+      go true false p j = j ∙ sym (no-pat (λ z. eqb-false t 0 (sym p) (e ∙ z)))
+      go false d p j = j
+
+-- ---- the ways out of an offer
+
+module _ (g : Gate) (c : Counters) (keys changes words : List ℕ) (pid : ℕ) (section : List ℕ) where
+  pub sound-told :
+      (p : Parts) (key : ℕ) (seen : Seen) (ks ms ws : List ℕ) (o : Offered) → p .«table_id» ≡ tableId section →
+      key ≡ keyOf pid (p .«table_id») (p .extension) (p .number) →
+      seen ≡ seenOf (g .ring) keys changes key (stampOf (p .version) (p .change)) →
+      ks ≡ keysAfter (g .ring) keys key →
+      ms ≡ changesAfter (g .ring) keys changes key (stampOf (p .version) (p .change)) →
+      ws ≡ watchAfter (seen .changed && g .follow && eqb (p .«table_id») 0) words section →
+      o ≡ seenBy g c seen →
+      leftBy o ks ms ws ≡ soundOf (storeOf g c keys changes words) pid section p
+  unfolding soundOf
+  sound-told p key seen ks ms ws o t e f k m w j =
+      let q : ws ≡ watchAfter (seen .changed && g .follow) words section = watch-sound words section (p .«table_id») (seen .changed) (g .follow) ws t w in
+      rw (← e, ← f, ← k, ← m, ← q, ← j)
+
+  module _ (v : Judged) (e : v ≡ judgedOf section) where
+    pub considered-short : (o : Offered) → v ≡ Short → o ≡ failure g c → leftBy o keys changes words ≡ consideredOf (storeOf g c keys changes words) pid section
+    unfolding consideredOf judgedAs
+    considered-short o h j = rw (← e, h, j)
+
+    pub considered-mismatch :
+        (a b : ℕ) (o : Offered) → v ≡ Mismatch a b → o ≡ failure g c → leftBy o keys changes words ≡ consideredOf (storeOf g c keys changes words) pid section
+    unfolding consideredOf judgedAs
+    considered-mismatch a b o h j = rw (← e, h, j)
+
+    pub considered-sound :
+        (p : Parts) (l : Left) → v ≡ Sound p → l ≡ soundOf (storeOf g c keys changes words) pid section p → l ≡ consideredOf (storeOf g c keys changes words) pid section
+    unfolding consideredOf judgedAs
+    considered-sound p l h j = rw (← e, h) j
+
+    pub sound-table : (p : Parts) → v ≡ Sound p → p .«table_id» ≡ tableId section
+    sound-table p h = judged-table section p (sym e ∙ h)
+
+  -- 10, 11 and 12, and what nothing refuses
+  module _ (w : Bool) (e : w ≡ wholeOf g (length keys) (length changes) (length words)) where
+    pub offered-broken : (o : Offered) → not w ≡ true → o ≡ refused NotWhole g c → leftBy o keys changes words ≡ offered (storeOf g c keys changes words) pid section
+    unfolding offered
+    offered-broken o h j = rw (← e, not-true w h, j)
+
+    module _ (h : not w ≡ false) (f : Bool) (d : f ≡ anyFull c) where
+      pub offered-full : (o : Offered) → f ≡ true → o ≡ refused CounterFull g c → leftBy o keys changes words ≡ offered (storeOf g c keys changes words) pid section
+      unfolding offered
+      offered-full o k j = rw (← e, not-false w h, ← d, k, j)
+
+      module _ (k : f ≡ false) (m : Made) (q : m ≡ pidMade pid) where
+        pub offered-pid : (o : Offered) → m ≡ TooLarge → o ≡ refused BadPid g c → leftBy o keys changes words ≡ offered (storeOf g c keys changes words) pid section
+        unfolding offered
+        offered-pid o y j = rw (← e, not-false w h, ← d, k, le-ltb pid 8192 (made-none pid m q y), j)
+
+        pub offered-considered :
+            (p : Pid) (l : Left) → m ≡ One p → l ≡ consideredOf (storeOf g c keys changes words) (p .0) section → l ≡ offered (storeOf g c keys changes words) pid section
+        unfolding offered
+        offered-considered p l y j =
+            let n = made-one pid m q p y in
+            rw (← e, not-false w h, ← d, k, lt-ltb pid 8192 (n .1), ← (n .0)) j
+
+-- ---- opening
+
+module _ (s : Settings) (extra words : List ℕ) (keys changes : ℕ) (b : Bool) (e : b ≡ allPids extra) where
+  pub opened-pid : (o : Opened) → not b ≡ true → o ≡ begun BadExtra s → begunBy o words ≡ opened s extra keys changes words
+  unfolding opened
+  opened-pid o h j = rw (← e, not-true b h, j)
+
+  pub pids-good : not b ≡ false → allPids extra ≡ true
+  pids-good h = sym e ∙ not-false b h
+
+  module _ (h : not b ≡ false) (r : Bool) (d : r ≡ hasRoom (s .capacity) keys changes (length words)) where
+    pub opened-little : (o : Opened) → not r ≡ true → o ≡ begun TooLittle s → begunBy o words ≡ opened s extra keys changes words
+    unfolding opened
+    opened-little o k j = rw (← e, not-false b h, ← d, not-true r k, j)
+
+    pub opened-yes :
+        (ws : List ℕ) (o : Opened) → not r ≡ false → ws ≡ filled words (s .«well_known») extra → o ≡ begun Opened′ s →
+        begunBy o ws ≡ opened s extra keys changes words
+    unfolding opened
+    opened-yes ws o k f j = rw (← e, not-false b h, ← d, not-false r k, ← f, j)
+
+    pub words-room : not r ≡ false → 384 ≤ length words
+    words-room k = leb-true 384 (length words) (and-true (leb (roomOf (s .capacity)) keys && leb (roomOf (s .capacity)) changes) (leb 384 (length words)) (sym d ∙ not-false r k) .1)
