@@ -2,9 +2,9 @@
 -- that shows what the rules leave.
 -- Assumes nothing.
 use mathlib.Core.Path.{_≡_, refl, sym, ap, _∙_}
-use mathlib.Core.Bool.{Bool, true, false}
-use mathlib.Core.Option.{Option, none, some}
-use Prim.Native.Nat.{ℕ, zero, suc, _≤_}
+use mathlib.Core.Bool.{true}
+use mathlib.Core.Option.{Option, some}
+use Prim.Native.Nat.{ℕ, zero, suc}
 use native.Mathlib.Omega.{arith}
 use lib.Dec.{leb}
 use lib.ListN.{length}
@@ -15,8 +15,8 @@ use Rattle.touch.specs.Row.{keep, onRow, put}
 use Rattle.touch.specs.Cells.{Held, Cells, bytesOf, write, heldIn}
 use Rattle.touch.specs.Runs.{Obeys, bars, does}
 use Rattle.touch.proofs.Cells.{kept-shown, rules-keep, rules-ignore, rules-refuse}
-use Rattle.eitrules.specs.Keys.{Kind, kindOf, SetKey, badPid}
-use Rattle.eitrules.specs.Rules.{EitOf, Section, keyOf, partOf, Call, offer, refused, nothing, conflict, barred, StepOf, Eit, Step, gives, metRow, setNewest, judge, cleared, finish, push, admit, offered, dropping, step, tells, acts}
+use Rattle.eitrules.specs.Keys.{Kind, kindOf, SetKey}
+use Rattle.eitrules.specs.Rules.{Section, keyOf, partOf, Call, offer, refused, nothing, conflict, barred, StepOf, Eit, Step, gives, judge, cleared, finish, push, admit, offered, dropping, step, tells, acts}
 use Rattle.eitrules.specs.Cells.{Store, Turn, onEit, onAnswer, view, setTakes, shows, rest, roomFor, call, callTells, callActs}
 use Rattle.eitrules.proofs.Views.{met-on, setAside-on, setNewest-on, dropped-on, onStep, judge-on, free-cell-unseen, free-parts}
 use Rattle.eitrules.proofs.Outcome.{row, Asks, Outcome, broken, stopped, clears, drops, keepsAll, refuses, foreign, long, keyless, lacks, keeps, ignores, conflicts, outcome}
@@ -115,9 +115,9 @@ module _ (s : Store) where
   settings-stay i = settings-of (outcome s i)
 
   -- whatever the store holds
-  pub obeys-rules : (i : Call) → Unit {0} → Obeys barred view (λ q. Unit {0}) callTells callActs (tells (s .settings)) (acts (s .settings)) s i
+  pub obeys-rules : (i : Call) → Obeys barred view (λ q. Unit {0}) callTells callActs (tells (s .settings)) (acts (s .settings)) s i
   unfolding callTells callActs tells acts
-  obeys-rules i u = go (well (outcome s i))
+  obeys-rules i = go (well (outcome s i))
     where
       go : Fits (call s i) (step (s .settings) (view s) i) → Obeys barred view (λ q. Unit {0}) callTells callActs (tells (s .settings)) (acts (s .settings)) s i
       go (out p) = bars p

@@ -2,36 +2,27 @@
 -- when a cell changes.
 -- Assumes nothing.
 use mathlib.Core.Path.{_≡_, refl, sym, ap, _∙_, subst}
-use mathlib.Core.Logic.{_≢_, _⊎_, inl, inr}
-use mathlib.Core.Bool.{Bool, true, false, _||_, true≢false}
-use mathlib.Core.Option.{Option, none, some, Option·map, Option·some-injective}
-use mathlib.Core.List.{List, [], _∷_, _++_}
+use mathlib.Core.Logic.{_≢_}
+use mathlib.Core.Bool.{true, false, true≢false}
+use mathlib.Core.Option.{Option, none, some, Option·map, Option·some-injective, map-eq-none-iff}
+use mathlib.Core.List.{[], _∷_, _++_}
 use Prim.Native.Nat.{ℕ, _<_}
 use native.Mathlib.Omega.{arith}
-use lib.ListN.{length, getD, drop}
-use Rattle.laws.proofs.Tests.{or-false, eq-false, none≢some}
-use Rattle.laws.proofs.Facts.{eq-fails}
-use Rattle.touch.specs.Same.{Bytes}
+use lib.ListN.{length}
+use Rattle.laws.proofs.Tests.{none≢some}
 use Rattle.touch.specs.Touch.{under, find, remove, aside, newest}
-use Rattle.touch.specs.Row.{slotOf, onRow}
-use Rattle.touch.specs.Cells.{Held, bytesOf, names, write}
-use Rattle.touch.proofs.Slots.{none-passes, passes-none}
-use Rattle.touch.proofs.All.{All, all-map, none-all, all-none, held-stays}
+use Rattle.touch.specs.Row.{slotOf}
+use Rattle.touch.specs.Cells.{Held, bytesOf}
+use Rattle.touch.proofs.All.{held-stays}
 use Rattle.touch.proofs.Row.{slot-on, start-held}
-use Rattle.touch.proofs.Cells.{LowestFree, AllTaken, write-other, write-front, Kept, kept-parts, parts-kept}
-use Rattle.eitrules.specs.Keys.{Kind, kindOf, ScheduleKey, SetKey, sameSet}
-use Rattle.eitrules.specs.Segments.{SetOf}
-use Rattle.eitrules.specs.Schedules.{CopyOf, ScheduleOf}
+use Rattle.touch.proofs.Cells.{LowestFree, AllTaken, Kept, kept-parts, parts-kept}
+use Rattle.eitrules.specs.Keys.{Kind, kindOf, SetKey, sameSet}
 use Rattle.eitrules.specs.Rules.{EitOf, Section, keyOf, partOf, Call, offer, Answer, done, refused, nothing, handout, schedule, conflict, range, notWhole, counterFull, noCell, asBefore, metRow, setAside, setNewest, isKept}
-use Rattle.eitrules.specs.Cells.{Store, Turn, onEit, onAnswer, view, setTakes, copyTakes, scheduleTakes, taken, storeWhole, ended, shows, rest, roomFor, call, callTells, callActs}
+use Rattle.eitrules.specs.Cells.{Store, Turn, onAnswer, view, taken, storeWhole, ended, shows, rest, roomFor, callTells, callActs}
 use Rattle.eitrules.proofs.Views.{met-on}
 use Rattle.eitrules.proofs.Outcome.{row, slot, Asks, Outcome, broken, stopped, clears, drops, keepsAll, refuses, foreign, long, keyless, lacks, keeps, ignores, conflicts, outcome, accepting, judge-accepts, accepts-not}
 
 -- ---- whether the rules keep a section, read off the store
-
-map-none : {A B : Type 0} (f : A → B) (o : Option A) → Option·map f o ≡ none → o ≡ none
-map-none f none h = refl
-map-none f (some a) h = absurd (none≢some h refl)
 
 module _ (s : Store) (x : Section) (k : SetKey) where
   shown-slot : slotOf (partOf x) (metRow x k (view s)) ≡ Option·map (bytesOf (s .cells)) (slot s x k)
@@ -45,7 +36,7 @@ module _ (s : Store) (x : Section) (k : SetKey) where
 
   kept-slot : isKept (s .settings) (view s) x k ≡ true → slot s x k ≡ none
   unfolding isKept
-  kept-slot h = map-none (bytesOf (s .cells)) (slot s x k) (sym shown-slot ∙ kept-parts (s .settings) (x .bytes) _ h .free)
+  kept-slot h = map-eq-none-iff (bytesOf (s .cells)) (slot s x k) .0 (sym shown-slot ∙ kept-parts (s .settings) (x .bytes) _ h .free)
 
 -- what judging a row answers changes something
 accepts-changes : (a : Answer) → accepting a ≡ true → asBefore a ≡ true → ⊥

@@ -14,8 +14,7 @@ use Rattle.touch.specs.Runs.{answers, storeAfter}
 use Rattle.eitrules.specs.Keys.{Kind, presentActual, presentOther, scheduleActual, scheduleOther, between, kindOf, firstOf, kindNumber, sameKind, ScheduleKey, SetKey, sameSchedule, sameSet, Filter, anyPid, exactly, badPid, pidPasses, passes, matches}
 use Rattle.eitrules.specs.Segments.{segmentEnd, SetOf, heldFrom, segmentFull, segmentsFull, complete}
 use Rattle.eitrules.specs.Schedules.{ScheduleOf, copyOf, whole, copied, refill, begin, enter, allTables, wholes, guide}
-use Rattle.eitrules.specs.Rules.{scheduleOf, keyOf, partOf, Call, clear, drop, refuse, offer, Whole, Answer, nothing, handout, schedule, conflict, range, numberOf, metRow, setAside, setNewest, scheduleTouched, told, ranged, ready, judged, judge, cleared, dropped, Eit, finish, push, admit, offered, dropping, step, tells, acts, opened}
-use Rattle.eitrules.specs.Cells.{shows, good, call}
+use Rattle.eitrules.specs.Rules.{scheduleOf, keyOf, partOf, Call, clear, drop, refuse, offer, Whole, Answer, nothing, handout, schedule, conflict, numberOf, metRow, setAside, setNewest, scheduleTouched, told, ranged, ready, judged, judge, cleared, dropped, Eit, finish, push, admit, offered, dropping, step, tells, acts, opened}
 
 -- ---- 01, "Checked examples": segment ends; and the kinds at their borders
 

@@ -2,15 +2,15 @@
 -- Assumes nothing.
 use mathlib.Core.Path.{_≡_, refl}
 use mathlib.Core.Logic.{_≢_, _⊎_, inl, inr}
-use mathlib.Core.Bool.{true, false, _||_}
+use mathlib.Core.Bool.{true, false}
 use mathlib.Core.Option.{none, some}
-use mathlib.Core.List.{List, [], _++_}
+use mathlib.Core.List.{[], _++_}
 use Prim.Native.Nat.{ℕ}
 use lib.ListN.{length, getD, drop}
 use Rattle.laws.proofs.Tests.{or-false, eq-false}
 use Rattle.laws.proofs.Facts.{eq-fails}
 use Rattle.touch.specs.Touch.{someRow}
-use Rattle.touch.specs.Cells.{Held, names, write}
+use Rattle.touch.specs.Cells.{Held, names}
 use Rattle.touch.proofs.Slots.{none-passes, passes-none}
 use Rattle.touch.proofs.All.{All, all-map, none-all, all-none}
 use Rattle.touch.proofs.Cells.{LowestFree, write-other, write-front}

@@ -4,13 +4,13 @@
 use mathlib.Core.Path.{_≡_, refl, sym, ap, _∙_}
 use mathlib.Core.Bool.{Bool, true, false, cond, true≢false}
 use mathlib.Core.Option.{Option, none, some}
-use mathlib.Core.List.{List, [], _∷_}
+use mathlib.Core.List.{List, []}
 use Prim.Native.Nat.{ℕ, zero, suc, _-_, _≤_}
 use native.Mathlib.Nat.{le-trans}
 use native.Mathlib.Omega.{arith}
 use lib.Dec.{leb, eqb}
-use lib.ListN.{length, replicate, length-replicate, length-set}
-use Rattle.touch.specs.Touch.{Rows, find, untouched, aside, newest, touch, emptied, retained}
+use lib.ListN.{length, length-replicate, length-set}
+use Rattle.touch.specs.Touch.{Rows, find, untouched, emptied, retained}
 use Rattle.touch.specs.Row.{fresh, keep, marked, put}
 use Rattle.touch.specs.Cells.{Settings}
 use Rattle.touch.specs.Runs.{storeAfter}
@@ -21,7 +21,7 @@ use Rattle.touch.proofs.Runs.{after-all}
 use Rattle.touch.specs.Same.{Bytes}
 use Rattle.eitrules.specs.Keys.{Kind, kindOf, firstOf, ScheduleKey, SetKey, sameSchedule, sameSet, Filter, badPid}
 use Rattle.eitrules.specs.Segments.{complete}
-use Rattle.eitrules.specs.Schedules.{CopyOf, ScheduleOf, copyOf, copied, refill, begin, enter}
+use Rattle.eitrules.specs.Schedules.{CopyOf, ScheduleOf, copyOf, refill, begin, enter}
 use Rattle.eitrules.specs.Rules.{SetRow, Eit, Section, keyOf, partOf, Call, clear, drop, refuse, offer, metRow, setAside, setNewest, scheduleTouched, ranged, ready, judged, judge, cleared, dropped, finish, push, admit, offered, dropping, step, acts, opened}
 use Rattle.eitrules.proofs.Keys.{sameSchedule-true, sameSet-true}
 

@@ -1,9 +1,8 @@
 -- What the answers to a judged row mean: 5, 6 and 23, by the rules. e are the other rows, r is the row of key k with the section, whose last_table_id is
 -- `last`.
 -- Assumes nothing.
-use mathlib.Core.Path.{_≡_, refl, sym, ap, _∙_}
-use mathlib.Core.Logic.{_≢_}
-use mathlib.Core.Bool.{Bool, true, false, true≢false}
+use mathlib.Core.Path.{_≡_, refl}
+use mathlib.Core.Bool.{Bool, true, false}
 use mathlib.Core.Option.{Option, none, some}
 use Prim.Native.Nat.{ℕ, _-_, _≤_, _<_}
 use native.Mathlib.Omega.{arith}
@@ -15,7 +14,7 @@ use Rattle.touch.specs.Same.{Bytes}
 use Rattle.eitrules.specs.Keys.{firstOf, SetKey, sameSchedule}
 use Rattle.eitrules.specs.Segments.{complete}
 use Rattle.eitrules.specs.Schedules.{ScheduleOf, copyOf, whole, begin, enter, allTables, guide}
-use Rattle.eitrules.specs.Rules.{SetRow, Eit, Whole, Guide, nothing, handout, schedule, range, Step, setNewest, scheduleTouched, told, ranged, ready, judged, judge}
+use Rattle.eitrules.specs.Rules.{SetRow, Eit, Guide, nothing, handout, schedule, range, Step, setNewest, scheduleTouched, told, ranged, ready, judged, judge}
 
 module _ (limit : ℕ) (e : Eit) (k : SetKey) (last : ℕ) (r : SetRow) where
   -- the schedule with the set's copy

@@ -16,7 +16,7 @@ use Rattle.touch.proofs.Cells.{LowestFree, AllTaken, Placed, laid, lacking, ali
 use Rattle.eitrules.specs.Keys.{Kind, kindOf, firstOf, SetKey, Filter, badPid}
 use Rattle.eitrules.specs.Segments.{SetOf, complete}
 use Rattle.eitrules.specs.Schedules.{ScheduleOf, allTables}
-use Rattle.eitrules.specs.Rules.{EitOf, Section, keyOf, partOf, Call, clear, drop, refuse, offer, done, refused, nothing, handout, schedule, conflict, range, notWhole, counterFull, noCell, gives, metRow, told, ranged, ready, judged, judge, cleared, dropped, Answer}
+use Rattle.eitrules.specs.Rules.{EitOf, Section, keyOf, partOf, Call, clear, drop, refuse, offer, done, refused, nothing, handout, schedule, conflict, range, notWhole, counterFull, noCell, metRow, told, ranged, ready, judged, judge, cleared, dropped, Answer}
 use Rattle.eitrules.specs.Cells.{Store, Turn, onAnswer, taken, storeWhole, ended, shows, rest, roomFor, placeOf, carry, pushIn, admitIn, offerIn, dropIn, good, guarded, call}
 
 -- the row that a section meets

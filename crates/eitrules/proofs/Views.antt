@@ -2,15 +2,15 @@
 -- And a free cell written changes nothing that is shown.
 -- Assumes nothing.
 use mathlib.Core.Path.{_≡_, refl, sym, ap, _∙_}
-use mathlib.Core.Bool.{Bool, true, false, cond, not, _&&_, _||_}
+use mathlib.Core.Bool.{Bool, true, false, cond, not}
 use mathlib.Core.Option.{Option, none, some, Option·map}
 use mathlib.Core.List.{List, [], _∷_, map}
 use Prim.Native.Nat.{ℕ, zero, suc, _*_, _-_}
 use lib.Dec.{leb, eqb}
-use lib.ListN.{getD, set, take, replicate}
+use lib.ListN.{getD, take}
 use Rattle.laws.proofs.Tests.{or-false}
 use Rattle.touch.specs.Same.{Bytes}
-use Rattle.touch.specs.Slots.{isHeld, present, onSlots}
+use Rattle.touch.specs.Slots.{onSlots}
 use Rattle.touch.specs.Touch.{Rows, someRow, seenAs, find, newest, onOrder}
 use Rattle.touch.specs.Row.{marked, onRow}
 use Rattle.touch.specs.Cells.{Held, Cells, bytesOf, names, write}
@@ -20,7 +20,7 @@ use Rattle.touch.proofs.Row.{start-on}
 use Rattle.touch.proofs.Cells.{row-unseen, elsewhere}
 use Rattle.eitrules.specs.Keys.{firstOf, ScheduleKey, SetKey, sameSchedule, sameSet, Filter, matches}
 use Rattle.eitrules.specs.Segments.{segmentOf, segmentEnd, SegmentLasts, SetOf, heldFrom, segmentFull, segmentsFull, complete}
-use Rattle.eitrules.specs.Schedules.{CopyOf, ScheduleOf, WholeOf, tableOf, copyOf, whole, copied, refill, begin, enter, allTables, wholes, guide}
+use Rattle.eitrules.specs.Schedules.{CopyOf, ScheduleOf, tableOf, copyOf, whole, copied, refill, begin, enter, allTables, wholes, guide}
 use Rattle.eitrules.specs.Rules.{EitOf, Section, partOf, AnswerOf, handout, schedule, StepOf, gives, metRow, setAside, setNewest, scheduleTouched, told, ranged, ready, judged, judge, dropped}
 use Rattle.eitrules.specs.Cells.{onCopy, onSchedule, onEit, onWhole, onGuide, onAnswer, setTakes, copyTakes, scheduleTakes, taken}
 

@@ -2,20 +2,19 @@
 -- that shows what the rules leave.
 -- Assumes nothing.
 use mathlib.Core.Path.{_≡_, refl, sym, ap, _∙_}
-use mathlib.Core.Bool.{Bool, true, false}
-use Prim.Native.Nat.{ℕ, zero, suc, _≤_}
+use mathlib.Core.Bool.{true}
+use Prim.Native.Nat.{ℕ, zero, suc}
 use native.Mathlib.Omega.{arith}
-use lib.Dec.{leb}
 use lib.ListN.{length}
 use Rattle.laws.proofs.Facts.{le-passes, le-fails}
 use Rattle.touch.specs.Same.{Bytes}
-use Rattle.touch.specs.Touch.{seenAs, untouched, aside, newest, emptied, onOrder}
+use Rattle.touch.specs.Touch.{seenAs, untouched, emptied, onOrder}
 use Rattle.touch.specs.Row.{keep, onRow, put}
 use Rattle.touch.specs.Cells.{Held, Cells, bytesOf, write, heldIn}
 use Rattle.touch.specs.Runs.{Obeys, bars, does}
 use Rattle.touch.proofs.Views.{aside-on, newest-on}
 use Rattle.touch.proofs.Cells.{kept-shown, rules-keep, rules-ignore, rules-refuse}
-use Rattle.setrules.specs.Rules.{sameKey, SetsOf, Section, partOf, Call, offer, nothing, conflict, barred, StepOf, Step, gives, metRow, judge, finish, push, admit, step, tells, acts}
+use Rattle.setrules.specs.Rules.{sameKey, SetsOf, Section, partOf, Call, offer, conflict, barred, StepOf, Step, gives, judge, finish, push, admit, step, tells, acts}
 use Rattle.setrules.specs.Cells.{Store, Turn, onSets, onAnswer, view, takes, shows, rest, roomFor, call, callTells, callActs}
 use Rattle.setrules.specs.Demand.{withCells, Keeping}
 use Rattle.setrules.proofs.Views.{met-on, onStep, judge-on, free-cell-unseen, free-parts}
@@ -89,20 +88,20 @@ module _ (s : Store) where
   settings-stay i = settings-of (outcome s i)
 
   -- whatever the store holds
-  pub obeys-rules : (i : Call) → Unit {0} → Obeys barred view (λ q. Unit {0}) callTells callActs (tells (s .settings)) (acts (s .settings)) s i
+  pub obeys-rules : (i : Call) → Obeys barred view (λ q. Unit {0}) callTells callActs (tells (s .settings)) (acts (s .settings)) s i
   unfolding callTells callActs tells acts
-  obeys-rules i u = go (well (outcome s i))
+  obeys-rules i = go (well (outcome s i))
     where
       go : Fits (call s i) (step (s .settings) (view s) i) → Obeys barred view (λ q. Unit {0}) callTells callActs (tells (s .settings)) (acts (s .settings)) s i
       go (out p) = bars p
       go (fits p q) = does p q tt
 
-pub cells-keep : Keeping withCells
+pub cells-keep : Keeping withCells (λ i. Unit {0})
 unfolding view onSets onOrder seenAs untouched
 cells-keep = record {
   view = view;
   Inv = λ s. Unit {0};
   opens = λ s e. (ap (λ (t : SetsOf Held). onSets (bytesOf (s .cells)) t) e, tt);
   lasts = settings-stay;
-  obeys = obeys-rules;
+  obeys = λ s i p u. obeys-rules s i;
 }

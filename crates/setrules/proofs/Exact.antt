@@ -3,32 +3,27 @@
 -- Assumes nothing.
 use mathlib.Core.Path.{_≡_, refl, sym, ap, _∙_, subst}
 use mathlib.Core.Logic.{_≢_, _⊎_, inl, inr}
-use mathlib.Core.Bool.{Bool, true, false, true≢false}
-use mathlib.Core.Option.{Option, none, some, Option·map}
-use mathlib.Core.List.{List, [], _∷_, _++_}
-use Prim.Native.Nat.{ℕ, _<_}
+use mathlib.Core.Bool.{true, false, true≢false}
+use mathlib.Core.Option.{Option, none, some, Option·map, map-eq-none-iff}
+use mathlib.Core.List.{[], _∷_, _++_}
+use Prim.Native.Nat.{ℕ, _≤_, _<_}
 use native.Mathlib.Omega.{arith}
 use lib.ListN.{length, getD, drop}
 use Rattle.laws.proofs.Tests.{eq-false, none≢some}
 use Rattle.laws.proofs.Facts.{eq-fails}
-use Rattle.touch.specs.Same.{Bytes}
 use Rattle.touch.specs.Touch.{under, find, remove, newest}
-use Rattle.touch.specs.Row.{slotOf, onRow}
-use Rattle.touch.specs.Cells.{Held, bytesOf, names, write}
+use Rattle.touch.specs.Row.{slotOf}
+use Rattle.touch.specs.Cells.{Held, bytesOf, names}
 use Rattle.touch.proofs.Slots.{none-passes, passes-none}
 use Rattle.touch.proofs.All.{All, all-map, none-all, all-none, held-stays}
 use Rattle.touch.proofs.Row.{slot-on, start-held}
 use Rattle.touch.proofs.Cells.{LowestFree, AllTaken, write-other, write-front, Kept, kept-parts, parts-kept}
 use Rattle.setrules.specs.Rules.{Key, sameKey, SetOf, SetsOf, Section, partOf, Call, offer, conflict, noCell, asBefore, metRow, isKept, Answer, cleared, refused, nothing, handout, notWhole, counterFull}
-use Rattle.setrules.specs.Cells.{Store, Turn, onSets, onAnswer, view, takes, taken, storeWhole, ended, shows, rest, roomFor, call, callTells, callActs}
+use Rattle.setrules.specs.Cells.{Store, Turn, onAnswer, view, takes, taken, storeWhole, ended, shows, rest, roomFor, call, callTells, callActs}
 use Rattle.setrules.proofs.Views.{met-on}
 use Rattle.setrules.proofs.Outcome.{row, slot, Asks, Outcome, broken, stopped, clears, refuses, long, keyless, lacks, keeps, ignores, conflicts, outcome, accepting, judge-accepts, accepts-not}
 
 -- ---- whether the rules keep a section, read off the store
-
-map-none : {A B : Type 0} (f : A → B) (o : Option A) → Option·map f o ≡ none → o ≡ none
-map-none f none h = refl
-map-none f (some a) h = absurd (none≢some h refl)
 
 module _ (s : Store) (x : Section) where
   shown-slot : slotOf (partOf x) (metRow x (view s)) ≡ Option·map (bytesOf (s .cells)) (slot s x)
@@ -42,7 +37,7 @@ module _ (s : Store) (x : Section) where
 
   kept-slot : isKept (s .settings) (view s) x ≡ true → slot s x ≡ none
   unfolding isKept
-  kept-slot h = map-none (bytesOf (s .cells)) (slot s x) (sym shown-slot ∙ kept-parts (s .settings) (x .bytes) _ h .free)
+  kept-slot h = map-eq-none-iff (bytesOf (s .cells)) (slot s x) .0 (sym shown-slot ∙ kept-parts (s .settings) (x .bytes) _ h .free)
 
 -- what judging a row answers changes something
 accepts-changes : (a : Answer) → accepting a ≡ true → asBefore a ≡ true → ⊥
@@ -124,6 +119,24 @@ as-before s i e = go (outcome s i) e
     go (keeps x a q c f) e = absurd (accepts-changes _ (judge-accepts _ (rest s x) (x .key) _) e)
     go (ignores x a k q f) e = absurd (accepts-changes _ (judge-accepts _ (rest s x) (x .key) _) e)
     go (conflicts x a k q f) e = absurd (true≢false (sym e))
+
+-- ---- "Limit 0: an otherwise good section answers 4 and changes nothing"
+
+pub limit-0 : (s : Store) (x : Section) → storeWhole s ≡ true → ended s (offer x) ≡ false → length (x .bytes) ≤ s .settings .cellSize → s .settings .limit ≡ 0
+    → call s (offer x) ≡ record { answer = nothing; store = s }
+limit-0 s x w e l q = go (outcome s (offer x)) refl
+  where
+    go : {j : Call} {t : Turn} → Outcome s j t → j ≡ offer x → t ≡ record { answer = nothing; store = s }
+    go (broken j v) h = absurd (true≢false (sym w ∙ v))
+    go (stopped j v f) h = absurd (true≢false (sym f ∙ ap (ended s) h ∙ e))
+    go (clears v) h = let z : _≡_ {A = ℕ} 0 1 = cc in absurd (omega arith)
+    go (refuses n v) h = let z : _≡_ {A = ℕ} 0 1 = cc in absurd (omega arith)
+    go (long y v m) h = let z : y ≡ x = cc in absurd (omega (arith, subst (λ (a : Section). s .settings .cellSize < length (a .bytes)) z m))
+    go (keyless y v m f) h = refl
+    go (lacks y a f g) h = absurd (omega (arith, a .some-key))
+    go (keeps y a f c g) h = absurd (omega (arith, a .some-key))
+    go (ignores y a k f g) h = absurd (omega (arith, a .some-key))
+    go (conflicts y a k f g) h = absurd (omega (arith, a .some-key))
 
 -- ---- 22: "key becomes newest, else as before"
 

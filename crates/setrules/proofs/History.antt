@@ -5,11 +5,11 @@ use mathlib.Core.Path.{_≡_, refl, sym, ap, _∙_, subst}
 use mathlib.Core.Logic.{_≢_}
 use mathlib.Core.Bool.{Bool, true, false, true≢false}
 use mathlib.Core.Option.{Option, none, some}
-use mathlib.Core.List.{List, [], _∷_}
+use mathlib.Core.List.{List}
 use Prim.Native.Nat.{ℕ, zero, suc, _≤_}
 use native.Mathlib.Omega.{arith}
 use lib.Dec.{leb}
-use lib.ListN.{length, replicate}
+use lib.ListN.{length}
 use Rattle.laws.proofs.Tests.{le-true}
 use Rattle.laws.proofs.Facts.{le-passes}
 use Rattle.touch.specs.Same.{Bytes}
@@ -22,7 +22,7 @@ use Rattle.touch.proofs.Distinct.{Distinct, distinct-aside, distinct-newest}
 use Rattle.touch.proofs.Row.{start-has, put-new, put-has, over-held}
 use Rattle.touch.proofs.Cells.{Kept, kept-parts, parts-kept}
 use Rattle.touch.proofs.Runs.{after-all}
-use Rattle.setrules.specs.Rules.{Key, sameKey, SetRow, Sets, Section, partOf, Call, clear, refuse, offer, Whole, refused, nothing, handout, conflict, Step, gives, full, whole, metRow, judged, judge, isKept, finish, push, admit, step, tells, acts, opened}
+use Rattle.setrules.specs.Rules.{Key, sameKey, SetRow, Sets, Section, partOf, Call, clear, refuse, offer, Whole, handout, full, whole, metRow, judged, judge, isKept, finish, push, admit, step, tells, acts, opened}
 use Rattle.setrules.proofs.Keys.{sameKey-true}
 
 abbrev pub MarkedWhenFull : Key → SetRow → Type 0

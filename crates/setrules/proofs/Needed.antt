@@ -9,12 +9,12 @@ use mathlib.Core.List.{List, [], _∷_, _++_}
 use Prim.Native.Nat.{ℕ, zero, suc, _≤_}
 use native.Mathlib.Omega.{arith}
 use lib.Dec.{leb, eqb}
-use lib.ListN.{getElem?, replicate, length-replicate}
+use lib.ListN.{replicate, length-replicate}
 use Rattle.laws.proofs.Tests.{none≢some}
 use Rattle.laws.proofs.Facts.{eq-passes, anyOf, not-among}
 use Rattle.touch.specs.Same.{Bytes, sameBytes}
 use Rattle.touch.specs.Touch.{untouched}
-use Rattle.touch.specs.Cells.{Settings, roomWhole}
+use Rattle.touch.specs.Cells.{roomWhole}
 use Rattle.touch.specs.Runs.{answers, At, Never, GivenBy}
 use Rattle.setrules.specs.Rules.{Call, clear, refuse, offer, Whole, Answer, cleared, refused, nothing, handout, conflict, notWhole, counterFull, noCell, numberOf, barred}
 use Rattle.setrules.specs.Cells.{Store, storeWhole, ended, guarded, call, callTells}

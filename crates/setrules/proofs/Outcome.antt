@@ -12,9 +12,9 @@ use Rattle.laws.proofs.Tests.{le-true, le-false}
 use Rattle.touch.specs.Same.{Bytes}
 use Rattle.touch.specs.Touch.{emptied}
 use Rattle.touch.specs.Row.{slotOf, keep}
-use Rattle.touch.specs.Cells.{Held, bytesOf, write, Place, into, noneFree, ignored, conflicting, heldIn}
+use Rattle.touch.specs.Cells.{Held, bytesOf, write, Place, heldIn}
 use Rattle.touch.proofs.Cells.{LowestFree, AllTaken, Placed, laid, lacking, alike, unlike, placed}
-use Rattle.setrules.specs.Rules.{Key, SetOf, SetsOf, Section, partOf, Call, clear, refuse, offer, cleared, refused, nothing, handout, conflict, notWhole, counterFull, noCell, gives, metRow, judged, judge, full, Answer}
+use Rattle.setrules.specs.Rules.{Key, SetOf, SetsOf, Section, partOf, Call, clear, refuse, offer, cleared, refused, nothing, handout, conflict, notWhole, counterFull, noCell, metRow, judged, judge, full, Answer}
 use Rattle.setrules.specs.Cells.{Store, Turn, onAnswer, taken, storeWhole, ended, shows, rest, roomFor, placeOf, carry, pushIn, admitIn, good, guarded, call}
 
 -- the row that a section meets

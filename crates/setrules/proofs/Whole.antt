@@ -1,18 +1,16 @@
 -- A call leaves a whole store whole, so that no history leads to answer 10.
 -- Assumes nothing.
-use mathlib.Core.Path.{_≡_, refl, sym, ap, _∙_, subst}
+use mathlib.Core.Path.{_≡_, refl, sym, _∙_, subst}
 use mathlib.Core.Logic.{_≢_}
 use mathlib.Core.Bool.{Bool, true, false, true≢false}
-use mathlib.Core.List.{List, []}
-use mathlib.Core.Option.{none, some}
+use mathlib.Core.List.{List}
 use Prim.Native.Nat.{ℕ, zero, suc, _≤_}
 use native.Mathlib.Omega.{arith}
-use lib.Dec.{leb}
 use lib.ListN.{length}
 use Rattle.laws.proofs.Tests.{and-true, true-and, le-true}
 use Rattle.laws.proofs.Facts.{le-passes}
 use Rattle.touch.specs.Slots.{everyHeld}
-use Rattle.touch.specs.Touch.{find, everyRow, untouched, aside, newest, emptied}
+use Rattle.touch.specs.Touch.{find, untouched, aside, newest, emptied}
 use Rattle.touch.specs.Row.{fresh, keep, marked}
 use Rattle.touch.specs.Cells.{Settings, Held, Cells, write, heldIn, roomWhole, heldWhole}
 use Rattle.touch.specs.Runs.{answers, storeAfter, At, Never}
@@ -22,7 +20,7 @@ use Rattle.touch.proofs.Row.{start-has}
 use Rattle.touch.proofs.Cells.{length-write, held-whole, whole-held, room-whole}
 use Rattle.touch.proofs.Runs.{after-all, never-after}
 use Rattle.setrules.specs.Rules.{Key, sameKey, SetOf, SetsOf, Section, partOf, Call, clear, refuse, offer, notWhole, metRow, judged, judge, full}
-use Rattle.setrules.specs.Cells.{Store, Turn, onAnswer, storeWhole, shows, rest, roomFor, call, callTells, callActs}
+use Rattle.setrules.specs.Cells.{Store, Turn, onAnswer, storeWhole, shows, rest, roomFor, callTells, callActs}
 use Rattle.setrules.proofs.Keys.{sameKey-true}
 use Rattle.setrules.proofs.Outcome.{row, Outcome, broken, stopped, clears, refuses, long, keyless, lacks, keeps, ignores, conflicts, outcome, accepting, judge-accepts, accepts-not}
 

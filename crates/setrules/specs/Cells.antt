@@ -1,8 +1,7 @@
 -- The set collector with cells (01, "Cells"): a slot names the cell that holds a section's bytes, and how many they are. 10, 11 and 21 come in here.
 -- Assumes nothing.
 use mathlib.Core.Bool.{Bool, true, false, _&&_}
-use mathlib.Core.Option.{Option, none, some}
-use mathlib.Core.List.{List, map}
+use mathlib.Core.List.{map}
 use Prim.Native.Nat.{ℕ, zero, suc}
 use lib.Dec.{leb}
 use lib.ListN.{length}

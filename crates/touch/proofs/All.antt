@@ -1,7 +1,7 @@
 -- Rows in touch order: what holds of every row, and how many there are.
 -- Assumes nothing.
-use mathlib.Core.Path.{_≡_, refl, sym, ap, _∙_, subst}
-use mathlib.Core.Bool.{Bool, true, false, cond, _&&_, _||_, true≢false}
+use mathlib.Core.Path.{_≡_, refl, ap}
+use mathlib.Core.Bool.{Bool, true, false, cond}
 use mathlib.Core.Option.{Option, none, some, Option·some-injective}
 use mathlib.Core.List.{[], _∷_, _++_}
 use Prim.Native.Nat.{ℕ, suc, _≤_}
@@ -11,7 +11,7 @@ use native.Mathlib.Omega.{arith}
 use lib.Dec.{leb}
 use lib.ListN.{length, length-append}
 use Rattle.laws.proofs.Tests.{and-true, true-and, or-false, none≢some, cond-none, le-true, le-false}
-use Rattle.touch.specs.Touch.{Entry, Rows, TouchOrder, under, oldestGone, room, leaves, retain, someRow, everyRow, find, remove, others, evicts, count, aside, newest, touch}
+use Rattle.touch.specs.Touch.{Rows, TouchOrder, under, oldestGone, room, leaves, retain, someRow, everyRow, find, remove, others, evicts, count, aside, newest, touch}
 
 -- a property of every row, with its key
 abbrev pub All : {K R : Type 0} → (K → R → Type 0) → Rows K R → Type 0

@@ -1,16 +1,16 @@
 -- One row: the row that a section meets, what goes into it, and rows whose slots are seen otherwise.
 -- Assumes nothing.
-use mathlib.Core.Path.{_≡_, refl, sym, ap, _∙_, subst}
+use mathlib.Core.Path.{_≡_, refl, sym, _∙_, subst}
 use mathlib.Core.Logic.{_≢_}
-use mathlib.Core.Bool.{Bool, true, false, cond, _&&_}
+use mathlib.Core.Bool.{Bool, true, false, cond}
 use mathlib.Core.Option.{Option, none, some, Option·some-injective, Option·map}
-use Prim.Native.Nat.{ℕ, suc}
+use Prim.Native.Nat.{suc}
 use lib.Dec.{eqb}
 use lib.ListN.{length, getD, length-replicate, length-set}
 use Rattle.laws.proofs.Tests.{and-true, eq-true, none≢some}
 use Rattle.touch.specs.Same.{Bytes, sameBytes}
-use Rattle.touch.specs.Slots.{onSlots, someHeld}
-use Rattle.touch.specs.Row.{RowOf, Part, fresh, fits, start, slotOf, keep, marked, onRow, putOver, put}
+use Rattle.touch.specs.Slots.{someHeld}
+use Rattle.touch.specs.Row.{RowOf, Part, fresh, fits, start, slotOf, keep, onRow, putOver, put}
 use Rattle.touch.proofs.Same.{sameBytes-true, sameBytes-refl}
 use Rattle.touch.proofs.Slots.{free-slot, on-empty, on-getD, on-set, on-alike}
 
