@@ -1,3 +1,5 @@
 pub mod Laws
 pub mod Order
 pub mod Counts
+pub mod Watch
+pub mod Unique
