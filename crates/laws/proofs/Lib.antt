@@ -6,3 +6,4 @@ pub mod Bits
 pub mod Xor
 pub mod Unique
 pub mod Entries
+pub mod Arms

@@ -11,7 +11,7 @@ use native.Mathlib.Omega.{arith}
 use borrow.Author.Tests.{eqb-true, ltb-false, lt-ltb, le-ltb}
 use Rattle.section.specs.Header.{byteAt, tableId, longForm, sectionNumber, lastSectionNumber, storedCrc, workedCrc, headerOf}
 use Rattle.section.specs.Judged.{malformed, collectedLong, collectedOf, formOf, changeOf, partsOf, judgedCrc, judgedBy, judgedOf}
-use Rattle.crc.proofs.Messages.{crc-lt}
+use Rattle.crc.proofs.Laws.{crc-lt}
 use Rattle.laws.proofs.Tests.{and-none, lt-or-le}
 use Rattle.laws.specs.Bits.{addBits}
 use Rattle.laws.proofs.Bits.{length-addBits}
