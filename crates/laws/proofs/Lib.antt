@@ -3,3 +3,4 @@ pub mod Lists
 pub mod Bits
 pub mod Xor
 pub mod Arms
+pub mod Writes
