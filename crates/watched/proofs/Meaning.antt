@@ -6,7 +6,7 @@ use mathlib.Core.Bool.{Bool, true, false, _||_, or-false}
 use Prim.Native.Nat.{ℕ, _≤_, _<_}
 use native.Mathlib.Omega.{arith}
 use mathlib.Core.List.{List, [], _∷_, _++_, append-assoc}
-use lib.ListN.{length, drop, length-append}
+use lib.ListN.{length, drop, length-append, length-drop}
 use lib.Seq.{take-at, drop-at}
 use lib.Dec.{ltb}
 use borrow.Author.Tests.{ltb-true}
@@ -38,6 +38,14 @@ module _ (w p f words : List ℕ) (lw : length w ≡ 128) (lp : length p ≡ 128
   laid-past =
       let e : length ((w ++ p) ++ f) ≡ 384 = length-append (w ++ p) f ∙ rw two (omega arith) in
       rw (← append-assoc w p (f ++ drop 384 words), ← append-assoc (w ++ p) f (drop 384 words)) (drop-at ((w ++ p) ++ f) (drop 384 words) 384 e)
+
+  pub length-laid : 384 ≤ length words → length (laid w p f words) ≡ length words
+  length-laid h =
+      let a = length-append w (p ++ (f ++ drop 384 words)) in
+      let b = length-append p (f ++ drop 384 words) in
+      let c = length-append f (drop 384 words) in
+      let d = length-drop 384 words in
+      omega arith
 
 -- ---- opening
 
@@ -78,6 +86,12 @@ module _ (words : List ℕ) (on : Bool) (extra : List ℕ) (e : allPids extra �
   unfolding filled
   opened-followed = rw (laid-followed _ _ noPids words (length-protecting on extra) (length-protecting on extra) refl) (has-none 128 q)
 
+pub length-filled : (words : List ℕ) (on : Bool) (extra : List ℕ) → 384 ≤ length words → length (filled words on extra) ≡ length words
+unfolding filled
+length-filled words on extra h =
+    let s = addBits noPids (protectedPids on extra) in
+    length-laid s s noPids words (length-protecting on extra) (length-protecting on extra) refl h
+
 pub opened-in-step : (words : List ℕ) (on : Bool) (extra : List ℕ) → allPids extra ≡ true → InStep (filled words on extra)
 opened-in-step words on extra e q h =
     rw (opened-watched words on extra e q, opened-protected words on extra e q, opened-followed words on extra e q) (sym (or-false (among q (protectedPids on extra))))
@@ -97,6 +111,10 @@ module _ (words n : List ℕ) (h : 384 ≤ length words) (l : length n ≡ 128) 
   pub following-past : drop 384 (following words n) ≡ drop 384 words
   unfolding following
   following-past = laid-past (renewed words n) (protectedOf words) n words (length-renewed words n h l) (length-protected words h) l
+
+  pub length-following : length (following words n) ≡ length words
+  unfolding following
+  length-following = length-laid (renewed words n) (protectedOf words) n words (length-renewed words n h l) (length-protected words h) l h
 
   -- watched after it: former watched minus (former N that is neither in N nor protected), plus N
   pub following-watched : (q : ℕ) → q < 8192

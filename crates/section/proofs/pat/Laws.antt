@@ -12,7 +12,7 @@ use lib.Seq.{getD-drop, getD-take, drop-drop}
 use lib.Dec.{leb, eqb}
 use borrow.Author.Tests.{eq-eqb, ne-eqb, le-leb, lt-leb, leb-true, not-true, not-false}
 use Rattle.laws.specs.Bits.{hasBit, addBit, addBits}
-use Rattle.laws.proofs.Bits.{among, InRoom, has-all}
+use Rattle.laws.proofs.Bits.{length-addBits, among, InRoom, has-all}
 use Rattle.laws.proofs.Tests.{and-true, lt-or-le}
 use Rattle.section.specs.Header.{byteAt, longForm, sectionLength, word16}
 use Rattle.section.specs.declared.pat.Pat.the-variants.{Readable, Unreadable}
@@ -80,6 +80,15 @@ module _ (s n : List ℕ) (b : Bool) (e : b ≡ readable s) where
   pub programs-yes : (m : List ℕ) → not b ≡ false → m ≡ addBits n (programPids (take (length s - 4 - 8) (drop 8 s))) → (Readable ≡ patOf s) × (m ≡ withPrograms s n)
   unfolding patOf withPrograms
   programs-yes m h em = let l : length s - 4 - 8 ≡ length s - 12 = omega arith in (rw (← e, not-false b h), rw (← e, not-false b h, ← l) em)
+
+-- a set stays as long as it is
+pub length-programs : (s n : List ℕ) → length (withPrograms s n) ≡ length n
+unfolding withPrograms
+length-programs s n = go (readable s)
+  where
+    go : (b : Bool) → length (cond b (addBits n (programPids (groupsOf s))) n) ≡ length n
+    go true = length-addBits n (programPids (groupsOf s))
+    go false = refl
 
 -- every PID of a PAT has its bit in a set of 128 words
 abbrev Bytes : List ℕ → Type 0

@@ -1,3 +1,4 @@
+-- `section::ids::Pid::make` meets its contract. Assumes nothing.
 use borrow.Author.Tests.{lt-ltb, le-ltb}
 use Rattle.section.proofs.ids.Pid.make.Statement.{statement}
 use Rattle.section.proofs.ids.Pid.make.Tie as tie
