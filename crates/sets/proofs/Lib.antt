@@ -1,0 +1,6 @@
+pub mod Whole
+pub mod Plans
+pub mod Judged
+pub mod Doing
+pub mod May
+pub mod Questions
