@@ -4,3 +4,4 @@ pub mod Judged
 pub mod Doing
 pub mod May
 pub mod Questions
+pub mod Unique
