@@ -6,8 +6,8 @@ use Prim.Native.Nat.{ℕ, zero, suc, _+_, _-_, _≤_, _<_, min}
 use native.Mathlib.Nat.{zero-add, suc-add, add-zero, sub-zero, zero-min, min-zero, suc-min-suc}
 use native.Mathlib.Numerals.{add-one}
 use native.Mathlib.Omega.{arith}
-use lib.ListN.{length, take, drop, getD, set, replicate, length-drop, length-replicate, replicate-append-replicate, drop-of-length-le}
-use lib.Seq.{getD-drop, paste, paste-suc, drop-paste, take-nil, take-all, drop-cons, set-at, append-snoc}
+use lib.ListN.{length, take, drop, getD, set, replicate, length-drop, length-replicate, replicate-append-replicate, drop-of-length-le, List·getD-append}
+use lib.Seq.{getD-drop, getD-take, getD-append-add, length-take-le, length-paste-head, paste, paste-suc, drop-paste, take-nil, take-all, drop-cons, set-at, append-snoc}
 
 module _ {A : Type 0} where
   -- equal indices
@@ -21,6 +21,21 @@ module _ {A : Type 0} where
       getD-ix (paste d at s n) z (sym e) ∙ sym (getD-drop (at + n) (paste d at s n) (k - (at + n)) z)
       ∙ ap (λ (l : List A). getD l (k - (at + n)) z) (drop-paste d at s n ha hn)
       ∙ getD-drop (at + n) d (k - (at + n)) z ∙ getD-ix d z e
+
+  -- what lies before a paste is as it was, and what was pasted is there
+  pub paste-before : (d : List A) (at : ℕ) (s : List A) (n k : ℕ) (z : A) → at + n ≤ length d → n ≤ length s → k < at → getD (paste d at s n) k z ≡ getD d k z
+  paste-before d at s n k z h hn l =
+      let e : length (take at d ++ take n s) ≡ at + n = length-paste-head d at s n (omega arith) hn in
+      let f : length (take at d) ≡ at = length-take-le at d (omega arith) in
+      List·getD-append (take at d ++ take n s) (drop (at + n) d) z k (omega arith)
+      ∙ List·getD-append (take at d) (take n s) z k (omega arith) ∙ getD-take at d k z l
+
+  pub paste-in : (d : List A) (at : ℕ) (s : List A) (n k : ℕ) (z : A) → at + n ≤ length d → n ≤ length s → k < n → getD (paste d at s n) (at + k) z ≡ getD s k z
+  paste-in d at s n k z h hn l =
+      let e : length (take at d ++ take n s) ≡ at + n = length-paste-head d at s n (omega arith) hn in
+      let f : length (take at d) ≡ at = length-take-le at d (omega arith) in
+      List·getD-append (take at d ++ take n s) (drop (at + n) d) z (at + k) (omega arith)
+      ∙ getD-ix (take at d ++ take n s) z (ap (λ (m : ℕ). m + k) (sym f)) ∙ getD-append-add (take at d) (take n s) k z ∙ getD-take n s k z l
 
   -- the part of a list from a, of n elements, either way round
   pub drop-take : (a n : ℕ) (xs : List A) → drop a (take (a + n) xs) ≡ take n (drop a xs)
