@@ -5,3 +5,4 @@ pub mod Doing
 pub mod May
 pub mod Questions
 pub mod Unique
+pub mod Stays

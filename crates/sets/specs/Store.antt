@@ -354,6 +354,7 @@ pub record KeepOk (s : Store) (bytes : List ℕ) (k : Keeping) : Type 0 where
   pub numbered : Numbered (k .entry)
   pub room : RoomOk (s .sets) (k .room)
   pub cell : k .cell < s .sets .count
+  pub long : 12 ≤ length bytes
   pub fits : length bytes ≤ s .sets .size
 
 pub record RowOk (s : Store) (i : ℕ) : Type 0 where
