@@ -5,4 +5,6 @@ pub mod Doing
 pub mod May
 pub mod Questions
 pub mod Unique
+pub mod Every
 pub mod Stays
+pub mod Refusals

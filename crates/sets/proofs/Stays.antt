@@ -12,13 +12,9 @@ use borrow.Author.Tests.{ne-eqb, eqb-false, le-leb, lt-ltb}
 use lib.Dec.{eqb, ltb, leb}
 use lib.ListN.{length, getD}
 use lib.Seq.{paste, length-paste}
-use Rattle.laws.specs.Lists.{sameList}
-use Rattle.section.specs.Judged.{collectedOf}
-use Rattle.section.specs.declared.header.Collected.{Collected}
-use Rattle.section.specs.declared.header.Collected.the-variants as collected
 use Rattle.section.specs.declared.ids.MaybePid.{MaybePid}
-use Rattle.cells.specs.Cells.{slotWord, keptLength, slotWhole, lowestFree, kept}
-use Rattle.rows.specs.Rows.{word, put, rowOf, touched, roomIn, roomRenewed, roomNew, goneRow, keptHeads, slotsAt, slotCount, keptSlots, rowsWhole, takenIn}
+use Rattle.cells.specs.Cells.{slotWord, slotWhole, lowestFree}
+use Rattle.rows.specs.Rows.{word, put, touched, goneRow, keptHeads, slotsAt, slotCount, keptSlots, rowsWhole, takenIn}
 use Rattle.rows.proofs.Words.{put-not, length-put, length-touched, touched-not, length-kept, kept-row, kept-fresh, kept-known, length-kept-slots, kept-slot, kept-other, kept-empty, kept-same}
 use Rattle.rows.proofs.Whole.{slot-get, slot-all}
 use Rattle.rows.specs.declared.Entry.{Entry}
@@ -26,17 +22,16 @@ use Rattle.rows.specs.declared.Room.{Room}
 use Rattle.sets.specs.declared.Sets.{Sets}
 use Rattle.sets.specs.declared.PushAnswer.{PushAnswer}
 use Rattle.sets.specs.declared.PushAnswer.the-variants.{Nothing, Set, NotWhole, CounterFull, PidTooLarge, Malformed, ShortForm, BadNumber, BadCrc, TooLong, NoCell, Conflict}
-use Rattle.sets.specs.declared.inner.PidWord.{PidWord}
-use Rattle.sets.specs.declared.inner.PidWord.the-variants as pid-word
 use Rattle.sets.specs.declared.inner.Keeping.{Keeping}
 use Rattle.sets.specs.declared.inner.Plan.{Plan}
 use Rattle.sets.specs.declared.inner.Plan.the-variants as plan
 use Rattle.sets.specs.Store.{Store, store, Told, plain, handed, answerOf, pushNumber, Left, wholeOf, Whole, KeepOk, PlanOk, goesOut, settledAnswer, settledHeads, settled, keptIn, carried, pushedOf, clearedOf, openedOf, settingsFit}
-use Rattle.sets.specs.Store.{pidWord, entryOf, planKeep, planSlot, planKnown, planGood, planHeader, planJudged, planPid, planOf}
+use Rattle.sets.specs.Store.{planKeep, planOf}
 use Rattle.sets.specs.History.{Call, offer, empty, called, after, Bytes, AllBytes, OpenedStore}
 use Rattle.sets.proofs.Whole.{Long, long, whole-means, means-whole}
 use Rattle.sets.proofs.Plans.{cell-fits}
 use Rattle.sets.proofs.May.{plan-ok}
+use Rattle.sets.proofs.Every.{plan-by}
 
 abbrev pub WholeStore : Store → Type 0
 WholeStore s = Whole (s .sets) (s .heads) (s .slots) (s .cells)
@@ -273,78 +268,19 @@ ten-carried s bytes (plan.Conflict i) = ten-answer Conflict (store (s .sets) (to
 ten-carried s bytes (plan.Repeat i) = ten-settled s i
 ten-carried s bytes (plan.Keep k) = ten-settled (keptIn s bytes k) (k .room .row)
 
-module _ (s : Store) (bytes : List ℕ) where
-  keep-not : (e : Entry) (r : Room) → tenPlan (planKeep s e r) ≡ false
-  unfolding planKeep tenPlan
-  keep-not e r = go (lowestFree (takenIn (s .heads) (s .slots) (goneRow r (s .sets .used)) (s .sets .used)) (s .sets .count))
-    where
-      at : (b : Bool) (c : ℕ) → tenPlan (cond b (plan.Keep (record { entry = e; room = r; cell = c })) (plan.Refuse NoCell)) ≡ false
-      at true c = refl
-      at false c = refl
+plan-not : (s : Store) (pid : MaybePid) (bytes : List ℕ) → wholeOf s ≡ true → tenPlan (planOf s pid bytes) ≡ false
+unfolding tenPlan planKeep
+plan-not s pid bytes w = plan-by s bytes (λ p. tenPlan p ≡ false) (λ a e. e) (λ i. refl) (λ i. refl) keep-not pid w
+  where
+    keep-not : (e : Entry) (r : Room) → tenPlan (planKeep s e r) ≡ false
+    keep-not e r = go (lowestFree (takenIn (s .heads) (s .slots) (goneRow r (s .sets .used)) (s .sets .used)) (s .sets .count))
+      where
+        at : (b : Bool) (c : ℕ) → tenPlan (cond b (plan.Keep (record { entry = e; room = r; cell = c })) (plan.Refuse NoCell)) ≡ false
+        at true c = refl
+        at false c = refl
 
-      go : (c : ℕ) → tenPlan (cond (ltb c (s .sets .count)) (plan.Keep (record { entry = e; room = r; cell = c })) (plan.Refuse NoCell)) ≡ false
-      go c = at (ltb c (s .sets .count)) c
-
-  slot-not : (e : Entry) (i w : ℕ) → tenPlan (planSlot s e bytes i w) ≡ false
-  unfolding planSlot tenPlan
-  slot-not e i w = go (eqb (keptLength w) 0) (sameList (kept (s .cells) (s .sets .size) w) bytes)
-    where
-      go : (a b : Bool) → tenPlan (cond a (planKeep s e (roomIn (s .sets .used) (s .sets .evictions) i)) (cond b (plan.Repeat i) (plan.Conflict i))) ≡ false
-      go true b = keep-not e (roomIn (s .sets .used) (s .sets .evictions) i)
-      go false true = refl
-      go false false = refl
-
-  known-not : (e : Entry) (i : ℕ) → tenPlan (planKnown s e bytes i) ≡ false
-  unfolding planKnown
-  known-not e i = go (eqb (word (s .heads) i 6) (e .version) && eqb (word (s .heads) i 7) (e .last))
-    where
-      go : (b : Bool) → tenPlan (cond b (planSlot s e bytes i (getD (s .slots) (slotsAt i + e .number) 0)) (planKeep s e (roomRenewed (s .sets .used) (s .sets .evictions) i (word (s .heads) i 9)))) ≡ false
-      go true = slot-not e i (getD (s .slots) (slotsAt i + e .number) 0)
-      go false = keep-not e (roomRenewed (s .sets .used) (s .sets .evictions) i (word (s .heads) i 9))
-
-  good-not : (e : Entry) → tenPlan (planGood s e bytes) ≡ false
-  unfolding planGood
-  good-not e = go (rowOf (s .heads) (e .key) (s .sets .used))
-    where
-      new : Plan
-      new = planKeep s e (roomNew (s .heads) (s .sets .limit) (s .sets .used) (s .sets .evictions))
-
-      at : (b : Bool) (i : ℕ) → tenPlan (cond b (planKnown s e bytes i) new) ≡ false
-      at true i = known-not e i
-      at false i = keep-not e (roomNew (s .heads) (s .sets .limit) (s .sets .used) (s .sets .evictions))
-
-      go : (i : ℕ) → tenPlan (cond (ltb i (s .sets .used)) (planKnown s e bytes i) new) ≡ false
-      go i = at (ltb i (s .sets .used)) i
-
-  header-not : (e : Entry) → tenPlan (planHeader s bytes e) ≡ false
-  unfolding planHeader tenPlan
-  header-not e = go (ltb (s .sets .size) (length bytes)) (eqb (s .sets .limit) 0)
-    where
-      go : (a b : Bool) → tenPlan (cond a (plan.Refuse TooLong) (cond b (plan.Refuse Nothing) (planGood s e bytes))) ≡ false
-      go true b = refl
-      go false true = refl
-      go false false = good-not e
-
-  judged-not : (pid : ℕ) (c : Collected) → tenPlan (planJudged s bytes pid c) ≡ false
-  unfolding tenPlan
-  judged-not pid collected.Malformed = refl
-  judged-not pid collected.ShortForm = refl
-  judged-not pid collected.BadNumber = refl
-  judged-not pid collected.BadCrc = refl
-  judged-not pid (collected.Good h) = header-not (entryOf pid h)
-
-  pid-not : (v : PidWord) → tenPlan (planPid s bytes v) ≡ false
-  unfolding tenPlan
-  pid-not pid-word.TooLarge = refl
-  pid-not (pid-word.Is pid) = judged-not pid (collectedOf bytes)
-
-  plan-not : (pid : MaybePid) → wholeOf s ≡ true → tenPlan (planOf s pid bytes) ≡ false
-  unfolding planOf tenPlan
-  plan-not pid w = rw w (go (eqb (s .sets .evictions) 18446744073709551615))
-    where
-      go : (b : Bool) → tenPlan (cond b (plan.Refuse CounterFull) (planPid s bytes (pidWord pid))) ≡ false
-      go true = refl
-      go false = pid-not (pidWord pid)
+        go : (c : ℕ) → tenPlan (cond (ltb c (s .sets .count)) (plan.Keep (record { entry = e; room = r; cell = c })) (plan.Refuse NoCell)) ≡ false
+        go c = at (ltb c (s .sets .count)) c
 
 not-ten : (t : Told) → ten t ≡ false → t ≢ plain 10
 unfolding ten
@@ -353,7 +289,7 @@ not-ten (handed h) e q = let z : _≡_ {A = ℕ} 0 1 = cc in omega arith
 
 pub push-not-ten : (s : Store) (pid : MaybePid) (bytes : List ℕ) → WholeStore s → (pushedOf s pid bytes) .told ≢ plain 10
 unfolding pushedOf
-push-not-ten s pid bytes w = not-ten ((carried s bytes (planOf s pid bytes)) .told) (ten-carried s bytes (planOf s pid bytes) ∙ plan-not s bytes pid (means-whole s w))
+push-not-ten s pid bytes w = not-ten ((carried s bytes (planOf s pid bytes)) .told) (ten-carried s bytes (planOf s pid bytes) ∙ plan-not s pid bytes (means-whole s w))
 
 pub clear-not-ten : (s : Store) → WholeStore s → (clearedOf s) .told ≢ plain 10
 unfolding clearedOf
