@@ -1,0 +1,5 @@
+pub mod Ages
+pub mod Touch
+pub mod Words
+pub mod Slots
+pub mod Cells
