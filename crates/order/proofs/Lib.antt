@@ -3,3 +3,4 @@ pub mod Touch
 pub mod Words
 pub mod Slots
 pub mod Cells
+pub mod Taken

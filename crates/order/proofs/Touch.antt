@@ -16,13 +16,13 @@ use lib.ListN.{length}
 use Rattle.laws.specs.Lists.{firstFrom}
 use Rattle.laws.proofs.Tests.{and-true, true-and, eq-true}
 use Rattle.laws.proofs.Search.{first-passes, first-before, first-within}
-use Rattle.touch.specs.Touch.{Rows, TouchOrder, Entry, under, find, aside, newest, oldestGone}
+use Rattle.touch.specs.Touch.{Rows, TouchOrder, Entry, under, find, someRow, aside, newest}
 use Rattle.touch.proofs.All.{held-stays, new-below, new-at}
 use Rattle.rows.specs.declared.Key.{Key}
 use Rattle.rows.specs.declared.Room.{Room}
 use Rattle.rows.specs.Rows.{word, keyAt, sameKey, rowOf, elderOf, oldestOf, older, roomIn, roomRenewed, roomNew}
 use Rattle.order.specs.Order.{ageOf, rowOfAge, inOrder, rowsSeen, orderSeen, Ages, Stands, Goes, known, added, evicted, Touched}
-use Rattle.order.proofs.Ages.{order-cong, length-order, Aged, ages-none, ages-touched, without, without-cong, touched-order, ages-more, more-without, known-found, known-removed, new-found, oldest-gone}
+use Rattle.order.proofs.Ages.{order-cong, length-order, Aged, ages-none, ages-touched, without, without-cong, touched-order, ages-more, more-without, known-found, known-removed, new-found, oldest-gone, order-none, none-order}
 
 -- ---- six words are a key
 
@@ -133,6 +133,22 @@ goes-new heads limit used evictions key h l = go (ltb used limit) refl
     go true e = added (no-row-has-key heads key used h) (ltb-true used limit e)
     go false e = let z : limit ≤ used = ltb-false used limit e in evicted (no-row-has-key heads key used h) (omega arith) z
 
+-- the rows beside the key's are those that were in use
+pub goes-row : {heads : List ℕ} {limit used evictions : ℕ} {key : Key} {i a used′ evictions′ : ℕ} → Goes heads limit used evictions key i a used′ evictions′ → i < used′
+goes-row (known i h e) = h
+goes-row (added f h) = omega arith
+goes-row {heads = heads} {used = used} (evicted f p h) = oldest-below heads used p
+
+pub goes-in : {heads : List ℕ} {limit used evictions : ℕ} {key : Key} {i a used′ evictions′ : ℕ} → Goes heads limit used evictions key i a used′ evictions′ → used ≤ used′
+goes-in (known i h e) = omega arith
+goes-in (added f h) = omega arith
+goes-in (evicted f p h) = omega arith
+
+pub goes-out : {heads : List ℕ} {limit used evictions : ℕ} {key : Key} {i a used′ evictions′ : ℕ} → Goes heads limit used evictions key i a used′ evictions′ → (j : ℕ) → j < used′ → j ≢ i → j < used
+goes-out (known i h e) j l ne = l
+goes-out (added f h) j l ne = omega arith
+goes-out (evicted f p h) j l ne = l
+
 -- ---- a further row
 
 -- the ages with a further row's, older than all others, before it becomes the newest
@@ -180,6 +196,48 @@ module _ {K : Type 0} (shown : Key → K) (words : K → Key) (same : K → K �
 
     new-others : ((j : ℕ) → j < used → keyAt heads j ≢ key) → (j : ℕ) → j < used → same (shown key) (shown (keyAt heads j)) ≡ false
     new-others f j l = differ (keyAt heads j) key (w .proper j l) proper (f j l)
+
+    -- row o has the key, which no row had
+    new-stands : (heads′ : List ℕ) (o used′ : ℕ) → Ages (ageOf heads′) used′ → keyAt heads′ o ≡ key → ((j : ℕ) → j < used′ → j ≢ o → (j < used) × (keyAt heads′ j ≡ keyAt heads j))
+        → ((j : ℕ) → j < used → keyAt heads j ≢ key) → Stands shown words heads′ used′
+    new-stands heads′ o used′ ages own others f = record { ages = ages; keys = once; proper = reads }
+      where
+        once : (j k : ℕ) → j < used′ → k < used′ → keyAt heads′ j ≡ keyAt heads′ k → j ≡ k
+        once j k hj hk e = go (ℕ-discrete j o) (ℕ-discrete k o)
+          where
+            go : Dec (j ≡ o) → Dec (k ≡ o) → j ≡ k
+            go (yes p) (yes q) = p ∙ sym q
+            go (yes p) (no q) = let r = others k hk q in absurd (f k (r .0) (sym (r .1) ∙ sym e ∙ ap (keyAt heads′) p ∙ own))
+            go (no p) (yes q) = let r = others j hj p in absurd (f j (r .0) (sym (r .1) ∙ e ∙ ap (keyAt heads′) q ∙ own))
+            go (no p) (no q) = let r = others j hj p in let s = others k hk q in w .keys j k (r .0) (s .0) (sym (r .1) ∙ e ∙ s .1)
+
+        reads : (j : ℕ) → j < used′ → words (shown (keyAt heads′ j)) ≡ keyAt heads′ j
+        reads j l = go (ℕ-discrete j o)
+          where
+            go : Dec (j ≡ o) → words (shown (keyAt heads′ j)) ≡ keyAt heads′ j
+            go (yes q) = rw (q, own) proper
+            go (no ne) = let r = others j l ne in rw (r .1) (w .proper j (r .0))
+
+    -- and the order stands
+    pub touched-stands : (heads′ : List ℕ) {i a used′ evictions′ : ℕ} → Goes heads limit used evictions key i a used′ evictions′ → Touched heads heads′ key i a used′
+        → Stands shown words heads′ used′
+    touched-stands heads′ (known i h e) t = record {
+      ages = ages-touched (ageOf heads) (ageOf heads′) used i (w .ages) h (t .newest, t .aged);
+      keys = λ j k hj hk q. w .keys j k hj hk (sym (kept j hj) ∙ q ∙ kept k hk);
+      proper = λ j l. rw (kept j l) (w .proper j l);
+    }
+      where
+        kept : (j : ℕ) → j < used → keyAt heads′ j ≡ keyAt heads j
+        kept j l = go (ℕ-discrete j i)
+          where
+            go : Dec (j ≡ i) → keyAt heads′ j ≡ keyAt heads j
+            go (yes q) = ap (keyAt heads′) q ∙ t .own ∙ sym e ∙ ap (keyAt heads) (sym q)
+            go (no ne) = t .others j l ne
+    touched-stands heads′ (added f h) t = new-stands heads′ used (used + 1)
+        (ages-touched (withNew heads used) (ageOf heads′) (used + 1) used (ages-new heads used (w .ages)) (omega arith) (aged-new heads heads′ key used t)) (t .own)
+        (λ j l ne. (omega arith, t .others j l ne)) f
+    touched-stands heads′ (evicted f p h) t = new-stands heads′ (oldestOf heads used) used
+        (ages-touched (ageOf heads) (ageOf heads′) used (oldestOf heads used) (w .ages) (oldest-below heads used p) (t .newest, t .aged)) (t .own) (λ j l ne. (l, t .others j l ne)) f
 
     module _ {R : Type 0} (row : ℕ → R) where
       abbrev F : ℕ → Entry K R
@@ -249,44 +307,45 @@ module _ {K : Type 0} (shown : Key → K) (words : K → Key) (same : K → K �
           touched-order (ageOf heads) used o (w .ages) (ageOf heads′) (oldest-below heads used p) (t .newest, t .aged) F′ F (λ j l ne. alike-row heads′ row′ j (t .others j l ne) (stay j l ne))
           ∙ ap (λ (k : K). without (ageOf heads) used o F ++ (under k (row′ o) ∷ [])) (ap shown (t .own))))
 
-    -- row o has the key, which no row had
-    new-stands : (heads′ : List ℕ) (o used′ : ℕ) → Ages (ageOf heads′) used′ → keyAt heads′ o ≡ key → ((j : ℕ) → j < used′ → j ≢ o → (j < used) × (keyAt heads′ j ≡ keyAt heads j))
-        → ((j : ℕ) → j < used → keyAt heads j ≢ key) → Stands shown words heads′ used′
-    new-stands heads′ o used′ ages own others f = record { ages = ages; keys = once; proper = reads }
-      where
-        once : (j k : ℕ) → j < used′ → k < used′ → keyAt heads′ j ≡ keyAt heads′ k → j ≡ k
-        once j k hj hk e = go (ℕ-discrete j o) (ℕ-discrete k o)
-          where
-            go : Dec (j ≡ o) → Dec (k ≡ o) → j ≡ k
-            go (yes p) (yes q) = p ∙ sym q
-            go (yes p) (no q) = let r = others k hk q in absurd (f k (r .0) (sym (r .1) ∙ sym e ∙ ap (keyAt heads′) p ∙ own))
-            go (no p) (yes q) = let r = others j hj p in absurd (f j (r .0) (sym (r .1) ∙ e ∙ ap (keyAt heads′) q ∙ own))
-            go (no p) (no q) = let r = others j hj p in let s = others k hk q in w .keys j k (r .0) (s .0) (sym (r .1) ∙ e ∙ s .1)
+      -- the rows, but row i holds `met`
+      abbrev withMet : ℕ → R → ℕ → R
+      withMet i met j = cond (eqb j i) met (row j)
 
-        reads : (j : ℕ) → j < used′ → words (shown (keyAt heads′ j)) ≡ keyAt heads′ j
-        reads j l = go (ℕ-discrete j o)
-          where
-            go : Dec (j ≡ o) → words (shown (keyAt heads′ j)) ≡ keyAt heads′ j
-            go (yes q) = rw (q, own) proper
-            go (no ne) = let r = others j l ne in rw (r .1) (w .proper j (r .0))
+      met-own : (i : ℕ) (met : R) → withMet i met i ≡ met
+      met-own i met = rw (eq-eqb i i refl)
 
-    -- and the order stands
-    pub touched-stands : (heads′ : List ℕ) {i a used′ evictions′ : ℕ} → Goes heads limit used evictions key i a used′ evictions′ → Touched heads heads′ key i a used′
-        → Stands shown words heads′ used′
-    touched-stands heads′ (known i h e) t = record {
-      ages = ages-touched (ageOf heads) (ageOf heads′) used i (w .ages) h (t .newest, t .aged);
-      keys = λ j k hj hk q. w .keys j k hj hk (sym (kept j hj) ∙ q ∙ kept k hk);
-      proper = λ j l. rw (kept j l) (w .proper j l);
-    }
-      where
-        kept : (j : ℕ) → j < used → keyAt heads′ j ≡ keyAt heads j
-        kept j l = go (ℕ-discrete j i)
+      met-other : (i : ℕ) (met : R) (j : ℕ) → j ≢ i → withMet i met j ≡ row j
+      met-other i met j ne = rw (ne-eqb j i ne)
+
+      module _ (heads′ : List ℕ) {i a used′ evictions′ : ℕ} (g : Goes heads limit used evictions key i a used′ evictions′) (t : Touched heads heads′ key i a used′) (test : R → Bool) (met : R) where
+        after : orderSeen shown heads′ used′ evictions′ (withMet i met) ≡ newest (shown key) met (aside same limit (shown key) before)
+        after =
+            touched-seen heads′ (withMet i met) g t (λ j l ne. met-other i met j ne)
+            ∙ ap (λ (r : R). newest (shown key) r (aside same limit (shown key) before)) (met-own i met)
+
+        abbrev F′ : ℕ → Entry K R
+        F′ j = under (shown (keyAt heads′ j)) (withMet i met j)
+
+        then : Stands shown words heads′ used′
+        then = touched-stands heads′ g t
+
+        -- a test fails of all rows, the key's row being `met`, exactly when it fails of `met` and of every other row
+        pub none-after : test met ≡ false → ((j : ℕ) → j < used → j ≢ i → test (row j) ≡ false)
+            → someRow test ((newest (shown key) met (aside same limit (shown key) before)) .rows) ≡ false
+        unfolding rowsSeen
+        none-after m o =
+            ap (λ (q : TouchOrder K R). someRow test (q .rows)) (sym after)
+            ∙ order-none test (ageOf heads′) used′ (then .ages) F′ (λ j l. each j l (ℕ-discrete j i))
           where
-            go : Dec (j ≡ i) → keyAt heads′ j ≡ keyAt heads j
-            go (yes q) = ap (keyAt heads′) q ∙ t .own ∙ sym e ∙ ap (keyAt heads) (sym q)
-            go (no ne) = t .others j l ne
-    touched-stands heads′ (added f h) t = new-stands heads′ used (used + 1)
-        (ages-touched (withNew heads used) (ageOf heads′) (used + 1) used (ages-new heads used (w .ages)) (omega arith) (aged-new heads heads′ key used t)) (t .own)
-        (λ j l ne. (omega arith, t .others j l ne)) f
-    touched-stands heads′ (evicted f p h) t = new-stands heads′ (oldestOf heads used) used
-        (ages-touched (ageOf heads) (ageOf heads′) used (oldestOf heads used) (w .ages) (oldest-below heads used p) (t .newest, t .aged)) (t .own) (λ j l ne. (l, t .others j l ne)) f
+            each : (j : ℕ) → j < used′ → Dec (j ≡ i) → test (withMet i met j) ≡ false
+            each j l (yes q) = rw (q, met-own i met) m
+            each j l (no ne) = rw (met-other i met j ne) (o j (goes-out g j l ne) ne)
+
+        pub after-none : someRow test ((newest (shown key) met (aside same limit (shown key) before)) .rows) ≡ false
+            → (test met ≡ false) × ((j : ℕ) → j < used → j ≢ i → test (row j) ≡ false)
+        unfolding rowsSeen
+        after-none h =
+            let e : someRow test (rowsSeen shown heads′ used′ (withMet i met)) ≡ false = ap (λ (q : TouchOrder K R). someRow test (q .rows)) after ∙ h in
+            let all : (j : ℕ) → j < used′ → test (withMet i met j) ≡ false = λ j l. none-order test (ageOf heads′) used′ (then .ages) F′ j e l in
+            let m = goes-in g in
+            (ap test (sym (met-own i met)) ∙ all i (goes-row g), λ j l ne. ap test (sym (met-other i met j ne)) ∙ all j (omega arith))
