@@ -25,7 +25,7 @@ use Rattle.rows.specs.declared.Entry.{Entry}
 use Rattle.rows.specs.declared.Room.{Room}
 use Rattle.rows.specs.Rows.{word, goneRow, slotsAt, slotCount, rowSlots, emptied, keptSlots, rowsWhole, takenIn}
 use Rattle.order.specs.Order.{ageOf, rowsSeen, Ages, Stands, Goes, known, added, evicted, Touched}
-use Rattle.order.specs.Slots.{heldOf, heldIn}
+use Rattle.order.specs.Slots.{heldOf, heldSlots}
 use Rattle.order.proofs.Ages.{order-every, every-order}
 use Rattle.order.proofs.Words.{paste-before}
 
@@ -78,28 +78,28 @@ held-new n c h l =
 
 -- ---- the words of a row
 
-pub held-length : (ws : List ℕ) → length (heldIn ws) ≡ length ws
-unfolding heldIn
+pub held-length : (ws : List ℕ) → length (heldSlots ws) ≡ length ws
+unfolding heldSlots
 held-length ws = lib.ListN.length-map ws heldOf
 
-pub held-get : (ws : List ℕ) (n : ℕ) → getD (heldIn ws) n none ≡ heldOf (getD ws n 0)
-unfolding heldIn heldOf
+pub held-get : (ws : List ℕ) (n : ℕ) → getD (heldSlots ws) n none ≡ heldOf (getD ws n 0)
+unfolding heldSlots heldOf
 held-get ws n = List·getD-map heldOf ws n 0
 
-pub held-set : (ws : List ℕ) (n w : ℕ) → heldIn (set ws n w) ≡ set (heldIn ws) n (heldOf w)
-unfolding heldIn
+pub held-set : (ws : List ℕ) (n w : ℕ) → heldSlots (set ws n w) ≡ set (heldSlots ws) n (heldOf w)
+unfolding heldSlots
 held-set [] n w = refl
 held-set (v ∷ ws) zero w = refl
 held-set (v ∷ ws) (suc n) w = ap (λ (l : List (Option Held)). heldOf v ∷ l) (held-set ws n w)
 
-pub held-none : (n : ℕ) → heldIn (replicate n 0) ≡ replicate n none
-unfolding heldIn heldOf
+pub held-none : (n : ℕ) → heldSlots (replicate n 0) ≡ replicate n none
+unfolding heldSlots heldOf
 held-none zero = refl
 held-none (suc n) = ap (λ (l : List (Option Held)). none ∷ l) (held-none n)
 
 -- .. pass 10's test as the rules have it
-pub held-whole : (o : Settings) (cells : Cells) (ws : List ℕ) → everyHeld (heldWhole o cells) (heldIn ws) ≡ allWhole (length cells) (o .cellSize) ws
-unfolding heldIn everyHeld every heldOf slotWhole heldWhole
+pub held-whole : (o : Settings) (cells : Cells) (ws : List ℕ) → everyHeld (heldWhole o cells) (heldSlots ws) ≡ allWhole (length cells) (o .cellSize) ws
+unfolding heldSlots everyHeld every heldOf slotWhole heldWhole
 held-whole o cells [] = refl
 held-whole o cells (w ∷ ws) = go (eqb (keptLength w) 0) (held-whole o cells ws)
   where
@@ -112,19 +112,19 @@ held-whole o cells (w ∷ ws) = go (eqb (keptLength w) 0) (held-whole o cells ws
     c : Bool
     c = ltb (cellNumber w) (length cells)
 
-    go : (t : Bool) → everyHeld (heldWhole o cells) (heldIn ws) ≡ allWhole (length cells) (o .cellSize) ws
-        → everyHeld (heldWhole o cells) (cond (not t) (some (place w)) none ∷ heldIn ws) ≡ ((t || (a && b && c)) && allWhole (length cells) (o .cellSize) ws)
+    go : (t : Bool) → everyHeld (heldWhole o cells) (heldSlots ws) ≡ allWhole (length cells) (o .cellSize) ws
+        → everyHeld (heldWhole o cells) (cond (not t) (some (place w)) none ∷ heldSlots ws) ≡ ((t || (a && b && c)) && allWhole (length cells) (o .cellSize) ws)
     go true ih = ih
     go false ih = rw ih (ap (λ (x : Bool). x && allWhole (length cells) (o .cellSize) ws) (and-comm c (a && b)))
 
 -- .. and name a cell as the rules have it
-pub held-names : (c : ℕ) (ws : List ℕ) → someHeld (names c) (heldIn ws) ≡ someNames c ws
-unfolding heldIn someHeld any heldOf names
+pub held-names : (c : ℕ) (ws : List ℕ) → someHeld (names c) (heldSlots ws) ≡ someNames c ws
+unfolding heldSlots someHeld any heldOf names
 held-names c [] = refl
 held-names c (w ∷ ws) = go (filled w) (held-names c ws)
   where
-    go : (t : Bool) → someHeld (names c) (heldIn ws) ≡ someNames c ws
-        → someHeld (names c) (cond t (some (place w)) none ∷ heldIn ws) ≡ ((t && eqb (cellNumber w) c) || someNames c ws)
+    go : (t : Bool) → someHeld (names c) (heldSlots ws) ≡ someNames c ws
+        → someHeld (names c) (cond t (some (place w)) none ∷ heldSlots ws) ≡ ((t && eqb (cellNumber w) c) || someNames c ws)
     go true ih = ap (λ (x : Bool). eqb (cellNumber w) c || x) ih
     go false ih = ih
 
