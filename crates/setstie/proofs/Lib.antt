@@ -1,3 +1,4 @@
 pub mod Rows
 pub mod Settle
 pub mod Keep
+pub mod Calls
