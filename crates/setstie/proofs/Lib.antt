@@ -1,0 +1,5 @@
+pub mod Rows
+pub mod Settle
+pub mod Keep
+pub mod Calls
+pub mod History
