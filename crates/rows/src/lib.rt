@@ -4,10 +4,10 @@
 ghost use mathlib.Core.Path.{_≡_};
 ghost use mathlib.Core.Bool.{Bool, true, false, cond, not};
 ghost use Prim.Native.Nat.{ℕ, _+_, _-_, _*_, _<_, _≤_};
-ghost use lib.ListN.{length};
+ghost use lib.ListN.{length, getD};
 ghost use lib.Seq.{paste};
 ghost use Rattle.cells.specs.Cells.{allFilled};
-ghost use Rattle.rows.specs.Rows.{roomNew, goneRow, keptHeads, slotCount, rowSlots, emptied, keptSlots, rowsWhole, markedRow, markedRows};
+ghost use Rattle.rows.specs.Rows.{roomNew, goneRow, keptHeads, slotsAt, slotCount, rowSlots, emptied, keptSlots, rowsWhole, markedRow, markedRows};
 ghost use Rattle.rows.specs.Rows.{word, put, keyAt, sameKey, rowOf, elderOf, oldestOf, older, aged, touched, headOf, freshHead};
 
 // What tells one row from another. The set collector has 0 as transport_stream_id and original_network_id.
@@ -314,6 +314,14 @@ pub fn row_slots<'a>(heads: &[u64], slots: &'a [u32], i: usize) -> &'a [u32]
     let n = slot_count(last(heads, i));
     let at = i * ROW_WORDS + SEGMENT_WORDS;
     &slots[at..at + n]
+}
+
+// The word of slot j of row i.
+pub fn slot(slots: &[u32], i: usize, j: usize) -> u32
+    requires { ⌜ (i * 288 + 288 ≤ length (now slots)) × (j < 256) ⌝ }
+    ensures { λ r. ⌜ r ≡ getD (now (slots .entry)) (slotsAt i + j) 0 ⌝ }
+{
+    slots[i * ROW_WORDS + SEGMENT_WORDS + j]
 }
 
 // The n slots from `at` on are emptied.
