@@ -48,7 +48,7 @@ pub const HEAD_WORDS: usize = 12;
 
 pub const ROW_WORDS: usize = 288;
 
-const SEGMENT_WORDS: usize = 32;
+pub const SEGMENT_WORDS: usize = 32;
 
 const VERSION: usize = 6;
 
@@ -332,7 +332,8 @@ fn empty_part(slots: &mut [u32], at: usize, n: usize)
     cells::empty(&mut slots[at..at + n]);
 }
 
-fn empty_where(slots: &mut [u32], fresh: bool, at: usize, n: usize)
+// The n words from `at` on are emptied where a row begins anew.
+pub fn empty_where(slots: &mut [u32], fresh: bool, at: usize, n: usize)
     requires { ⌜ at + n ≤ length (now slots) ⌝ }
     ensures { λ _. ⌜ now (slots .exit) ≡ cond fresh (emptied at n (now (slots .entry))) (now (slots .entry)) ⌝ }
 {

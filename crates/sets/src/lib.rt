@@ -10,7 +10,7 @@ ghost use Rattle.cells.specs.Cells.{partOf};
 ghost use Rattle.sets.specs.Store.{store, asked, openNumber, pushNumber, clearNumber, nextNumber};
 ghost use Rattle.sets.specs.Store.{leftOpened, leftPushed, leftCleared, openedOf, pushedOf, clearedOf, questionOf, nextOf};
 
-mod inner;
+pub mod inner;
 
 // Settings and counts. `limit` keys at most; `count` cells of `size` bytes; rows 0 to used - 1 are in use.
 pub struct Sets {
