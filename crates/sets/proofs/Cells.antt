@@ -4,16 +4,17 @@ use mathlib.Core.Path.{_≡_, refl, sym, ap, subst, _∙_}
 use mathlib.Core.Logic.{_≢_}
 use mathlib.Core.List.{List}
 use mathlib.Core.Bool.{Bool, true, false, cond}
-use Prim.Native.Nat.{ℕ, _*_, _≤_, _<_}
+use Prim.Native.Nat.{ℕ, _+_, _-_, _*_, _≤_, _<_, min}
 use native.Mathlib.Omega.{arith}
-use borrow.Author.Tests.{ltb-true, ltb-false}
+use borrow.Author.Tests.{ltb-true, ltb-false, le-leb}
 use lib.Dec.{ltb}
 use lib.ListN.{length, getD, take, drop}
 use Rattle.section.specs.declared.ids.MaybePid.{MaybePid}
-use Rattle.cells.specs.Cells.{lowestFree}
+use Rattle.cells.specs.Cells.{keptLength, cellNumber, slotWhole, kept, partOf, lowestFree}
 use Rattle.cells.proofs.Laws.{lowest-free, lower-taken}
 use Rattle.cells.proofs.Bytes.{other-cell}
-use Rattle.rows.specs.Rows.{goneRow, takenIn}
+use Rattle.rows.specs.Rows.{word, slotsAt, slotCount, goneRow, takenIn}
+use Rattle.rows.proofs.Whole.{slot-get}
 use Rattle.rows.specs.declared.Entry.{Entry}
 use Rattle.rows.specs.declared.Room.{Room}
 use Rattle.sets.specs.declared.PushAnswer.the-variants.{NoCell}
@@ -22,6 +23,7 @@ use Rattle.sets.specs.declared.inner.Plan.{Plan}
 use Rattle.sets.specs.declared.inner.Plan.the-variants as plan
 use Rattle.sets.specs.Store.{Store, wholeOf, KeepOk, PlanOk, planKeep, planOf, settled, keptIn, carried, pushedOf}
 use Rattle.sets.proofs.Whole.{means-whole}
+use Rattle.sets.proofs.Plans.{slot-fits}
 use Rattle.sets.proofs.May.{plan-ok}
 use Rattle.sets.proofs.Every.{plan-by}
 use Rattle.sets.proofs.Stays.{WholeStore}
@@ -83,3 +85,16 @@ pub other-cells : (s : Store) (pid : MaybePid) (bytes : List ℕ) → getD bytes
     → take n (drop (c * s .sets .size) ((pushedOf s pid bytes) .store .cells)) ≡ take n (drop (c * s .sets .size) (s .cells))
 unfolding pushedOf
 other-cells s pid bytes b c n h l f = carried-cell s bytes (planOf s pid bytes) (plan-ok s bytes b pid) c n h l f
+
+-- ---- what is handed out
+
+-- the part that a filled slot of a row in use tells is exactly the bytes kept for it
+pub told-part : (s : Store) → WholeStore s → (i k : ℕ) → i < s .sets .used → k < slotCount (word (s .heads) i 7) → (keptLength (getD (s .slots) (slotsAt i + k) 0) ≡ 0 → ⊥)
+    → partOf (s .cells) (cellNumber (getD (s .slots) (slotsAt i + k) 0) * s .sets .size) (keptLength (getD (s .slots) (slotsAt i + k) 0)) ≡ kept (s .cells) (s .sets .size) (getD (s .slots) (slotsAt i + k) 0)
+told-part s w i k h l ne =
+    let a = w .slots-long in
+    let u = w .used in
+    let v : ℕ = getD (s .slots) (slotsAt i + k) 0 in
+    let o : slotWhole (s .sets .count) (s .sets .size) v ≡ true = slot-get (s .heads) (s .slots) (s .sets .count) (s .sets .size) (s .sets .used) i k (w .rows) h (omega arith) l in
+    let f : cellNumber v * s .sets .size + keptLength v ≤ length (s .cells) = slot-fits (s .sets) (s .heads) (s .slots) (s .cells) v (keptLength v) (cellNumber v) w o refl refl ne in
+    rw (le-leb (cellNumber v * s .sets .size) (length (s .cells)) (omega arith), le-leb (keptLength v) (length (s .cells) - cellNumber v * s .sets .size) (omega arith))

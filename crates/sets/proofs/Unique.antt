@@ -5,6 +5,7 @@ use mathlib.Core.Path.{_≡_, refl, sym, ap, _∙_}
 use mathlib.Core.List.{List}
 use mathlib.Core.Bool.{cond}
 use lib.Dec.{eqb}
+use denote.Ref.{RefT}
 use Rattle.section.specs.declared.ids.MaybePid.{MaybePid}
 use Rattle.cells.specs.Cells.{partOf}
 use Rattle.sets.specs.declared.OpenAnswer.{OpenAnswer}
@@ -19,6 +20,7 @@ use Rattle.sets.specs.declared.Cleared.{Cleared}
 use Rattle.sets.specs.declared.NextAnswer.{NextAnswer}
 use Rattle.sets.specs.declared.NextAnswer.the-variants as next-answer
 use Rattle.sets.specs.declared.Next.{Next}
+use Rattle.sets.specs.declared.SetReader.{SetReader}
 use Rattle.sets.specs.Store.{Store, Told, plain, handed, setIn, answerOf, openNumber, clearNumber, nextNumber, Left, leftOpened, leftPushed, leftCleared, openedOf, pushedOf, clearedOf, Question, questionOf, nextOf}
 
 -- ---- an answer, from what it tells
@@ -110,3 +112,13 @@ unique-next l p q a b =
 -- two parts that meet the promise hold the same bytes
 pub unique-part : (cells : List ℕ) (start size : ℕ) (p q : List ℕ) → p ≡ partOf cells start size → q ≡ partOf cells start size → p ≡ q
 unique-part cells start size p q a b = a ∙ sym b
+
+-- a reader: its cells and its slot are what is said of them
+pub unique-reader : (c : RefT (List ℕ)) (n : ℕ) (p q : SetReader) → (p .cells ≡ c) × (p .next ≡ n) → (q .cells ≡ c) × (q .next ≡ n) → p ≡ q
+unique-reader c n p q a b =
+    let e : p .cells ≡ q .cells = a .0 ∙ sym (b .0) in
+    let f : p .next ≡ q .next = a .1 ∙ sym (b .1) in
+    λ i. record { cells = e i; next = f i }
+
+pub unique-from : (n p q : ℕ) → p ≡ n → q ≡ n → p ≡ q
+unique-from n p q a b = a ∙ sym b
