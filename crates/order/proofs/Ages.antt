@@ -48,20 +48,20 @@ module _ {A : Type 0} where
 abbrev pub skip : ℕ → ℕ → ℕ
 skip a b = cond (ltb b a) b (suc b)
 
-skip-low : (a b : ℕ) → b < a → skip a b ≡ b
+pub skip-low : (a b : ℕ) → b < a → skip a b ≡ b
 skip-low a b h = rw (lt-ltb b a h)
 
-skip-high : (a b : ℕ) → a ≤ b → skip a b ≡ suc b
+pub skip-high : (a b : ℕ) → a ≤ b → skip a b ≡ suc b
 skip-high a b h = rw (le-ltb b a h)
 
-skip-not : (a b : ℕ) → skip a b ≡ a → ⊥
+pub skip-not : (a b : ℕ) → skip a b ≡ a → ⊥
 skip-not a b e = go (decLe (suc b) a)
   where
     go : Dec (suc b ≤ a) → ⊥
     go (yes h) = let p = skip-low a b h in omega arith
     go (no h) = let p = skip-high a b (omega arith) in omega arith
 
-skip-below : (a b n : ℕ) → suc b < n → skip a b < n
+pub skip-below : (a b n : ℕ) → suc b < n → skip a b < n
 skip-below a b n h = go (decLe (suc b) a)
   where
     go : Dec (suc b ≤ a) → skip a b < n

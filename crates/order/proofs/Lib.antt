@@ -4,3 +4,4 @@ pub mod Words
 pub mod Slots
 pub mod Cells
 pub mod Taken
+pub mod Drop

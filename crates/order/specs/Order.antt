@@ -1,11 +1,12 @@
 -- The touch order that heads with ages stand for: the rows in use by falling age, the least recently touched first, as the rules have them.
 -- What a key says and what a row holds is left open, so that sets and schedules have one text.
 -- Assumes nothing.
-use Prim.Native.Nat.{ℕ, zero, suc, _+_, _<_, _≤_}
+use Prim.Native.Nat.{ℕ, zero, suc, _+_, _-_, _<_, _≤_}
 use mathlib.Core.Path.{_≡_}
 use mathlib.Core.Logic.{_≢_}
 use mathlib.Core.List.{List, [], _∷_}
-use lib.Dec.{eqb}
+use mathlib.Core.Bool.{cond}
+use lib.Dec.{eqb, ltb}
 use Rattle.laws.specs.Lists.{firstFrom}
 use Rattle.touch.specs.Touch.{Rows, TouchOrder, under}
 use Rattle.rows.specs.declared.Key.{Key}
@@ -66,3 +67,18 @@ pub record Touched (heads heads′ : List ℕ) (key : Key) (i a used′ : ℕ) :
   pub own : keyAt heads′ i ≡ key
   pub aged : (j : ℕ) → j < used′ → j ≢ i → ageOf heads′ j ≡ older a (ageOf heads j)
   pub others : (j : ℕ) → j < used′ → j ≢ i → keyAt heads′ j ≡ keyAt heads j
+
+-- ---- a row is dropped: the last row in use takes its place, and each row that was older is one younger
+
+-- the row that stands in row j's place once row i was dropped
+abbrev pub movedFrom : (used i j : ℕ) → ℕ
+movedFrom used i j = cond (eqb j i) (used - 1) j
+
+-- an age above a goes down by 1
+abbrev pub younger : ℕ → ℕ → ℕ
+younger a age = cond (ltb a age) (age - 1) age
+
+-- heads′ are heads with row i dropped
+pub record Dropped (heads heads′ : List ℕ) (i used : ℕ) : Type 0 where
+  pub keys : (j : ℕ) → j < used - 1 → keyAt heads′ j ≡ keyAt heads (movedFrom used i j)
+  pub ages : (j : ℕ) → j < used - 1 → ageOf heads′ j ≡ younger (ageOf heads i) (ageOf heads (movedFrom used i j))
