@@ -14,7 +14,7 @@ use Rattle.setstie.proofs.History.{opened-reached, opened-seen, same-answers, n
 use Rattle.promises.specs.Demand3.{Collector, StartsEmpty, EqualCellSize, LimitNoLarger, Calls, SectionsOfBytes, answersOf, RefusesNoneAsConflicting, RefusesNoneForItsStore, HandsOut, HandedOutSinceTheLastClear, Demand3}
 
 -- the answers are those of the rules with cells
-as-rules : (s : Collector) → StartsEmpty s → (calls : Calls) → SectionsOfBytes calls → answersOf s calls ≡ run withCells (seen s) (map reads calls)
+pub as-rules : (s : Collector) → StartsEmpty s → (calls : Calls) → SectionsOfBytes calls → answersOf s calls ≡ run withCells (seen s) (map reads calls)
 as-rules s o calls b = same-answers calls b s (opened-reached s o)
 
 -- a clear is read as a clear

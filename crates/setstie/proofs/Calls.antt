@@ -67,11 +67,16 @@ row-whole s j =
     ∙ ap (λ (m : ℕ). allWhole m (s .sets .size) (rowSlots (s .heads) (s .slots) j)) (cells-length (s .cells) (s .sets .size) (s .sets .count))
 
 -- a row in use has its slots
-slots-many : (s : Store) (i j : ℕ) → j < slotCount (word (s .heads) i 7) → slotsAt i + 256 ≤ length (s .slots) → j < length (rowSlots (s .heads) (s .slots) i)
+pub slots-many : (s : Store) (i j : ℕ) → j < slotCount (word (s .heads) i 7) → slotsAt i + 256 ≤ length (s .slots) → j < length (rowSlots (s .heads) (s .slots) i)
 unfolding rowSlots
 slots-many s i j h l =
     let a = lib.Seq.length-take-le (slotCount (word (s .heads) i 7)) (lib.ListN.drop (slotsAt i) (s .slots)) (rw (lib.ListN.length-drop (slotsAt i) (s .slots)) (omega arith)) in
     omega arith
+
+-- .. and no more
+pub slots-few : (s : Store) (i j : ℕ) → j < length (rowSlots (s .heads) (s .slots) i) → j < slotCount (word (s .heads) i 7)
+unfolding rowSlots
+slots-few s i j h = let a = lib.ListN.length-take (slotCount (word (s .heads) i 7)) (lib.ListN.drop (slotsAt i) (s .slots)) in omega arith
 
 new-fresh : (heads : List ℕ) (limit used evictions : ℕ) → (roomNew heads limit used evictions) .fresh ≡ true
 unfolding roomNew
