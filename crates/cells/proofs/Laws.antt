@@ -7,7 +7,7 @@ use Prim.Native.Nat.{ℕ, zero, suc, _+_, _-_, _*_, _/_, _%_, _^_, _≤_, _<_}
 use native.Mathlib.Nat.{zero-div, lt-of-le-of-lt}
 use native.Mathlib.Numerals.{add-one}
 use native.Mathlib.Omega.{arith}
-use borrow.Author.Tests.{eq-eqb, ne-eqb, le-leb, lt-leb, lt-ltb, ltb-true, leb-true, eqb-true, not-false}
+use borrow.Author.Tests.{eq-eqb, ne-eqb, le-leb, lt-leb, lt-ltb, ltb-true, leb-true, eqb-true, not-true, not-false}
 use mir.Val.{Fits}
 use mir.Syntax.{w64}
 use lib.Dec.{eqb, ltb, leb, lit<}
@@ -19,7 +19,7 @@ use Rattle.laws.specs.Bits.{bit, addBit, hasBit}
 use Rattle.laws.proofs.Bits.{one-shl, has-added, length-addBit, or-zero, xor-zero}
 use Rattle.laws.proofs.Tests.{eqb-sym, same-test, true-and, and-true as and-true-both}
 use Rattle.laws.proofs.Lists.{paste-end, getD-none}
-use Rattle.laws.proofs.Search.{every-turn, every-end, first-skip, first-same, first-within, first-before, below-all, same-lengths, same-turn, same-end}
+use Rattle.laws.proofs.Search.{every-turn, every-end, first-skip, first-same, first-passes, first-within, first-before, below-all, same-lengths, same-turn, same-end}
 use Rattle.cells.specs.Cells.{keptLength, cellNumber, filled, slotWhole, allWhole, names, someNames, marked, markedAll, lacks, fullWords, clearFrom, lowestFree, lowestClear, partOf}
 
 -- ---- the slots
@@ -173,3 +173,11 @@ has-none c = rw (zero-word, zero-div)
 -- the lowest cell that a map of the taken cells has not is the lowest free
 pub lowest-of : (taken : ℕ → Bool) (map : List ℕ) (count : ℕ) → ((c : ℕ) → hasBit map c ≡ taken c) → lowestClear map count ≡ lowestFree taken count
 lowest-of taken map count f = first-same (λ (c : ℕ). not (hasBit map c)) (λ (c : ℕ). not (taken c)) count 0 (λ k a b. ap not (f k))
+
+-- the lowest free cell is free, and every lower one is taken
+module _ (taken : ℕ → Bool) (count : ℕ) where
+  pub lowest-free : lowestFree taken count < count → taken (lowestFree taken count) ≡ false
+  lowest-free h = not-true _ (first-passes (λ (c : ℕ). not (taken c)) count 0 (omega arith))
+
+  pub lower-taken : (c : ℕ) → c < lowestFree taken count → taken c ≡ true
+  lower-taken c h = not-false _ (first-before (λ (k : ℕ). not (taken k)) count 0 c (omega arith) h)

@@ -13,7 +13,7 @@ use Rattle.section.specs.Pat.{readable}
 use Rattle.section.specs.declared.header.Parts.{Parts}
 use Rattle.section.specs.declared.header.Judged.{Judged}
 use Rattle.section.specs.declared.header.Judged.the-variants.{Short, Mismatch, Sound}
-use Rattle.section.proofs.Facts.{length-programs}
+use Rattle.section.proofs.pat.Laws.{length-programs}
 use Rattle.watched.specs.Store.{allPids, filled, following}
 use Rattle.watched.specs.Rules.{InStep}
 use Rattle.watched.proofs.Meaning.{opened-in-step, following-in-step, length-following}

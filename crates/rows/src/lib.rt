@@ -4,10 +4,10 @@
 ghost use mathlib.Core.Path.{_≡_};
 ghost use mathlib.Core.Bool.{Bool, true, false, cond, not};
 ghost use Prim.Native.Nat.{ℕ, _+_, _-_, _*_, _<_, _≤_};
-ghost use lib.ListN.{length};
+ghost use lib.ListN.{length, getD};
 ghost use lib.Seq.{paste};
 ghost use Rattle.cells.specs.Cells.{allFilled};
-ghost use Rattle.rows.specs.Rows.{roomNew, goneRow, keptHeads, slotCount, rowSlots, emptied, keptSlots, rowsWhole, markedRow, markedRows};
+ghost use Rattle.rows.specs.Rows.{roomNew, goneRow, keptHeads, slotsAt, slotCount, rowSlots, emptied, keptSlots, rowsWhole, markedRow, markedRows};
 ghost use Rattle.rows.specs.Rows.{word, put, keyAt, sameKey, rowOf, elderOf, oldestOf, older, aged, touched, headOf, freshHead};
 
 // What tells one row from another. The set collector has 0 as transport_stream_id and original_network_id.
@@ -48,7 +48,7 @@ pub const HEAD_WORDS: usize = 12;
 
 pub const ROW_WORDS: usize = 288;
 
-const SEGMENT_WORDS: usize = 32;
+pub const SEGMENT_WORDS: usize = 32;
 
 const VERSION: usize = 6;
 
@@ -316,6 +316,14 @@ pub fn row_slots<'a>(heads: &[u64], slots: &'a [u32], i: usize) -> &'a [u32]
     &slots[at..at + n]
 }
 
+// The word of slot j of row i.
+pub fn slot(slots: &[u32], i: usize, j: usize) -> u32
+    requires { ⌜ (i * 288 + 288 ≤ length (now slots)) × (j < 256) ⌝ }
+    ensures { λ r. ⌜ r ≡ getD (now (slots .entry)) (slotsAt i + j) 0 ⌝ }
+{
+    slots[i * ROW_WORDS + SEGMENT_WORDS + j]
+}
+
 // The n slots from `at` on are emptied.
 fn empty_part(slots: &mut [u32], at: usize, n: usize)
     requires { ⌜ at + n ≤ length (now slots) ⌝ }
@@ -324,7 +332,8 @@ fn empty_part(slots: &mut [u32], at: usize, n: usize)
     cells::empty(&mut slots[at..at + n]);
 }
 
-fn empty_where(slots: &mut [u32], fresh: bool, at: usize, n: usize)
+// The n words from `at` on are emptied where a row begins anew.
+pub fn empty_where(slots: &mut [u32], fresh: bool, at: usize, n: usize)
     requires { ⌜ at + n ≤ length (now slots) ⌝ }
     ensures { λ _. ⌜ now (slots .exit) ≡ cond fresh (emptied at n (now (slots .entry))) (now (slots .entry)) ⌝ }
 {

@@ -82,6 +82,12 @@ module _ (words : List ℕ) (on : Bool) (extra : List ℕ) (e : allPids extra �
   unfolding filled
   opened-followed = rw (laid-followed _ _ noPids words (length-protecting on extra) (length-protecting on extra) refl) (has-none 128 q)
 
+pub length-filled : (words : List ℕ) (on : Bool) (extra : List ℕ) → 384 ≤ length words → length (filled words on extra) ≡ length words
+unfolding filled
+length-filled words on extra h =
+    let s = addBits noPids (protectedPids on extra) in
+    length-laid s s noPids words (length-protecting on extra) (length-protecting on extra) refl h
+
 pub opened-in-step : (words : List ℕ) (on : Bool) (extra : List ℕ) → allPids extra ≡ true → InStep (filled words on extra)
 opened-in-step words on extra e q h =
     rw (opened-watched words on extra e q, opened-protected words on extra e q, opened-followed words on extra e q) (sym (or-false (among q (protectedPids on extra))))

@@ -46,3 +46,9 @@ unique-open words wellKnown extra r q v w a b =
 
 pub unique-ask : (words : List ℕ) (pid : ℕ) (r q : Asked) → askedNo r ≡ asked words pid → askedNo q ≡ asked words pid → r ≡ q
 unique-ask words pid r q a b = asked-one r q (a ∙ sym b)
+
+pub unique-opening-number : (a : Opening) (r q : ℕ) → r ≡ openingNo a → q ≡ openingNo a → r ≡ q
+unique-opening-number a r q d e = d ∙ sym e
+
+pub unique-asked-number : (a : Asked) (r q : ℕ) → r ≡ askedNo a → q ≡ askedNo a → r ≡ q
+unique-asked-number a r q d e = d ∙ sym e

@@ -5,8 +5,8 @@ use mathlib.Core.List.{List, [], _∷_, _++_}
 use mathlib.Core.Bool.{Bool, true, cond, _&&_}
 use lib.ListN.{length, take, drop, replicate}
 use lib.Dec.{ltb, leb}
-use Rattle.laws.specs.Bits.{hasBit, addBits, union, without, less}
 use lib.Bits.{bitOr}
+use Rattle.laws.specs.Bits.{hasBit, addBits, union, without, less}
 use Rattle.section.specs.Ids.{knownPids}
 use Rattle.watched.specs.declared.Opening.{Opening}
 use Rattle.watched.specs.declared.Opening.the-variants.{Opened, BadPid, TooLittle}
@@ -78,6 +78,7 @@ opened words wellKnown extra =
 unfoldable pub asked : List ℕ → ℕ → ℕ
 asked words pid = cond (leb 384 (length words)) (cond (ltb pid 8192) (cond (hasBit (watchedOf words) pid) 8 9) 12) 10
 
+-- yes where the PID is watched
 abbrev pub answerOf : Bool → Asked
 answerOf watched = cond watched Yes No
 

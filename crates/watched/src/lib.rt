@@ -8,6 +8,9 @@ ghost use Rattle.watched.specs.Store.{openingNo, askedNo, answerOf, left
 
 pub mod inner;
 
+// How many words the host lends.
+pub const WORDS: usize = 384;
+
 // What opening answers.
 pub enum Opening {
     Opened,
@@ -31,7 +34,7 @@ pub fn open(words: &mut [u64], well_known: bool, extra: &[u16]) -> Opening
     if !inner::pids_good(extra) {
         return Opening::BadPid;
     }
-    if words.len() < 384 {
+    if words.len() < WORDS {
         return Opening::TooLittle;
     }
     inner::fill(words, well_known, extra);
@@ -42,7 +45,7 @@ pub fn open(words: &mut [u64], well_known: bool, extra: &[u16]) -> Opening
 pub fn ask(words: &[u64], pid: u16) -> Asked
     ensures { λ r. ⌜ askedNo r ≡ asked (now (words .entry)) pid ⌝ }
 {
-    if words.len() < 384 {
+    if words.len() < WORDS {
         return Asked::NotWhole;
     }
     match Pid::make(pid) {
@@ -65,6 +68,7 @@ impl Opening {
 }
 
 impl Asked {
+    // Yes where the PID is watched.
     fn of(watched: bool) -> Asked
         ensures { λ r. ⌜ r ≡ answerOf watched ⌝ }
     {

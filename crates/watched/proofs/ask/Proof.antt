@@ -1,3 +1,4 @@
+-- `watched::ask` meets its contract: one law for each way out. Assumes nothing.
 use Rattle.watched.proofs.Laws.{ask-short, ask-bad, ask-room, ask-has}
 use borrow.Author.Needs.{needs}
 use Rattle.watched.proofs.ask.Statement.{statement}

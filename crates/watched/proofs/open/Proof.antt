@@ -1,3 +1,4 @@
+-- `watched::open` meets its contract: one law for each way out. Assumes nothing.
 use native.Mathlib.Omega.{arith}
 use Rattle.watched.proofs.Laws.{open-bad, open-little, open-good, open-judged}
 use borrow.Author.Needs.{needs}

@@ -1,3 +1,4 @@
+-- `watched::inner::add_all` meets its contract. The loop's invariant: adding the rest gives what adding all gives. Assumes nothing.
 use borrow.Author.Needs.{needs}
 use mathlib.Core.Path.{_≡_, refl, sym, _∙_}
 use Prim.Native.Nat.{_≤_, _-_}

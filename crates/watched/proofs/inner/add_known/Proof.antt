@@ -1,3 +1,4 @@
+-- `watched::inner::add_known` meets its contract: the eight are PIDs. Assumes nothing.
 use Rattle.watched.proofs.Laws.{known-good}
 use borrow.Author.Needs.{needs}
 use Rattle.watched.proofs.inner.add_known.Statement.{statement}

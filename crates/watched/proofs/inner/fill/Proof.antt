@@ -1,3 +1,4 @@
+-- `watched::inner::fill` meets its contract: the three sets written are the words. Assumes nothing.
 use mathlib.Core.Path.{_∙_}
 use Rattle.watched.proofs.Laws.{fill-opened}
 use borrow.Author.Needs.{needs}

@@ -1,3 +1,4 @@
+-- `watched::inner::follow` meets its contract: the two sets written, and the protected one between them, are the words. Assumes nothing.
 use mathlib.Core.Path.{_∙_}
 use Rattle.watched.proofs.Laws.{follow-laid}
 use borrow.Author.Needs.{needs}

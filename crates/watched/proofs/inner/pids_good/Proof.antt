@@ -1,3 +1,4 @@
+-- `watched::inner::pids_good` meets its contract. The loop's invariant: what was found good so far and the rest decide. Assumes nothing.
 use borrow.Author.Needs.{needs}
 use mathlib.Core.Path.{_≡_, refl, sym, _∙_}
 use mathlib.Core.Bool.{_&&_}

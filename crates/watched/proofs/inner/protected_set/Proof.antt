@@ -1,3 +1,4 @@
+-- `watched::inner::protected_set` meets its contract: the well-known PIDs and then the extra ones. Assumes nothing.
 use Rattle.watched.specs.Store.{noPids}
 use mathlib.Core.Path.{_∙_}
 use Rattle.watched.proofs.Laws.{protect-all}

@@ -1,3 +1,4 @@
+-- `watched::inner::renew` meets its contract. The loop's invariant: the first i words of the watch are renewed, the others as they were. Assumes nothing.
 use borrow.Author.Needs.{needs}
 use mathlib.Core.Path.{_≡_, refl}
 use Prim.Native.Nat.{_≤_, _-_}

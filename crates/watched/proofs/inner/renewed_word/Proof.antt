@@ -1,3 +1,4 @@
+-- `watched::inner::renewed_word` meets its contract. Assumes nothing.
 use borrow.Author.Needs.{needs}
 use Rattle.watched.proofs.inner.renewed_word.Statement.{statement}
 use Rattle.watched.proofs.inner.renewed_word.Tie as tie

@@ -1,0 +1,7 @@
+pub mod Ages
+pub mod Touch
+pub mod Words
+pub mod Slots
+pub mod Cells
+pub mod Taken
+pub mod Drop

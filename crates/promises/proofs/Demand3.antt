@@ -1,0 +1,58 @@
+-- Demand 3 of the set collector over lent memory.
+-- Assumes nothing.
+use mathlib.Core.Path.{_≡_, refl, sym, ap, subst}
+use mathlib.Core.Option.{some, Option·some-injective}
+use mathlib.Core.List.{List, [], _∷_, map}
+use Prim.Native.Nat.{ℕ, zero, suc}
+use Rattle.laws.proofs.Tests.{none≢some}
+use Rattle.touch.specs.Runs.{At, Never, GivenBy}
+use Rattle.setrules.specs.Rules.{Whole, Answer, clear, handout, counterFull, noCell}
+use Rattle.setrules.specs.Demand.{run, withCells, Smaller, NoConflict, NeverBarred}
+use Rattle.setrules.proofs.Demand.{demand-3-cells}
+use Rattle.setstie.specs.View.{Given, clears, reads, seen}
+use Rattle.setstie.proofs.History.{opened-reached, opened-seen, same-answers, never-not-whole}
+use Rattle.promises.specs.Demand3.{Collector, StartsEmpty, EqualCellSize, LimitNoLarger, Calls, SectionsOfBytes, answersOf, RefusesNoneAsConflicting, RefusesNoneForItsStore, HandsOut, HandedOutSinceTheLastClear, Demand3}
+
+-- the answers are those of the rules with cells
+as-rules : (s : Collector) → StartsEmpty s → (calls : Calls) → SectionsOfBytes calls → answersOf s calls ≡ run withCells (seen s) (map reads calls)
+as-rules s o calls b = same-answers calls b s (opened-reached s o)
+
+-- a clear is read as a clear
+reads-clear : (calls : Calls) (t : ℕ) → At calls t clears → At (map reads calls) t clear
+unfolding reads
+reads-clear [] t e = absurd (none≢some refl e)
+reads-clear (i ∷ is) zero e = ap (λ (j : Given). some (reads j)) (Option·some-injective i clears e)
+reads-clear (i ∷ is) (suc t) e = reads-clear is t e
+
+unbarred : (s : Collector) (calls : Calls) → RefusesNoneForItsStore s calls → NeverBarred (answersOf s calls)
+unbarred s calls h = record { cells = h .cells; counter = h .counter; wholeness = h .wholeness }
+
+pub demand-3 : Demand3
+unfolding seen
+demand-3 smaller larger os ol size limit calls b nc ns nl t set h =
+    let p = as-rules smaller os calls b in
+    let q = as-rules larger ol calls b in
+    let le : Smaller ((seen smaller) .settings) ((seen larger) .settings) = record { sameCells = size; noLarger = limit } in
+    let g : GivenBy clear handout (run withCells (seen larger) (map reads calls)) (map reads calls) t set =
+    demand-3-cells (seen smaller) (seen larger) (opened-seen smaller os) (opened-seen larger ol) le (map reads calls) (subst NoConflict q nc)
+    (subst NeverBarred p (unbarred smaller calls ns)) (subst NeverBarred q (unbarred larger calls nl)) t set (subst (λ (as′ : List Answer). At as′ t (handout set)) p h) in
+    record {
+      at = g .at;
+      early = g .early;
+      given = subst (λ (as′ : List Answer). At as′ (g .at) (handout set)) (sym q) (g .given);
+      since = λ u l m e. g .since u l m (reads-clear calls u e);
+    }
+
+-- ---- "a store not whole" need not be asked: in no history 10 occurs
+
+abbrev pub NeverCellsOrCounter : Collector → Calls → Type 0
+NeverCellsOrCounter s calls = Never noCell (answersOf s calls) × Never counterFull (answersOf s calls)
+
+pub demand-3-opened : (smaller larger : Collector) → StartsEmpty smaller → StartsEmpty larger → EqualCellSize smaller larger → LimitNoLarger smaller larger
+    → (calls : Calls) → SectionsOfBytes calls → RefusesNoneAsConflicting larger calls
+    → NeverCellsOrCounter smaller calls → NeverCellsOrCounter larger calls
+    → (t : ℕ) (set : Whole) → HandsOut smaller calls t set → HandedOutSinceTheLastClear larger calls t set
+demand-3-opened smaller larger os ol size limit calls b nc ns nl =
+    demand-3 smaller larger os ol size limit calls b nc
+    (record { cells = ns .0; counter = ns .1; wholeness = never-not-whole smaller os calls b })
+    (record { cells = nl .0; counter = nl .1; wholeness = never-not-whole larger ol calls b })

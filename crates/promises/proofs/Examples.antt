@@ -1,0 +1,76 @@
+-- Document 01's checked examples, all in one theorem.
+-- Assumes nothing.
+use mathlib.Core.Path.{_≡_, refl, ap, _∙_}
+use mathlib.Core.Bool.{Bool, true, false, cond}
+use mathlib.Core.List.{List, [], _∷_, _++_, map}
+use Prim.Native.Nat.{ℕ, _<_}
+use borrow.Author.Tests.{lt-ltb}
+use Rattle.touch.specs.Same.{sameBytes, samePid}
+use Rattle.touch.specs.Slots.{isHeld, present}
+use Rattle.touch.specs.Touch.{oldestGone, room, leaves, count, find, remove, others, evicts, untouched, aside, newest}
+use Rattle.touch.specs.Row.{fresh, fits, start, slotOf, keep, marked, putOver, put}
+use Rattle.touch.specs.Runs.{storeAfter}
+use Rattle.section.specs.Key.{keyOf}
+use Rattle.section.specs.Judged.{judgedOf}
+use Rattle.section.specs.declared.header.Judged.{Judged}
+use Rattle.section.proofs.Examples.{key-small, key-largest, cut-off, all-ones}
+use Rattle.section.proofs.eit.Segment.{as-sent, counted-within, past-last, no-wrap}
+use Rattle.section.proofs.pat.Laws.{example-pids}
+use Rattle.ring.specs.Rules.{Row, offeredTo, later, atCapacity}
+use Rattle.gate.specs.Rules.{Manner, Told, admitted, judgedIn, told, tells, acts}
+use Rattle.setrules.specs.Rules.{sameKey, partOf, full, whole, metRow, judged, judge, finish, push, admit, step}
+use Rattle.setrules.specs.Rules.{acts as collects}
+use Rattle.promises.specs.Examples.{freshGate, heldAfter, gateKeys, collectorKeys, tableKey, CheckedExamples}
+
+-- ---- the gate
+
+says : (m : Manner) (watch : List ℕ) (pid : ℕ) (section : List ℕ) (j : Judged) → pid < 8192 → judgedOf section ≡ j
+    → told m (freshGate watch) (record { pid = pid; section = section }) ≡ judgedIn m (freshGate watch) pid section j
+unfolding told
+says m watch pid section j h e = ap (λ (b : Bool). cond b (judgedIn m (freshGate watch) pid section (judgedOf section)) (record { answer = 12; held = freshGate watch })) (lt-ltb pid 8192 h)
+    ∙ ap (judgedIn m (freshGate watch) pid section) e
+
+abbrev ones : List ℕ
+ones = 0xFF ∷ 0xFF ∷ 0xFF ∷ 0xFF ∷ []
+
+emitted : (m : Manner) (watch : List ℕ) (pid : ℕ) → pid < 8192 → tells m (freshGate watch) (record { pid = pid; section = ones }) ≡ 1
+unfolding tells judgedIn admitted
+emitted m watch pid h = ap (λ (t : Told). t .answer) (says m watch pid ones _ h all-ones)
+
+held : (m : Manner) (watch : List ℕ) (pid : ℕ) → pid < 8192 → map (λ (r : Row). r .key) ((acts m (freshGate watch) (record { pid = pid; section = ones })) .rows) ≡ keyOf pid 0xFF 0 0 ∷ []
+unfolding acts judgedIn admitted offeredTo
+held m watch pid h = ap (λ (t : Told). map (λ (r : Row). r .key) (t .held .rows)) (says m watch pid ones _ h all-ones) ∙ go (atCapacity (m .capacity) [])
+  where
+    go : (b : Bool) → map (λ (r : Row). r .key) (cond b (later []) [] ++ (record { key = keyOf pid 0xFF 0 0; version = 0; change = 0 } ∷ [])) ≡ keyOf pid 0xFF 0 0 ∷ []
+    go true = refl
+    go false = refl
+
+fails : (m : Manner) (watch : List ℕ) (pid : ℕ) → pid < 8192 → tells m (freshGate watch) (record { pid = pid; section = 0x02 ∷ 0xB0 ∷ 0x00 ∷ [] }) ≡ 3
+unfolding tells judgedIn
+fails m watch pid h = ap (λ (t : Told). t .answer) (says m watch pid (0x02 ∷ 0xB0 ∷ 0x00 ∷ []) _ h cut-off)
+
+loses-A : gateKeys 2 (10 ∷ 11 ∷ 10 ∷ 12 ∷ []) ≡ 11 ∷ 12 ∷ []
+unfolding gateKeys heldAfter offeredTo
+loses-A = refl
+
+-- ---- the set collector
+
+loses-B : collectorKeys 2 (10 ∷ 11 ∷ 10 ∷ 12 ∷ []) ≡ tableKey 10 ∷ tableKey 12 ∷ []
+unfolding collectorKeys storeAfter collects step admit push finish judge judged metRow whole full partOf sameKey sameBytes samePid isHeld present oldestGone room leaves count find remove others evicts untouched aside newest fresh fits start slotOf keep marked putOver put
+loses-B = refl
+
+pub checked-examples : CheckedExamples
+checked-examples = record {
+  key-small = key-small;
+  key-largest = key-largest;
+  segment-as-sent = as-sent;
+  segment-counted-within = counted-within;
+  segment-past-last = past-last;
+  segment-at-248 = no-wrap;
+  all-ones-emitted = emitted;
+  all-ones-key = held;
+  cut-off-fails = fails;
+  gate-loses-A = loses-A;
+  collector-loses-B = loses-B;
+  pat-programs = example-pids;
+}

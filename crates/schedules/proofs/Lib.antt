@@ -1,0 +1,3 @@
+pub mod Segments
+pub mod Units
+pub mod Taken

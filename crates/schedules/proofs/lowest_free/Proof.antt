@@ -1,0 +1,19 @@
+use Rattle.schedules.proofs.Taken.{lowest-anywhere}
+use borrow.Author.Needs.{needs}
+use Rattle.schedules.proofs.lowest_free.Statement.{statement}
+use Rattle.schedules.proofs.lowest_free.Tie as tie
+
+mark-rows-requires : tie.Need-mark-rows-requires
+mark-rows-requires c κs = search needs
+
+mark-units-requires : tie.Need-mark-units-requires
+mark-units-requires c κs = search needs
+
+lowest-clear-requires : tie.Need-lowest-clear-requires
+lowest-clear-requires c κs = search needs
+
+returns : tie.Need-returns
+returns c = search lowest-anywhere
+
+pub lowest-free-spec : {M : Type 1} → statement M
+lowest-free-spec = tie.close (tie.spec mark-rows-requires mark-units-requires lowest-clear-requires returns)

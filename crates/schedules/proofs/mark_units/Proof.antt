@@ -1,0 +1,37 @@
+use native.Mathlib.Omega.{arith}
+use mathlib.Core.Path.{_≡_, refl}
+use Prim.Native.Nat.{_≤_}
+use Rattle.schedules.specs.Units.{markedUnits}
+use Rattle.schedules.proofs.Units.{marks-turn, marks-end}
+use borrow.Author.Needs.{needs}
+use Rattle.schedules.proofs.mark_units.Statement.{statement}
+use Rattle.schedules.proofs.mark_units.Tie as tie
+
+abbrev Inv-loop : tie.InvT-loop
+Inv-loop map₀ units n u₀ map u = (u ≤ n) × (markedUnits units n map₀ ≡ markedUnits units u map)
+
+abbrev μ-loop : tie.MeasureT-loop
+μ-loop map₀ units n u₀ map u = u
+
+loop-holds : tie.Need-loop-holds Inv-loop μ-loop
+loop-holds c = (omega arith, refl)
+
+sub-u : tie.Need-sub-u Inv-loop μ-loop
+sub-u c = search needs
+
+mark-unit-requires : tie.Need-mark-unit-requires Inv-loop μ-loop
+mark-unit-requires c κs = search needs
+
+loop-less : tie.Need-loop-less Inv-loop μ-loop
+loop-less c = search needs
+
+loop-again : tie.Need-loop-again Inv-loop μ-loop
+loop-again c = (search needs, search marks-turn)
+
+returns : tie.Need-returns Inv-loop μ-loop
+returns c = search marks-end
+
+pub mark-units-spec : {M : Type 1} → statement M
+mark-units-spec =
+    tie.close
+    (tie.spec Inv-loop μ-loop loop-holds sub-u mark-unit-requires loop-less loop-again returns)

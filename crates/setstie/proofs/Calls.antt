@@ -1,0 +1,356 @@
+-- One call: what the store of the set collector tells and shows then is what the rules with cells tell and leave, for every store that a history reaches.
+-- Assumes nothing.
+use mathlib.Core.Path.{_≡_, refl, sym, ap, subst, _∙_}
+use mathlib.Core.Logic.{_≢_}
+use mathlib.Core.Bool.{Bool, true, false, cond, not, _&&_, and-assoc}
+use mathlib.Core.Option.{Option, none, some}
+use mathlib.Core.List.{List}
+use Prim.Native.Nat.{ℕ, zero, suc, _+_, _-_, _*_, _^_, _≤_, _<_}
+use native.Mathlib.Omega.{arith}
+use borrow.Author.Tests.{eq-eqb, ne-eqb, eqb-true, eqb-false, lt-ltb, le-ltb, ltb-true, ltb-false, leb-true, le-leb}
+use lib.Dec.{eqb, ltb, leb}
+use lib.ListN.{length, getD}
+use Rattle.laws.specs.Lists.{sameList}
+use Rattle.laws.proofs.Tests.{and-true, same-test, eq-true}
+use Rattle.laws.proofs.Facts.{le-passes, le-fails}
+use Rattle.touch.specs.Same.{Bytes, sameBytes}
+use Rattle.touch.specs.Slots.{everyHeld}
+use Rattle.touch.specs.Touch.{everyRow, emptied, newest}
+use Rattle.touch.specs.Row.{fresh, fits, start, slotOf}
+use Rattle.touch.specs.Cells.{Held, bytesOf, lowest, Place, placeNew, placeHeld, heldWhole, roomWhole, atEnd}
+use Rattle.touch.specs.Cells.{place as placed}
+use Rattle.touch.proofs.Slots.{free-slot}
+use Rattle.setrules.specs.Rules.{sameKey, SetOf, Section, partOf, Call, clear, refuse, offer, metRow}
+use Rattle.setrules.specs.Cells.{Turn, onAnswer, taken, storeWhole, ended, shows, rest, roomFor, placeOf, carry, pushIn, admitIn, good, guarded, call}
+use Rattle.setrules.proofs.Keys.{sameKey-true}
+use Rattle.section.specs.Judged.{collectedOf}
+use Rattle.section.specs.declared.header.Header.{Header}
+use Rattle.section.specs.declared.header.Collected.{Collected}
+use Rattle.section.specs.declared.header.Collected.the-variants.{Malformed, ShortForm, BadNumber, BadCrc, Good}
+use Rattle.section.specs.declared.ids.MaybePid.{MaybePid}
+use Rattle.section.specs.declared.ids.MaybePid.the-variants as maybe
+use Rattle.section.specs.declared.ids.Made.the-variants as made
+use Rattle.cells.specs.Cells.{keptLength, cellNumber, filled, slotWhole, allWhole, kept}
+use Rattle.rows.specs.declared.Entry.{Entry}
+use Rattle.rows.specs.declared.Room.{Room}
+use Rattle.rows.specs.Rows.{word, keyAt, rowOf, roomIn, roomRenewed, roomNew, slotsAt, slotCount, rowSlots, rowsWhole}
+use Rattle.order.specs.Order.{downFrom, inOrder, ageOf, rowsSeen, Goes, known}
+use Rattle.order.specs.Slots.{heldOf, heldSlots, cellsSeen}
+use Rattle.order.proofs.Ages.{length-order}
+use Rattle.order.proofs.Touch.{row-has-key, no-row-has-key, goes-known, goes-new, stands-none, finds-known, finds-none}
+use Rattle.order.proofs.Slots.{place, held-filled, held-empty, held-get, slot-at, held-whole, rows-whole, whole-each}
+use Rattle.order.proofs.Cells.{cells-length, bytes-kept, same-bytes}
+use Rattle.sets.specs.declared.inner.PidWord.{PidWord}
+use Rattle.sets.specs.declared.inner.PidWord.the-variants as pid-word
+use Rattle.sets.specs.declared.inner.Plan.{Plan}
+use Rattle.sets.specs.declared.inner.Plan.the-variants as plan
+use Rattle.sets.specs.declared.PushAnswer.the-variants.{Nothing, NotWhole, CounterFull, PidTooLarge, TooLong}
+use Rattle.sets.specs.Store.{Store, store, settingsFit, wholeOf, Whole, Numbered, emptySets, clearedOf, pidOf, pidWord, entryOf, planKeep, planSlot, planKnown, planGood, planHeader, planJudged, planPid, planOf, carried, pushedOf}
+use Rattle.sets.proofs.Whole.{whole-means, long}
+use Rattle.sets.proofs.Plans.{slot-bounds, same-last}
+use Rattle.sets.proofs.Judged.{good-numbers, good-length}
+use Rattle.setstie.specs.View.{pidShown, keyShown, keyWords, rowSeen, seen, Given, clears, section, readsAs, readSection, reads, OfBytes, answerTold, called, Reached}
+use Rattle.setstie.proofs.Rows.{same-self, written-shown, written-reads}
+use Rattle.setstie.proofs.Settle.{Tied, Ready, settle-tied, conflict-tied}
+use Rattle.setstie.proofs.Keep.{sectionFor, Meets, anew, goesOn, keep-tied}
+
+-- ---- lists of rows
+
+seen-length : {R : Type 0} (shown : Rattle.rows.specs.declared.Key.Key → Rattle.setrules.specs.Rules.Key) (heads : List ℕ) (used : ℕ) (row : ℕ → R) → length (rowsSeen shown heads used row) ≡ used
+unfolding rowsSeen
+seen-length shown heads used row = length-order (ageOf heads) used _
+
+row-whole : (s : Store) (j : ℕ) → everyHeld (heldWhole ((seen s) .settings) ((seen s) .cells)) ((rowSeen (s .heads) (s .slots) j) .slots) ≡ allWhole (s .sets .count) (s .sets .size) (rowSlots (s .heads) (s .slots) j)
+unfolding rowSeen seen
+row-whole s j =
+    held-whole ((seen s) .settings) ((seen s) .cells) (rowSlots (s .heads) (s .slots) j)
+    ∙ ap (λ (m : ℕ). allWhole m (s .sets .size) (rowSlots (s .heads) (s .slots) j)) (cells-length (s .cells) (s .sets .size) (s .sets .count))
+
+-- a row in use has its slots
+slots-many : (s : Store) (i j : ℕ) → j < slotCount (word (s .heads) i 7) → slotsAt i + 256 ≤ length (s .slots) → j < length (rowSlots (s .heads) (s .slots) i)
+unfolding rowSlots
+slots-many s i j h l =
+    let a = lib.Seq.length-take-le (slotCount (word (s .heads) i 7)) (lib.ListN.drop (slotsAt i) (s .slots)) (rw (lib.ListN.length-drop (slotsAt i) (s .slots)) (omega arith)) in
+    omega arith
+
+new-fresh : (heads : List ℕ) (limit used evictions : ℕ) → (roomNew heads limit used evictions) .fresh ≡ true
+unfolding roomNew
+new-fresh heads limit used evictions = go (ltb used limit)
+  where
+    go : (b : Bool) → (cond b (roomRenewed (used + 1) evictions used used) (roomRenewed used (evictions + 1) (Rattle.rows.specs.Rows.oldestOf heads used) (word heads (Rattle.rows.specs.Rows.oldestOf heads used) 9))) .fresh ≡ true
+    go true = refl
+    go false = refl
+
+-- ---- 10 and 11
+
+pub whole-seen : (s : Store) → Reached s → storeWhole (seen s) ≡ wholeOf s
+unfolding storeWhole wholeOf roomWhole seen
+whole-seen s z =
+    let l = long (s .sets) (length (s .heads)) (length (s .slots)) (length (s .cells)) (z .fits) in
+    let n : length (cellsSeen (s .cells) (s .sets .size) (s .sets .count)) ≡ s .sets .count = cells-length (s .cells) (s .sets .size) (s .sets .count) in
+    rw (z .fits, n, le-leb 12 (s .sets .size) (l .size-low), le-leb (s .sets .size) 4096 (l .size-high), le-leb (s .sets .count) 65535 (l .few), rows-length)
+    (ap (λ (b : Bool). leb (s .sets .used) (s .sets .limit) && b)
+    (rows-whole keyShown (s .heads) (s .slots) (s .sets .count) (s .sets .size) (s .sets .used) (z .stands .ages) test (rowSeen (s .heads) (s .slots)) each))
+  where
+    test : SetOf Held → Bool
+    test r = everyHeld (heldWhole ((seen s) .settings) ((seen s) .cells)) (r .slots)
+
+    rows-length : length (rowsSeen keyShown (s .heads) (s .sets .used) (rowSeen (s .heads) (s .slots))) ≡ s .sets .used
+    rows-length = seen-length keyShown (s .heads) (s .sets .used) (rowSeen (s .heads) (s .slots))
+
+    each : (j : ℕ) → test (rowSeen (s .heads) (s .slots) j) ≡ allWhole (s .sets .count) (s .sets .size) (rowSlots (s .heads) (s .slots) j)
+    each j = row-whole s j
+
+pub ended-seen : (s : Store) → Reached s → atEnd (s .sets .evictions) ≡ eqb (s .sets .evictions) 18446744073709551615
+unfolding atEnd
+ended-seen s z =
+    same-test (leb 18446744073709551615 (s .sets .evictions)) (eqb (s .sets .evictions) 18446744073709551615)
+    (λ e. let h = leb-true 18446744073709551615 (s .sets .evictions) e in let c = z .counts in eq-eqb (s .sets .evictions) 18446744073709551615 (omega arith))
+    (λ e. let h = eqb-true (s .sets .evictions) 18446744073709551615 e in le-leb 18446744073709551615 (s .sets .evictions) (omega arith))
+
+-- ---- a clear
+
+emptied-tied : (s : Store) → Reached s
+    → Tied (Rattle.sets.specs.Store.left (Rattle.sets.specs.Store.plain 7) (store (emptySets (s .sets)) (s .heads) (s .slots) (s .cells))) (good (seen s) clear)
+unfolding good shows onAnswer answerTold seen emptied rowsSeen inOrder downFrom
+emptied-tied s z = record {
+  told = refl;
+  shown = refl;
+  reached = record { fits = z .fits; counts = z .counts; stands = stands-none keyShown keyWords sameKey sameKey-true same-self (s .heads) };
+}
+
+pub clear-tied : (s : Store) → Reached s → Tied (clearedOf s) (call (seen s) clear)
+unfolding clearedOf call guarded ended answerTold
+clear-tied s z = rw (whole-seen s z) (go (wholeOf s))
+  where
+    go : (b : Bool) → Tied (cond b (Rattle.sets.specs.Store.left (Rattle.sets.specs.Store.plain 7) (store (emptySets (s .sets)) (s .heads) (s .slots) (s .cells)))
+        (Rattle.sets.specs.Store.left (Rattle.sets.specs.Store.plain 10) s)) (guarded b false (seen s) clear)
+    go true = emptied-tied s z
+    go false = record { told = refl; shown = refl; reached = z }
+
+-- ---- a section that 20 and limit 0 let in
+
+module _ (s : Store) (z : Reached s) (f : Whole (s .sets) (s .heads) (s .slots) (s .cells)) (more : s .sets .evictions < 18446744073709551615) (pos : 0 < s .sets .limit)
+    (e : Entry) (n : Numbered e) (proper : keyWords (keyShown (e .key)) ≡ e .key) (bytes : Bytes) (h12 : 12 ≤ length bytes) (hs : length bytes ≤ s .sets .size) where
+  abbrev x : Section
+  x = sectionFor e bytes
+
+  abbrev there : ℕ
+  there = rowOf (s .heads) (e .key) (s .sets .used)
+
+  -- an empty slot: the lowest free cell, or 21
+  place-empty : slotOf (partOf x) (metRow x ((seen s) .sets)) ≡ none → placeOf (seen s) x ≡ placeNew (lowest (taken (roomFor (seen s) x)) (length ((seen s) .cells)) 0)
+  unfolding placeOf placed
+  place-empty h = rw h
+
+  -- the key is new
+  met-new : s .sets .used ≤ there → metRow x ((seen s) .sets) ≡ fresh (partOf x)
+  unfolding metRow start seen
+  met-new h =
+      rw (finds-none keyShown keyWords sameKey sameKey-true same-self (s .heads) (s .sets .limit) (s .sets .used) (s .sets .evictions) (e .key) (z .stands) proper (rowSeen (s .heads) (s .slots))
+      (no-row-has-key (s .heads) (e .key) (s .sets .used) h))
+
+  fresh-slot : (r : SetOf Held) → r ≡ fresh (partOf x) → slotOf (partOf x) r ≡ none
+  unfolding slotOf fresh partOf
+  fresh-slot r q = rw q (free-slot (suc (e .last)) (e .number))
+
+  new-tied : s .sets .used ≤ there
+      → Tied (carried s bytes (planKeep s e (roomNew (s .heads) (s .sets .limit) (s .sets .used) (s .sets .evictions)))) (carry (seen s) x (placeOf (seen s) x))
+  new-tied h =
+      let r : Room = roomNew (s .heads) (s .sets .limit) (s .sets .used) (s .sets .evictions) in
+      rw (place-empty (fresh-slot _ (met-new h)))
+      (keep-tied s z f more e n proper bytes h12 hs r (r .age) (goes-new (s .heads) (s .sets .limit) (s .sets .used) (s .sets .evictions) (e .key) h pos)
+      (anew (new-fresh (s .heads) (s .sets .limit) (s .sets .used) (s .sets .evictions)) refl) (met-new h))
+
+  -- the key is known
+  module _ (h : there < s .sets .used) where
+    abbrev row : SetOf Held
+    row = rowSeen (s .heads) (s .slots) there
+
+    goes : Goes (s .heads) (s .sets .limit) (s .sets .used) (s .sets .evictions) (e .key) there (ageOf (s .heads) there) (s .sets .used) (s .sets .evictions)
+    goes = goes-known (s .heads) (s .sets .limit) (s .sets .used) (s .sets .evictions) (e .key) h
+
+    fits-as : fits (partOf x) row ≡ (eqb (word (s .heads) there 6) (e .version) && eqb (word (s .heads) there 7) (e .last))
+    unfolding fits rowSeen partOf
+    fits-as = refl
+
+    met-known : (b : Bool) → (eqb (word (s .heads) there 6) (e .version) && eqb (word (s .heads) there 7) (e .last)) ≡ b → metRow x ((seen s) .sets) ≡ cond b row (fresh (partOf x))
+    unfolding metRow start seen
+    met-known b q =
+        rw (
+          finds-known keyShown keyWords sameKey sameKey-true same-self (s .heads) (s .sets .limit) (s .sets .used) (s .sets .evictions) (e .key) (z .stands) proper (rowSeen (s .heads) (s .slots)) there h
+              (row-has-key (s .heads) (e .key) (s .sets .used) h),
+          fits-as,
+          q,
+        )
+
+    -- "A differing version or last number empties the row"
+    renewed-tied : metRow x ((seen s) .sets) ≡ fresh (partOf x)
+        → Tied (carried s bytes (planKeep s e (roomRenewed (s .sets .used) (s .sets .evictions) there (word (s .heads) there 9)))) (carry (seen s) x (placeOf (seen s) x))
+    renewed-tied m =
+        rw (place-empty (fresh-slot _ m))
+        (keep-tied s z f more e n proper bytes h12 hs (roomRenewed (s .sets .used) (s .sets .evictions) there (word (s .heads) there 9)) (ageOf (s .heads) there) goes (anew refl refl) m)
+
+    -- the row goes on
+    module _ (last : word (s .heads) there 7 ≡ e .last) (m : metRow x ((seen s) .sets) ≡ row) where
+      abbrev w : ℕ
+      w = getD (s .slots) (slotsAt there + e .number) 0
+
+      in-row : e .number < slotCount (word (s .heads) there 7)
+      in-row = let a = n .number in let b = n .last in omega arith
+
+      slot-is : slotOf (partOf x) (metRow x ((seen s) .sets)) ≡ heldOf w
+      unfolding slotOf partOf rowSeen
+      slot-is = rw m (held-get (rowSlots (s .heads) (s .slots) there) (e .number) ∙ ap heldOf (slot-at (s .heads) (s .slots) there (e .number) in-row))
+
+      row-ok : allWhole (s .sets .count) (s .sets .size) (rowSlots (s .heads) (s .slots) there) ≡ true
+      row-ok = whole-each (s .heads) (s .slots) (s .sets .count) (s .sets .size) (s .sets .used) there (f .rows) h
+
+      slots-there : slotsAt there + 256 ≤ length (s .slots)
+      slots-there = let a = f .slots-long in let b = f .used in omega arith
+
+      word-ok : slotWhole (s .sets .count) (s .sets .size) w ≡ true
+      word-ok =
+          subst (λ (v : ℕ). slotWhole (s .sets .count) (s .sets .size) v ≡ true) (slot-at (s .heads) (s .slots) there (e .number) in-row)
+          (Rattle.laws.proofs.Search.every-get (slotWhole (s .sets .count) (s .sets .size)) (rowSlots (s .heads) (s .slots) there) 0 (e .number) row-ok (slots-many s there (e .number) in-row slots-there))
+
+      itself : Ready s s (e .key) there (ageOf (s .heads) there)
+      itself = record {
+        fits = z .fits;
+        counts = z .counts;
+        long = let a = f .heads-long in let b = f .used in omega arith;
+        own = row-has-key (s .heads) (e .key) (s .sets .used) h;
+        age = refl;
+        others = λ j k l ne q. refl;
+        slots = λ j l ne. refl;
+        row-whole = row-ok;
+      }
+
+      -- "identical bytes are ignored, others conflict"
+      held-tied : keptLength w ≢ 0 → Tied (carried s bytes (cond (sameList (kept (s .cells) (s .sets .size) w) bytes) (plan.Repeat there) (plan.Conflict there))) (carry (seen s) x (placeOf (seen s) x))
+      unfolding placeOf placed placeHeld seen carry rest roomFor
+      held-tied ne =
+          let b = slot-bounds (s .sets .count) (s .sets .size) w word-ok ne in
+          rw (slot-is, held-filled w (ap not (ne-eqb (keptLength w) 0 ne)), bytes-kept (s .cells) (s .sets .size) (s .sets .count) w (b .1) (b .0), same-bytes (kept (s .cells) (s .sets .size) w) bytes)
+          (go (sameList (kept (s .cells) (s .sets .size) w) bytes))
+        where
+          go : (b : Bool) → Tied (carried s bytes (cond b (plan.Repeat there) (plan.Conflict there))) (carry (seen s) x (placeHeld b))
+          go true = rw m (settle-tied s s (e .key) there (ageOf (s .heads) there) z proper goes itself refl refl)
+          go false = rw m (conflict-tied s s (e .key) there (ageOf (s .heads) there) z proper goes itself refl refl)
+
+      slot-tied : Tied (carried s bytes (planSlot s e bytes there w)) (carry (seen s) x (placeOf (seen s) x))
+      unfolding planSlot
+      slot-tied = go (eqb (keptLength w) 0) refl
+        where
+          go : (b : Bool) → eqb (keptLength w) 0 ≡ b
+              → Tied (carried s bytes (cond b (planKeep s e (roomIn (s .sets .used) (s .sets .evictions) there)) (cond (sameList (kept (s .cells) (s .sets .size) w) bytes) (plan.Repeat there) (plan.Conflict there))))
+              (carry (seen s) x (placeOf (seen s) x))
+          go true q =
+              rw (place-empty (slot-is ∙ held-empty w (eq-true (keptLength w) 0 q)))
+              (keep-tied s z f more e n proper bytes h12 hs (roomIn (s .sets .used) (s .sets .evictions) there) (ageOf (s .heads) there) goes
+              (goesOn refl h (row-has-key (s .heads) (e .key) (s .sets .used) h) refl last) m)
+          go false q = held-tied (eqb-false (keptLength w) 0 q)
+
+    known-tied : Tied (carried s bytes (planKnown s e bytes there)) (carry (seen s) x (placeOf (seen s) x))
+    unfolding planKnown
+    known-tied = go (eqb (word (s .heads) there 6) (e .version) && eqb (word (s .heads) there 7) (e .last)) refl
+      where
+        go : (b : Bool) → (eqb (word (s .heads) there 6) (e .version) && eqb (word (s .heads) there 7) (e .last)) ≡ b
+            → Tied (carried s bytes (cond b (planSlot s e bytes there (getD (s .slots) (slotsAt there + e .number) 0))
+            (planKeep s e (roomRenewed (s .sets .used) (s .sets .evictions) there (word (s .heads) there 9))))) (carry (seen s) x (placeOf (seen s) x))
+        go true q = slot-tied (same-last (word (s .heads) there 6) (word (s .heads) there 7) (e .version) (e .last) q) (met-known true q)
+        go false q = renewed-tied (met-known false q)
+
+  good-tied : Tied (carried s bytes (planGood s e bytes)) (carry (seen s) x (placeOf (seen s) x))
+  unfolding planGood
+  good-tied = go (ltb there (s .sets .used)) refl
+    where
+      go : (b : Bool) → ltb there (s .sets .used) ≡ b
+          → Tied (carried s bytes (cond b (planKnown s e bytes there) (planKeep s e (roomNew (s .heads) (s .sets .limit) (s .sets .used) (s .sets .evictions))))) (carry (seen s) x (placeOf (seen s) x))
+      go true q = known-tied (ltb-true there (s .sets .used) q)
+      go false q = new-tied (ltb-false there (s .sets .used) q)
+
+-- ---- a section, in the order of 01's numbers
+
+module _ (s : Store) (z : Reached s) where
+  module _ (f : Whole (s .sets) (s .heads) (s .slots) (s .cells)) (more : s .sets .evictions < 18446744073709551615) (bytes : Bytes) where
+    -- 20, then limit 0
+    header-tied : (e : Entry) → Numbered e → keyWords (keyShown (e .key)) ≡ e .key → 12 ≤ length bytes → Tied (carried s bytes (planHeader s bytes e)) (good (seen s) (offer (sectionFor e bytes)))
+    unfolding planHeader good admitIn pushIn shows onAnswer answerTold seen
+    header-tied e n proper h12 = fit (ltb (s .sets .size) (length bytes)) refl
+      where
+        limited : length bytes ≤ s .sets .size → (m : ℕ) → s .sets .limit ≡ m
+            → Tied (carried s bytes (cond (eqb m 0) (plan.Refuse Nothing) (planGood s e bytes))) (pushIn m (seen s) (sectionFor e bytes))
+        limited l zero q = record { told = refl; shown = refl; reached = z }
+        limited l (suc m) q = rw (ne-eqb (suc m) 0 (λ (t : suc m ≡ 0). absurd (omega arith))) (good-tied s z f more (omega arith) e n proper bytes h12 l)
+
+        fit : (b : Bool) → ltb (s .sets .size) (length bytes) ≡ b
+            → Tied (carried s bytes (cond b (plan.Refuse TooLong) (cond (eqb (s .sets .limit) 0) (plan.Refuse Nothing) (planGood s e bytes))))
+            (admitIn (seen s) (sectionFor e bytes) (leb (length bytes) (s .sets .size)))
+        fit true q = rw (le-fails (length bytes) (s .sets .size) (ltb-true (s .sets .size) (length bytes) q)) (record { told = refl; shown = refl; reached = z })
+        fit false q =
+            let l = ltb-false (s .sets .size) (length bytes) q in
+            rw (le-passes (length bytes) (s .sets .size) l) (limited l (s .sets .limit) refl)
+
+    -- 14 to 17
+    judged-tied : Rattle.section.specs.Facts.Bytes bytes → (p : ℕ) (c : Collected) → collectedOf bytes ≡ c → Tied (carried s bytes (planJudged s bytes p c)) (good (seen s) (readsAs (pidShown p) bytes c))
+    unfolding readsAs good shows onAnswer answerTold seen
+    judged-tied o p Malformed q = record { told = refl; shown = refl; reached = z }
+    judged-tied o p ShortForm q = record { told = refl; shown = refl; reached = z }
+    judged-tied o p BadNumber q = record { told = refl; shown = refl; reached = z }
+    judged-tied o p BadCrc q = record { told = refl; shown = refl; reached = z }
+    judged-tied o p (Good h) q =
+        rw (← (written-shown p (h .«table_id») (h .extension) (h .«current_next»)))
+        (header-tied (entryOf p h) (good-numbers bytes p h q (o 7)) (written-reads p (h .«table_id») (h .extension) (h .«current_next»)) (good-length bytes h q))
+
+    -- 12
+    pid-tied : Rattle.section.specs.Facts.Bytes bytes → (pid : MaybePid) → Tied (carried s bytes (planPid s bytes (pidWord pid))) (good (seen s) (readSection pid bytes))
+    unfolding readSection good shows onAnswer answerTold seen pidShown
+    pid-tied o maybe.None = judged-tied o 8192 (collectedOf bytes) refl
+    pid-tied o (maybe.Some v) = go (ltb v 8192) refl
+      where
+        go : (b : Bool) → ltb v 8192 ≡ b → Tied (carried s bytes (planPid s bytes (pidOf (cond b (made.One (record { 0 = v })) made.TooLarge)))) (good (seen s) (cond b (readsAs (some v) bytes (collectedOf bytes)) (refuse 12)))
+        go true q =
+            let l = ltb-true v 8192 q in
+            let d : pidShown v ≡ some v = rw (ne-eqb v 8192 (λ (t : v ≡ 8192). absurd (omega arith))) in
+            rw (← d) (judged-tied o v (collectedOf bytes) refl)
+        go false q = record { told = refl; shown = refl; reached = z }
+
+  -- 11 comes before what the section is read as
+  ended-as : (bytes : Bytes) (pid : Option ℕ) (c : Collected) → ended (seen s) (readsAs pid bytes c) ≡ atEnd (s .sets .evictions)
+  unfolding ended readsAs seen
+  ended-as bytes pid Malformed = refl
+  ended-as bytes pid ShortForm = refl
+  ended-as bytes pid BadNumber = refl
+  ended-as bytes pid BadCrc = refl
+  ended-as bytes pid (Good h) = refl
+
+  ended-read : (pid : MaybePid) (bytes : Bytes) → ended (seen s) (readSection pid bytes) ≡ atEnd (s .sets .evictions)
+  unfolding readSection ended seen
+  ended-read maybe.None bytes = ended-as bytes none (collectedOf bytes)
+  ended-read (maybe.Some v) bytes = go (ltb v 8192)
+    where
+      go : (b : Bool) → ended (seen s) (cond b (readsAs (some v) bytes (collectedOf bytes)) (refuse 12)) ≡ atEnd (s .sets .evictions)
+      go true = ended-as bytes (some v) (collectedOf bytes)
+      go false = refl
+
+  -- 10, then 11
+  push-tied : (pid : MaybePid) (bytes : Bytes) → Rattle.section.specs.Facts.Bytes bytes → Tied (pushedOf s pid bytes) (call (seen s) (readSection pid bytes))
+  unfolding pushedOf planOf call guarded answerTold
+  push-tied pid bytes o =
+      rw (whole-seen s z, ended-read pid bytes, ended-seen s z) (go (wholeOf s) (eqb (s .sets .evictions) 18446744073709551615) refl refl)
+    where
+      go : (w t : Bool) → wholeOf s ≡ w → eqb (s .sets .evictions) 18446744073709551615 ≡ t
+          → Tied (carried s bytes (cond w (cond t (plan.Refuse CounterFull) (planPid s bytes (pidWord pid))) (plan.Refuse NotWhole))) (guarded w t (seen s) (readSection pid bytes))
+      go false t p q = record { told = refl; shown = refl; reached = z }
+      go true true p q = record { told = refl; shown = refl; reached = z }
+      go true false p q =
+          let d = eqb-false (s .sets .evictions) 18446744073709551615 q in
+          let c = z .counts in
+          pid-tied (whole-means s p) (Rattle.sets.proofs.Judged.counts (s .sets .evictions) d (omega arith)) bytes o pid
+
+  -- every call
+  pub tied : (i : Given) → OfBytes i → Tied (called s i) (call (seen s) (reads i))
+  unfolding called reads OfBytes
+  tied clears o = clear-tied s z
+  tied (section pid bytes) o = push-tied pid bytes o

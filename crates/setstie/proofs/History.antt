@@ -1,0 +1,173 @@
+-- Every history of opening, pushes and clears: what the store of the set collector answers and shows is what the rules answer and leave; 10 never occurs;
+-- refusals leave the memory as before; 21 exactly where the rules would keep a section and every cell is named.
+-- Assumes nothing.
+use mathlib.Core.Path.{_≡_, refl, sym, ap, subst, _∙_}
+use mathlib.Core.Logic.{_⊎_, inl, inr}
+use mathlib.Core.Bool.{Bool, true, false, cond, true≢false}
+use mathlib.Core.Option.{Option, none, some}
+use mathlib.Core.List.{List, [], _∷_, map}
+use Prim.Native.Nat.{ℕ, suc}
+use native.Mathlib.Omega.{arith}
+use lib.Dec.{ltb}
+use lib.ListN.{length}
+use Rattle.laws.proofs.Facts.{le-passes}
+use Rattle.touch.specs.Same.{Bytes}
+use Rattle.touch.specs.Touch.{untouched}
+use Rattle.touch.specs.Cells.{roomWhole}
+use Rattle.touch.specs.Runs.{answers, storeAfter, At, Never, Obeys, bars, does}
+use Rattle.touch.proofs.Runs.{each-read}
+use Rattle.setrules.specs.Rules.{sameKey, Section, offer, refuse, notWhole, noCell, barred, asBefore}
+use Rattle.setrules.specs.Rules.{tells as rulesTell, acts as rulesAct}
+use Rattle.setrules.specs.Cells.{Store as Shown, view, callTells, callActs}
+use Rattle.setrules.proofs.Cells.{obeys-rules}
+use Rattle.setrules.proofs.Whole.{LongEnough, never-10}
+use Rattle.setrules.proofs.Exact.{NeedsCell, only-then-21, then-21}
+use Rattle.section.specs.Judged.{collectedOf}
+use Rattle.section.specs.declared.header.Collected.{Collected}
+use Rattle.section.specs.declared.header.Collected.the-variants.{Malformed, ShortForm, BadNumber, BadCrc, Good}
+use Rattle.section.specs.declared.ids.MaybePid.the-variants as maybe
+use Rattle.rows.specs.Rows.{touched}
+use Rattle.order.specs.Order.{downFrom, inOrder, rowsSeen}
+use Rattle.order.proofs.Touch.{stands-none}
+use Rattle.order.proofs.Cells.{cells-length}
+use Rattle.setrules.proofs.Keys.{sameKey-true}
+use Rattle.sets.specs.declared.inner.Plan.{Plan}
+use Rattle.sets.specs.declared.inner.Plan.the-variants as plan
+use Rattle.sets.specs.Store.{Store, plain, settingsFit, wholeOf, openedOf, clearedOf, planOf, goesOut, settledAnswer, settledHeads, settled, carried, pushedOf, keptIn}
+use Rattle.sets.specs.declared.PushAnswer.the-variants.{Nothing, Set}
+use Rattle.sets.specs.Store as sets
+use Rattle.sets.proofs.Whole.{long}
+use Rattle.sets.proofs.Judged.{good-length}
+use Rattle.setstie.specs.View.{keyShown, keyWords, seen, settingsOf, Given, clears, section, readsAs, readSection, reads, OfBytes, answerTold, called, tells, acts, Opened, Reached}
+use Rattle.setstie.proofs.Rows.{same-self}
+use Rattle.setstie.proofs.Calls.{tied}
+
+-- ---- opening
+
+pub opened-reached : (s : Store) → Opened s → Reached s
+unfolding openedOf
+opened-reached s o = record {
+  fits = go (settingsFit (s .sets) (length (s .heads)) (length (s .slots)) (length (s .cells))) (o .fits);
+  counts = let e = o .evictions in omega arith;
+  stands = rw (o .used) (stands-none keyShown keyWords sameKey sameKey-true same-self (s .heads));
+}
+  where
+    go : (b : Bool) → plain (cond b 7 13) ≡ plain 7 → b ≡ true
+    go true e = refl
+    go false e = let z : _≡_ {A = ℕ} 13 7 = cc in absurd (omega arith)
+
+-- "no rows, counts 0"
+pub opened-seen : (s : Store) → Opened s → (seen s) .sets ≡ untouched
+unfolding seen untouched rowsSeen inOrder downFrom
+opened-seen s o = rw (o .used, o .evictions)
+
+-- ---- one call
+
+module _ (s : Store) (z : Reached s) (i : Given) (o : OfBytes i) where
+  pub tells-seen : tells s i ≡ callTells (seen s) (reads i)
+  unfolding tells callTells
+  tells-seen = tied s z i o .told
+
+  pub acts-seen : seen (acts s i) ≡ callActs (seen s) (reads i)
+  unfolding acts callActs
+  acts-seen = tied s z i o .shown
+
+  pub acts-reached : Reached (acts s i)
+  unfolding acts
+  acts-reached = tied s z i o .reached
+
+  -- 10, 11 and 21 aside, every answer and every next view is the rules'
+  pub obeys : (barred (tells s i) ≡ true) ⊎ ((tells s i ≡ rulesTell (settingsOf s) (view (seen s)) (reads i)) × (view (seen (acts s i)) ≡ rulesAct (settingsOf s) (view (seen s)) (reads i)))
+  unfolding seen
+  obeys = go (obeys-rules (seen s) (reads i))
+    where
+      go : Obeys barred view (λ q. Unit {0}) callTells callActs (rulesTell (settingsOf s)) (rulesAct (settingsOf s)) (seen s) (reads i)
+          → (barred (tells s i) ≡ true) ⊎ ((tells s i ≡ rulesTell (settingsOf s) (view (seen s)) (reads i)) × (view (seen (acts s i)) ≡ rulesAct (settingsOf s) (view (seen s)) (reads i)))
+      go (bars e) = inl (ap barred tells-seen ∙ e)
+      go (does e v u) = inr (tells-seen ∙ e, ap view acts-seen ∙ v)
+
+  -- 21: only where the rules would keep the section and every cell is named after the eviction or the emptying; and there always
+  pub no-cell-only : tells s i ≡ noCell → (x : Section) × (reads i ≡ offer x) × NeedsCell (seen s) x
+  no-cell-only h = only-then-21 (seen s) (reads i) (sym tells-seen ∙ h)
+
+  pub no-cell-there : (x : Section) → reads i ≡ offer x → NeedsCell (seen s) x → tells s i ≡ noCell
+  no-cell-there x q h = tells-seen ∙ ap (callTells (seen s)) q ∙ then-21 (seen s) x h
+
+-- ---- refusals: the memory is as before, whatever it holds
+
+settled-accepts : (s : Store) (i : ℕ) → asBefore (answerTold ((settled s i) .told)) ≡ false
+unfolding settled settledAnswer asBefore answerTold
+settled-accepts s i = go (goesOut (touched (s .sets .used) i (s .heads)) (s .slots) i)
+  where
+    go : (b : Bool) → asBefore (answerTold (sets.answerOf (cond b (Set i) Nothing) (sets.store (s .sets) (settledHeads (s .sets .used) (s .heads) (s .slots) i) (s .slots) (s .cells)))) ≡ false
+    go true = refl
+    go false = refl
+
+carried-as-before : (s : Store) (bytes : Bytes) (p : Plan) → asBefore (answerTold ((carried s bytes p) .told)) ≡ true → (carried s bytes p) .store ≡ s
+unfolding asBefore answerTold
+carried-as-before s bytes (plan.Refuse a) h = refl
+carried-as-before s bytes (plan.Conflict i) h = absurd (true≢false (sym h))
+carried-as-before s bytes (plan.Repeat i) h = absurd (true≢false (sym h ∙ settled-accepts s i))
+carried-as-before s bytes (plan.Keep k) h = absurd (true≢false (sym h ∙ settled-accepts (keptIn s bytes k) (k .room .row)))
+
+pub as-before : (s : Store) (i : Given) → asBefore (tells s i) ≡ true → acts s i ≡ s
+unfolding tells acts called asBefore answerTold clearedOf pushedOf
+as-before s clears h = go (wholeOf s) h
+  where
+    go : (b : Bool) → asBefore (answerTold ((cond b (sets.left (plain 7) (sets.store (sets.emptySets (s .sets)) (s .heads) (s .slots) (s .cells))) (sets.left (plain 10) s)) .told)) ≡ true
+        → (cond b (sets.left (plain 7) (sets.store (sets.emptySets (s .sets)) (s .heads) (s .slots) (s .cells))) (sets.left (plain 10) s)) .store ≡ s
+    go true h = absurd (true≢false (sym h))
+    go false h = refl
+as-before s (section pid bytes) h = carried-as-before s bytes (planOf s pid bytes) h
+
+-- ---- many calls
+
+abbrev pub AllBytes : List Given → Type 0
+AllBytes calls = (t : ℕ) (i : Given) → At calls t i → OfBytes i
+
+pub same-answers : (calls : List Given) → AllBytes calls → (s : Store) → Reached s → answers tells acts s calls ≡ answers callTells callActs (seen s) (map reads calls)
+unfolding answers
+same-answers [] o s z = refl
+same-answers (i ∷ is) o s z =
+    let p = tells-seen s z i (o 0 i refl) in
+    let q = same-answers is (λ t j e. o (suc t) j e) (acts s i) (acts-reached s z i (o 0 i refl)) ∙ ap (λ (t : Shown). answers callTells callActs t (map reads is)) (acts-seen s z i (o 0 i refl)) in
+    λ k. p k ∷ q k
+
+pub same-store : (calls : List Given) → AllBytes calls → (s : Store) → Reached s → (seen (storeAfter acts s calls) ≡ storeAfter callActs (seen s) (map reads calls)) × Reached (storeAfter acts s calls)
+unfolding storeAfter
+same-store [] o s z = (refl, z)
+same-store (i ∷ is) o s z =
+    let q = same-store is (λ t j e. o (suc t) j e) (acts s i) (acts-reached s z i (o 0 i refl)) in
+    (q .0 ∙ ap (λ (t : Shown). storeAfter callActs t (map reads is)) (acts-seen s z i (o 0 i refl)), q .1)
+
+-- a section that is read has 12 bytes or more
+read-long : (pid : Option ℕ) (bytes : Bytes) (c : Collected) → collectedOf bytes ≡ c → LongEnough (readsAs pid bytes c)
+unfolding readsAs
+read-long pid bytes Malformed e = tt
+read-long pid bytes ShortForm e = tt
+read-long pid bytes BadNumber e = tt
+read-long pid bytes BadCrc e = tt
+read-long pid bytes (Good h) e = good-length bytes h e
+
+reads-long : (i : Given) → LongEnough (reads i)
+unfolding reads readSection
+reads-long clears = tt
+reads-long (section maybe.None bytes) = read-long none bytes (collectedOf bytes) refl
+reads-long (section (maybe.Some p) bytes) = pick (ltb p 8192)
+  where
+    pick : (b : Bool) → LongEnough (cond b (readsAs (some p) bytes (collectedOf bytes)) (refuse 12))
+    pick true = read-long (some p) bytes (collectedOf bytes) refl
+    pick false = tt
+
+-- opening leaves room that is whole
+opened-room : (s : Store) → Opened s → roomWhole ((seen s) .settings) ((seen s) .cells) ≡ true
+unfolding roomWhole seen
+opened-room s o =
+    let l = long (s .sets) (length (s .heads)) (length (s .slots)) (length (s .cells)) (opened-reached s o .fits) in
+    rw (cells-length (s .cells) (s .sets .size) (s .sets .count), le-passes 12 (s .sets .size) (l .size-low), le-passes (s .sets .size) 4096 (l .size-high), le-passes (s .sets .count) 65535 (l .few))
+
+-- in no history 10 occurs
+pub never-not-whole : (s : Store) → Opened s → (calls : List Given) → AllBytes calls → Never notWhole (answers tells acts s calls)
+never-not-whole s o calls b =
+    subst (Never notWhole) (sym (same-answers calls b s (opened-reached s o)))
+    (never-10 (seen s) (opened-room s o) (opened-seen s o) (map reads calls) (each-read LongEnough reads reads-long calls))

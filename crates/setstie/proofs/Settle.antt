@@ -1,0 +1,164 @@
+-- A row becomes the newest, and goes out where it is full and not marked: what the store does is what the rules do.
+-- Assumes nothing.
+use mathlib.Core.Path.{_≡_, refl, sym, ap, _∙_}
+use mathlib.Core.Logic.{_≢_}
+use mathlib.Core.Bool.{Bool, true, false, cond, not, _&&_}
+use mathlib.Core.List.{List, map}
+use Prim.Native.Nat.{ℕ, _+_, _*_, _≤_, _<_}
+use native.Mathlib.Omega.{arith}
+use lib.Dec.{eqb}
+use lib.ListN.{length}
+use Rattle.touch.specs.Same.{Bytes}
+use Rattle.touch.specs.Slots.{present}
+use Rattle.touch.specs.Touch.{newest, aside}
+use Rattle.touch.specs.Row.{marked}
+use Rattle.touch.specs.Cells.{Held, Cells, bytesOf}
+use Rattle.setrules.specs.Rules.{Key as SetKey, sameKey, SetOf, SetsOf, Answer, handout, conflict, gives, full, whole, judged, judge}
+use Rattle.setrules.specs.Cells.{Store as Shown, Turn, onWhole, onAnswer, shows}
+use Rattle.setrules.proofs.Keys.{sameKey-true}
+use Rattle.cells.specs.Cells.{allFilled, allWhole, kept}
+use Rattle.rows.specs.declared.Key.{Key}
+use Rattle.rows.specs.Rows.{word, put, keyAt, touched, rowSlots}
+use Rattle.order.specs.Order.{ageOf, orderSeen, Stands, Goes, Touched}
+use Rattle.order.specs.Slots.{heldSlots, cellsSeen}
+use Rattle.order.proofs.Words.{put-same, put-not, put-row, length-put, length-touched, touched-not, ready-touched, put-touched, key-same}
+use Rattle.order.proofs.Slots.{slots-same}
+use Rattle.order.proofs.Touch.{goes-row, goes-out, touched-seen, touched-stands}
+use Rattle.sets.specs.declared.PushAnswer.the-variants.{Nothing, Set}
+use Rattle.sets.specs.Store.{Store, store, Left, settingsFit, setIn, answered, goesOut, settledAnswer, settledHeads, settled}
+use Rattle.setstie.specs.View.{keyShown, keyWords, rowSeen, seen, answerTold, Reached}
+use Rattle.setstie.proofs.Rows.{same-self, row-same, row-marked, full-filled, sections-kept}
+
+-- what a call left is what the rules' call left, and the store is one that a history reaches
+pub record Tied (l : Left) (t : Turn) : Type 0 where
+  pub told : answerTold (l .told) ≡ t .answer
+  pub shown : seen (l .store) ≡ t .store
+  pub reached : Reached (l .store)
+
+-- s₁ is s with row i made ready for the key, of age a; no other row in use differs
+pub record Ready (s s₁ : Store) (key : Key) (i a : ℕ) : Type 0 where
+  pub fits : settingsFit (s₁ .sets) (length (s₁ .heads)) (length (s₁ .slots)) (length (s₁ .cells)) ≡ true
+  pub counts : s₁ .sets .evictions ≤ 18446744073709551615
+  pub long : s₁ .sets .used * 12 ≤ length (s₁ .heads)
+  pub own : keyAt (s₁ .heads) i ≡ key
+  pub age : ageOf (s₁ .heads) i ≡ a
+  pub others : (j m : ℕ) → j < s₁ .sets .used → j ≢ i → m < 12 → word (s₁ .heads) j m ≡ word (s .heads) j m
+  pub slots : (j : ℕ) → j < s₁ .sets .used → j ≢ i → rowSlots (s₁ .heads) (s₁ .slots) j ≡ rowSlots (s .heads) (s .slots) j
+  pub row-whole : allWhole (s₁ .sets .count) (s₁ .sets .size) (rowSlots (s₁ .heads) (s₁ .slots) i) ≡ true
+
+module _ (s s₁ : Store) (key : Key) (i a : ℕ) (z : Reached s) (proper : keyWords (keyShown key) ≡ key)
+    (g : Goes (s .heads) (s .sets .limit) (s .sets .used) (s .sets .evictions) key i a (s₁ .sets .used) (s₁ .sets .evictions)) (r : Ready s s₁ key i a) where
+  abbrev used₁ : ℕ
+  used₁ = s₁ .sets .used
+
+  abbrev newer : List ℕ
+  newer = touched used₁ i (s₁ .heads)
+
+  -- the heads that are left, with the mark set or not
+  abbrev pub leftHeads : Bool → List ℕ
+  leftHeads b = cond b (put i 8 1 newer) newer
+
+  abbrev pub leftStore : Bool → Store
+  leftStore b = store (s₁ .sets) (leftHeads b) (s₁ .slots) (s₁ .cells)
+
+  abbrev pub rowThere : SetOf Held
+  rowThere = rowSeen (s₁ .heads) (s₁ .slots) i
+
+  -- the rows beside the key's, as the rules leave them
+  abbrev pub rest : SetsOf Held
+  rest = aside sameKey (s .sets .limit) (keyShown key) ((seen s) .sets)
+
+  hi : i < used₁
+  hi = goes-row g
+
+  left-length : (b : Bool) → length (leftHeads b) ≡ length (s₁ .heads)
+  left-length true = length-put i 8 1 newer ∙ length-touched used₁ i (s₁ .heads)
+  left-length false = length-touched used₁ i (s₁ .heads)
+
+  -- all but ages and the row's mark stays
+  left-words : (b : Bool) (j m : ℕ) → m < 12 → m ≢ 8 → m ≢ 9 → word (leftHeads b) j m ≡ word (s₁ .heads) j m
+  left-words true j m l n8 n9 = put-not newer i 8 1 j m n8 (omega arith) l ∙ touched-not used₁ i (s₁ .heads) j m n9 l
+  left-words false j m l n8 n9 = touched-not used₁ i (s₁ .heads) j m n9 l
+
+  left-other : (b : Bool) (j m : ℕ) → j ≢ i → m < 12 → m ≢ 9 → word (leftHeads b) j m ≡ word (s₁ .heads) j m
+  left-other true j m ne l n9 = put-row newer i 8 1 j m ne (omega arith) l ∙ touched-not used₁ i (s₁ .heads) j m n9 l
+  left-other false j m ne l n9 = touched-not used₁ i (s₁ .heads) j m n9 l
+
+  newer-touched : Touched (s .heads) newer key i a used₁
+  newer-touched = ready-touched (s .heads) (s₁ .heads) key i a used₁ (r .long) hi (r .own) (r .age) (r .others)
+
+  left-touched : (b : Bool) → Touched (s .heads) (leftHeads b) key i a used₁
+  left-touched true = put-touched (s .heads) newer key i a used₁ i 8 1 newer-touched (omega arith) (omega arith) (omega arith)
+  left-touched false = newer-touched
+
+  left-row : (b : Bool) (j : ℕ) → j < s .sets .used → j ≢ i → j < used₁ → rowSeen (leftHeads b) (s₁ .slots) j ≡ rowSeen (s .heads) (s .slots) j
+  left-row b j l ne h =
+      row-same (s .heads) (leftHeads b) (s .slots) (s₁ .slots) j (λ m p q. left-other b j m ne (omega arith) (omega arith) ∙ r .others j m h ne (omega arith))
+      (slots-same (s₁ .heads) (leftHeads b) (s₁ .slots) j (left-other b j 7 ne (omega arith) (omega arith)) ∙ r .slots j h ne)
+
+  own-row : (b : Bool) → rowSeen (leftHeads b) (s₁ .slots) i ≡ cond b (marked rowThere) rowThere
+  own-row true =
+      let e = length-touched used₁ i (s₁ .heads) in
+      let l = r .long in
+      let h = hi in
+      row-marked (s₁ .heads) (leftHeads true) (s₁ .slots) i (left-words true i 6 (omega arith) (omega arith) (omega arith)) (left-words true i 7 (omega arith) (omega arith) (omega arith))
+      (put-same newer i 8 1 (omega arith))
+  own-row false =
+      row-same (s₁ .heads) newer (s₁ .slots) (s₁ .slots) i (λ m p q. touched-not used₁ i (s₁ .heads) i m (omega arith) (omega arith))
+      (slots-same (s₁ .heads) newer (s₁ .slots) i (touched-not used₁ i (s₁ .heads) i 7 (omega arith) (omega arith)))
+
+  pub left-sets : (b : Bool) → (seen (leftStore b)) .sets ≡ newest (keyShown key) (cond b (marked rowThere) rowThere) rest
+  unfolding seen
+  left-sets b =
+      touched-seen keyShown keyWords sameKey sameKey-true same-self (s .heads) (s .sets .limit) (s .sets .used) (s .sets .evictions) key (z .stands) proper (rowSeen (s .heads) (s .slots))
+      (leftHeads b) (rowSeen (leftHeads b) (s₁ .slots)) g (left-touched b) (λ j l ne. let m = Rattle.order.proofs.Touch.goes-in g in left-row b j l ne (omega arith))
+      ∙ ap (λ (q : SetOf Held). newest (keyShown key) q rest) (own-row b)
+
+  pub left-reached : (b : Bool) → Reached (leftStore b)
+  left-reached b = record {
+    fits = rw (left-length b) (r .fits);
+    counts = r .counts;
+    stands = touched-stands keyShown keyWords sameKey sameKey-true same-self (s .heads) (s .sets .limit) (s .sets .used) (s .sets .evictions) key (z .stands) proper (leftHeads b) g (left-touched b);
+  }
+
+  abbrev cellsThere : Cells
+  cellsThere = cellsSeen (s₁ .cells) (s₁ .sets .size) (s₁ .sets .count)
+
+  -- the set that goes out
+  set-out : allFilled (rowSlots (s₁ .heads) (s₁ .slots) i) ≡ true
+      → answerTold (Rattle.sets.specs.Store.handed (setIn (leftStore true) i)) ≡ onAnswer (bytesOf cellsThere) (handout (whole (keyShown key) rowThere))
+  unfolding answerTold setIn onAnswer onWhole whole rowSeen
+  set-out f =
+      let e : (m : ℕ) → m < 8 → word (leftHeads true) i m ≡ word (s₁ .heads) i m = λ m l. left-words true i m (omega arith) (omega arith) (omega arith) in
+      let k : keyAt (leftHeads true) i ≡ key = key-same (s₁ .heads) (leftHeads true) i (λ m l. e m (omega arith)) ∙ r .own in
+      let v = e 6 (omega arith) in
+      let l = e 7 (omega arith) in
+      let c = ap (map (kept (s₁ .cells) (s₁ .sets .size))) (slots-same (s₁ .heads) (leftHeads true) (s₁ .slots) i l) ∙ sym (sections-kept (s₁ .cells) (s₁ .sets .size) (s₁ .sets .count) (rowSlots (s₁ .heads) (s₁ .slots) i) f (r .row-whole)) in
+      λ t. handout (record { key = keyShown (k t); version = v t; last = l t; sections = c t })
+
+  goes-as : goesOut newer (s₁ .slots) i ≡ (eqb (word (s₁ .heads) i 8) 0 && allFilled (rowSlots (s₁ .heads) (s₁ .slots) i))
+  unfolding goesOut
+  goes-as =
+      rw (touched-not used₁ i (s₁ .heads) i 8 (omega arith) (omega arith), slots-same (s₁ .heads) newer (s₁ .slots) i (touched-not used₁ i (s₁ .heads) i 7 (omega arith) (omega arith)))
+
+  -- the settings are those of s
+  module _ (limit : s₁ .sets .limit ≡ s .sets .limit) (size : s₁ .sets .size ≡ s .sets .size) where
+    left-shown : (b : Bool) → seen (leftStore b) ≡ record { settings = (seen s) .settings; sets = newest (keyShown key) (cond b (marked rowThere) rowThere) rest; cells = cellsThere }
+    unfolding seen
+    left-shown b =
+        let q = left-sets b in
+        λ t. record { settings = record { limit = limit t; cellSize = size t }; sets = q t; cells = cellsThere }
+
+    pub settle-tied : Tied (settled s₁ i) (shows (seen s) cellsThere (judge rest (keyShown key) rowThere))
+    unfolding settled settledAnswer settledHeads judge judged shows rowSeen onAnswer answerTold
+    settle-tied = rw (goes-as, full-filled (rowSlots (s₁ .heads) (s₁ .slots) i)) (go (eqb (word (s₁ .heads) i 8) 0) (allFilled (rowSlots (s₁ .heads) (s₁ .slots) i)) refl)
+      where
+        go : (m f : Bool) → allFilled (rowSlots (s₁ .heads) (s₁ .slots) i) ≡ f
+            → Tied (answered (cond (m && f) (Set i) Nothing) (leftStore (m && f))) (shows (seen s) cellsThere (judged rest (keyShown key) rowThere (not m) f))
+        go true true e = record { told = set-out e; shown = left-shown true; reached = left-reached true }
+        go true false e = record { told = refl; shown = left-shown false; reached = left-reached false }
+        go false f e = record { told = refl; shown = left-shown false; reached = left-reached false }
+
+    pub conflict-tied : Tied (answered Rattle.sets.specs.declared.PushAnswer.the-variants.Conflict (leftStore false)) (shows (seen s) cellsThere (gives conflict (newest (keyShown key) rowThere rest)))
+    unfolding shows answerTold onAnswer
+    conflict-tied = record { told = refl; shown = left-shown false; reached = left-reached false }

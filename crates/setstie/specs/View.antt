@@ -1,0 +1,141 @@
+-- What the memory of the set collector shows, in the words of the rules; and its calls as the rules have them.
+-- Assumes nothing.
+use Prim.Native.Nat.{ℕ, _≤_}
+use mathlib.Core.Path.{_≡_}
+use mathlib.Core.Bool.{Bool, true, cond, not}
+use mathlib.Core.Option.{Option, none, some}
+use mathlib.Core.List.{List}
+use lib.Dec.{eqb, ltb}
+use lib.ListN.{length}
+use Rattle.touch.specs.Same.{Bytes}
+use Rattle.touch.specs.Cells.{Settings, Held}
+use Rattle.setrules.specs.Rules.{Key as SetKey, SetOf, Section, Call, clear, refuse, offer, Answer, cleared, refused, nothing, handout, conflict, notWhole, counterFull, noCell}
+use Rattle.setrules.specs.Cells.{Store as Shown}
+use Rattle.section.specs.Judged.{collectedOf}
+use Rattle.section.specs.declared.header.Collected.{Collected}
+use Rattle.section.specs.declared.header.Collected.the-variants.{Malformed, ShortForm, BadNumber, BadCrc, Good}
+use Rattle.section.specs.declared.ids.MaybePid.{MaybePid}
+use Rattle.section.specs.declared.ids.MaybePid.the-variants as maybe
+use Rattle.rows.specs.declared.Key.{Key}
+use Rattle.rows.specs.Rows.{word, rowSlots}
+use Rattle.order.specs.Order.{orderSeen, Stands}
+use Rattle.order.specs.Slots.{heldSlots, cellsSeen}
+use Rattle.sets.specs.Store.{Store, Handed, Told, plain, handed, Left, settingsFit, bitOf, openedOf, clearedOf, pushedOf}
+
+-- ---- a key
+
+-- the PID word of a row without a PID is 8192
+unfoldable pub pidShown : ℕ → Option ℕ
+pidShown p = cond (eqb p 8192) none (some p)
+
+unfoldable pub keyShown : Key → SetKey
+keyShown k = record { pid = pidShown (k .pid); tableId = k .«table_id»; extension = k .extension; currentNext = not (eqb (k .«current_next») 0) }
+
+-- the words that a key is written in; transport_stream_id and original_network_id are 0 in the set collector
+abbrev pub pidWords : Option ℕ → ℕ
+pidWords none = 8192
+pidWords (some p) = p
+
+unfoldable pub keyWords : SetKey → Key
+keyWords k = record {
+  pid = pidWords (k .pid);
+  «table_id» = k .tableId;
+  extension = k .extension;
+  «current_next» = bitOf (k .currentNext);
+  «transport_stream_id» = 0;
+  «original_network_id» = 0;
+}
+
+-- ---- a store
+
+-- row i: word 6 is its version, word 7 its last_section_number, word 8 not 0 where it was handed out
+unfoldable pub rowSeen : List ℕ → List ℕ → ℕ → SetOf Held
+rowSeen heads slots i = record {
+  version = word heads i 6;
+  last = word heads i 7;
+  slots = heldSlots (rowSlots heads slots i);
+  notes = tt;
+  mark = not (eqb (word heads i 8) 0);
+}
+
+abbrev pub settingsOf : Store → Settings
+settingsOf s = record { limit = s .sets .limit; cellSize = s .sets .size }
+
+-- the rows in use in their touch order, and the cells
+unfoldable pub seen : Store → Shown
+seen s = record {
+  settings = settingsOf s;
+  sets = orderSeen keyShown (s .heads) (s .sets .used) (s .sets .evictions) (rowSeen (s .heads) (s .slots));
+  cells = cellsSeen (s .cells) (s .sets .size) (s .sets .count);
+}
+
+-- ---- calls and answers
+
+-- a call on an opened collector: a clear, or a section's bytes with a PID or without
+pub data Given : Type 0 where
+  clears : Given
+  section : MaybePid → Bytes → Given
+
+-- 14 to 17, or what the section says
+unfoldable pub readsAs : Option ℕ → Bytes → Collected → Call
+readsAs pid bytes Malformed = refuse 14
+readsAs pid bytes ShortForm = refuse 15
+readsAs pid bytes BadNumber = refuse 16
+readsAs pid bytes BadCrc = refuse 17
+readsAs pid bytes (Good h) = offer (record {
+  key = record { pid = pid; tableId = h .«table_id»; extension = h .extension; currentNext = h .«current_next» };
+  version = h .version;
+  number = h .number;
+  last = h .last;
+  bytes = bytes;
+})
+
+-- 12 first: a PID of 8192 or more
+unfoldable pub readSection : MaybePid → Bytes → Call
+readSection maybe.None bytes = readsAs none bytes (collectedOf bytes)
+readSection (maybe.Some p) bytes = cond (ltb p 8192) (readsAs (some p) bytes (collectedOf bytes)) (refuse 12)
+
+unfoldable pub reads : Given → Call
+reads clears = clear
+reads (section pid bytes) = readSection pid bytes
+
+-- bytes are numbers below 256
+unfoldable pub OfBytes : Given → Type 0
+OfBytes clears = Unit {0}
+OfBytes (section pid bytes) = Rattle.section.specs.Facts.Bytes bytes
+
+-- what is told, by 01's number; 5 comes with the set
+unfoldable pub answerTold : Told → Answer
+answerTold (handed w) = handout (record { key = keyShown (w .key); version = w .version; last = w .last; sections = w .sections })
+answerTold (plain n) =
+    cond (eqb n 7) cleared
+    (cond (eqb n 4) nothing
+    (cond (eqb n 10) notWhole
+    (cond (eqb n 11) counterFull
+    (cond (eqb n 21) noCell
+    (cond (eqb n 22) conflict
+    (refused n))))))
+
+-- what `clear` and `push` are proved to tell and to leave
+unfoldable pub called : Store → Given → Left
+called s clears = clearedOf s
+called s (section pid bytes) = pushedOf s pid bytes
+
+unfoldable pub tells : Store → Given → Answer
+tells s i = answerTold ((called s i) .told)
+
+unfoldable pub acts : Store → Given → Store
+acts s i = (called s i) .store
+
+-- as `open` leaves a store where it answers 7: no rows, count 0, nothing asked of what the lent memory holds
+pub record Opened (s : Store) : Type 0 where
+  pub fits : (openedOf s) .told ≡ plain 7
+  pub used : s .sets .used ≡ 0
+  pub evictions : s .sets .evictions ≡ 0
+
+-- what every store that comes from opening has: settings that opening takes, an eviction count that fits its 64 bits, and ages that are a touch order
+-- of keys, none of which stands twice
+pub record Reached (s : Store) : Type 0 where
+  pub fits : settingsFit (s .sets) (length (s .heads)) (length (s .slots)) (length (s .cells)) ≡ true
+  pub counts : s .sets .evictions ≤ 18446744073709551615
+  pub stands : Stands keyShown keyWords (s .heads) (s .sets .used)
