@@ -1,0 +1,112 @@
+//! What an implementation answers, and the line that says it.
+use crate::command::{Part, hex, pid_text};
+use std::fmt::{self, Display};
+
+/// A set as it is handed out.
+#[derive(Debug)]
+pub struct Set {
+    pub pid: Option<u16>,
+    pub table_id: u8,
+    pub extension: u16,
+    pub current_next: bool,
+    pub version: u8,
+    pub last: u8,
+    pub sections: Vec<Vec<u8>>,
+}
+
+#[derive(Debug)]
+pub enum Out {
+    Nothing,
+    Set(Set),
+    Schedule { first: u8, last: u8, sets: Vec<Set> },
+}
+
+/// How many keys were evicted and are held: of sets, and in the EIT collector of schedules.
+#[derive(Debug)]
+pub enum Held {
+    Sets { evicted: u64, rows: usize },
+    Eit { evicted: [u64; 2], rows: [usize; 2] },
+}
+
+#[derive(Debug)]
+pub enum Answer {
+    /// A number of document 01's table alone.
+    Number(Part, u8),
+    /// The gate's answer to a section, with completed, emitted, suppressed, CRC failures and evictions.
+    Judged(u8, [u64; 5]),
+    /// No packet of this PID is looked at.
+    Unwatched,
+    /// No packets bring these bytes as one section.
+    Undeliverable,
+    Watched(Vec<u16>),
+    /// A collector's answer to a section or a filter.
+    Collected(u8, Held, Out),
+}
+
+impl Answer {
+    /// The number of document 01's table, and whose answer it is.
+    pub fn number(&self) -> Option<(Part, u8)> {
+        match self {
+            Answer::Number(part, n) => Some((*part, *n)),
+            Answer::Judged(n, _) => Some((Part::Gate, *n)),
+            Answer::Collected(n, Held::Sets { .. }, _) => Some((Part::Sets, *n)),
+            Answer::Collected(n, Held::Eit { .. }, _) => Some((Part::Eit, *n)),
+            Answer::Unwatched | Answer::Undeliverable | Answer::Watched(_) => None,
+        }
+    }
+}
+
+impl Display for Part {
+    fn fmt(&self, f: &mut fmt::Formatter<'_>) -> fmt::Result {
+        f.write_str(match self {
+            Part::Gate => "gate",
+            Part::Sets => "sets",
+            Part::Eit => "eit",
+        })
+    }
+}
+
+impl Display for Set {
+    fn fmt(&self, f: &mut fmt::Formatter<'_>) -> fmt::Result {
+        write!(f, " [set pid={} tid={:02X} ext={:04X}", pid_text(self.pid), self.table_id, self.extension)?;
+        write!(f, " cn={} ver={} last={}", u8::from(self.current_next), self.version, self.last)?;
+        write!(f, " n={}", self.sections.len())?;
+        self.sections.iter().try_for_each(|section| write!(f, " {}", hex(section)))?;
+        f.write_str("]")
+    }
+}
+
+impl Display for Out {
+    fn fmt(&self, f: &mut fmt::Formatter<'_>) -> fmt::Result {
+        match self {
+            Out::Nothing => Ok(()),
+            Out::Set(set) => write!(f, "{set}"),
+            Out::Schedule { first, last, sets } => {
+                write!(f, " [sched {first:02X}-{last:02X}")?;
+                sets.iter().try_for_each(|set| write!(f, "{set}"))?;
+                f.write_str("]")
+            }
+        }
+    }
+}
+
+impl Display for Answer {
+    fn fmt(&self, f: &mut fmt::Formatter<'_>) -> fmt::Result {
+        match self {
+            Answer::Number(part, n) => write!(f, "{part} {n}"),
+            Answer::Judged(n, [completed, emitted, suppressed, crc, evicted]) => {
+                write!(f, "gate {n} {completed} {emitted} {suppressed} {crc} {evicted}")
+            }
+            Answer::Unwatched => f.write_str("gate unwatched"),
+            Answer::Undeliverable => f.write_str("gate undeliverable"),
+            Answer::Watched(pids) => {
+                f.write_str("gate watched")?;
+                pids.iter().try_for_each(|pid| write!(f, " {pid:04X}"))
+            }
+            Answer::Collected(n, Held::Sets { evicted, rows }, out) => write!(f, "sets {n} ev={evicted} rows={rows}{out}"),
+            Answer::Collected(n, Held::Eit { evicted: [e, s], rows: [r, t] }, out) => {
+                write!(f, "eit {n} ev={e}/{s} rows={r}/{t}{out}")
+            }
+        }
+    }
+}

@@ -1,0 +1,76 @@
+//! Named faults that the second implementation can be given, to show that a comparison finds them.
+
+macro_rules! faults {
+    ($($name:ident $part:ident $says:literal,)*) => {
+        #[derive(Clone, Copy, Debug, PartialEq, Eq)]
+        pub enum Fault { $($name,)* }
+
+        impl Fault {
+            pub const ALL: &[Fault] = &[$(Fault::$name,)*];
+
+            /// What goes wrong, in a sentence.
+            pub fn says(self) -> &'static str {
+                match self { $(Fault::$name => $says,)* }
+            }
+
+            /// Whose fault it is.
+            pub fn part(self) -> crate::command::Part {
+                match self { $(Fault::$name => crate::command::Part::$part,)* }
+            }
+        }
+    };
+}
+
+faults! {
+    KnownKeyMoves Gate "a known gate key moves to the end",
+    KnownKeyStays Gate "a known gate key keeps its old version and change number",
+    CapacityPlusOne Gate "the gate holds one key more than its capacity",
+    CapacityZeroHoldsNone Gate "capacity 0 holds no key at all",
+    EvictionUncounted Gate "a key that leaves the gate is not counted",
+    VersionIgnored Gate "only the change number is compared",
+    ChangeIgnored Gate "only the version is compared",
+    NumberNotInKey Gate "section_number is no part of the gate's key",
+    HeaderAtEleven Gate "a long form of 11 bytes is read as if it had a header",
+    TotUnchecked Gate "the CRC of a short-form TOT is not checked",
+    TotStoredCrc Gate "a TOT's change number is its stored CRC",
+    FailureHeld Gate "a section of wrong CRC is held",
+    RepeatFollowed Gate "a PAT emitted only because repeats are on is followed",
+    NetworkPidFollowed Gate "the PID of program 0 is followed",
+    ProtectedDropped Gate "a PAT drops a protected PID",
+    FormerKept Gate "PIDs of the former PAT are never dropped",
+    PatRemainderRead Gate "a PAT with a remainder after its groups of four is followed",
+    PatNextIgnored Gate "a PAT marked next is not followed",
+
+    NewestLeaves Sets "the most recently touched key leaves",
+    RepeatUntouched Sets "a repeat does not make its key the newest",
+    ConflictUntouched Sets "a conflict does not make its key the newest",
+    ConflictReplaces Sets "a conflict replaces the section",
+    LastIgnored Sets "another last_section_number does not empty the row",
+    VersionKeepsRow Sets "another version does not empty the row",
+    NoPidIsPidZero Sets "no PID is taken for PID 0",
+    CurrentNextIgnored Sets "current_next is no part of the key",
+    ClearZeroes Sets "clearing sets the eviction count to 0",
+    CrcBeforeNumber Sets "a wrong CRC is answered before a wrong section number",
+    LimitZeroHoldsOne Sets "limit 0 holds one key",
+    LeavingCellsKept Sets "the cells of a row that leaves or is emptied are not free for the section that did it",
+    LimitBeforeLength Sets "limit 0 is looked at before the cell's size",
+
+    EventsUnread Eit "the event loop is not read to its end",
+    FirstSegmentWins Eit "the first segment_last_section_number of a segment stays",
+    RepeatSetsSegment Eit "a repeat sets its segment's last number",
+    SegmentPastLast Eit "a segment's end is not held to last_section_number",
+    LastSegmentUnseen Eit "the segment that starts at 248 is not looked at",
+    NewSectionKeepsMark Eit "a new section does not clear the mark",
+    PresentNeedsAll Eit "a present/following set waits for every section",
+    RangeMarks Eit "a set refused for its range is marked",
+    RangePastKindRefused Eit "a last_table_id past the kind is refused",
+    NoRefill Eit "a schedule whose last_table_id changes is not filled again",
+    RefillMarkedOnly Eit "a schedule is filled again with marked sets only",
+    NewScheduleFilled Eit "a new schedule is filled with the sets that are complete",
+    ScheduleNotTouched Eit "a known schedule does not become the newest",
+    EvictedLeavesSchedule Eit "a schedule loses the copy of a set that is evicted",
+    CopiesNameNoCell Eit "cells that only a schedule's copies name are free",
+    DropKeepsSchedules Eit "a drop leaves the schedules",
+    DropCountsEvictions Eit "a drop counts what goes as evicted",
+    ScheduleWithoutNetwork Eit "original_network_id is no part of a schedule's key",
+}

@@ -1,0 +1,203 @@
+//! Runs the port beside the original and beside a second implementation, and compares what they answer, line for line.
+mod answer;
+mod command;
+mod faults;
+mod lent;
+mod make;
+mod original;
+mod pairs;
+mod program;
+mod report;
+mod second;
+mod watch;
+
+use command::{Command, tape_of};
+use faults::Fault;
+use make::Domain;
+use pairs::{Found, Side, first_difference, replayed, smallest};
+use program::Programs;
+use report::Report;
+use std::path::{Path, PathBuf};
+use std::process::ExitCode;
+
+const USAGE: &str = "usage: compare/run [SEEDS] [COMMANDS]             scripts inside document 01's domain, damaged and cell-bound
+       compare/run --faults [SEEDS] [COMMANDS]    the same, with each fault in turn in the second implementation
+       compare/run --script FILE                  a script of your own
+       compare/run --store                        makes the stored runs of crates/replay anew";
+
+fn main() -> ExitCode {
+    let root = PathBuf::from(env!("CARGO_MANIFEST_DIR")).join("../..");
+    let words: Vec<String> = std::env::args().skip(1).collect();
+    let words: Vec<&str> = words.iter().map(String::as_str).collect();
+    let number = |at: usize, default: usize| words.get(at).map_or(Some(default), |word| word.parse().ok());
+    let programs = Programs::find(&root);
+    let programs = programs.as_ref();
+    let good = match words.first() {
+        Some(&"--faults") => match (number(1, 40), number(2, 2000)) {
+            (Some(seeds), Some(commands)) => compare_faults(programs, seeds, commands),
+            _ => return usage(),
+        },
+        Some(&"--script") if words.len() == 2 => compare_file(programs, Path::new(words[1])),
+        Some(&"--store") if words.len() == 1 => store(programs, &root),
+        _ => match (number(0, 20), number(1, 5000)) {
+            (Some(seeds), Some(commands)) => compare_seeds(programs, seeds, commands),
+            _ => return usage(),
+        },
+    };
+    if good { ExitCode::SUCCESS } else { ExitCode::FAILURE }
+}
+
+fn usage() -> ExitCode {
+    eprintln!("{USAGE}");
+    ExitCode::from(2)
+}
+
+const DOMAINS: [(Domain, &str); 3] =
+    [(Domain::Inside, "inside the domain"), (Domain::Damaged, "damaged"), (Domain::CellBound, "cell-bound")];
+
+/// The pairs that have to be equal on every script.
+fn differing(programs: Option<&Programs>, script: &[Command]) -> Option<Found> {
+    first_difference(programs, [Side::Original, Side::AS_ORIGINAL], script).or_else(|| {
+        programs.and_then(|_| first_difference(programs, [Side::DOCUMENT, Side::Replay], &replayed(script)))
+    })
+}
+
+fn compare_seeds(programs: Option<&Programs>, seeds: usize, commands: usize) -> bool {
+    if programs.is_none() {
+        println!("no Rattle kit: the port's programs are left out");
+    }
+    let mut good = fixed(programs);
+    for (domain, name) in DOMAINS {
+        let mut report = Report::default();
+        for seed in 0..seeds as u64 {
+            let script = make::script(seed, commands, domain);
+            if let Some(found) = differing(programs, &script) {
+                println!("{name}, seed {seed}: a difference at command {}; the smallest script found:", found.line + 1);
+                println!("{}", smallest(programs, found));
+                return false;
+            }
+            report.add(&script, programs.is_some());
+        }
+        println!("{name}: {seeds} seeds, 0 differences that are not named\n{report}");
+        good &= report.named_as_expected(domain);
+    }
+    good
+}
+
+/// The runs that are no script: the CRC's published check, and `watch` on document 01's example, cut at each place, and on a stream of each seed.
+fn fixed(programs: Option<&Programs>) -> bool {
+    let check = second::crc(b"123456789");
+    println!("the CRC of the nine digits by the second implementation: {check:08X}");
+    let example = watch::EXAMPLE.concat().concat();
+    let mut inputs: Vec<Vec<u8>> = (0..=example.len()).map(|end| example[..end].to_vec()).collect();
+    inputs.extend((0..20).map(watch_stream));
+    let mut good = check == 0x0376_E6E7 && watch_second(&example) == watch::EXAMPLE_OUTPUT;
+    for input in &inputs {
+        let second = watch_second(input);
+        let mut original = original::Original::new();
+        good &= second == watch::output(|command| original.answer(command), input);
+        if let Some(programs) = programs.filter(|programs| programs.has("watch")) {
+            good &= second == programs.output("watch", input);
+        }
+    }
+    println!("watch on {} inputs: {}\n", inputs.len(), if good { "equal" } else { "DIFFERS" });
+    good
+}
+
+fn watch_second(input: &[u8]) -> String {
+    let mut second = second::Second::new(second::Reading::default());
+    watch::output(|command| second.answer(command), input)
+}
+
+/// Sections of a script as `watch` reads them, each with its PID; the last one may be cut.
+fn watch_stream(seed: u64) -> Vec<u8> {
+    let mut stream = Vec::new();
+    for command in make::script(seed, 400, Domain::Inside) {
+        if let Command::Gate { pid, section, .. } = command
+            && lent::deliverable(&section)
+        {
+            stream.extend(pid.to_be_bytes());
+            stream.extend(section);
+        }
+    }
+    stream.truncate(stream.len() - seed as usize % 3);
+    stream
+}
+
+/// Each fault in turn: it has to be found, by the original where it has a counterpart, else by the port or the second implementation itself.
+fn compare_faults(programs: Option<&Programs>, seeds: usize, commands: usize) -> bool {
+    let mut missed = 0;
+    for &fault in Fault::ALL {
+        match find_fault(programs, fault, seeds, commands) {
+            Some((seed, domain, found)) => {
+                let against = found.answers[0].0;
+                let size = found.script.len();
+                println!("{fault:?}: found, {domain}, seed {seed}, against {against}, {size} commands: {}", fault.says());
+            }
+            None => {
+                missed += 1;
+                println!("{fault:?}: NOT FOUND in {seeds} seeds: {}", fault.says());
+            }
+        }
+    }
+    println!("{} faults, {missed} not found", Fault::ALL.len());
+    missed == 0
+}
+
+fn find_fault(programs: Option<&Programs>, fault: Fault, seeds: usize, commands: usize) -> Option<(u64, &'static str, Found)> {
+    let with = |as_original| Side::Second { as_original, fault: Some(fault) };
+    for seed in 0..seeds as u64 {
+        for (domain, name) in DOMAINS {
+            let mut script = make::script(seed, commands, domain);
+            script.retain(|command| command.part() == fault.part());
+            let found = first_difference(programs, [Side::Original, with(true)], &script)
+                .or_else(|| first_difference(programs, [Side::DOCUMENT, with(false)], &script));
+            if let Some(found) = found {
+                return Some((seed, name, smallest(programs, found)));
+            }
+        }
+    }
+    None
+}
+
+fn read_script(path: &Path) -> Vec<Command> {
+    let text = std::fs::read_to_string(path).unwrap_or_else(|e| panic!("{}: {e}", path.display()));
+    let lines = text.lines().filter(|line| !line.trim().is_empty() && !line.starts_with('#'));
+    lines.map(|line| command::parse(line).unwrap_or_else(|| panic!("no command: {line}"))).collect()
+}
+
+fn compare_file(programs: Option<&Programs>, path: &Path) -> bool {
+    let script = read_script(path);
+    for (command, line) in script.iter().zip(Side::DOCUMENT.lines(None, &script)) {
+        println!("{command}\n    {line}");
+    }
+    match differing(programs, &script) {
+        None => true,
+        Some(found) => {
+            println!("a difference at command {}; the smallest script found:\n{}", found.line + 1, smallest(programs, found));
+            false
+        }
+    }
+}
+
+/// The stored run of crates/replay: the written scripts and some seeds inside the domain, answered by the original.
+fn store(programs: Option<&Programs>, root: &Path) -> bool {
+    let mut script = Vec::new();
+    let mut written: Vec<PathBuf> = std::fs::read_dir(root.join("compare/scripts"))
+        .expect("a folder of the project")
+        .map(|entry| entry.expect("a file of the project").path())
+        .collect();
+    written.sort();
+    written.iter().for_each(|path| script.extend(read_script(path)));
+    (1000..1003).for_each(|seed| script.extend(make::script(seed, 2000, Domain::Inside)));
+    let script = replayed(&script);
+    if let Some(found) = differing(programs, &script) {
+        println!("a difference at command {}; the smallest script found:\n{}", found.line + 1, smallest(programs, found));
+    }
+    let lines = Side::Original.lines(None, &script);
+    let folder = root.join("crates/replay");
+    std::fs::write(folder.join("stdin"), tape_of(&script)).expect("the crate's folder can be written");
+    std::fs::write(folder.join("stdout"), lines.join("\n") + "\n").expect("the crate's folder can be written");
+    println!("crates/replay: {} commands", script.len());
+    lines == Side::DOCUMENT.lines(None, &script)
+}

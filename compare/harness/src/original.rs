@@ -1,0 +1,224 @@
+//! The original behind the commands.
+use crate::answer::{Answer, Held, Out, Set};
+use crate::command::{By, Command, Filter, Part};
+use crate::lent;
+use bytes::Bytes;
+use dvb_si::collect::{CollectError, CompleteSectionSet, CompletedEit, EitCollector, EitLogicalKey, SectionSetCollector};
+use dvb_si::demux::{SiDemux, Stats};
+use dvb_si::tables::eit::EitKind;
+use mpeg_ts::pid::Pid;
+
+pub struct Original {
+    gate: SiDemux,
+    sets: Option<SectionSetCollector>,
+    eit: Option<EitCollector>,
+}
+
+impl Original {
+    pub fn new() -> Original {
+        Original { gate: SiDemux::builder().build(), sets: None, eit: None }
+    }
+
+    pub fn answer(&mut self, command: &Command) -> Answer {
+        match command {
+            Command::GateOpen { capacity, repeats, follow, well_known, extra } => {
+                let answer = lent::gate_opening(*capacity, extra);
+                if answer == 7 {
+                    let settings = SiDemux::builder()
+                        .gate_capacity(*capacity as usize)
+                        .emit_repeats(*repeats)
+                        .follow_pat(*follow)
+                        .dvb_si_pids(*well_known);
+                    self.gate = extra.iter().fold(settings, |all, &pid| all.pid(Pid::new(pid))).build();
+                }
+                Answer::Number(Part::Gate, answer)
+            }
+            Command::Gate { pid, .. } | Command::Ask { pid } if !lent::is_pid(*pid) => Answer::Number(Part::Gate, 12),
+            Command::Gate { by: By::Packets, pid, section } => self.deliver(*pid, section),
+            Command::Gate { by: By::Offer, pid, section } => self.judged(|gate| {
+                let emitted = gate.offer(Pid::new(*pid), Bytes::from(&section[..]));
+                usize::from(emitted)
+            }),
+            Command::Ask { pid } => Answer::Number(Part::Gate, if self.gate.watched().contains(pid) { 8 } else { 9 }),
+            Command::Watched => Answer::Watched(self.gate.watched()),
+            Command::Open { part, limit, cells, size } => self.open(*part, *limit, *cells, *size),
+            Command::Push { part: Part::Eit, pid, section } => self.push_eit(*pid, section),
+            Command::Push { pid, section, .. } => self.push_set(*pid, section),
+            Command::Clear { part } => self.clear(*part),
+            Command::Drop(filter) => self.drop(filter),
+        }
+    }
+
+    /// The answer's number by the counter that moved; `offer` says how many events came of it.
+    fn judged(&mut self, offer: impl FnOnce(&mut SiDemux) -> usize) -> Answer {
+        let before = self.gate.stats();
+        let events = offer(&mut self.gate);
+        let after = self.gate.stats();
+        let moved = |count: fn(&Stats) -> u64| count(&after) - count(&before);
+        assert_eq!(moved(|s| s.sections_completed), 1);
+        assert_eq!(moved(|s| s.emitted), events as u64);
+        let number = match [moved(|s| s.emitted), moved(|s| s.suppressed), moved(|s| s.crc_failures)] {
+            [1, 0, 0] => 1,
+            [0, 1, 0] => 2,
+            [0, 0, 1] => 3,
+            other => panic!("the counters moved by {other:?}"),
+        };
+        let counters =
+            [after.sections_completed, after.emitted, after.suppressed, after.crc_failures, after.gate_evictions];
+        Answer::Judged(number, counters)
+    }
+
+    /// In packets, on a watched PID. That the others are not looked at is shown too.
+    fn deliver(&mut self, pid: u16, section: &[u8]) -> Answer {
+        let sent = packets(pid, section);
+        if !self.gate.watched().contains(&pid) {
+            let before = self.gate.stats().sections_completed;
+            sent.iter().for_each(|packet| assert_eq!(self.gate.feed(packet).count(), 0));
+            assert_eq!(self.gate.stats().sections_completed, before);
+            return Answer::Unwatched;
+        }
+        if !lent::deliverable(section) {
+            return Answer::Undeliverable;
+        }
+        self.judged(|gate| {
+            let mut events = Vec::new();
+            sent.iter().for_each(|packet| events.extend(gate.feed(packet)));
+            events.iter().for_each(|event| assert!(event.bytes()[..] == *section && event.pid().value() == pid));
+            events.len()
+        })
+    }
+
+    fn open(&mut self, part: Part, limit: u16, cells: u16, size: u16) -> Answer {
+        let answer = lent::collector_opening(limit, cells, size);
+        if answer == 7 {
+            match part {
+                Part::Eit => self.eit = Some(EitCollector::new().with_max_logical_keys(limit.into())),
+                _ => self.sets = Some(SectionSetCollector::new().with_max_partial_keys(limit.into())),
+            }
+        }
+        Answer::Number(part, answer)
+    }
+
+    fn push_set(&mut self, pid: Option<u16>, section: &[u8]) -> Answer {
+        let Some(sets) = &mut self.sets else { return Answer::Collected(10, self.sets_held(), Out::Nothing) };
+        let (number, out) = match pid {
+            Some(pid) if !lent::is_pid(pid) => (12, Out::Nothing),
+            _ => match sets.push_section_with_pid(pid.map(Pid::new), section) {
+                Ok(None) => (4, Out::Nothing),
+                Ok(Some(set)) => (5, Out::Set(set_of(&set))),
+                Err(error) => (number(&error), Out::Nothing),
+            },
+        };
+        Answer::Collected(number, self.sets_held(), out)
+    }
+
+    fn push_eit(&mut self, pid: Option<u16>, section: &[u8]) -> Answer {
+        let Some(eit) = &mut self.eit else { return Answer::Collected(10, self.eit_held(), Out::Nothing) };
+        let (number, out) = match pid {
+            Some(pid) if !lent::is_pid(pid) => (12, Out::Nothing),
+            _ => match eit.push_section_with_pid(pid.map(Pid::new), section) {
+                Ok(None) => (4, Out::Nothing),
+                Ok(Some(CompletedEit::PresentFollowing(set))) => (5, Out::Set(set_of(&set))),
+                Ok(Some(CompletedEit::Schedule(schedule))) => {
+                    let sets: Vec<Set> = schedule.table_sets().iter().map(set_of).collect();
+                    let (first, last) = (sets[0].table_id, sets[sets.len() - 1].table_id);
+                    (6, Out::Schedule { first, last, sets })
+                }
+                Ok(Some(other)) => panic!("not known: {other:?}"),
+                Err(error) => (number(&error), Out::Nothing),
+            },
+        };
+        Answer::Collected(number, self.eit_held(), out)
+    }
+
+    fn clear(&mut self, part: Part) -> Answer {
+        let open = match part {
+            Part::Eit => self.eit.as_mut().map(|eit| eit.clear()),
+            _ => self.sets.as_mut().map(|sets| sets.clear()),
+        };
+        Answer::Number(part, if open.is_some() { 7 } else { 10 })
+    }
+
+    fn drop(&mut self, filter: &Filter) -> Answer {
+        let Some(eit) = &mut self.eit else { return Answer::Collected(10, self.eit_held(), Out::Nothing) };
+        let number = match filter.pid {
+            Some(Some(pid)) if !lent::is_pid(pid) => 12,
+            _ => {
+                eit.retain_logical(|key| !matches(filter, key));
+                7
+            }
+        };
+        Answer::Collected(number, self.eit_held(), Out::Nothing)
+    }
+
+    fn sets_held(&self) -> Held {
+        let (evicted, rows) = self.sets.as_ref().map_or((0, 0), |sets| (sets.evicted_for_capacity(), sets.len()));
+        Held::Sets { evicted, rows }
+    }
+
+    fn eit_held(&self) -> Held {
+        self.eit.as_ref().map_or(Held::Eit { evicted: [0; 2], rows: [0; 2] }, |eit| Held::Eit {
+            evicted: [eit.sections_evicted_for_capacity(), eit.schedules_evicted_for_capacity()],
+            rows: [eit.section_set_len(), eit.schedule_len()],
+        })
+    }
+}
+
+/// Document 01's number of an error.
+fn number(error: &CollectError) -> u8 {
+    match error {
+        CollectError::Section(dvb_si::Error::BufferTooShort { what, .. }) if *what == mpeg_ts::section::READER => 14,
+        CollectError::ShortFormSection { .. } => 15,
+        CollectError::SectionNumberOutOfRange { .. } => 16,
+        CollectError::Section(dvb_si::Error::CrcMismatch { .. }) => 17,
+        CollectError::Section(dvb_si::Error::UnexpectedTableId { .. }) => 18,
+        CollectError::Section(_) => 19,
+        CollectError::ConflictingSection { .. } => 22,
+        CollectError::EitTableIdOutOfRange { .. } => 23,
+        other => panic!("not known: {other:?}"),
+    }
+}
+
+fn set_of(set: &CompleteSectionSet) -> Set {
+    let meta = set.meta();
+    Set {
+        pid: meta.key.pid.map(Pid::value),
+        table_id: meta.key.table_id,
+        extension: meta.key.extension_id,
+        current_next: meta.key.current_next_indicator,
+        version: meta.version_number,
+        last: meta.last_section_number,
+        sections: set.section_bytes().map(<[u8]>::to_vec).collect(),
+    }
+}
+
+fn matches(filter: &Filter, key: &EitLogicalKey) -> bool {
+    let kind = match key.kind {
+        EitKind::PresentFollowingActual => 0,
+        EitKind::PresentFollowingOther => 1,
+        EitKind::ScheduleActual => 2,
+        EitKind::ScheduleOther => 3,
+        other => panic!("not known: {other:?}"),
+    };
+    filter.pid.is_none_or(|pid| pid == key.pid.map(Pid::value))
+        && filter.kind.is_none_or(|k| k == kind)
+        && filter.service_id.is_none_or(|id| id == key.service_id)
+        && filter.transport_stream_id.is_none_or(|id| id == key.transport_stream_id)
+        && filter.original_network_id.is_none_or(|id| id == key.original_network_id)
+        && filter.current_next.is_none_or(|cn| cn == key.current_next_indicator)
+}
+
+/// A section in packets of 188 bytes (ISO/IEC 13818-1, 2.4.3): it starts the first, and stuffing fills the last.
+fn packets(pid: u16, section: &[u8]) -> Vec<Vec<u8>> {
+    let mut payload = vec![0];
+    payload.extend(section);
+    let [high, low] = pid.to_be_bytes();
+    let packet = |(i, part): (usize, &[u8])| {
+        let starts = if i == 0 { 0x40 } else { 0 };
+        let mut packet = vec![0x47, starts | high, low, 0x10 | (i as u8 & 0x0F)];
+        packet.extend(part);
+        packet.resize(188, 0xFF);
+        packet
+    };
+    payload.chunks(184).enumerate().map(packet).collect()
+}

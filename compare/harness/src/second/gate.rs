@@ -1,0 +1,134 @@
+//! Document 01, "Gate" and "Watched PIDs".
+use super::Reading;
+use super::section::{crc, crc_fits, long_form, programs, stored_crc, version, word};
+use crate::faults::Fault;
+use std::collections::BTreeSet;
+
+/// What the gate keeps for a key.
+struct Kept {
+    key: u64,
+    version: u8,
+    change: u32,
+}
+
+pub struct Gate {
+    capacity: usize,
+    repeats: bool,
+    follow: bool,
+    /// In order of first arrival.
+    keys: Vec<Kept>,
+    /// Completed, emitted, suppressed, CRC failures, evictions.
+    pub counters: [u64; 5],
+    watched: BTreeSet<u16>,
+    protected: BTreeSet<u16>,
+    followed: BTreeSet<u16>,
+}
+
+const COMPLETED: usize = 0;
+const EMITTED: usize = 1;
+const SUPPRESSED: usize = 2;
+const CRC_FAILURES: usize = 3;
+const EVICTIONS: usize = 4;
+
+const WELL_KNOWN: [u16; 8] = [0x0000, 0x0001, 0x0010, 0x0011, 0x0012, 0x0013, 0x0014, 0x001B];
+
+impl Gate {
+    pub fn open(capacity: usize, repeats: bool, follow: bool, well_known: bool, extra: &[u16]) -> Gate {
+        let mut protected = BTreeSet::from_iter(extra.iter().copied());
+        if well_known {
+            protected.extend(WELL_KNOWN);
+        }
+        Gate {
+            capacity,
+            repeats,
+            follow,
+            keys: Vec::new(),
+            counters: [0; 5],
+            watched: protected.clone(),
+            protected,
+            followed: BTreeSet::new(),
+        }
+    }
+
+    pub fn watches(&self, pid: u16) -> bool {
+        self.watched.contains(&pid)
+    }
+
+    pub fn offer(&mut self, reading: &mut Reading, pid: u16, section: &[u8]) -> u8 {
+        self.counters[COMPLETED] += 1;
+        if section.len() < 3 || (has_crc(reading, section) && !crc_fits(section)) {
+            self.counters[CRC_FAILURES] += 1;
+            if reading.has(Fault::FailureHeld) && section.len() >= 12 {
+                self.admit(reading, kept(reading, pid, section));
+            }
+            return 3;
+        }
+        let changed = self.admit(reading, kept(reading, pid, section));
+        let emitted = changed || self.repeats;
+        let follows = if reading.has(Fault::RepeatFollowed) { emitted } else { changed };
+        if follows && self.follow {
+            if let Some(programs) = programs(reading, section) {
+                self.follow_pat(reading, BTreeSet::from_iter(programs));
+            }
+        }
+        self.counters[if emitted { EMITTED } else { SUPPRESSED }] += 1;
+        if emitted { 1 } else { 2 }
+    }
+
+    /// Whether the key was unknown, or known with another version or change number.
+    fn admit(&mut self, reading: &Reading, new: Kept) -> bool {
+        if let Some(at) = self.keys.iter().position(|kept| kept.key == new.key) {
+            let old = &self.keys[at];
+            let changed = (old.version != new.version && !reading.has(Fault::VersionIgnored))
+                || (old.change != new.change && !reading.has(Fault::ChangeIgnored));
+            if reading.has(Fault::KnownKeyMoves) {
+                self.keys.remove(at);
+                self.keys.push(new);
+            } else if !reading.has(Fault::KnownKeyStays) {
+                self.keys[at] = new;
+            }
+            return changed;
+        }
+        let capacity = self.capacity + usize::from(reading.has(Fault::CapacityPlusOne));
+        if self.keys.len() >= capacity && !self.keys.is_empty() {
+            self.keys.remove(0);
+            self.counters[EVICTIONS] += u64::from(!reading.has(Fault::EvictionUncounted));
+        }
+        if capacity > 0 || !reading.has(Fault::CapacityZeroHoldsNone) {
+            self.keys.push(new);
+        }
+        true
+    }
+
+    fn follow_pat(&mut self, reading: &Reading, programs: BTreeSet<u16>) {
+        self.watched.extend(&programs);
+        for pid in self.followed.difference(&programs) {
+            let stays = self.protected.contains(pid) && !reading.has(Fault::ProtectedDropped);
+            if !stays && !reading.has(Fault::FormerKept) {
+                self.watched.remove(pid);
+            }
+        }
+        self.followed = programs;
+    }
+}
+
+/// Long form, or a Time Offset Table.
+fn has_crc(reading: &Reading, section: &[u8]) -> bool {
+    long_form(section) || (section[0] == 0x73 && !reading.has(Fault::TotUnchecked))
+}
+
+/// The key of a section, its version and its change number.
+fn kept(reading: &Reading, pid: u16, section: &[u8]) -> Kept {
+    let least = if reading.has(Fault::HeaderAtEleven) { 11 } else { 12 };
+    let headed = long_form(section) && section.len() >= least;
+    let (extension, number, version, change) = if headed {
+        (word(section, 3), section[6], version(section), stored_crc(section))
+    } else if section[0] == 0x73 && reading.has(Fault::TotStoredCrc) {
+        (0, 0, 0, stored_crc(section))
+    } else {
+        (0, 0, 0, crc(section))
+    };
+    let number = if reading.has(Fault::NumberNotInKey) { 0 } else { number };
+    let key = u64::from(pid) + (u64::from(section[0]) << 13) + (u64::from(extension) << 21) + (u64::from(number) << 37);
+    Kept { key, version, change }
+}

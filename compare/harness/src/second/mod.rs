@@ -1,0 +1,138 @@
+//! A second implementation, written from document 01 and the standards alone: no table, no cleverness, rows in plain order. Where document 01 and
+//! the original differ, `Reading` says whose side is taken, and each place is named as in docs/DIFFERENCES.md.
+mod collector;
+mod gate;
+mod section;
+
+use crate::answer::{Answer, Held, Out};
+use crate::command::{By, Command, Filter, Part};
+use crate::faults::Fault;
+use crate::lent;
+use collector::Collector;
+use gate::Gate;
+pub use section::crc;
+
+/// The differences between document 01 and the original that a run can show.
+#[derive(Clone, Copy, Debug, PartialEq, Eq)]
+pub enum Difference {
+    /// D1: a short-form section of table 0 is no PAT; the original follows it.
+    ShortFormPat,
+    /// D2: a section of 12 to 17 bytes that is no EIT's answers 18; the original finds it too short first, 19.
+    ShortAndNoEit,
+    /// D3: a section of 4,097 or 4,098 bytes fits no cell, 20; the original keeps it. D5: the original has no cells, so 21 neither.
+    Cells,
+}
+
+impl Difference {
+    pub const ALL: [Difference; 3] = [Difference::ShortFormPat, Difference::ShortAndNoEit, Difference::Cells];
+}
+
+/// How document 01 is read, and what was met on the way.
+#[derive(Clone, Debug, Default)]
+pub struct Reading {
+    /// Take the original's side in every difference.
+    pub as_original: bool,
+    pub fault: Option<Fault>,
+    /// How often each difference of `Difference::ALL` decided something.
+    pub met: [u64; 3],
+}
+
+impl Reading {
+    fn has(&self, fault: Fault) -> bool {
+        self.fault == Some(fault)
+    }
+
+    /// Called where the two differ: whether the original's side is taken.
+    fn differs(&mut self, difference: Difference) -> bool {
+        self.met[difference as usize] += 1;
+        self.as_original
+    }
+}
+
+pub struct Second {
+    pub reading: Reading,
+    gate: Gate,
+    sets: Option<Collector>,
+    eit: Option<Collector>,
+}
+
+impl Second {
+    pub fn new(reading: Reading) -> Second {
+        Second { reading, gate: Gate::open(65_536, false, true, true, &[]), sets: None, eit: None }
+    }
+
+    pub fn answer(&mut self, command: &Command) -> Answer {
+        match command {
+            Command::GateOpen { capacity, repeats, follow, well_known, extra } => {
+                let answer = lent::gate_opening(*capacity, extra);
+                if answer == 7 {
+                    self.gate = Gate::open(*capacity as usize, *repeats, *follow, *well_known, extra);
+                }
+                Answer::Number(Part::Gate, answer)
+            }
+            Command::Gate { pid, .. } | Command::Ask { pid } if !lent::is_pid(*pid) => Answer::Number(Part::Gate, 12),
+            Command::Gate { by: By::Packets, pid, .. } if !self.gate.watches(*pid) => Answer::Unwatched,
+            Command::Gate { by: By::Packets, section, .. } if !lent::deliverable(section) => Answer::Undeliverable,
+            Command::Gate { pid, section, .. } => {
+                let number = self.gate.offer(&mut self.reading, *pid, section);
+                Answer::Judged(number, self.gate.counters)
+            }
+            Command::Ask { pid } => Answer::Number(Part::Gate, if self.gate.watches(*pid) { 8 } else { 9 }),
+            Command::Watched => Answer::Watched((0..8192).filter(|&pid| self.gate.watches(pid)).collect()),
+            Command::Open { part, limit, cells, size } => {
+                let answer = lent::collector_opening(*limit, *cells, *size);
+                if answer == 7 {
+                    let eit = *part == Part::Eit;
+                    *self.collector(*part) = Some(Collector::open(eit, *limit, *cells, *size));
+                }
+                Answer::Number(*part, answer)
+            }
+            Command::Push { part, pid, section } => {
+                let mut reading = self.reading.clone();
+                let (number, out) = match self.collector(*part) {
+                    None => (10, Out::Nothing),
+                    Some(_) if pid.is_some_and(|pid| !lent::is_pid(pid)) => (12, Out::Nothing),
+                    Some(collector) => collector.push(&mut reading, *pid, section),
+                };
+                self.reading = reading;
+                Answer::Collected(number, self.held(*part), out)
+            }
+            Command::Clear { part } => {
+                let fault = self.reading.has(Fault::ClearZeroes);
+                let cleared = self.collector(*part).as_mut().map(|collector| collector.clear(fault));
+                Answer::Number(*part, if cleared.is_some() { 7 } else { 10 })
+            }
+            Command::Drop(filter) => {
+                let number = self.drop(filter);
+                Answer::Collected(number, self.held(Part::Eit), Out::Nothing)
+            }
+        }
+    }
+
+    fn drop(&mut self, filter: &Filter) -> u8 {
+        match &mut self.eit {
+            None => 10,
+            Some(_) if filter.pid.flatten().is_some_and(|pid| !lent::is_pid(pid)) => 12,
+            Some(eit) => {
+                eit.drop(&self.reading, filter);
+                7
+            }
+        }
+    }
+
+    fn collector(&mut self, part: Part) -> &mut Option<Collector> {
+        if part == Part::Eit { &mut self.eit } else { &mut self.sets }
+    }
+
+    fn held(&self, part: Part) -> Held {
+        match (part, &self.sets, &self.eit) {
+            (Part::Eit, _, Some(eit)) => Held::Eit {
+                evicted: [eit.rows.evictions, eit.schedules.evictions],
+                rows: [eit.rows.held.len(), eit.schedules.held.len()],
+            },
+            (Part::Eit, _, None) => Held::Eit { evicted: [0; 2], rows: [0; 2] },
+            (_, Some(sets), _) => Held::Sets { evicted: sets.rows.evictions, rows: sets.rows.held.len() },
+            (_, None, _) => Held::Sets { evicted: 0, rows: 0 },
+        }
+    }
+}

@@ -1,0 +1,59 @@
+//! Document 01's program `watch`, over the original and over the second implementation.
+use crate::answer::Answer;
+use crate::command::{By, Command};
+use std::fmt::Write as _;
+
+/// Document 01's example: five records, of which the fourth is a TOT too short for its CRC.
+pub const EXAMPLE: [[&[u8]; 2]; 5] = [
+    [&[0x00, 0x14], &[0x70, 0x70, 0x05, 0xC0, 0x79, 0x12, 0x45, 0x00]],
+    [&[0x00, 0x14], &[0x70, 0x70, 0x05, 0xC0, 0x79, 0x12, 0x45, 0x00]],
+    [&[0x00, 0x14], &[0x70, 0x70, 0x05, 0xC0, 0x79, 0x12, 0x45, 0x01]],
+    [&[0x00, 0x14], &[0x73, 0x70, 0x00]],
+    [&[0x00, 0x14], &[0x70, 0x70, 0x05, 0xC0, 0x79, 0x12, 0x45, 0x00]],
+];
+
+/// The whole output on it.
+pub const EXAMPLE_OUTPUT: &str = "emitted 0014 70 8
+suppressed 0014 70 8
+emitted 0014 70 8
+crc 0014 73 3
+emitted 0014 70 8
+completed 5 emitted 3 suppressed 1 crc 1 evicted 0
+";
+
+/// What `watch` writes on an input, where `answer` is asked for each command.
+pub fn output(mut answer: impl FnMut(&Command) -> Answer, input: &[u8]) -> String {
+    let mut text = String::new();
+    let mut totals = [0; 5];
+    let mut rest = input;
+    answer(&Command::GateOpen { capacity: 512, repeats: false, follow: true, well_known: true, extra: Vec::new() });
+    while !rest.is_empty() {
+        let Some((pid, section)) = record(rest) else {
+            text.push_str("cut\n");
+            break;
+        };
+        rest = &rest[2 + section.len()..];
+        let told = match answer(&Command::Ask { pid }).number() {
+            Some((_, 8)) => answer(&Command::Gate { by: By::Offer, pid, section: section.to_vec() }),
+            asked_not => {
+                let word = if asked_not.is_some_and(|(_, number)| number == 12) { "badpid" } else { "unwatched" };
+                let _ = writeln!(text, "{word} {pid:04X}");
+                continue;
+            }
+        };
+        let Answer::Judged(number, counters) = told else { panic!("a section was offered") };
+        let word = ["emitted", "suppressed", "crc"][usize::from(number) - 1];
+        let _ = writeln!(text, "{word} {pid:04X} {:02X} {}", section[0], section.len());
+        totals = counters;
+    }
+    let [completed, emitted, suppressed, crc, evicted] = totals;
+    let _ = writeln!(text, "completed {completed} emitted {emitted} suppressed {suppressed} crc {crc} evicted {evicted}");
+    text
+}
+
+/// A PID and a section, by its own section_length; `None` where the input is cut.
+fn record(input: &[u8]) -> Option<(u16, &[u8])> {
+    let &[pid_high, pid_low, _, high, low, ..] = input else { return None };
+    let length = 3 + usize::from(u16::from_be_bytes([high & 0x0F, low]));
+    Some((u16::from_be_bytes([pid_high, pid_low]), input.get(2..2 + length)?))
+}
