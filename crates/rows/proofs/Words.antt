@@ -2,14 +2,13 @@
 -- Assumes nothing.
 use mathlib.Core.Path.{_≡_, refl, sym, ap, _∙_}
 use mathlib.Core.Logic.{_≢_}
-use mathlib.Core.List.{List, [], _∷_}
+use mathlib.Core.List.{List}
 use mathlib.Core.Bool.{Bool, true, false, cond}
-use Prim.Native.Nat.{ℕ, zero, suc, _+_, _-_, _*_, _≤_, _<_, min}
-use native.Mathlib.Nat.{not-suc-le-zero, le-refl, le-of-eq}
+use Prim.Native.Nat.{ℕ, zero, suc, _+_, _-_, _*_, _≤_, _<_}
+use native.Mathlib.Nat.{not-suc-le-zero, le-refl}
 use native.Mathlib.Decide.{ℕ-discrete, decLt}
 use native.Mathlib.Omega.{arith}
-use lib.Dec.{ltb}
-use lib.ListN.{length, getD, take, drop, set, replicate, length-set, length-drop, length-replicate}
+use lib.ListN.{length, getD, drop, replicate, length-set, length-drop, length-replicate}
 use lib.Seq.{getD-set-same, getD-set-other, paste, length-paste, getD-take, getD-drop, length-take-le}
 use Rattle.laws.proofs.Lists.{paste-past, paste-before, paste-in, getD-none}
 use Rattle.rows.specs.declared.Entry.{Entry}

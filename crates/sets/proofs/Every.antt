@@ -16,7 +16,7 @@ use Rattle.rows.specs.Rows.{word, rowOf, roomIn, roomRenewed, roomNew, slotsAt}
 use Rattle.rows.specs.declared.Entry.{Entry}
 use Rattle.rows.specs.declared.Room.{Room}
 use Rattle.sets.specs.declared.PushAnswer.{PushAnswer}
-use Rattle.sets.specs.declared.PushAnswer.the-variants.{Nothing, NotWhole, CounterFull, PidTooLarge, Malformed, ShortForm, BadNumber, BadCrc, TooLong}
+use Rattle.sets.specs.declared.PushAnswer.the-variants.{Nothing, CounterFull, PidTooLarge, Malformed, ShortForm, BadNumber, BadCrc, TooLong}
 use Rattle.sets.specs.declared.inner.PidWord.{PidWord}
 use Rattle.sets.specs.declared.inner.PidWord.the-variants as pid-word
 use Rattle.sets.specs.declared.inner.Plan.{Plan}

@@ -3,7 +3,7 @@
 use mathlib.Core.Path.{_≡_, refl, sym, subst}
 use mathlib.Core.List.{List}
 use mathlib.Core.Bool.{Bool, true, false, cond, _&&_, true≢false}
-use Prim.Native.Nat.{ℕ, zero, suc, _+_, _≤_, _<_, max}
+use Prim.Native.Nat.{ℕ, zero, suc, _+_, _≤_, _<_}
 use native.Mathlib.Nat.{not-suc-le-zero}
 use native.Mathlib.Omega.{arith}
 use borrow.Author.Tests.{ltb-true, ltb-false, eqb-false}
@@ -18,7 +18,7 @@ use Rattle.cells.specs.Cells.{keptLength, lowestFree, kept}
 use Rattle.rows.specs.Rows.{word, elderOf, oldestOf, rowOf, roomIn, roomRenewed, roomNew, goneRow, slotsAt, takenIn}
 use Rattle.rows.specs.declared.Entry.{Entry}
 use Rattle.rows.specs.declared.Room.{Room}
-use Rattle.sets.specs.declared.PushAnswer.the-variants.{Nothing, NotWhole, CounterFull, PidTooLarge, TooLong, NoCell}
+use Rattle.sets.specs.declared.PushAnswer.the-variants.{Nothing, NotWhole, CounterFull, TooLong, NoCell}
 use Rattle.sets.specs.declared.inner.PidWord.{PidWord}
 use Rattle.sets.specs.declared.inner.PidWord.the-variants as pid-word
 use Rattle.sets.specs.declared.inner.Plan.{Plan}

@@ -1,19 +1,18 @@
 -- One law for each way out of a function that decides, and what a plan may say.
 -- Assumes nothing.
-use mathlib.Core.Path.{_≡_, refl, sym, ap, subst, _∙_}
+use mathlib.Core.Path.{_≡_, sym, _∙_}
 use mathlib.Core.List.{List}
-use mathlib.Core.Bool.{Bool, true, false, cond, _&&_, true≢false}
-use Prim.Native.Nat.{ℕ, zero, suc, _+_, _-_, _*_, _/_, _%_, _≤_, _<_, max}
-use native.Mathlib.Nat.{mul-le-mul-right, mul-le-mul-left, le-trans, lt-of-le-of-lt, not-suc-le-zero, add-mul, one-mul}
+use mathlib.Core.Bool.{Bool, true, false, _&&_}
+use Prim.Native.Nat.{ℕ, _+_, _-_, _*_, _≤_, _<_}
+use native.Mathlib.Nat.{mul-le-mul-right, mul-le-mul-left, le-trans, lt-of-le-of-lt, add-mul, one-mul}
 use native.Mathlib.Omega.{arith}
-use borrow.Author.Tests.{eq-eqb, ne-eqb, lt-ltb, le-ltb, ltb-true, ltb-false, eqb-true, eqb-false, leb-true}
+use borrow.Author.Tests.{eq-eqb, ne-eqb, lt-ltb, le-ltb, ltb-true, eqb-true, leb-true}
 use mir.Val.{Fits}
 use mir.Syntax.{w64}
 use lib.Dec.{eqb, ltb, leb, lit<}
-use lib.ListN.{length, take, drop, getD, length-drop}
-use Rattle.laws.specs.Lists.{sameList, every}
-use Rattle.laws.proofs.Tests.{and-true, or-false}
-use Rattle.section.specs.Judged.{collectedOf}
+use lib.ListN.{length, take, drop, getD}
+use Rattle.laws.specs.Lists.{sameList}
+use Rattle.laws.proofs.Tests.{and-true}
 use Rattle.section.specs.Ids.{pidMade}
 use Rattle.section.specs.declared.ids.Pid.{Pid}
 use Rattle.section.specs.declared.ids.Made.{Made}
@@ -21,19 +20,17 @@ use Rattle.section.specs.declared.ids.Made.the-variants as made
 use Rattle.section.specs.declared.ids.MaybePid.{MaybePid}
 use Rattle.section.specs.declared.ids.MaybePid.the-variants as maybe
 use Rattle.cells.specs.Cells.{keptLength, cellNumber, slotWhole, lowestFree, kept}
-use Rattle.rows.specs.Rows.{word, elderOf, oldestOf, rowOf, roomIn, roomRenewed, roomNew, goneRow, slotsAt, slotCount, rowSlots, rowsWhole, takenIn}
+use Rattle.rows.specs.Rows.{word, rowOf, roomIn, roomRenewed, roomNew, goneRow, slotsAt, takenIn}
 use Rattle.rows.proofs.Whole.{slot-get}
 use Rattle.rows.specs.declared.Entry.{Entry}
 use Rattle.rows.specs.declared.Room.{Room}
 use Rattle.sets.specs.declared.Sets.{Sets}
-use Rattle.sets.specs.declared.PushAnswer.{PushAnswer}
-use Rattle.sets.specs.declared.PushAnswer.the-variants.{Nothing, NotWhole, CounterFull, PidTooLarge, TooLong, NoCell}
+use Rattle.sets.specs.declared.PushAnswer.the-variants.{Nothing, TooLong, NoCell}
 use Rattle.sets.specs.declared.inner.PidWord.{PidWord}
 use Rattle.sets.specs.declared.inner.PidWord.the-variants as pid-word
-use Rattle.sets.specs.declared.inner.Keeping.{Keeping}
 use Rattle.sets.specs.declared.inner.Plan.{Plan}
 use Rattle.sets.specs.declared.inner.Plan.the-variants as plan
-use Rattle.sets.specs.Store.{Store, store, wholeOf, pidOf, pidWord, Whole, planKeep, planSlot, planKnown, planGood, planHeader, Numbered}
+use Rattle.sets.specs.Store.{Store, pidOf, pidWord, Whole, planKeep, planSlot, planKnown, planGood, planHeader, Numbered}
 
 -- ---- the PID
 

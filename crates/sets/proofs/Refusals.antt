@@ -1,6 +1,6 @@
 -- A refusal leaves all as before; 22 touches the key, and leaves all else as before.
 -- Assumes nothing.
-use mathlib.Core.Path.{_≡_, refl, sym, ap, _∙_}
+use mathlib.Core.Path.{_≡_, refl, sym}
 use mathlib.Core.Logic.{_≢_}
 use mathlib.Core.List.{List}
 use mathlib.Core.Bool.{Bool, true, false, cond}
@@ -9,11 +9,10 @@ use native.Mathlib.Omega.{arith}
 use Rattle.section.specs.declared.ids.MaybePid.{MaybePid}
 use Rattle.rows.specs.Rows.{word, touched}
 use Rattle.rows.proofs.Words.{touched-not}
-use Rattle.sets.specs.declared.PushAnswer.{PushAnswer}
 use Rattle.sets.specs.declared.PushAnswer.the-variants.{Nothing, Set, Conflict}
 use Rattle.sets.specs.declared.inner.Plan.{Plan}
 use Rattle.sets.specs.declared.inner.Plan.the-variants as plan
-use Rattle.sets.specs.Store.{Store, store, Told, plain, handed, setIn, answerOf, goesOut, settledAnswer, settledHeads, settled, keptIn, carried, planOf, pushedOf}
+use Rattle.sets.specs.Store.{Store, store, plain, handed, setIn, answerOf, goesOut, settledAnswer, settledHeads, settled, keptIn, carried, planOf, pushedOf}
 
 -- what a row that is settled tells is 4 or 5
 settled-tells : (s : Store) (i n : ℕ) → n ≢ 4 → (settled s i) .told ≢ plain n

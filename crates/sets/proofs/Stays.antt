@@ -1,15 +1,15 @@
 -- A store that is whole stays whole, so in every history from opening on 10 never occurs.
 -- Assumes nothing.
-use mathlib.Core.Path.{_≡_, refl, sym, ap, subst, _∙_}
+use mathlib.Core.Path.{_≡_, refl, subst, _∙_}
 use mathlib.Core.Logic.{_≢_}
 use mathlib.Core.List.{List, [], _∷_}
-use mathlib.Core.Bool.{Bool, true, false, cond, not, _&&_}
-use Prim.Native.Nat.{ℕ, zero, suc, _+_, _*_, _/_, _%_, _≤_, _<_, min, max}
+use mathlib.Core.Bool.{Bool, true, false, cond}
+use Prim.Native.Nat.{ℕ, _+_, _*_, _/_, _%_, _≤_, _<_}
 use native.Mathlib.Nat.{le-refl}
 use native.Mathlib.Decide.{ℕ-discrete}
 use native.Mathlib.Omega.{arith}
 use borrow.Author.Tests.{ne-eqb, eqb-false, le-leb, lt-ltb}
-use lib.Dec.{eqb, ltb, leb}
+use lib.Dec.{eqb, ltb}
 use lib.ListN.{length, getD}
 use lib.Seq.{paste, length-paste}
 use Rattle.section.specs.declared.ids.MaybePid.{MaybePid}
@@ -25,10 +25,10 @@ use Rattle.sets.specs.declared.PushAnswer.the-variants.{Nothing, Set, No
 use Rattle.sets.specs.declared.inner.Keeping.{Keeping}
 use Rattle.sets.specs.declared.inner.Plan.{Plan}
 use Rattle.sets.specs.declared.inner.Plan.the-variants as plan
-use Rattle.sets.specs.Store.{Store, store, Told, plain, handed, answerOf, pushNumber, Left, wholeOf, Whole, KeepOk, PlanOk, goesOut, settledAnswer, settledHeads, settled, keptIn, carried, pushedOf, clearedOf, openedOf, settingsFit}
+use Rattle.sets.specs.Store.{Store, store, Told, plain, handed, answerOf, pushNumber, wholeOf, Whole, KeepOk, PlanOk, goesOut, settledAnswer, settledHeads, settled, keptIn, carried, pushedOf, clearedOf, openedOf, settingsFit}
 use Rattle.sets.specs.Store.{planKeep, planOf}
 use Rattle.sets.specs.History.{Call, offer, empty, called, after, Bytes, AllBytes, OpenedStore}
-use Rattle.sets.proofs.Whole.{Long, long, whole-means, means-whole}
+use Rattle.sets.proofs.Whole.{long, means-whole}
 use Rattle.sets.proofs.Plans.{cell-fits}
 use Rattle.sets.proofs.May.{plan-ok}
 use Rattle.sets.proofs.Every.{plan-by}

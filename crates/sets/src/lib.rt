@@ -1,11 +1,8 @@
 // The set collector: sections in, complete sets of sections out (document 01, "Collectors"). The host keeps a `Sets` by value and lends
 // three slices at every call: heads (12 words a row), slots (288 words a row) and cells. Every call takes any content of them and has one
 // answer; a refusal leaves them as they were, but 22, which touches the key.
-use rows::Key;
 use section::ids::MaybePid;
 ghost use mathlib.Core.Path.{_≡_};
-ghost use Prim.Native.Nat.{ℕ};
-ghost use lib.ListN.{length};
 ghost use Rattle.cells.specs.Cells.{partOf};
 ghost use Rattle.sets.specs.Store.{store, asked, openNumber, pushNumber, clearNumber, nextNumber};
 ghost use Rattle.sets.specs.Store.{leftOpened, leftPushed, leftCleared, openedOf, pushedOf, clearedOf, questionOf, nextOf};
