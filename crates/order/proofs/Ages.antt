@@ -10,12 +10,12 @@ use native.Mathlib.Numerals.{add-one}
 use native.Mathlib.Nat.{not-suc-le-zero}
 use native.Mathlib.Decide.{ℕ-discrete, decLe}
 use native.Mathlib.Omega.{arith}
-use borrow.Author.Tests.{eq-eqb, ne-eqb, eqb-true, lt-ltb, le-ltb}
+use borrow.Author.Tests.{eq-eqb, eqb-true, lt-ltb, le-ltb}
 use lib.Dec.{eqb, ltb}
 use lib.ListN.{length}
-use Rattle.laws.specs.Lists.{firstFrom}
-use Rattle.laws.proofs.Search.{first-passes, first-before, first-within}
-use Rattle.touch.specs.Touch.{Rows, Entry, find, remove, oldestGone, someRow, everyRow}
+use Rattle.laws.proofs.Search.{first-passes, first-before}
+use Rattle.laws.proofs.Tests.{and-true, or-false}
+use Rattle.touch.specs.Touch.{Entry, find, remove, oldestGone, someRow, everyRow}
 use Rattle.rows.specs.Rows.{older}
 use Rattle.order.specs.Order.{downFrom, rowOfAge, inOrder, Ages}
 
@@ -317,7 +317,7 @@ module _ {K R : Type 0} (test : R → Bool) where
   every-down f (suc n) b e h = go (ℕ-discrete b n) (λ l. every-down f n b (c .1) l)
     where
       c : (test ((f n) .row) ≡ true) × (everyRow test (downFrom f n) ≡ true)
-      c = Rattle.laws.proofs.Tests.and-true (test ((f n) .row)) (everyRow test (downFrom f n)) e
+      c = and-true (test ((f n) .row)) (everyRow test (downFrom f n)) e
 
       go : Dec (b ≡ n) → (b < n → test ((f b) .row) ≡ true) → test ((f b) .row) ≡ true
       go (yes q) ih = rw q (c .0)
@@ -334,7 +334,7 @@ module _ {K R : Type 0} (test : R → Bool) where
   some-down f (suc n) b e h = go (ℕ-discrete b n) (λ l. some-down f n b (c .1) l)
     where
       c : (test ((f n) .row) ≡ false) × (someRow test (downFrom f n) ≡ false)
-      c = Rattle.laws.proofs.Tests.or-false (test ((f n) .row)) (someRow test (downFrom f n)) e
+      c = or-false (test ((f n) .row)) (someRow test (downFrom f n)) e
 
       go : Dec (b ≡ n) → (b < n → test ((f b) .row) ≡ false) → test ((f b) .row) ≡ false
       go (yes q) ih = rw q (c .0)

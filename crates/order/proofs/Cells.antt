@@ -2,21 +2,21 @@
 -- Assumes nothing.
 use mathlib.Core.Path.{_≡_, refl, sym, ap, _∙_}
 use mathlib.Core.Logic.{_≢_, _⊎_, inl, inr}
-use mathlib.Core.Bool.{Bool, true, false, cond, _&&_}
+use mathlib.Core.Bool.{Bool, _&&_}
 use mathlib.Core.List.{List, [], _∷_, _++_}
 use Prim.Native.Nat.{ℕ, zero, suc, _+_, _-_, _*_, _≤_, _<_}
 use native.Mathlib.Nat.{mul-le-mul-right, not-suc-le-zero, le-refl, add-zero, add-mul, one-mul}
-use native.Mathlib.Decide.{ℕ-discrete, decLe}
+use native.Mathlib.Decide.{decLe}
 use native.Mathlib.Omega.{arith}
 use lib.ListN.{length, take, drop, getD, set}
-use lib.Seq.{paste, take-take, take-add, drop-drop, drop-paste, take-length}
+use lib.Seq.{paste, take-take, take-add, drop-drop, drop-paste, take-length, length-paste}
 use Rattle.laws.specs.Lists.{sameList}
 use Rattle.laws.proofs.Lists.{drop-take}
 use Rattle.touch.specs.Same.{Bytes, sameBytes}
-use Rattle.touch.specs.Cells.{Held, Cells, bytesOf, write}
+use Rattle.touch.specs.Cells.{bytesOf, write}
 use Rattle.cells.specs.Cells.{keptLength, cellNumber, kept}
 use Rattle.order.specs.Slots.{upFrom, cellsSeen}
-use Rattle.order.proofs.Slots.{part-alike, part-pasted, part-beside, place}
+use Rattle.order.proofs.Slots.{part-pasted, part-beside, place}
 
 -- ---- lists by a function
 
@@ -112,7 +112,7 @@ module _ (bytes : List ℕ) (size count c : ℕ) (b : Bytes) (hc : c < count) (l
       (λ k p q ne. other-cell k (omega arith) (omega arith))
 
   pub written-length : length written ≡ length bytes
-  written-length = let i = inside in lib.Seq.length-paste bytes (c * size) b (length b) (omega arith) (le-refl (length b))
+  written-length = let i = inside in length-paste bytes (c * size) b (length b) (omega arith) (le-refl (length b))
 
 -- one test of equal bytes under two names
 pub same-bytes : (a b : List ℕ) → sameBytes a b ≡ sameList a b

@@ -1,30 +1,30 @@
 -- Slots: what a row's words show before and after a section is kept, and the tests of all rows that the code makes, as the rules have them.
 -- Assumes nothing.
-use mathlib.Core.Path.{_≡_, refl, sym, ap, subst, _∙_}
+use mathlib.Core.Path.{_≡_, refl, sym, ap, _∙_}
 use mathlib.Core.Logic.{_≢_, _⊎_, inl, inr}
-use mathlib.Core.Bool.{Bool, true, false, cond, not, _&&_, _||_, and-comm, and-assoc}
+use mathlib.Core.Bool.{Bool, true, false, cond, not, _&&_, _||_, and-comm}
 use mathlib.Core.Option.{Option, none, some}
 use mathlib.Core.List.{List, [], _∷_, map}
 use Prim.Native.Nat.{ℕ, zero, suc, _+_, _-_, _*_, _/_, _%_, _≤_, _<_, min}
-use native.Mathlib.Nat.{not-suc-le-zero, le-refl, le-of-eq}
+use native.Mathlib.Nat.{not-suc-le-zero}
 use native.Mathlib.Decide.{ℕ-discrete, decLe}
 use native.Mathlib.Omega.{arith}
-use borrow.Author.Tests.{eq-eqb, ne-eqb, eqb-true, eqb-false, lt-ltb, le-ltb, ltb-true, ltb-false}
+use borrow.Author.Tests.{eq-eqb, ne-eqb, lt-ltb, le-ltb}
 use lib.Dec.{eqb, ltb, leb}
-use lib.ListN.{length, take, drop, getD, set, replicate, length-take, length-drop, length-set, length-replicate, List·getD-map, getD-replicate}
+use lib.ListN.{length, take, drop, getD, set, replicate, length-take, length-drop, length-set, length-replicate, List·getD-map, length-map}
 use lib.Seq.{paste, getD-take, getD-drop, ext-getD, take-paste, drop-at, take-all, length-take-le, take-set-lt, drop-set-add, getD-set-other, length-paste}
 use Rattle.laws.specs.Lists.{every, any, firstFrom}
 use Rattle.laws.proofs.Lists.{paste-past, drop-take}
 use Rattle.laws.proofs.Tests.{and-true, or-false, same-test}
 use Rattle.touch.specs.Slots.{someHeld, everyHeld}
-use Rattle.touch.specs.Touch.{everyRow, someRow, newest, aside}
+use Rattle.touch.specs.Touch.{everyRow}
 use Rattle.touch.specs.Cells.{Settings, Held, Cells, names, heldWhole, lowest}
 use Rattle.cells.specs.Cells.{slotWord, keptLength, cellNumber, filled, slotWhole, allWhole, someNames, lowestFree}
 use Rattle.rows.specs.declared.Key.{Key}
 use Rattle.rows.specs.declared.Entry.{Entry}
 use Rattle.rows.specs.declared.Room.{Room}
-use Rattle.rows.specs.Rows.{word, goneRow, slotsAt, slotCount, rowSlots, emptied, keptSlots, rowsWhole, takenIn}
-use Rattle.order.specs.Order.{ageOf, rowsSeen, Ages, Stands, Goes, known, added, evicted, Touched}
+use Rattle.rows.specs.Rows.{word, slotsAt, slotCount, rowSlots, emptied, keptSlots, rowsWhole, takenIn}
+use Rattle.order.specs.Order.{ageOf, rowsSeen, Ages}
 use Rattle.order.specs.Slots.{heldOf, heldSlots}
 use Rattle.order.proofs.Ages.{order-every, every-order}
 use Rattle.order.proofs.Words.{paste-before}
@@ -80,7 +80,7 @@ held-new n c h l =
 
 pub held-length : (ws : List ℕ) → length (heldSlots ws) ≡ length ws
 unfolding heldSlots
-held-length ws = lib.ListN.length-map ws heldOf
+held-length ws = length-map ws heldOf
 
 pub held-get : (ws : List ℕ) (n : ℕ) → getD (heldSlots ws) n none ≡ heldOf (getD ws n 0)
 unfolding heldSlots heldOf

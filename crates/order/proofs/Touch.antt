@@ -1,28 +1,27 @@
 -- One touch, as heads with ages make it, is the touch of the rules: found, put aside, newest, evicted. Open in what a key shows and what a row holds.
 -- Assumes nothing.
-use mathlib.Core.Path.{_≡_, refl, sym, ap, subst, _∙_}
+use mathlib.Core.Path.{_≡_, refl, sym, ap, _∙_}
 use mathlib.Core.Logic.{_≢_}
-use mathlib.Core.Bool.{Bool, true, false, cond}
-use mathlib.Core.Option.{Option, none, some}
+use mathlib.Core.Bool.{Bool, true, false, cond, true≢false}
+use mathlib.Core.Option.{none, some}
 use mathlib.Core.List.{List, [], _∷_, _++_}
 use Prim.Native.Nat.{ℕ, zero, suc, _+_, _-_, _≤_, _<_}
 use native.Mathlib.Numerals.{add-one}
 use native.Mathlib.Nat.{not-suc-le-zero}
 use native.Mathlib.Decide.{ℕ-discrete}
 use native.Mathlib.Omega.{arith}
-use borrow.Author.Tests.{eq-eqb, ne-eqb, eqb-true, lt-ltb, le-ltb, ltb-true, ltb-false}
+use borrow.Author.Tests.{eq-eqb, ne-eqb, ltb-true, ltb-false}
 use lib.Dec.{eqb, ltb}
 use lib.ListN.{length}
-use Rattle.laws.specs.Lists.{firstFrom}
-use Rattle.laws.proofs.Tests.{and-true, true-and, eq-true}
-use Rattle.laws.proofs.Search.{first-passes, first-before, first-within}
+use Rattle.laws.proofs.Tests.{and-true, eq-true}
+use Rattle.laws.proofs.Search.{first-passes, first-before}
 use Rattle.touch.specs.Touch.{Rows, TouchOrder, Entry, under, find, someRow, aside, newest}
 use Rattle.touch.proofs.All.{held-stays, new-below, new-at}
 use Rattle.rows.specs.declared.Key.{Key}
 use Rattle.rows.specs.declared.Room.{Room}
-use Rattle.rows.specs.Rows.{word, keyAt, sameKey, rowOf, elderOf, oldestOf, older, roomIn, roomRenewed, roomNew}
-use Rattle.order.specs.Order.{ageOf, rowOfAge, inOrder, rowsSeen, orderSeen, Ages, Stands, Goes, known, added, evicted, Touched}
-use Rattle.order.proofs.Ages.{order-cong, length-order, Aged, ages-none, ages-touched, without, without-cong, touched-order, ages-more, more-without, known-found, known-removed, new-found, oldest-gone, order-none, none-order}
+use Rattle.rows.specs.Rows.{word, keyAt, sameKey, rowOf, elderOf, oldestOf, older, roomRenewed, roomNew}
+use Rattle.order.specs.Order.{ageOf, inOrder, rowsSeen, orderSeen, Ages, Stands, Goes, known, added, evicted, Touched}
+use Rattle.order.proofs.Ages.{length-order, Aged, ages-none, ages-touched, without, touched-order, ages-more, more-without, known-found, known-removed, new-found, oldest-gone, order-none, none-order}
 
 -- ---- six words are a key
 
@@ -65,7 +64,7 @@ module _ (heads : List ℕ) (key : Key) (used : ℕ) where
 
   pub no-row-has-key : used ≤ rowOf heads key used → (j : ℕ) → j < used → keyAt heads j ≢ key
   no-row-has-key h j l e =
-      mathlib.Core.Bool.true≢false (sym (same-key-refl key) ∙ ap (λ (k : Key). sameKey k key) (sym e) ∙ first-before hasKey used 0 j (omega arith) (omega arith))
+      true≢false (sym (same-key-refl key) ∙ ap (λ (k : Key). sameKey k key) (sym e) ∙ first-before hasKey used 0 j (omega arith) (omega arith))
 
 -- ---- the oldest row
 

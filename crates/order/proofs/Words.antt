@@ -3,13 +3,13 @@
 use mathlib.Core.Path.{_≡_, refl, sym, ap, _∙_}
 use mathlib.Core.Logic.{_≢_}
 use mathlib.Core.Bool.{Bool, true, false, cond}
-use mathlib.Core.List.{List, [], _∷_}
+use mathlib.Core.List.{List, _++_}
 use Prim.Native.Nat.{ℕ, zero, suc, _+_, _-_, _*_, _≤_, _<_}
 use native.Mathlib.Nat.{not-suc-le-zero, le-refl}
 use native.Mathlib.Decide.{ℕ-discrete, decLe}
 use native.Mathlib.Omega.{arith}
-use lib.ListN.{length, take, drop, getD, set, length-set}
-use lib.Seq.{getD-set-same, getD-set-other, paste, length-paste, take-paste, getD-take, getD-drop, take-all, length-take-le, getD-append-add}
+use lib.ListN.{length, take, getD, set, length-set, List·getD-append}
+use lib.Seq.{getD-set-same, getD-set-other, paste, length-paste, take-paste, getD-take, length-take-le, getD-append-add}
 use Rattle.laws.proofs.Lists.{paste-past, getD-ix}
 use Rattle.rows.specs.declared.Key.{Key}
 use Rattle.rows.specs.declared.Entry.{Entry}
@@ -24,14 +24,14 @@ module _ {A : Type 0} (d : List A) (at : ℕ) (s : List A) (n : ℕ) (z : A) (ha
   paste-before k h =
       let e : length (take at d) ≡ at = length-take-le at d ha in
       sym (getD-take (at + n) (paste d at s n) k z (omega arith)) ∙ ap (λ (l : List A). getD l k z) (take-paste d at s n ha hn)
-      ∙ lib.ListN.List·getD-append (take at d) (take n s) z k (omega arith) ∙ getD-take at d k z h
+      ∙ List·getD-append (take at d) (take n s) z k (omega arith) ∙ getD-take at d k z h
 
   pub paste-inside : (k : ℕ) → k < n → getD (paste d at s n) (at + k) z ≡ getD s k z
   paste-inside k h =
       let e : length (take at d) ≡ at = length-take-le at d ha in
       let i : at + k ≡ length (take at d) + k = omega arith in
       sym (getD-take (at + n) (paste d at s n) (at + k) z (omega arith)) ∙ ap (λ (l : List A). getD l (at + k) z) (take-paste d at s n ha hn)
-      ∙ getD-ix (mathlib.Core.List._++_ (take at d) (take n s)) z i ∙ getD-append-add (take at d) (take n s) k z ∙ getD-take n s k z h
+      ∙ getD-ix (take at d ++ take n s) z i ∙ getD-append-add (take at d) (take n s) k z ∙ getD-take n s k z h
 
 -- ---- one word
 

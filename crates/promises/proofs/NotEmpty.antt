@@ -1,7 +1,7 @@
 -- Demand 3 is not empty: two collectors, over memory that held sevens, and four sections for which all that it asks holds. A is a set of two sections, B of
 -- one. At limit 1 B drives A out, so A goes out one call later than at limit 2: the larger's earlier set is the witness.
 -- Assumes nothing.
-use mathlib.Core.Path.{_≡_, refl, sym, ap, subst, _∙_}
+use mathlib.Core.Path.{_≡_, refl, ap, subst, _∙_}
 use mathlib.Core.Bool.{Bool, true, false}
 use mathlib.Core.Option.{none, some, Option·some-injective}
 use mathlib.Core.List.{List, [], _∷_, map}
@@ -9,28 +9,29 @@ use Prim.Native.Nat.{ℕ, zero, suc, _*_, _<_, _≤_}
 use native.Mathlib.Omega.{arith}
 use native.Mathlib.Decide.{decLe}
 use borrow.Author.Tests.{ltb-true}
-use lib.Dec.{eqb, ltb}
-use lib.ListN.{length, getD, replicate, List·getD-eq-default}
+use lib.Dec.{ltb}
+use lib.ListN.{length, getD, replicate, List·getD-eq-default, getElem?}
 use Rattle.laws.specs.Lists.{every}
 use Rattle.laws.proofs.Search.{every-get}
 use Rattle.laws.proofs.Tests.{none≢some}
 use Rattle.laws.proofs.Facts.{anyOf, not-among}
 use Rattle.touch.specs.Same.{Bytes}
 use Rattle.touch.specs.Touch.{untouched}
-use Rattle.touch.specs.Runs.{At, Never, GivenBy}
+use Rattle.touch.specs.Runs.{At, Never}
 use Rattle.crc.specs.Crc.{crcFrom, bitsIn, bitIn}
 use Rattle.section.specs.Header.{storedCrc, workedCrc, headerOf}
 use Rattle.section.specs.Judged.{malformed, collectedLong, collectedOf}
 use Rattle.section.specs.declared.ids.MaybePid.the-variants as maybe
-use Rattle.setrules.specs.Rules.{Key, Call, offer, Whole, Answer, cleared, refused, nothing, handout, conflict, notWhole, counterFull, noCell, barred}
+use Rattle.section.specs.Facts.{Bytes as AllBytes}
+use Rattle.setrules.specs.Rules.{Key, Call, offer, Whole, Answer, cleared, refused, nothing, handout, conflict, notWhole, counterFull, noCell}
 use Rattle.setrules.specs.Cells.{Store as Shown}
 use Rattle.setrules.specs.Demand.{run, withCells}
 use Rattle.setrules.proofs.Examples.{replies}
 use Rattle.order.specs.Order.{downFrom, inOrder, rowsSeen}
 use Rattle.order.specs.Slots.{upFrom, cellsSeen}
 use Rattle.sets.specs.Store.{store, asked, openedOf}
-use Rattle.setstie.specs.View.{Given, clears, section, readsAs, readSection, reads, OfBytes, seen, Opened}
-use Rattle.promises.specs.Demand3.{Collector, StartsEmpty, EqualCellSize, LimitNoLarger, Calls, SectionsOfBytes, answersOf, RefusesNoneAsConflicting, RefusesNoneForItsStore, HandsOut, HandedOutSinceTheLastClear}
+use Rattle.setstie.specs.View.{Given, section, readsAs, readSection, reads, OfBytes, seen}
+use Rattle.promises.specs.Demand3.{Collector, StartsEmpty, EqualCellSize, LimitNoLarger, Calls, SectionsOfBytes, answersOf, RefusesNoneAsConflicting, RefusesNoneForItsStore, HandsOut}
 use Rattle.promises.proofs.Demand3.{as-rules}
 
 -- ---- the sections: extension 1, version 0, current, with their CRC
@@ -102,7 +103,7 @@ larger-seen = refl
 
 -- ---- bytes
 
-byte-test : (bytes : Bytes) → every (λ (b : ℕ). ltb b 256) bytes ≡ true → Rattle.section.specs.Facts.Bytes bytes
+byte-test : (bytes : Bytes) → every (λ (b : ℕ). ltb b 256) bytes ≡ true → AllBytes bytes
 byte-test bytes e i = go (decLe (suc i) (length bytes))
   where
     go : Dec (suc i ≤ length bytes) → getD bytes i 0 < 256
@@ -175,7 +176,7 @@ holds = record {
   no-conflict = l conflict refl;
   smaller-unrefused = record { cells = s noCell refl; counter = s counterFull refl; wholeness = s notWhole refl };
   larger-unrefused = record { cells = l noCell refl; counter = l counterFull refl; wholeness = l notWhole refl };
-  hands-out = ap (λ (as′ : List Answer). lib.ListN.getElem? as′ 3) smaller-answers;
+  hands-out = ap (λ (as′ : List Answer). getElem? as′ 3) smaller-answers;
 }
   where
     s : (a : Answer) → refuses a ≡ true → Never a (answersOf smaller calls)
@@ -186,4 +187,4 @@ holds = record {
 
 -- not at that section: the larger had handed it out at the one before, and repeats it not
 pub one-call-earlier : HandsOut larger calls 2 set-A
-one-call-earlier = ap (λ (as′ : List Answer). lib.ListN.getElem? as′ 2) larger-answers
+one-call-earlier = ap (λ (as′ : List Answer). getElem? as′ 2) larger-answers

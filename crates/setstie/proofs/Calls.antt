@@ -1,62 +1,62 @@
 -- One call: what the store of the set collector tells and shows then is what the rules with cells tell and leave, for every store that a history reaches.
 -- Assumes nothing.
-use mathlib.Core.Path.{_≡_, refl, sym, ap, subst, _∙_}
+use mathlib.Core.Path.{_≡_, refl, ap, subst, _∙_}
 use mathlib.Core.Logic.{_≢_}
-use mathlib.Core.Bool.{Bool, true, false, cond, not, _&&_, and-assoc}
+use mathlib.Core.Bool.{Bool, true, false, cond, not, _&&_}
 use mathlib.Core.Option.{Option, none, some}
 use mathlib.Core.List.{List}
-use Prim.Native.Nat.{ℕ, zero, suc, _+_, _-_, _*_, _^_, _≤_, _<_}
+use Prim.Native.Nat.{ℕ, zero, suc, _+_, _-_, _≤_, _<_}
 use native.Mathlib.Omega.{arith}
-use borrow.Author.Tests.{eq-eqb, ne-eqb, eqb-true, eqb-false, lt-ltb, le-ltb, ltb-true, ltb-false, leb-true, le-leb}
+use borrow.Author.Tests.{eq-eqb, ne-eqb, eqb-true, eqb-false, ltb-true, ltb-false, leb-true, le-leb}
 use lib.Dec.{eqb, ltb, leb}
-use lib.ListN.{length, getD}
+use lib.ListN.{length, getD, drop, length-take, length-drop}
+use lib.Seq.{length-take-le}
 use Rattle.laws.specs.Lists.{sameList}
-use Rattle.laws.proofs.Tests.{and-true, same-test, eq-true}
+use Rattle.laws.proofs.Tests.{same-test, eq-true}
 use Rattle.laws.proofs.Facts.{le-passes, le-fails}
-use Rattle.touch.specs.Same.{Bytes, sameBytes}
+use Rattle.laws.proofs.Search.{every-get}
+use Rattle.touch.specs.Same.{Bytes}
 use Rattle.touch.specs.Slots.{everyHeld}
-use Rattle.touch.specs.Touch.{everyRow, emptied, newest}
+use Rattle.touch.specs.Touch.{emptied}
 use Rattle.touch.specs.Row.{fresh, fits, start, slotOf}
-use Rattle.touch.specs.Cells.{Held, bytesOf, lowest, Place, placeNew, placeHeld, heldWhole, roomWhole, atEnd}
+use Rattle.touch.specs.Cells.{Held, lowest, placeNew, placeHeld, heldWhole, roomWhole, atEnd}
 use Rattle.touch.specs.Cells.{place as placed}
 use Rattle.touch.proofs.Slots.{free-slot}
-use Rattle.setrules.specs.Rules.{sameKey, SetOf, Section, partOf, Call, clear, refuse, offer, metRow}
-use Rattle.setrules.specs.Cells.{Turn, onAnswer, taken, storeWhole, ended, shows, rest, roomFor, placeOf, carry, pushIn, admitIn, good, guarded, call}
+use Rattle.setrules.specs.Rules.{sameKey, SetOf, Section, partOf, clear, refuse, offer, metRow, Key as SetKey}
+use Rattle.setrules.specs.Cells.{onAnswer, taken, storeWhole, ended, shows, rest, roomFor, placeOf, carry, pushIn, admitIn, good, guarded, call}
 use Rattle.setrules.proofs.Keys.{sameKey-true}
 use Rattle.section.specs.Judged.{collectedOf}
-use Rattle.section.specs.declared.header.Header.{Header}
 use Rattle.section.specs.declared.header.Collected.{Collected}
 use Rattle.section.specs.declared.header.Collected.the-variants.{Malformed, ShortForm, BadNumber, BadCrc, Good}
 use Rattle.section.specs.declared.ids.MaybePid.{MaybePid}
 use Rattle.section.specs.declared.ids.MaybePid.the-variants as maybe
 use Rattle.section.specs.declared.ids.Made.the-variants as made
-use Rattle.cells.specs.Cells.{keptLength, cellNumber, filled, slotWhole, allWhole, kept}
+use Rattle.section.specs.Facts.{Bytes as AllBytes}
+use Rattle.cells.specs.Cells.{keptLength, filled, slotWhole, allWhole, kept}
 use Rattle.rows.specs.declared.Entry.{Entry}
 use Rattle.rows.specs.declared.Room.{Room}
-use Rattle.rows.specs.Rows.{word, keyAt, rowOf, roomIn, roomRenewed, roomNew, slotsAt, slotCount, rowSlots, rowsWhole}
+use Rattle.rows.specs.Rows.{word, rowOf, roomIn, roomRenewed, roomNew, slotsAt, slotCount, rowSlots, oldestOf}
+use Rattle.rows.specs.declared.Key.{Key}
 use Rattle.order.specs.Order.{downFrom, inOrder, ageOf, rowsSeen, Goes, known}
-use Rattle.order.specs.Slots.{heldOf, heldSlots, cellsSeen}
+use Rattle.order.specs.Slots.{heldOf, cellsSeen}
 use Rattle.order.proofs.Ages.{length-order}
 use Rattle.order.proofs.Touch.{row-has-key, no-row-has-key, goes-known, goes-new, stands-none, finds-known, finds-none}
 use Rattle.order.proofs.Slots.{place, held-filled, held-empty, held-get, slot-at, held-whole, rows-whole, whole-each}
 use Rattle.order.proofs.Cells.{cells-length, bytes-kept, same-bytes}
-use Rattle.sets.specs.declared.inner.PidWord.{PidWord}
-use Rattle.sets.specs.declared.inner.PidWord.the-variants as pid-word
-use Rattle.sets.specs.declared.inner.Plan.{Plan}
 use Rattle.sets.specs.declared.inner.Plan.the-variants as plan
-use Rattle.sets.specs.declared.PushAnswer.the-variants.{Nothing, NotWhole, CounterFull, PidTooLarge, TooLong}
-use Rattle.sets.specs.Store.{Store, store, settingsFit, wholeOf, Whole, Numbered, emptySets, clearedOf, pidOf, pidWord, entryOf, planKeep, planSlot, planKnown, planGood, planHeader, planJudged, planPid, planOf, carried, pushedOf}
+use Rattle.sets.specs.declared.PushAnswer.the-variants.{Nothing, NotWhole, CounterFull, TooLong}
+use Rattle.sets.specs.Store.{Store, store, wholeOf, Whole, Numbered, emptySets, clearedOf, pidOf, pidWord, entryOf, planKeep, planSlot, planKnown, planGood, planHeader, planJudged, planPid, planOf, carried, pushedOf, left, plain}
 use Rattle.sets.proofs.Whole.{whole-means, long}
 use Rattle.sets.proofs.Plans.{slot-bounds, same-last}
 use Rattle.sets.proofs.Judged.{good-numbers, good-length}
 use Rattle.setstie.specs.View.{pidShown, keyShown, keyWords, rowSeen, seen, Given, clears, section, readsAs, readSection, reads, OfBytes, answerTold, called, Reached}
 use Rattle.setstie.proofs.Rows.{same-self, written-shown, written-reads}
 use Rattle.setstie.proofs.Settle.{Tied, Ready, settle-tied, conflict-tied}
-use Rattle.setstie.proofs.Keep.{sectionFor, Meets, anew, goesOn, keep-tied}
+use Rattle.setstie.proofs.Keep.{sectionFor, anew, goesOn, keep-tied}
 
 -- ---- lists of rows
 
-seen-length : {R : Type 0} (shown : Rattle.rows.specs.declared.Key.Key → Rattle.setrules.specs.Rules.Key) (heads : List ℕ) (used : ℕ) (row : ℕ → R) → length (rowsSeen shown heads used row) ≡ used
+seen-length : {R : Type 0} (shown : Key → SetKey) (heads : List ℕ) (used : ℕ) (row : ℕ → R) → length (rowsSeen shown heads used row) ≡ used
 unfolding rowsSeen
 seen-length shown heads used row = length-order (ageOf heads) used _
 
@@ -70,19 +70,19 @@ row-whole s j =
 pub slots-many : (s : Store) (i j : ℕ) → j < slotCount (word (s .heads) i 7) → slotsAt i + 256 ≤ length (s .slots) → j < length (rowSlots (s .heads) (s .slots) i)
 unfolding rowSlots
 slots-many s i j h l =
-    let a = lib.Seq.length-take-le (slotCount (word (s .heads) i 7)) (lib.ListN.drop (slotsAt i) (s .slots)) (rw (lib.ListN.length-drop (slotsAt i) (s .slots)) (omega arith)) in
+    let a = length-take-le (slotCount (word (s .heads) i 7)) (drop (slotsAt i) (s .slots)) (rw (length-drop (slotsAt i) (s .slots)) (omega arith)) in
     omega arith
 
 -- .. and no more
 pub slots-few : (s : Store) (i j : ℕ) → j < length (rowSlots (s .heads) (s .slots) i) → j < slotCount (word (s .heads) i 7)
 unfolding rowSlots
-slots-few s i j h = let a = lib.ListN.length-take (slotCount (word (s .heads) i 7)) (lib.ListN.drop (slotsAt i) (s .slots)) in omega arith
+slots-few s i j h = let a = length-take (slotCount (word (s .heads) i 7)) (drop (slotsAt i) (s .slots)) in omega arith
 
 new-fresh : (heads : List ℕ) (limit used evictions : ℕ) → (roomNew heads limit used evictions) .fresh ≡ true
 unfolding roomNew
 new-fresh heads limit used evictions = go (ltb used limit)
   where
-    go : (b : Bool) → (cond b (roomRenewed (used + 1) evictions used used) (roomRenewed used (evictions + 1) (Rattle.rows.specs.Rows.oldestOf heads used) (word heads (Rattle.rows.specs.Rows.oldestOf heads used) 9))) .fresh ≡ true
+    go : (b : Bool) → (cond b (roomRenewed (used + 1) evictions used used) (roomRenewed used (evictions + 1) (oldestOf heads used) (word heads (oldestOf heads used) 9))) .fresh ≡ true
     go true = refl
     go false = refl
 
@@ -116,7 +116,7 @@ ended-seen s z =
 -- ---- a clear
 
 emptied-tied : (s : Store) → Reached s
-    → Tied (Rattle.sets.specs.Store.left (Rattle.sets.specs.Store.plain 7) (store (emptySets (s .sets)) (s .heads) (s .slots) (s .cells))) (good (seen s) clear)
+    → Tied (left (plain 7) (store (emptySets (s .sets)) (s .heads) (s .slots) (s .cells))) (good (seen s) clear)
 unfolding good shows onAnswer answerTold seen emptied rowsSeen inOrder downFrom
 emptied-tied s z = record {
   told = refl;
@@ -128,8 +128,8 @@ pub clear-tied : (s : Store) → Reached s → Tied (clearedOf s) (call (seen s)
 unfolding clearedOf call guarded ended answerTold
 clear-tied s z = rw (whole-seen s z) (go (wholeOf s))
   where
-    go : (b : Bool) → Tied (cond b (Rattle.sets.specs.Store.left (Rattle.sets.specs.Store.plain 7) (store (emptySets (s .sets)) (s .heads) (s .slots) (s .cells)))
-        (Rattle.sets.specs.Store.left (Rattle.sets.specs.Store.plain 10) s)) (guarded b false (seen s) clear)
+    go : (b : Bool) → Tied (cond b (left (plain 7) (store (emptySets (s .sets)) (s .heads) (s .slots) (s .cells)))
+        (left (plain 10) s)) (guarded b false (seen s) clear)
     go true = emptied-tied s z
     go false = record { told = refl; shown = refl; reached = z }
 
@@ -217,7 +217,7 @@ module _ (s : Store) (z : Reached s) (f : Whole (s .sets) (s .heads) (s .slots) 
       word-ok : slotWhole (s .sets .count) (s .sets .size) w ≡ true
       word-ok =
           subst (λ (v : ℕ). slotWhole (s .sets .count) (s .sets .size) v ≡ true) (slot-at (s .heads) (s .slots) there (e .number) in-row)
-          (Rattle.laws.proofs.Search.every-get (slotWhole (s .sets .count) (s .sets .size)) (rowSlots (s .heads) (s .slots) there) 0 (e .number) row-ok (slots-many s there (e .number) in-row slots-there))
+          (every-get (slotWhole (s .sets .count) (s .sets .size)) (rowSlots (s .heads) (s .slots) there) 0 (e .number) row-ok (slots-many s there (e .number) in-row slots-there))
 
       itself : Ready s s (e .key) there (ageOf (s .heads) there)
       itself = record {
@@ -298,7 +298,7 @@ module _ (s : Store) (z : Reached s) where
             rw (le-passes (length bytes) (s .sets .size) l) (limited l (s .sets .limit) refl)
 
     -- 14 to 17
-    judged-tied : Rattle.section.specs.Facts.Bytes bytes → (p : ℕ) (c : Collected) → collectedOf bytes ≡ c → Tied (carried s bytes (planJudged s bytes p c)) (good (seen s) (readsAs (pidShown p) bytes c))
+    judged-tied : AllBytes bytes → (p : ℕ) (c : Collected) → collectedOf bytes ≡ c → Tied (carried s bytes (planJudged s bytes p c)) (good (seen s) (readsAs (pidShown p) bytes c))
     unfolding readsAs good shows onAnswer answerTold seen
     judged-tied o p Malformed q = record { told = refl; shown = refl; reached = z }
     judged-tied o p ShortForm q = record { told = refl; shown = refl; reached = z }
@@ -309,7 +309,7 @@ module _ (s : Store) (z : Reached s) where
         (header-tied (entryOf p h) (good-numbers bytes p h q (o 7)) (written-reads p (h .«table_id») (h .extension) (h .«current_next»)) (good-length bytes h q))
 
     -- 12
-    pid-tied : Rattle.section.specs.Facts.Bytes bytes → (pid : MaybePid) → Tied (carried s bytes (planPid s bytes (pidWord pid))) (good (seen s) (readSection pid bytes))
+    pid-tied : AllBytes bytes → (pid : MaybePid) → Tied (carried s bytes (planPid s bytes (pidWord pid))) (good (seen s) (readSection pid bytes))
     unfolding readSection good shows onAnswer answerTold seen pidShown
     pid-tied o maybe.None = judged-tied o 8192 (collectedOf bytes) refl
     pid-tied o (maybe.Some v) = go (ltb v 8192) refl
@@ -340,7 +340,7 @@ module _ (s : Store) (z : Reached s) where
       go false = refl
 
   -- 10, then 11
-  push-tied : (pid : MaybePid) (bytes : Bytes) → Rattle.section.specs.Facts.Bytes bytes → Tied (pushedOf s pid bytes) (call (seen s) (readSection pid bytes))
+  push-tied : (pid : MaybePid) (bytes : Bytes) → AllBytes bytes → Tied (pushedOf s pid bytes) (call (seen s) (readSection pid bytes))
   unfolding pushedOf planOf call guarded answerTold
   push-tied pid bytes o =
       rw (whole-seen s z, ended-read pid bytes, ended-seen s z) (go (wholeOf s) (eqb (s .sets .evictions) 18446744073709551615) refl refl)
@@ -350,9 +350,9 @@ module _ (s : Store) (z : Reached s) where
       go false t p q = record { told = refl; shown = refl; reached = z }
       go true true p q = record { told = refl; shown = refl; reached = z }
       go true false p q =
-          let d = eqb-false (s .sets .evictions) 18446744073709551615 q in
+          let d : s .sets .evictions ≢ 18446744073709551615 = eqb-false (s .sets .evictions) 18446744073709551615 q in
           let c = z .counts in
-          pid-tied (whole-means s p) (Rattle.sets.proofs.Judged.counts (s .sets .evictions) d (omega arith)) bytes o pid
+          pid-tied (whole-means s p) (omega arith) bytes o pid
 
   -- every call
   pub tied : (i : Given) → OfBytes i → Tied (called s i) (call (seen s) (reads i))

@@ -1,45 +1,45 @@
 -- A section is kept, or 21: what the store does is what the rules do.
 -- Assumes nothing.
-use mathlib.Core.Path.{_≡_, refl, sym, ap, subst, _∙_}
+use mathlib.Core.Path.{_≡_, refl, sym, ap, _∙_}
 use mathlib.Core.Logic.{_≢_}
-use mathlib.Core.Bool.{Bool, true, false, cond, not}
-use mathlib.Core.Option.{Option, none, some}
+use mathlib.Core.Bool.{Bool, true, false, cond}
+use mathlib.Core.Option.{none, some}
 use mathlib.Core.List.{List}
 use Prim.Native.Nat.{ℕ, suc, _+_, _*_, _≤_, _<_}
 use native.Mathlib.Omega.{arith}
 use borrow.Author.Tests.{ltb-true}
 use lib.Dec.{ltb}
-use lib.ListN.{length, getD, set, replicate}
+use lib.ListN.{length, set, replicate}
 use Rattle.touch.specs.Same.{Bytes}
-use Rattle.touch.specs.Slots.{someHeld, everyHeld}
+use Rattle.touch.specs.Slots.{everyHeld}
 use Rattle.touch.specs.Row.{fresh, keep}
-use Rattle.touch.specs.Cells.{Settings, Held, Cells, heldIn, names, heldWhole, lowest, write, Place, placeNew}
+use Rattle.touch.specs.Cells.{Held, Cells, heldIn, names, heldWhole, lowest, write, placeNew}
 use Rattle.touch.proofs.Slots.{every-free, every-set, passes-none, free-slot}
 use Rattle.touch.proofs.Cells.{held-whole}
-use Rattle.setrules.specs.Rules.{Key as SetKey, sameKey, SetOf, SetsOf, Section, partOf, metRow, judge, noCell}
-use Rattle.setrules.specs.Cells.{Store as Shown, Turn, takes, taken, shows, rest, roomFor, carry}
+use Rattle.setrules.specs.Rules.{sameKey, SetOf, Section, partOf, metRow, judge}
+use Rattle.setrules.specs.Cells.{takes, taken, shows, rest, roomFor, carry}
 use Rattle.setrules.proofs.Keys.{sameKey-true}
-use Rattle.cells.specs.Cells.{slotWord, keptLength, cellNumber, allWhole, lowestFree}
+use Rattle.cells.specs.Cells.{slotWord, allWhole, lowestFree}
 use Rattle.rows.specs.declared.Key.{Key}
 use Rattle.rows.specs.declared.Entry.{Entry}
 use Rattle.rows.specs.declared.Room.{Room}
-use Rattle.rows.specs.Rows.{word, keyAt, touched, headOf, keptHeads, goneRow, rowSlots, keptSlots, takenIn}
+use Rattle.rows.specs.Rows.{word, keyAt, touched, keptHeads, goneRow, rowSlots, keptSlots, takenIn}
 use Rattle.order.specs.Order.{ageOf, Goes, known, added, evicted, Touched}
 use Rattle.order.specs.Slots.{heldOf, heldSlots, cellsSeen}
 use Rattle.order.proofs.Words.{key-same, ready-touched, kept-length, kept-other, kept-fresh, kept-fresh-key, kept-known, kept-unmarked}
-use Rattle.order.proofs.Slots.{held-new, held-set, held-none, held-names, slots-length, other-slots, own-slots, fresh-slots, whole-each, lowest-is}
+use Rattle.order.proofs.Slots.{held-new, held-set, held-none, slots-length, other-slots, own-slots, fresh-slots, whole-each, lowest-is}
 use Rattle.order.proofs.Slots.{held-whole as words-whole}
 use Rattle.order.proofs.Cells.{cells-length, cells-written, written-length}
-use Rattle.order.proofs.Touch.{goes-row, goes-out}
+use Rattle.order.proofs.Touch.{goes-row}
 use Rattle.order.proofs.Taken.{taken-fresh, taken-known}
 use Rattle.sets.specs.declared.inner.Keeping.{Keeping}
-use Rattle.sets.specs.declared.inner.Plan.{Plan}
 use Rattle.sets.specs.declared.inner.Plan.the-variants as plan
 use Rattle.sets.specs.declared.PushAnswer.the-variants.{NoCell}
-use Rattle.sets.specs.Store.{Store, settingsFit, Whole, Numbered, planKeep, keptIn, carried}
+use Rattle.sets.specs.Store.{Store, Whole, Numbered, planKeep, keptIn, carried}
 use Rattle.setstie.specs.View.{keyShown, keyWords, rowSeen, seen, answerTold, Reached}
-use Rattle.setstie.proofs.Rows.{same-self}
-use Rattle.setstie.proofs.Settle.{Tied, Ready, settle-tied, rowThere}
+use Rattle.setstie.proofs.Rows.{same-self, row-takes}
+use Rattle.setstie.proofs.Settle.{Tied, Ready, settle-tied}
+use Rattle.laws.proofs.Tests.{none≢some}
 
 -- the section of an entry, as the rules have it
 abbrev pub sectionFor : Entry → Bytes → Section
@@ -103,21 +103,17 @@ module _ (s : Store) (z : Reached s) (f : Whole (s .sets) (s .heads) (s .slots) 
 
   none-taken : (c : ℕ) → takes c (fresh (partOf x)) ≡ false
   unfolding takes fresh partOf
-  none-taken c = passes-none (names c) (replicate (suc (e .last)) none) (λ k h q. absurd (Rattle.laws.proofs.Tests.none≢some (free-slot (suc (e .last)) k) q))
-
-  row-takes : (c j : ℕ) → takes c (rowSeen (s .heads) (s .slots) j) ≡ Rattle.cells.specs.Cells.someNames c (rowSlots (s .heads) (s .slots) j)
-  unfolding takes rowSeen
-  row-takes c j = held-names c (rowSlots (s .heads) (s .slots) j)
+  none-taken c = passes-none (names c) (replicate (suc (e .last)) none) (λ k h q. absurd (none≢some (free-slot (suc (e .last)) k) q))
 
   taken-same : {met : SetOf Held} → Meets s e bytes r a met → metRow x ((seen s) .sets) ≡ met
       → (c : ℕ) → taken (roomFor (seen s) x) c ≡ takenIn (s .heads) (s .slots) (goneRow r (s .sets .used)) (s .sets .used) c
   unfolding taken roomFor rest seen
   taken-same (anew t u) q c =
       rw q (taken-fresh keyShown keyWords sameKey sameKey-true same-self (s .heads) (s .slots) (s .sets .limit) (s .sets .used) (s .sets .evictions) (e .key) (z .stands) proper (rowSeen (s .heads) (s .slots))
-      (touched (r .used) (r .row) (keptHeads r e (s .heads))) r a g (then-touched (anew t u)) takes row-takes (fresh (partOf x)) none-taken t c)
+      (touched (r .used) (r .row) (keptHeads r e (s .heads))) r a g (then-touched (anew t u)) takes (row-takes (s .heads) (s .slots)) (fresh (partOf x)) none-taken t c)
   taken-same (goesOn t l k u v) q c =
       rw q (taken-known keyShown keyWords sameKey sameKey-true same-self (s .heads) (s .slots) (s .sets .limit) (s .sets .used) (s .sets .evictions) (e .key) (z .stands) proper (rowSeen (s .heads) (s .slots))
-      (touched (r .used) (r .row) (keptHeads r e (s .heads))) r a g (then-touched (goesOn t l k u v)) takes row-takes l t c)
+      (touched (r .used) (r .row) (keptHeads r e (s .heads))) r a g (then-touched (goesOn t l k u v)) takes (row-takes (s .heads) (s .slots)) l t c)
 
   -- ---- the section in cell c
 

@@ -1,31 +1,28 @@
 -- What a conflict leaves, which cells are free, and when a cell's bytes change.
 -- Assumes nothing.
 use mathlib.Core.Path.{_≡_, refl, sym, ap, subst, _∙_}
-use mathlib.Core.Logic.{_≢_, _⊎_, inl, inr}
-use mathlib.Core.Bool.{Bool, true, false, cond, true≢false}
-use mathlib.Core.List.{List}
+use mathlib.Core.Logic.{_≢_, _⊎_}
+use mathlib.Core.Bool.{Bool, true, false, cond}
 use Prim.Native.Nat.{ℕ, _+_, _*_, _≤_, _<_}
 use native.Mathlib.Omega.{arith}
 use lib.ListN.{length, getD}
-use Rattle.laws.proofs.Tests.{same-test}
 use Rattle.laws.proofs.Search.{any-not, none-any}
 use Rattle.touch.specs.Same.{Bytes}
-use Rattle.touch.specs.Cells.{Held}
-use Rattle.touch.specs.Touch.{someRow}
-use Rattle.setrules.specs.Rules.{SetOf, Section, offer, conflict}
-use Rattle.setrules.specs.Cells.{Store as Shown, takes, taken, callActs}
+use Rattle.setrules.specs.Rules.{Section, offer, conflict}
+use Rattle.setrules.specs.Cells.{Store as Shown, takes, taken}
 use Rattle.setrules.proofs.Exact.{Conflicting, conflict-touches, KeptIn, cells-change}
 use Rattle.cells.specs.Cells.{names}
-use Rattle.rows.specs.Rows.{word, touched, slotsAt, slotCount, rowSlots, takenIn}
+use Rattle.rows.specs.Rows.{word, touched, slotsAt, slotCount, rowSlots}
 use Rattle.order.specs.Order.{ageOf, rowsSeen}
 use Rattle.order.proofs.Ages.{order-none, none-order}
-use Rattle.order.proofs.Slots.{slot-at, held-names, taken-each, each-taken}
+use Rattle.order.proofs.Slots.{slot-at}
 use Rattle.sets.specs.declared.inner.Plan.{Plan}
 use Rattle.sets.specs.declared.inner.Plan.the-variants as plan
 use Rattle.sets.specs.declared.PushAnswer.the-variants.{Nothing, Set}
 use Rattle.sets.specs.Store.{Store, plain, store, answerOf, wholeOf, clearedOf, planOf, goesOut, settledAnswer, settledHeads, settled, carried, pushedOf, keptIn}
 use Rattle.sets.specs.Store as sets
-use Rattle.setstie.specs.View.{keyShown, rowSeen, seen, Given, clears, section, reads, OfBytes, answerTold, called, tells, acts, Reached}
+use Rattle.setstie.specs.View.{seen, Given, clears, section, reads, OfBytes, answerTold, called, tells, acts, Reached}
+use Rattle.setstie.proofs.Rows.{row-takes}
 use Rattle.setstie.proofs.Calls.{slots-many, slots-few}
 use Rattle.setstie.proofs.History.{tells-seen, acts-seen}
 
@@ -79,21 +76,17 @@ module _ (s : Store) (z : Reached s) (long : s .sets .used * 288 ≤ length (s .
   abbrev NoSlotNames : Type 0
   NoSlotNames = (j k : ℕ) → j < s .sets .used → k < slotCount (word (s .heads) j 7) → names c (getD (s .slots) (slotsAt j + k) 0) ≡ false
 
-  row-takes : (j : ℕ) → takes c (rowSeen (s .heads) (s .slots) j) ≡ Rattle.cells.specs.Cells.someNames c (rowSlots (s .heads) (s .slots) j)
-  unfolding takes rowSeen
-  row-takes j = held-names c (rowSlots (s .heads) (s .slots) j)
-
   pub free-named-nowhere : taken ((seen s) .sets) c ≡ false → NoSlotNames
   unfolding taken seen rowsSeen
   free-named-nowhere h j k l m =
-      let r = sym (row-takes j) ∙ none-order (takes c) (ageOf (s .heads)) (s .sets .used) (z .stands .ages) _ j h l in
+      let r = sym (row-takes (s .heads) (s .slots) c j) ∙ none-order (takes c) (ageOf (s .heads)) (s .sets .used) (z .stands .ages) _ j h l in
       subst (λ (w : ℕ). names c w ≡ false) (slot-at (s .heads) (s .slots) j k m)
       (any-not (names c) (rowSlots (s .heads) (s .slots) j) 0 k r (slots-many s j k m (omega arith)))
 
   pub named-nowhere-free : NoSlotNames → taken ((seen s) .sets) c ≡ false
   unfolding taken seen rowsSeen
   named-nowhere-free f =
-      order-none (takes c) (ageOf (s .heads)) (s .sets .used) (z .stands .ages) _ (λ j l. row-takes j
+      order-none (takes c) (ageOf (s .heads)) (s .sets .used) (z .stands .ages) _ (λ j l. row-takes (s .heads) (s .slots) c j
       ∙ none-any (names c) (rowSlots (s .heads) (s .slots) j) 0 (λ k m.
       let q = slots-few s j k m in
       ap (names c) (slot-at (s .heads) (s .slots) j k q) ∙ f j k l q))

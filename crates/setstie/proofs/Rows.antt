@@ -1,28 +1,27 @@
 -- Rows: what a head and its slots show, and which words of them matter.
 -- Assumes nothing.
 use mathlib.Core.Path.{_≡_, refl, sym, ap, _∙_}
-use mathlib.Core.Logic.{_≢_}
-use mathlib.Core.Bool.{Bool, true, false, cond, not, _&&_, _||_}
+use mathlib.Core.Bool.{Bool, true, false, cond, not, _&&_}
 use mathlib.Core.Option.{Option, none, some}
 use mathlib.Core.List.{List, [], _∷_, map}
-use Prim.Native.Nat.{ℕ, zero, suc, _+_, _≤_, _<_}
+use Prim.Native.Nat.{ℕ, _≤_, _<_}
 use native.Mathlib.Omega.{arith}
-use borrow.Author.Tests.{eq-eqb, ne-eqb, eqb-false, not-true, not-false}
+use borrow.Author.Tests.{eqb-false, not-true}
 use lib.Dec.{eqb}
-use lib.ListN.{length, getD, set, replicate}
 use Rattle.laws.specs.Lists.{every}
 use Rattle.laws.proofs.Tests.{and-true, eq-true}
 use Rattle.laws.proofs.Facts.{eq-passes}
-use Rattle.touch.specs.Slots.{present, everyHeld}
+use Rattle.touch.specs.Slots.{present}
 use Rattle.touch.specs.Row.{marked}
-use Rattle.touch.specs.Same.{Bytes, samePid}
-use Rattle.touch.specs.Cells.{Held, Cells, bytesOf}
-use Rattle.setrules.specs.Rules.{Key as SetKey, sameKey, SetOf, full}
-use Rattle.cells.specs.Cells.{keptLength, cellNumber, filled, slotWhole, allFilled, allWhole, kept}
+use Rattle.touch.specs.Same.{samePid}
+use Rattle.touch.specs.Cells.{bytesOf}
+use Rattle.setrules.specs.Rules.{Key as SetKey, sameKey, full}
+use Rattle.setrules.specs.Cells.{takes}
+use Rattle.cells.specs.Cells.{filled, slotWhole, allFilled, allWhole, kept, someNames}
 use Rattle.rows.specs.declared.Key.{Key}
-use Rattle.rows.specs.Rows.{word, keyAt, rowSlots}
+use Rattle.rows.specs.Rows.{word, rowSlots}
 use Rattle.order.specs.Slots.{heldOf, heldSlots, cellsSeen}
-use Rattle.order.proofs.Slots.{place, held-filled, slots-same}
+use Rattle.order.proofs.Slots.{place, held-filled, slots-same, held-names}
 use Rattle.order.proofs.Cells.{bytes-kept}
 use Rattle.sets.specs.Store.{bitOf}
 use Rattle.sets.proofs.Plans.{slot-bounds}
@@ -90,6 +89,11 @@ pub row-marked : (heads heads′ slots : List ℕ) (i : ℕ) → word heads′ i
     → rowSeen heads′ slots i ≡ marked (rowSeen heads slots i)
 unfolding rowSeen marked
 row-marked heads heads′ slots i v l m = rw (v, l, m, slots-same heads heads′ slots i l)
+
+-- the cells that a row names
+pub row-takes : (heads slots : List ℕ) (c j : ℕ) → takes c (rowSeen heads slots j) ≡ someNames c (rowSlots heads slots j)
+unfolding takes rowSeen
+row-takes heads slots c j = held-names c (rowSlots heads slots j)
 
 -- ---- a full row
 

@@ -4,28 +4,26 @@ use mathlib.Core.Path.{_≡_, refl, sym, ap, _∙_}
 use mathlib.Core.Logic.{_≢_}
 use mathlib.Core.Bool.{Bool, true, false, cond, not, _&&_}
 use mathlib.Core.List.{List, map}
-use Prim.Native.Nat.{ℕ, _+_, _*_, _≤_, _<_}
+use Prim.Native.Nat.{ℕ, _*_, _≤_, _<_}
 use native.Mathlib.Omega.{arith}
 use lib.Dec.{eqb}
 use lib.ListN.{length}
-use Rattle.touch.specs.Same.{Bytes}
-use Rattle.touch.specs.Slots.{present}
 use Rattle.touch.specs.Touch.{newest, aside}
 use Rattle.touch.specs.Row.{marked}
 use Rattle.touch.specs.Cells.{Held, Cells, bytesOf}
-use Rattle.setrules.specs.Rules.{Key as SetKey, sameKey, SetOf, SetsOf, Answer, handout, conflict, gives, full, whole, judged, judge}
-use Rattle.setrules.specs.Cells.{Store as Shown, Turn, onWhole, onAnswer, shows}
+use Rattle.setrules.specs.Rules.{sameKey, SetOf, SetsOf, handout, conflict, gives, full, whole, judged, judge}
+use Rattle.setrules.specs.Cells.{Turn, onWhole, onAnswer, shows}
 use Rattle.setrules.proofs.Keys.{sameKey-true}
 use Rattle.cells.specs.Cells.{allFilled, allWhole, kept}
 use Rattle.rows.specs.declared.Key.{Key}
 use Rattle.rows.specs.Rows.{word, put, keyAt, touched, rowSlots}
-use Rattle.order.specs.Order.{ageOf, orderSeen, Stands, Goes, Touched}
-use Rattle.order.specs.Slots.{heldSlots, cellsSeen}
+use Rattle.order.specs.Order.{ageOf, Goes, Touched}
+use Rattle.order.specs.Slots.{cellsSeen}
 use Rattle.order.proofs.Words.{put-same, put-not, put-row, length-put, length-touched, touched-not, ready-touched, put-touched, key-same}
 use Rattle.order.proofs.Slots.{slots-same}
-use Rattle.order.proofs.Touch.{goes-row, goes-out, touched-seen, touched-stands}
-use Rattle.sets.specs.declared.PushAnswer.the-variants.{Nothing, Set}
-use Rattle.sets.specs.Store.{Store, store, Left, settingsFit, setIn, answered, goesOut, settledAnswer, settledHeads, settled}
+use Rattle.order.proofs.Touch.{goes-row, touched-seen, touched-stands, goes-in}
+use Rattle.sets.specs.declared.PushAnswer.the-variants.{Nothing, Set, Conflict}
+use Rattle.sets.specs.Store.{Store, store, Left, settingsFit, setIn, answered, goesOut, settledAnswer, settledHeads, settled, handed}
 use Rattle.setstie.specs.View.{keyShown, keyWords, rowSeen, seen, answerTold, Reached}
 use Rattle.setstie.proofs.Rows.{same-self, row-same, row-marked, full-filled, sections-kept}
 
@@ -111,7 +109,7 @@ module _ (s s₁ : Store) (key : Key) (i a : ℕ) (z : Reached s) (proper : keyW
   unfolding seen
   left-sets b =
       touched-seen keyShown keyWords sameKey sameKey-true same-self (s .heads) (s .sets .limit) (s .sets .used) (s .sets .evictions) key (z .stands) proper (rowSeen (s .heads) (s .slots))
-      (leftHeads b) (rowSeen (leftHeads b) (s₁ .slots)) g (left-touched b) (λ j l ne. let m = Rattle.order.proofs.Touch.goes-in g in left-row b j l ne (omega arith))
+      (leftHeads b) (rowSeen (leftHeads b) (s₁ .slots)) g (left-touched b) (λ j l ne. let m = goes-in g in left-row b j l ne (omega arith))
       ∙ ap (λ (q : SetOf Held). newest (keyShown key) q rest) (own-row b)
 
   pub left-reached : (b : Bool) → Reached (leftStore b)
@@ -126,7 +124,7 @@ module _ (s s₁ : Store) (key : Key) (i a : ℕ) (z : Reached s) (proper : keyW
 
   -- the set that goes out
   set-out : allFilled (rowSlots (s₁ .heads) (s₁ .slots) i) ≡ true
-      → answerTold (Rattle.sets.specs.Store.handed (setIn (leftStore true) i)) ≡ onAnswer (bytesOf cellsThere) (handout (whole (keyShown key) rowThere))
+      → answerTold (handed (setIn (leftStore true) i)) ≡ onAnswer (bytesOf cellsThere) (handout (whole (keyShown key) rowThere))
   unfolding answerTold setIn onAnswer onWhole whole rowSeen
   set-out f =
       let e : (m : ℕ) → m < 8 → word (leftHeads true) i m ≡ word (s₁ .heads) i m = λ m l. left-words true i m (omega arith) (omega arith) (omega arith) in
@@ -159,6 +157,6 @@ module _ (s s₁ : Store) (key : Key) (i a : ℕ) (z : Reached s) (proper : keyW
         go true false e = record { told = refl; shown = left-shown false; reached = left-reached false }
         go false f e = record { told = refl; shown = left-shown false; reached = left-reached false }
 
-    pub conflict-tied : Tied (answered Rattle.sets.specs.declared.PushAnswer.the-variants.Conflict (leftStore false)) (shows (seen s) cellsThere (gives conflict (newest (keyShown key) rowThere rest)))
+    pub conflict-tied : Tied (answered Conflict (leftStore false)) (shows (seen s) cellsThere (gives conflict (newest (keyShown key) rowThere rest)))
     unfolding shows answerTold onAnswer
     conflict-tied = record { told = refl; shown = left-shown false; reached = left-reached false }

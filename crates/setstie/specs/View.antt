@@ -2,25 +2,26 @@
 -- Assumes nothing.
 use Prim.Native.Nat.{ℕ, _≤_}
 use mathlib.Core.Path.{_≡_}
-use mathlib.Core.Bool.{Bool, true, cond, not}
+use mathlib.Core.Bool.{true, cond, not}
 use mathlib.Core.Option.{Option, none, some}
 use mathlib.Core.List.{List}
 use lib.Dec.{eqb, ltb}
 use lib.ListN.{length}
 use Rattle.touch.specs.Same.{Bytes}
 use Rattle.touch.specs.Cells.{Settings, Held}
-use Rattle.setrules.specs.Rules.{Key as SetKey, SetOf, Section, Call, clear, refuse, offer, Answer, cleared, refused, nothing, handout, conflict, notWhole, counterFull, noCell}
+use Rattle.setrules.specs.Rules.{Key as SetKey, SetOf, Call, clear, refuse, offer, Answer, cleared, refused, nothing, handout, conflict, notWhole, counterFull, noCell}
 use Rattle.setrules.specs.Cells.{Store as Shown}
 use Rattle.section.specs.Judged.{collectedOf}
 use Rattle.section.specs.declared.header.Collected.{Collected}
 use Rattle.section.specs.declared.header.Collected.the-variants.{Malformed, ShortForm, BadNumber, BadCrc, Good}
 use Rattle.section.specs.declared.ids.MaybePid.{MaybePid}
 use Rattle.section.specs.declared.ids.MaybePid.the-variants as maybe
+use Rattle.section.specs.Facts.{Bytes as AllBytes}
 use Rattle.rows.specs.declared.Key.{Key}
 use Rattle.rows.specs.Rows.{word, rowSlots}
 use Rattle.order.specs.Order.{orderSeen, Stands}
 use Rattle.order.specs.Slots.{heldSlots, cellsSeen}
-use Rattle.sets.specs.Store.{Store, Handed, Told, plain, handed, Left, settingsFit, bitOf, openedOf, clearedOf, pushedOf}
+use Rattle.sets.specs.Store.{Store, Told, plain, handed, Left, settingsFit, bitOf, openedOf, clearedOf, pushedOf}
 
 -- ---- a key
 
@@ -102,7 +103,7 @@ reads (section pid bytes) = readSection pid bytes
 -- bytes are numbers below 256
 unfoldable pub OfBytes : Given → Type 0
 OfBytes clears = Unit {0}
-OfBytes (section pid bytes) = Rattle.section.specs.Facts.Bytes bytes
+OfBytes (section pid bytes) = AllBytes bytes
 
 -- what is told, by 01's number; 5 comes with the set
 unfoldable pub answerTold : Told → Answer
