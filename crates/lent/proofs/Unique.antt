@@ -1,0 +1,26 @@
+-- The offer over lent counters has one answer, one gate, and one content of the counters and of each lent slice for every input: two results and exit
+-- contents that meet its promise are equal.
+-- Assumes nothing.
+use Prim.Native.Nat.{ℕ}
+use mathlib.Core.Path.{_≡_, ap}
+use mathlib.Core.List.{List}
+use Rattle.laws.proofs.Unique.{one-result}
+use Rattle.gate.specs.Store.{Store, Left, offered}
+use Rattle.gate.specs.declared.Counters.{Counters}
+use Rattle.gate.proofs.Unique.{answer-one}
+use Rattle.lent.specs.Told.{toldBy}
+use Rattle.lent.specs.declared.Told.{Told}
+
+pub offer-unique :
+    (s : Store) (pid : ℕ) (section : List ℕ) (t u : Told) (c d : Counters) (ks ls ms ns ws xs : List ℕ) →
+    toldBy t c ks ms ws ≡ offered s pid section → toldBy u d ls ns xs ≡ offered s pid section → (t ≡ u) × (c ≡ d) × (ks ≡ ls) × (ms ≡ ns) × (ws ≡ xs)
+offer-unique s pid section t u c d ks ls ms ns ws xs a b =
+    let e : toldBy t c ks ms ws ≡ toldBy u d ls ns xs = one-result (offered s pid section) a b in
+    let n : t .answer ≡ u .answer = answer-one (t .answer) (u .answer) (ap (λ (l : Left). l .answer) e) in
+    let g = ap (λ (l : Left). l .store .gate) e in (
+      λ i. record { answer = n i; gate = g i },
+      ap (λ (l : Left). l .store .counters) e,
+      ap (λ (l : Left). l .store .keys) e,
+      ap (λ (l : Left). l .store .changes) e,
+      ap (λ (l : Left). l .store .words) e,
+    )

@@ -1,0 +1,10 @@
+-- What the gate's offer over lent counters leaves, as the gate's own promise says it (document 01, "Gate").
+use mathlib.Core.List.{List}
+use Prim.Native.Nat.{ℕ}
+use Rattle.gate.specs.Store.{answerNo, storeOf, Left}
+use Rattle.gate.specs.declared.Counters.{Counters}
+use Rattle.lent.specs.declared.Told.{Told}
+
+-- what a call handed back, with the counters and the slices as it left them
+abbrev pub toldBy : Told → Counters → List ℕ → List ℕ → List ℕ → Left
+toldBy t counters keys changes words = record { answer = answerNo (t .answer); store = storeOf (t .gate) counters keys changes words }
