@@ -15,7 +15,7 @@ use Rattle.rows.specs.declared.Room.{Room}
 use Rattle.sets.proofs.May.{oldest-below}
 use Rattle.schedules.specs.Units.{allPresent, withoutUnits, withSet, firstTable, refilled}
 use Rattle.berths.specs.declared.Berth.{Berth}
-use Rattle.berths.specs.Berths.{knownBerth, berthOf, berthedHeads, tableCount, readyUnits, berthedUnits, tablesThere}
+use Rattle.berths.specs.Berths.{BerthOk, knownBerth, berthOf, berthedHeads, tableCount, readyUnits, berthedUnits, tablesThere}
 
 -- ---- which schedule
 
@@ -36,11 +36,6 @@ module _ (heads : List ℕ) (limit held evictions : ℕ) (e : Entry) (k : ℕ) (
   pub berth-new : (r : Room) → held ≤ k → r ≡ roomNew heads limit held evictions → _≡_ {A = Berth} (record { room = r; refill = false }) (berthOf heads limit held evictions e)
   unfolding berthOf
   berth-new r h q = rw (← p, le-ltb k held h, q)
-
--- a berth is within the limit
-pub record BerthOk (limit : ℕ) (b : Berth) : Type 0 where
-  pub row : b .room .row < b .room .used
-  pub room : b .room .used ≤ limit
 
 module _ (heads : List ℕ) (limit held evictions : ℕ) (e : Entry) (z : 0 < limit) (f : held ≤ limit) where
   known-ok : (k : ℕ) → k < held → BerthOk limit (knownBerth heads held evictions e k)
@@ -109,3 +104,6 @@ there-all units row table last n r h e q = rw (lt-ltb (last - table / 16 * 16) 1
 pub there-past : (units : List ℕ) (row table last : ℕ) → 16 ≤ last - table / 16 * 16 → false ≡ tablesThere units row table last
 unfolding tablesThere
 there-past units row table last h = rw (le-ltb (last - table / 16 * 16) 16 h)
+
+pub berth-may : (heads : List ℕ) (limit held evictions : ℕ) (e : Entry) (b : Berth) → 0 < limit → held ≤ limit → b ≡ berthOf heads limit held evictions e → BerthOk limit b
+berth-may heads limit held evictions e b z f q = subst (BerthOk limit) (sym q) (berth-ok heads limit held evictions e z f)

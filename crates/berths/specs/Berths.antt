@@ -50,3 +50,8 @@ berthedUnits heads slots used key n i b units =
 -- "A schedule with all tables from 0x50 or 0x60 to last_table_id": never where last_table_id is past the kind
 unfoldable pub tablesThere : List ℕ → ℕ → ℕ → ℕ → Bool
 tablesThere units row table last = ltb (last - firstTable table) 16 && allPresent units (row * 16) (tableCount table last)
+
+-- a berth is within the limit
+pub record BerthOk (limit : ℕ) (b : Berth) : Type 0 where
+  pub row : b .room .row < b .room .used
+  pub room : b .room .used ≤ limit

@@ -267,7 +267,7 @@ fn table_of_kind(table_id: u64, j: usize) -> u64
     table_id / 16 * 16 + j as u64
 }
 
-fn with_table(key: Key, table_id: u64) -> Key
+pub fn with_table(key: Key, table_id: u64) -> Key
     ensures { λ r. ⌜ r ≡ withTable key «table_id» ⌝ }
 {
     Key {

@@ -93,7 +93,8 @@ fn made_word(m: Made) -> PidWord
     }
 }
 
-fn bit(b: bool) -> u64
+// A bit of a section, as a word of a key.
+pub fn bit(b: bool) -> u64
     ensures { λ r. ⌜ r ≡ bitOf b ⌝ }
 {
     if b { 1 } else { 0 }

@@ -1,0 +1,4 @@
+pub mod Whole
+pub mod Plans
+pub mod Doing
+pub mod May

@@ -1,0 +1,85 @@
+use Rattle.eit.proofs.Doing.{settle-stay, settle-out, settle-range, settle-shelve, shelve-may}
+use borrow.Author.Needs.{needs}
+use Rattle.eit.proofs.inner.settle.Statement.{statement}
+use Rattle.eit.proofs.inner.settle.Tie as tie
+
+touch-requires : tie.Need-touch-requires
+touch-requires c κs = search needs
+
+course-of-requires : tie.Need-course-of-requires
+course-of-requires c κs = search needs
+
+enum-told : tie.Need-enum-told
+enum-told c = search needs
+
+enum-told-2 : tie.Need-enum-told-2
+enum-told-2 c = search needs
+
+set-mark-requires : tie.Need-set-mark-requires
+set-mark-requires c κs = search needs
+
+enum-told-3 : tie.Need-enum-told-3
+enum-told-3 c = search needs
+
+enum-told-4 : tie.Need-enum-told-4
+enum-told-4 c = search needs
+
+set-mark-requires-2 : tie.Need-set-mark-requires-2
+set-mark-requires-2 c κs = search needs
+
+shelve-requires : tie.Need-shelve-requires
+shelve-requires c κs = let a = c .before .before .before .before .before .before .before .before .before .before .before .before .before .before .before .before .before .before .before .args in shelve-may (a .eit) (a .heads .now) (a .slots .now) (a .schedule-heads .now) (a .units .now) (a .a) (a .i) (c .before .before .before .before .before .before .before .before .before .before .before .before .before .touch .last .0) (c .before .before .before .before .before .set-mark2 .last .0) (c .before .before .before .before .before .before .before .before .before .course-of .result) (c .before .before .before .before .before .before .before .before .before .before .before .before .before .before .before .before .before .before .before .pre) (c .before .before .before .before .before .before .before .before .before .before .before .before .before .touch .ensures) (c .before .before .before .before .before .before .before .before .before .course-of .ensures) (search (c .before .before .before .before .before .before .before .enum-told4 .given)) (c .before .before .before .before .before .set-mark2 .ensures)
+
+same-length : tie.Need-same-length
+same-length c = search needs
+
+returns : tie.Need-returns
+returns c = search settle-stay
+
+same-length-2 : tie.Need-same-length-2
+same-length-2 c = search needs
+
+returns-2 : tie.Need-returns-2
+returns-2 c = let a = c .before .before .before .before .before .before .before .before .before .before .before .before .before .before .before .before .args in settle-out (a .eit) (a .heads .now) (a .slots .now) (a .schedule-heads .now) (a .units .now) (a .a) (a .i) (c .before .before .before .before .before .before .before .before .before .before .touch .last .0) (c .before .before .before .before .before .before .course-of .result) (c .before .before .before .before .before .before .before .before .before .before .touch .ensures) (c .before .before .before .before .before .before .course-of .ensures) (c .before .before .set-mark .last .0) (search (c .before .before .before .before .enum-told2 .given)) (c .before .before .set-mark .ensures)
+
+same-length-3 : tie.Need-same-length-3
+same-length-3 c = search needs
+
+returns-3 : tie.Need-returns-3
+returns-3 c = search settle-range
+
+same-length-4 : tie.Need-same-length-4
+same-length-4 c = search needs
+
+same-length-5 : tie.Need-same-length-5
+same-length-5 c = search needs
+
+same-length-6 : tie.Need-same-length-6
+same-length-6 c = search needs
+
+returns-4 : tie.Need-returns-4
+returns-4 c = let a = c .before .before .before .before .before .before .before .before .before .before .before .before .before .before .before .before .before .before .before .before .before .before .before .before .args in settle-shelve (a .eit) (a .heads .now) (a .slots .now) (a .schedule-heads .now) (a .units .now) (a .a) (a .i) (c .before .before .before .before .before .before .before .before .before .before .before .before .before .before .before .before .before .before .touch .last .0) (c .before .before .before .before .before .before .before .before .before .before .before .before .before .before .course-of .result) (c .before .before .before .before .before .before .before .before .before .before .before .before .before .before .before .before .before .before .touch .ensures) (c .before .before .before .before .before .before .before .before .before .before .before .before .before .before .course-of .ensures) (c .before .before .before .before .before .before .before .before .before .before .set-mark2 .last .0) _ (search (c .before .before .before .before .before .before .before .before .before .before .before .before .enum-told4 .given)) (c .before .before .before .before .before .before .before .before .before .before .set-mark2 .ensures) (c .before .before .before .before .shelve .ensures)
+
+pub settle-spec : {M : Type 1} → statement M
+settle-spec =
+    tie.close
+    (tie.spec
+    touch-requires
+    course-of-requires
+    enum-told
+    enum-told-2
+    set-mark-requires
+    enum-told-3
+    enum-told-4
+    set-mark-requires-2
+    shelve-requires
+    same-length
+    returns
+    same-length-2
+    returns-2
+    same-length-3
+    returns-3
+    same-length-4
+    same-length-5
+    same-length-6
+    returns-4)

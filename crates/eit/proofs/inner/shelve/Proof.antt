@@ -1,0 +1,33 @@
+use Rattle.eit.proofs.Doing.{shelve-done, berth-fits}
+use borrow.Author.Needs.{needs}
+use Rattle.eit.proofs.inner.shelve.Statement.{statement}
+use Rattle.eit.proofs.inner.shelve.Tie as tie
+
+schedule-entry-requires : tie.Need-schedule-entry-requires
+schedule-entry-requires c κs = search needs
+
+find-berth-requires : tie.Need-find-berth-requires
+find-berth-requires c κs = search needs
+
+shelve-in-requires : tie.Need-shelve-in-requires
+shelve-in-requires c κs = (search needs, search berth-fits)
+
+same-length : tie.Need-same-length
+same-length c = search needs
+
+same-length-2 : tie.Need-same-length-2
+same-length-2 c = search needs
+
+returns : tie.Need-returns
+returns c = search shelve-done
+
+pub shelve-spec : {M : Type 1} → statement M
+shelve-spec =
+    tie.close
+    (tie.spec
+    schedule-entry-requires
+    find-berth-requires
+    shelve-in-requires
+    same-length
+    same-length-2
+    returns)
