@@ -63,7 +63,7 @@ pub fn admit(
 }
 
 // A version and a change number as the one number that a row holds.
-fn stamp(version: u8, change: u32) -> u64
+pub fn stamp(version: u8, change: u32) -> u64
     ensures { λ r. ⌜ r ≡ stampOf version change ⌝ }
 {
     (version as u64) * 4294967296 + (change as u64)
@@ -85,7 +85,7 @@ fn find(keys: &[u64], used: usize, key: u64) -> usize
 }
 
 // The key is in row i: its number is replaced, and nothing else.
-fn renew(ring: Ring, changes: &mut [u64], i: usize, number: u64) -> Seen
+pub fn renew(ring: Ring, changes: &mut [u64], i: usize, number: u64) -> Seen
     requires { ⌜ i < length (now changes) ⌝ }
     ensures { λ r. ⌜ r ≡ renewed ring (now (changes .entry)) i number ⌝ }
     ensures { λ _. ⌜ now (changes .exit) ≡ set (now (changes .entry)) i number ⌝ }
@@ -100,7 +100,7 @@ fn renew(ring: Ring, changes: &mut [u64], i: usize, number: u64) -> Seen
 }
 
 // The key is new: it takes the next row, or where none is left the row of the key that came first.
-fn arrive(ring: Ring, keys: &mut [u64], changes: &mut [u64], key: u64, number: u64) -> Seen
+pub fn arrive(ring: Ring, keys: &mut [u64], changes: &mut [u64], key: u64, number: u64) -> Seen
     requires { ⌜ Whole ring (length (now keys)) (length (now changes)) ⌝ }
     ensures { λ r. ⌜ r ≡ arrived ring ⌝ }
     ensures { λ _. ⌜ now (keys .exit) ≡ set (now (keys .entry)) (freeRow ring) key ⌝ }
