@@ -1,6 +1,7 @@
 -- The EIT collector with cells obeys the rules: a call that is not barred answers what the rules answer to what the store shows, and leaves a store
 -- that shows what the rules leave.
 -- Assumes nothing.
+use borrow.Author.Tests.{le-leb, lt-leb}
 use mathlib.Core.Path.{_≡_, refl, sym, ap, _∙_}
 use mathlib.Core.Bool.{true}
 use mathlib.Core.Option.{Option, some}
@@ -8,7 +9,6 @@ use Prim.Native.Nat.{ℕ, zero, suc}
 use native.Mathlib.Omega.{arith}
 use lib.Dec.{leb}
 use lib.ListN.{length}
-use Rattle.laws.proofs.Facts.{le-passes, le-fails}
 use Rattle.touch.specs.Same.{Bytes}
 use Rattle.touch.specs.Touch.{seenAs, emptied, onOrder}
 use Rattle.touch.specs.Row.{keep, onRow, put}
@@ -48,7 +48,7 @@ module _ (s : Store) where
   asked x k a =
       kinded x (a .kind) (a .isKind)
       ∙ ap (λ (q : SetKey). admit (s .settings .limit) (view s) x q (leb (length (x .bytes)) (s .settings .cellSize))) (a .isKey)
-      ∙ ap (admit (s .settings .limit) (view s) x k) (le-passes (length (x .bytes)) (s .settings .cellSize) (a .short))
+      ∙ ap (admit (s .settings .limit) (view s) x k) (le-leb (length (x .bytes)) (s .settings .cellSize) (a .short))
       ∙ go (s .settings .limit) refl
     where
       go : (n : ℕ) → s .settings .limit ≡ n
@@ -72,10 +72,10 @@ module _ (s : Store) where
   well (foreign x w h) = shown (s .cells) (gives (refused 18) (s .eit)) (step (s .settings) (view s) (offer x)) (ap (offered (s .settings) (view s) x) h)
   well (long x kind w h l) =
       shown (s .cells) (gives (refused 20) (s .eit)) (step (s .settings) (view s) (offer x))
-      (kinded x kind h ∙ ap (admit (s .settings .limit) (view s) x (keyOf x kind)) (le-fails (length (x .bytes)) (s .settings .cellSize) l))
+      (kinded x kind h ∙ ap (admit (s .settings .limit) (view s) x (keyOf x kind)) (lt-leb (length (x .bytes)) (s .settings .cellSize) l))
   well (keyless x kind w h l q) =
       shown (s .cells) (gives nothing (s .eit)) (step (s .settings) (view s) (offer x))
-      (kinded x kind h ∙ ap (admit (s .settings .limit) (view s) x (keyOf x kind)) (le-passes (length (x .bytes)) (s .settings .cellSize) l)
+      (kinded x kind h ∙ ap (admit (s .settings .limit) (view s) x (keyOf x kind)) (le-leb (length (x .bytes)) (s .settings .cellSize) l)
       ∙ ap (λ (n : ℕ). push n (view s) x (keyOf x kind)) q)
   well (lacks x k a e f) = out refl
   well (keeps x k a e c f) =

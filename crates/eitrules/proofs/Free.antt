@@ -1,5 +1,6 @@
 -- Cells of the EIT collector, for every store: which are free, which one is used, and when one changes.
 -- Assumes nothing.
+use borrow.Author.Tests.{eqb-false, ne-eqb}
 use mathlib.Core.Path.{_≡_, refl}
 use mathlib.Core.Logic.{_≢_, _⊎_, inl, inr}
 use mathlib.Core.Bool.{true, false}
@@ -7,8 +8,7 @@ use mathlib.Core.Option.{none, some}
 use mathlib.Core.List.{[], _++_}
 use Prim.Native.Nat.{ℕ}
 use lib.ListN.{length, getD, drop}
-use Rattle.laws.proofs.Tests.{or-false, eq-false}
-use Rattle.laws.proofs.Facts.{eq-fails}
+use Rattle.laws.proofs.Tests.{or-false}
 use Rattle.touch.specs.Touch.{someRow}
 use Rattle.touch.specs.Cells.{Held, names}
 use Rattle.touch.proofs.Slots.{none-passes, passes-none}
@@ -39,17 +39,17 @@ unfolding taken setTakes scheduleTakes copyTakes names
 free-named-nowhere e c h =
     let p = or-false (someRow (setTakes c) (e .sets .rows)) (someRow (scheduleTakes c) (e .schedules .rows)) h in
     record {
-      sets = all-map (λ k r t n q f. eq-false (q .cell) c (none-passes (names c) (r .slots) t n q f)) (e .sets .rows) (none-all (setTakes c) (e .sets .rows) (p .0));
-      schedules = all-map (λ l g t m o f n q j. eq-false (q .cell) c (none-passes (names c) (o .slots) (none-passes (copyTakes c) (g .copies) t m o f) n q j))
+      sets = all-map (λ k r t n q f. eqb-false (q .cell) c (none-passes (names c) (r .slots) t n q f)) (e .sets .rows) (none-all (setTakes c) (e .sets .rows) (p .0));
+      schedules = all-map (λ l g t m o f n q j. eqb-false (q .cell) c (none-passes (names c) (o .slots) (none-passes (copyTakes c) (g .copies) t m o f) n q j))
           (e .schedules .rows) (none-all (scheduleTakes c) (e .schedules .rows) (p .1));
     }
 
 pub named-nowhere-free : (e : EitOf Held) (c : ℕ) → NamedNowhere e c → taken e c ≡ false
 unfolding taken setTakes scheduleTakes copyTakes names
 named-nowhere-free e c a =
-    let p = all-none (setTakes c) (e .sets .rows) (all-map (λ k r f. passes-none (names c) (r .slots) (λ n q j. eq-fails (q .cell) c (f n q j))) (e .sets .rows) (a .sets)) in
+    let p = all-none (setTakes c) (e .sets .rows) (all-map (λ k r f. passes-none (names c) (r .slots) (λ n q j. ne-eqb (q .cell) c (f n q j))) (e .sets .rows) (a .sets)) in
     let q = all-none (scheduleTakes c) (e .schedules .rows)
-    (all-map (λ l g f. passes-none (copyTakes c) (g .copies) (λ m o i. passes-none (names c) (o .slots) (λ n q j. eq-fails (q .cell) c (f m o i n q j)))) (e .schedules .rows) (a .schedules)) in
+    (all-map (λ l g f. passes-none (copyTakes c) (g .copies) (λ m o i. passes-none (names c) (o .slots) (λ n q j. ne-eqb (q .cell) c (f m o i n q j)))) (e .schedules .rows) (a .schedules)) in
     rw p q
 
 -- a section is kept in a cell: "The lowest free cell is used", its bytes come to the cell's front, and every other cell is as before

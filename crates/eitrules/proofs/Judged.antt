@@ -1,13 +1,13 @@
 -- What the answers to a judged row mean: 5, 6 and 23, by the rules. e are the other rows, r is the row of key k with the section, whose last_table_id is
 -- `last`.
 -- Assumes nothing.
+use borrow.Author.Tests.{leb-false, leb-true}
 use mathlib.Core.Path.{_≡_, refl}
 use mathlib.Core.Bool.{Bool, true, false}
 use mathlib.Core.Option.{Option, none, some}
 use Prim.Native.Nat.{ℕ, _-_, _≤_, _<_}
 use native.Mathlib.Omega.{arith}
 use lib.Dec.{leb}
-use Rattle.laws.proofs.Tests.{le-true, le-false}
 use Rattle.touch.specs.Touch.{find}
 use Rattle.touch.specs.Row.{marked}
 use Rattle.touch.specs.Same.{Bytes}
@@ -42,8 +42,8 @@ module _ (limit : ℕ) (e : Eit) (k : SetKey) (last : ℕ) (r : SetRow) where
       tell first m c f l true q = schedules first m c f l q
 
       in-range : (first : ℕ) → r .mark ≡ false → complete r ≡ true → firstOf (k .schedule .kind) ≡ some first → (b : Bool) → leb (k .tableId) last ≡ b → Verdict (ranged limit e k r first b (entered first))
-      in-range first m c f false q = outside first m c f (le-false (k .tableId) last q)
-      in-range first m c f true q = tell first m c f (le-true (k .tableId) last q) (allTables first (entered first)) refl
+      in-range first m c f false q = outside first m c f (leb-false (k .tableId) last q)
+      in-range first m c f true q = tell first m c f (leb-true (k .tableId) last q) (allTables first (entered first)) refl
 
       goes : r .mark ≡ false → complete r ≡ true → (o : Option ℕ) → firstOf (k .schedule .kind) ≡ o → Verdict (ready limit e k last r o)
       goes m c none f = presents m c f

@@ -1,9 +1,10 @@
 -- The tests of keys mean equality.
 -- Assumes nothing.
+use borrow.Author.Tests.{eqb-true}
 use mathlib.Core.Path.{_≡_, refl, sym, ap, _∙_}
 use mathlib.Core.Bool.{true}
 use Prim.Native.Nat.{ℕ, zero, suc}
-use Rattle.laws.proofs.Tests.{and-true, eq-true, beq-true}
+use Rattle.laws.proofs.Tests.{and-true, beq-true}
 use Rattle.touch.proofs.Same.{samePid-true}
 use Rattle.eitrules.specs.Keys.{Kind, presentActual, presentOther, scheduleActual, scheduleOther, kindNumber, sameKind, ScheduleKey, SetKey, sameSchedule, sameSet}
 
@@ -22,7 +23,7 @@ kind-back scheduleOther = refl
 
 pub sameKind-true : (a b : Kind) → sameKind a b ≡ true → a ≡ b
 unfolding sameKind
-sameKind-true a b h = sym (kind-back a) ∙ ap kindAt (eq-true (kindNumber a) (kindNumber b) h) ∙ kind-back b
+sameKind-true a b h = sym (kind-back a) ∙ ap kindAt (eqb-true (kindNumber a) (kindNumber b) h) ∙ kind-back b
 
 pub sameSchedule-true : (a b : ScheduleKey) → sameSchedule a b ≡ true → a ≡ b
 unfolding sameSchedule
@@ -34,9 +35,9 @@ sameSchedule-true a b h =
     let t = and-true _ _ (s .1) in
     let e₁ = samePid-true _ _ (p .0) in
     let e₂ = sameKind-true _ _ (q .0) in
-    let e₃ = eq-true _ _ (r .0) in
-    let e₄ = eq-true _ _ (s .0) in
-    let e₅ = eq-true _ _ (t .0) in
+    let e₃ = eqb-true _ _ (r .0) in
+    let e₄ = eqb-true _ _ (s .0) in
+    let e₅ = eqb-true _ _ (t .0) in
     let e₆ = beq-true _ _ (t .1) in
     λ i. record { pid = e₁ i; kind = e₂ i; serviceId = e₃ i; transportStreamId = e₄ i; originalNetworkId = e₅ i; currentNext = e₆ i }
 
@@ -45,5 +46,5 @@ unfolding sameSet
 sameSet-true a b h =
     let p = and-true _ _ h in
     let e₁ = sameSchedule-true _ _ (p .0) in
-    let e₂ = eq-true _ _ (p .1) in
+    let e₂ = eqb-true _ _ (p .1) in
     λ i. record { schedule = e₁ i; tableId = e₂ i }

@@ -1,5 +1,6 @@
 -- Every way that a call on the EIT collector with cells can go, with what is known there. The theorems on answers and cells are read off from it.
 -- Assumes nothing.
+use borrow.Author.Tests.{leb-false, leb-true}
 use mathlib.Core.Path.{_≡_, refl, sym, ap, _∙_}
 use mathlib.Core.Logic.{_≢_}
 use mathlib.Core.Bool.{Bool, true, false, true≢false}
@@ -8,7 +9,6 @@ use Prim.Native.Nat.{ℕ, zero, suc, _≤_, _<_}
 use native.Mathlib.Omega.{arith}
 use lib.Dec.{leb}
 use lib.ListN.{length}
-use Rattle.laws.proofs.Tests.{le-true, le-false}
 use Rattle.touch.specs.Same.{Bytes}
 use Rattle.touch.specs.Row.{slotOf, keep}
 use Rattle.touch.specs.Cells.{Held, bytesOf, write, Place, heldIn}
@@ -75,8 +75,8 @@ module _ (s : Store) where
 
     admitted : (b : Bool) → leb (length (x .bytes)) (s .settings .cellSize) ≡ b → Outcome s (offer x) (admitIn s x (keyOf x kind) b)
     unfolding admitIn shows onAnswer
-    admitted false q = long x kind w h (le-false (length (x .bytes)) (s .settings .cellSize) q)
-    admitted true q = pushed (le-true (length (x .bytes)) (s .settings .cellSize) q) (s .settings .limit) refl
+    admitted false q = long x kind w h (leb-false (length (x .bytes)) (s .settings .cellSize) q)
+    admitted true q = pushed (leb-true (length (x .bytes)) (s .settings .cellSize) q) (s .settings .limit) refl
 
   offered : (x : Section) → storeWhole s ≡ true → ended s (offer x) ≡ false → (o : Option Kind) → kindOf (x .tableId) ≡ o → Outcome s (offer x) (offerIn s x o)
   unfolding offerIn shows onAnswer

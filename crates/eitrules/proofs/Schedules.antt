@@ -1,5 +1,6 @@
 -- One schedule: what the refill puts where, and that a schedule which goes out shows each of its tables.
 -- Assumes nothing.
+use borrow.Author.Tests.{le-leb, lt-leb}
 use mathlib.Core.Path.{_≡_, refl, sym, ap, _∙_}
 use mathlib.Core.Bool.{true, true≢false}
 use mathlib.Core.Option.{Option, none, some}
@@ -7,7 +8,6 @@ use mathlib.Core.List.{List, [], _∷_}
 use Prim.Native.Nat.{ℕ, zero, suc, _+_, _-_, _≤_, _<_}
 use native.Mathlib.Omega.{arith}
 use lib.ListN.{length, getD, take}
-use Rattle.laws.proofs.Facts.{le-passes, le-fails}
 use Rattle.touch.specs.Slots.{isHeld}
 use Rattle.touch.specs.Touch.{Rows, find}
 use Rattle.eitrules.specs.Keys.{ScheduleKey, SetKey, sameSet}
@@ -22,7 +22,7 @@ module _ {A : Type 0} (others : Rows SetKey (SetOf A)) (l : ScheduleKey) (last :
   refill-inside zero t n h k = absurd (omega arith)
   refill-inside (suc m) t zero h k =
       let e : t + 0 ≡ t = omega arith in
-      rw (e, le-passes t last (omega arith)) refl
+      rw (e, le-leb t last (omega arith)) refl
   refill-inside (suc m) t (suc n) h k =
       let e : t + suc n ≡ suc t + n = omega arith in
       rw e (refill-inside m (suc t) n (omega arith) (omega arith))
@@ -31,7 +31,7 @@ module _ {A : Type 0} (others : Rows SetKey (SetOf A)) (l : ScheduleKey) (last :
   pub refill-past : (m t n : ℕ) → last < t + n → getD (refill others l last t m) n none ≡ none
   unfolding refill
   refill-past zero t n h = refl
-  refill-past (suc m) t zero h = rw (le-fails t last (omega arith)) refl
+  refill-past (suc m) t zero h = rw (lt-leb t last (omega arith)) refl
   refill-past (suc m) t (suc n) h = refill-past m (suc t) n (omega arith)
 
 module _ {A : Type 0} where

@@ -1,5 +1,6 @@
 -- A call leaves a whole store whole, so that no history leads to answer 10.
 -- Assumes nothing.
+use borrow.Author.Tests.{le-leb, leb-true}
 use mathlib.Core.Path.{_≡_, refl, sym, _∙_, subst}
 use mathlib.Core.Logic.{_≢_}
 use mathlib.Core.Bool.{Bool, true, true≢false}
@@ -7,8 +8,7 @@ use mathlib.Core.List.{List}
 use Prim.Native.Nat.{ℕ, zero, suc, _-_, _≤_}
 use native.Mathlib.Omega.{arith}
 use lib.ListN.{length}
-use Rattle.laws.proofs.Tests.{and-true, true-and, le-true}
-use Rattle.laws.proofs.Facts.{le-passes}
+use Rattle.laws.proofs.Tests.{and-true, true-and}
 use Rattle.touch.specs.Slots.{everyHeld}
 use Rattle.touch.specs.Touch.{untouched, emptied}
 use Rattle.touch.specs.Row.{keep}
@@ -43,8 +43,8 @@ sound s h =
     record {
       room = a .0;
       eit = record {
-        fewSets = le-true _ _ (b .0);
-        fewSchedules = le-true _ _ (c .0);
+        fewSets = leb-true _ _ (b .0);
+        fewSchedules = leb-true _ _ (c .0);
         sets = every-all (λ (r : SetOf Held). everyHeld ok (r .slots)) (s .eit .sets .rows) (d .0);
         schedules = every-all (λ (g : ScheduleOf Held). everyHeld (copyOk ok) (g .copies)) (s .eit .schedules .rows) (d .1);
       };
@@ -55,7 +55,7 @@ unfolding storeWhole
 whole-of s h =
     let ok = okIn (s .settings) (s .cells) in
     true-and (h .room)
-    (true-and (le-passes _ _ (h .eit .fewSets)) (true-and (le-passes _ _ (h .eit .fewSchedules))
+    (true-and (le-leb _ _ (h .eit .fewSets)) (true-and (le-leb _ _ (h .eit .fewSchedules))
     (true-and (all-every (λ (r : SetOf Held). everyHeld ok (r .slots)) (s .eit .sets .rows) (h .eit .sets))
     (all-every (λ (g : ScheduleOf Held). everyHeld (copyOk ok) (g .copies)) (s .eit .schedules .rows) (h .eit .schedules)))))
 

@@ -10,10 +10,10 @@ use native.Mathlib.Numerals.{add-one}
 use native.Mathlib.Nat.{not-suc-le-zero}
 use native.Mathlib.Decide.{ℕ-discrete}
 use native.Mathlib.Omega.{arith}
-use borrow.Author.Tests.{eq-eqb, ne-eqb, ltb-true, ltb-false}
+use borrow.Author.Tests.{eq-eqb, ne-eqb, ltb-true, ltb-false, eqb-true}
 use lib.Dec.{eqb, ltb}
 use lib.ListN.{length}
-use Rattle.laws.proofs.Tests.{and-true, eq-true}
+use Rattle.laws.proofs.Tests.{and-true}
 use Rattle.laws.proofs.Search.{first-passes, first-before}
 use Rattle.touch.specs.Touch.{Rows, TouchOrder, Entry, under, find, someRow, aside, newest}
 use Rattle.touch.proofs.All.{held-stays, new-below, new-at}
@@ -33,12 +33,12 @@ same-key-true a b h =
     let p3 = and-true _ _ (p4 .0) in
     let p2 = and-true _ _ (p3 .0) in
     let p1 = and-true _ _ (p2 .0) in
-    let e0 = eq-true _ _ (p1 .0) in
-    let e1 = eq-true _ _ (p1 .1) in
-    let e2 = eq-true _ _ (p2 .1) in
-    let e3 = eq-true _ _ (p3 .1) in
-    let e4 = eq-true _ _ (p4 .1) in
-    let e5 = eq-true _ _ (p5 .1) in
+    let e0 = eqb-true _ _ (p1 .0) in
+    let e1 = eqb-true _ _ (p1 .1) in
+    let e2 = eqb-true _ _ (p2 .1) in
+    let e3 = eqb-true _ _ (p3 .1) in
+    let e4 = eqb-true _ _ (p4 .1) in
+    let e5 = eqb-true _ _ (p5 .1) in
     λ i. record { pid = e0 i; «table_id» = e1 i; extension = e2 i; «current_next» = e3 i; «transport_stream_id» = e4 i; «original_network_id» = e5 i }
 
 pub same-key-refl : (a : Key) → sameKey a a ≡ true

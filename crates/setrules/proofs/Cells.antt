@@ -1,12 +1,12 @@
 -- The set collector with cells obeys the rules: a call that is not barred answers what the rules answer to what the store shows, and leaves a store
 -- that shows what the rules leave.
 -- Assumes nothing.
+use borrow.Author.Tests.{le-leb, lt-leb}
 use mathlib.Core.Path.{_≡_, refl, sym, ap, _∙_}
 use mathlib.Core.Bool.{true}
 use Prim.Native.Nat.{ℕ, zero, suc}
 use native.Mathlib.Omega.{arith}
 use lib.ListN.{length}
-use Rattle.laws.proofs.Facts.{le-passes, le-fails}
 use Rattle.touch.specs.Same.{Bytes}
 use Rattle.touch.specs.Touch.{seenAs, untouched, emptied, onOrder}
 use Rattle.touch.specs.Row.{keep, onRow, put}
@@ -37,7 +37,7 @@ module _ (s : Store) where
   asked : (x : Section) → Asks s x
       → step (s .settings) (view s) (offer x) ≡ finish (onSets read (rest s x)) (x .key) (onRow read (row s x)) (put (partOf x) (x .bytes) (onRow read (row s x)))
   unfolding step admit view push rest onSets
-  asked x a = rw (le-passes (length (x .bytes)) (s .settings .cellSize) (a .short)) (go (s .settings .limit) refl)
+  asked x a = rw (le-leb (length (x .bytes)) (s .settings .cellSize) (a .short)) (go (s .settings .limit) refl)
     where
       go : (n : ℕ) → s .settings .limit ≡ n
           → push n (onSets read (s .sets)) x ≡ finish (onSets read (rest s x)) (x .key) (onRow read (row s x)) (put (partOf x) (x .bytes) (onRow read (row s x)))
@@ -50,8 +50,8 @@ module _ (s : Store) where
   well (stopped i w e) = out refl
   well (clears w) = fits refl refl
   well (refuses n w) = fits refl refl
-  well (long x w l) = rw (le-fails (length (x .bytes)) (s .settings .cellSize) l) (fits refl refl)
-  well (keyless x w l q) = rw (le-passes (length (x .bytes)) (s .settings .cellSize) l, q) (fits refl refl)
+  well (long x w l) = rw (lt-leb (length (x .bytes)) (s .settings .cellSize) l) (fits refl refl)
+  well (keyless x w l q) = rw (le-leb (length (x .bytes)) (s .settings .cellSize) l, q) (fits refl refl)
   well (lacks x a e f) = out refl
   well (keeps x a e c f) =
       let now : Held → Bytes = bytesOf (write (s .cells) c (x .bytes)) in

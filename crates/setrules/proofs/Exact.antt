@@ -1,6 +1,7 @@
 -- What the answers of the collector with cells mean, for every store: 21 exactly, what is as before, what a conflict changes, which cell is used and
 -- when a cell changes.
 -- Assumes nothing.
+use borrow.Author.Tests.{eqb-false, ne-eqb}
 use mathlib.Core.Path.{_≡_, refl, sym, ap, _∙_, subst}
 use mathlib.Core.Logic.{_≢_, _⊎_, inl, inr}
 use mathlib.Core.Bool.{true, false, true≢false}
@@ -9,8 +10,7 @@ use mathlib.Core.List.{[], _∷_, _++_}
 use Prim.Native.Nat.{ℕ, _≤_, _<_}
 use native.Mathlib.Omega.{arith}
 use lib.ListN.{length, getD, drop}
-use Rattle.laws.proofs.Tests.{eq-false, none≢some}
-use Rattle.laws.proofs.Facts.{eq-fails}
+use Rattle.laws.proofs.Tests.{none≢some}
 use Rattle.touch.specs.Touch.{under, find, remove, newest}
 use Rattle.touch.specs.Row.{slotOf}
 use Rattle.touch.specs.Cells.{Held, bytesOf, names}
@@ -186,11 +186,11 @@ NamedNowhere s c = All (λ (k : Key) (r : SetOf Held). (n : ℕ) (h : Held) → 
 pub free-named-nowhere : (s : SetsOf Held) (c : ℕ) → taken s c ≡ false → NamedNowhere s c
 unfolding taken takes names
 free-named-nowhere s c h =
-    all-map (λ k r t n q e. eq-false (q .cell) c (none-passes (names c) (r .slots) t n q e)) (s .rows) (none-all (takes c) (s .rows) h)
+    all-map (λ k r t n q e. eqb-false (q .cell) c (none-passes (names c) (r .slots) t n q e)) (s .rows) (none-all (takes c) (s .rows) h)
 
 pub named-nowhere-free : (s : SetsOf Held) (c : ℕ) → NamedNowhere s c → taken s c ≡ false
 unfolding taken takes names
-named-nowhere-free s c a = all-none (takes c) (s .rows) (all-map (λ k r f. passes-none (names c) (r .slots) (λ n q e. eq-fails (q .cell) c (f n q e))) (s .rows) a)
+named-nowhere-free s c a = all-none (takes c) (s .rows) (all-map (λ k r f. passes-none (names c) (r .slots) (λ n q e. ne-eqb (q .cell) c (f n q e))) (s .rows) a)
 
 -- a section is kept in a cell: "The lowest free cell is used", its bytes come to the cell's front, and every other cell is as before
 pub record KeptIn (s : Store) (x : Section) (c : ℕ) (after : Store) : Type 0 where

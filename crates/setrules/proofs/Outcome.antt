@@ -1,5 +1,6 @@
 -- Every way that a call on the collector with cells can go, with what is known there. The theorems on answers and cells are read off from it.
 -- Assumes nothing.
+use borrow.Author.Tests.{leb-false, leb-true}
 use mathlib.Core.Path.{_≡_, refl, sym, ap, _∙_}
 use mathlib.Core.Logic.{_≢_}
 use mathlib.Core.Bool.{Bool, true, false, true≢false}
@@ -8,7 +9,6 @@ use Prim.Native.Nat.{ℕ, zero, suc, _≤_, _<_}
 use native.Mathlib.Omega.{arith}
 use lib.Dec.{leb}
 use lib.ListN.{length}
-use Rattle.laws.proofs.Tests.{le-true, le-false}
 use Rattle.touch.specs.Same.{Bytes}
 use Rattle.touch.specs.Touch.{emptied}
 use Rattle.touch.specs.Row.{slotOf, keep}
@@ -63,8 +63,8 @@ module _ (s : Store) where
 
   admitted : (x : Section) → storeWhole s ≡ true → ended s (offer x) ≡ false → (b : Bool) → leb (length (x .bytes)) (s .settings .cellSize) ≡ b → Outcome s (offer x) (admitIn s x b)
   unfolding admitIn shows onAnswer
-  admitted x w e false q = long x w (le-false (length (x .bytes)) (s .settings .cellSize) q)
-  admitted x w e true q = pushed x w e (le-true (length (x .bytes)) (s .settings .cellSize) q) (s .settings .limit) refl
+  admitted x w e false q = long x w (leb-false (length (x .bytes)) (s .settings .cellSize) q)
+  admitted x w e true q = pushed x w e (leb-true (length (x .bytes)) (s .settings .cellSize) q) (s .settings .limit) refl
 
   well : (i : Call) → storeWhole s ≡ true → ended s i ≡ false → Outcome s i (good s i)
   unfolding good shows onAnswer

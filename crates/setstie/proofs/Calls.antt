@@ -7,13 +7,12 @@ use mathlib.Core.Option.{Option, none, some}
 use mathlib.Core.List.{List}
 use Prim.Native.Nat.{ℕ, zero, suc, _+_, _-_, _≤_, _<_}
 use native.Mathlib.Omega.{arith}
-use borrow.Author.Tests.{eq-eqb, ne-eqb, eqb-true, eqb-false, ltb-true, ltb-false, leb-true, le-leb}
+use borrow.Author.Tests.{eq-eqb, ne-eqb, eqb-true, eqb-false, ltb-true, ltb-false, leb-true, le-leb, lt-leb}
 use lib.Dec.{eqb, ltb, leb}
 use lib.ListN.{length, getD, drop, length-take, length-drop}
 use lib.Seq.{length-take-le}
 use Rattle.laws.specs.Lists.{sameList}
-use Rattle.laws.proofs.Tests.{same-test, eq-true}
-use Rattle.laws.proofs.Facts.{le-passes, le-fails}
+use Rattle.laws.proofs.Tests.{same-test}
 use Rattle.laws.proofs.Search.{every-get}
 use Rattle.touch.specs.Same.{Bytes}
 use Rattle.touch.specs.Slots.{everyHeld}
@@ -251,7 +250,7 @@ module _ (s : Store) (z : Reached s) (f : Whole (s .sets) (s .heads) (s .slots) 
               → Tied (carried s bytes (cond b (planKeep s e (roomIn (s .sets .used) (s .sets .evictions) there)) (cond (sameList (kept (s .cells) (s .sets .size) w) bytes) (plan.Repeat there) (plan.Conflict there))))
               (carry (seen s) x (placeOf (seen s) x))
           go true q =
-              rw (place-empty (slot-is ∙ held-empty w (eq-true (keptLength w) 0 q)))
+              rw (place-empty (slot-is ∙ held-empty w (eqb-true (keptLength w) 0 q)))
               (keep-tied s z f more e n proper bytes h12 hs (roomIn (s .sets .used) (s .sets .evictions) there) (ageOf (s .heads) there) goes
               (goesOn refl h (row-has-key (s .heads) (e .key) (s .sets .used) h) refl last) m)
           go false q = held-tied (eqb-false (keptLength w) 0 q)
@@ -292,10 +291,10 @@ module _ (s : Store) (z : Reached s) where
         fit : (b : Bool) → ltb (s .sets .size) (length bytes) ≡ b
             → Tied (carried s bytes (cond b (plan.Refuse TooLong) (cond (eqb (s .sets .limit) 0) (plan.Refuse Nothing) (planGood s e bytes))))
             (admitIn (seen s) (sectionFor e bytes) (leb (length bytes) (s .sets .size)))
-        fit true q = rw (le-fails (length bytes) (s .sets .size) (ltb-true (s .sets .size) (length bytes) q)) (record { told = refl; shown = refl; reached = z })
+        fit true q = rw (lt-leb (length bytes) (s .sets .size) (ltb-true (s .sets .size) (length bytes) q)) (record { told = refl; shown = refl; reached = z })
         fit false q =
             let l = ltb-false (s .sets .size) (length bytes) q in
-            rw (le-passes (length bytes) (s .sets .size) l) (limited l (s .sets .limit) refl)
+            rw (le-leb (length bytes) (s .sets .size) l) (limited l (s .sets .limit) refl)
 
     -- 14 to 17
     judged-tied : AllBytes bytes → (p : ℕ) (c : Collected) → collectedOf bytes ≡ c → Tied (carried s bytes (planJudged s bytes p c)) (good (seen s) (readsAs (pidShown p) bytes c))

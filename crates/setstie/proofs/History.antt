@@ -1,6 +1,7 @@
 -- Every history of opening, pushes and clears: what the store of the set collector answers and shows is what the rules answer and leave; 10 never occurs;
 -- refusals leave the memory as before; 21 exactly where the rules would keep a section and every cell is named.
 -- Assumes nothing.
+use borrow.Author.Tests.{le-leb}
 use mathlib.Core.Path.{_≡_, refl, sym, ap, subst, _∙_}
 use mathlib.Core.Logic.{_⊎_, inl, inr}
 use mathlib.Core.Bool.{Bool, true, false, cond, true≢false}
@@ -10,7 +11,6 @@ use Prim.Native.Nat.{ℕ, suc}
 use native.Mathlib.Omega.{arith}
 use lib.Dec.{ltb}
 use lib.ListN.{length}
-use Rattle.laws.proofs.Facts.{le-passes}
 use Rattle.touch.specs.Same.{Bytes}
 use Rattle.touch.specs.Touch.{untouched}
 use Rattle.touch.specs.Cells.{roomWhole}
@@ -164,7 +164,7 @@ opened-room : (s : Store) → Opened s → roomWhole ((seen s) .settings) ((seen
 unfolding roomWhole seen
 opened-room s o =
     let l = long (s .sets) (length (s .heads)) (length (s .slots)) (length (s .cells)) (opened-reached s o .fits) in
-    rw (cells-length (s .cells) (s .sets .size) (s .sets .count), le-passes 12 (s .sets .size) (l .size-low), le-passes (s .sets .size) 4096 (l .size-high), le-passes (s .sets .count) 65535 (l .few))
+    rw (cells-length (s .cells) (s .sets .size) (s .sets .count), le-leb 12 (s .sets .size) (l .size-low), le-leb (s .sets .size) 4096 (l .size-high), le-leb (s .sets .count) 65535 (l .few))
 
 -- in no history 10 occurs
 pub never-not-whole : (s : Store) → Opened s → (calls : List Given) → AllBytes calls → Never notWhole (answers tells acts s calls)
