@@ -2,3 +2,4 @@ pub mod Demand3
 pub mod Examples
 pub mod Runs
 pub mod NotEmpty
+pub mod Needed
