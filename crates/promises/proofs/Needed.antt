@@ -16,6 +16,7 @@ use Rattle.crc.specs.Crc.{crcFrom, bitsIn, bitIn}
 use Rattle.section.specs.Header.{storedCrc, workedCrc, headerOf}
 use Rattle.section.specs.Judged.{malformed, collectedLong, collectedOf}
 use Rattle.setrules.specs.Rules.{Call, Whole, Answer, cleared, refused, nothing, handout, conflict, notWhole, counterFull, noCell}
+use Rattle.setrules.proofs.Cells.{settings-stay as stays}
 use Rattle.setrules.proofs.Examples.{replies}
 use Rattle.order.specs.Order.{downFrom, inOrder, rowsSeen}
 use Rattle.order.specs.Slots.{upFrom, cellsSeen}
@@ -425,7 +426,7 @@ settings-stay : (begun .sets .size ≡ 16) × (begun .sets .limit ≡ 1)
 unfolding seen
 settings-stay =
     let e = ap (λ (q : Shown). q .settings) (acts-seen (collector 1 16 2) (opened-reached (collector 1 16 2) both-small-opened) (on A-7) (of-bytes both both-bytes 0 (on A-7) refl))
-    ∙ Rattle.setrules.proofs.Cells.settings-stay (seen (collector 1 16 2)) (reads (on A-7)) in
+    ∙ stays (seen (collector 1 16 2)) (reads (on A-7)) in
     (ap (λ (o : Settings). o .cellSize) e, ap (λ (o : Settings). o .limit) e)
 
 pub empty-start-needed : ¬ ((smaller larger : Collector) → StartsEmpty larger → EqualCellSize smaller larger → LimitNoLarger smaller larger → (calls : Calls) → SectionsOfBytes calls → RefusesNoneAsConflicting larger calls → RefusesNoneForItsStore smaller calls → RefusesNoneForItsStore larger calls → Follows smaller larger calls)
