@@ -1,15 +1,15 @@
 -- One law for each turn, each end and each way out of the functions on rows.
 -- Assumes nothing.
 use mathlib.Core.Path.{_≡_, refl, sym, ap, _∙_}
-use mathlib.Core.List.{List, [], _∷_, _++_, append-assoc}
-use mathlib.Core.Bool.{Bool, true, false, cond, not, _&&_, _||_, and-assoc, and-true}
-use Prim.Native.Nat.{ℕ, zero, suc, _+_, _-_, _*_, _≤_, _<_, min}
-use native.Mathlib.Nat.{not-suc-le-zero, le-of-eq}
+use mathlib.Core.List.{List, _++_, append-assoc}
+use mathlib.Core.Bool.{Bool, true, false, cond, _&&_, and-assoc, and-true}
+use Prim.Native.Nat.{ℕ, zero, suc, _+_, _-_, _*_, _≤_, _<_}
+use native.Mathlib.Nat.{le-of-eq}
 use native.Mathlib.Numerals.{add-one}
 use native.Mathlib.Omega.{arith}
 use borrow.Author.Tests.{lt-ltb, le-ltb, eq-eqb, ne-eqb}
-use lib.Dec.{eqb, ltb, leb}
-use lib.ListN.{length, take, drop, getD, set, replicate, length-drop, length-replicate}
+use lib.Dec.{ltb}
+use lib.ListN.{length, take, drop, set, replicate, length-drop, length-replicate}
 use lib.Seq.{paste, set-getD, length-take-le, take-all, drop-drop}
 use Rattle.laws.proofs.Lists.{paste-end}
 use Rattle.cells.specs.Cells.{allWhole, allFilled, markedAll}

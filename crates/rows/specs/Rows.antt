@@ -1,14 +1,13 @@
 -- The rows of a collector: what their heads and slots say, for every content of the two lent slices.
 -- `cond test a b` is a where the test is true, else b.
-use Prim.Native.Nat.{ℕ, zero, suc, _+_, _*_, _≤_, _<_, min}
-use mathlib.Core.Path.{_≡_}
+use Prim.Native.Nat.{ℕ, zero, suc, _+_, _*_, min}
 use mathlib.Core.List.{List, [], _∷_}
 use mathlib.Core.Bool.{Bool, true, false, cond, not, _&&_, _||_}
-use lib.ListN.{length, getD, take, drop, set, replicate}
+use lib.ListN.{getD, take, drop, set, replicate}
 use lib.Seq.{paste}
-use lib.Dec.{ltb, leb, eqb}
+use lib.Dec.{ltb, eqb}
 use Rattle.laws.specs.Lists.{firstFrom}
-use Rattle.cells.specs.Cells.{allWhole, allFilled, someNames, lowestFree, markedAll}
+use Rattle.cells.specs.Cells.{allWhole, someNames, markedAll}
 use Rattle.rows.specs.declared.Key.{Key}
 use Rattle.rows.specs.declared.Entry.{Entry}
 use Rattle.rows.specs.declared.Room.{Room}
@@ -140,8 +139,3 @@ markedRow heads slots gone i map = cond (eqb i gone) map (markedAll (rowSlots he
 unfoldable pub markedRows : List ℕ → List ℕ → ℕ → ℕ → List ℕ → List ℕ
 markedRows heads slots gone zero map = map
 markedRows heads slots gone (suc n) map = markedRows heads slots gone n (markedRow heads slots gone n map)
-
--- what a caller shows of its slices: they have the first n rows
-pub record Fit (heads slots : List ℕ) (n : ℕ) : Type 0 where
-  pub heads-long : n * 12 ≤ length heads
-  pub slots-long : n * 288 ≤ length slots

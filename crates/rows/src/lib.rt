@@ -2,13 +2,13 @@
 // Lent are heads, 12 words a row, and slots, 288 words a row. Rows 0 to used - 1 are in use. What a collector adds (when a row is
 // complete, what an answer is) is its own; how it finds, touches, evicts, empties and scans rows is here.
 ghost use mathlib.Core.Path.{_≡_};
-ghost use mathlib.Core.Bool.{Bool, true, false, cond, not};
-ghost use Prim.Native.Nat.{ℕ, _+_, _-_, _*_, _<_, _≤_};
+ghost use mathlib.Core.Bool.{true, cond};
+ghost use Prim.Native.Nat.{_+_, _-_, _*_, _<_, _≤_};
 ghost use lib.ListN.{length, getD};
 ghost use lib.Seq.{paste};
 ghost use Rattle.cells.specs.Cells.{allFilled};
 ghost use Rattle.rows.specs.Rows.{roomNew, goneRow, keptHeads, slotsAt, slotCount, rowSlots, emptied, keptSlots, rowsWhole, markedRow, markedRows};
-ghost use Rattle.rows.specs.Rows.{word, put, keyAt, sameKey, rowOf, elderOf, oldestOf, older, aged, touched, headOf, freshHead};
+ghost use Rattle.rows.specs.Rows.{word, put, keyAt, sameKey, rowOf, elderOf, oldestOf, older, aged, touched, freshHead};
 
 // What tells one row from another. The set collector has 0 as transport_stream_id and original_network_id.
 pub struct Key {

@@ -1,23 +1,22 @@
 -- One law for each way out of a function that carries out a plan.
 -- Assumes nothing.
-use mathlib.Core.Path.{_≡_, refl, sym, ap, subst, _∙_}
+use mathlib.Core.Path.{_≡_, subst}
 use mathlib.Core.List.{List}
-use mathlib.Core.Bool.{Bool, true, false, cond, _&&_}
-use Prim.Native.Nat.{ℕ, _+_, _*_, _≤_, _<_}
+use mathlib.Core.Bool.{Bool, true, false, _&&_}
+use Prim.Native.Nat.{ℕ, _*_, _≤_, _<_}
 use native.Mathlib.Omega.{arith}
 use lib.Dec.{eqb}
 use lib.ListN.{length}
 use lib.Seq.{paste}
 use Rattle.cells.specs.Cells.{slotWord, allFilled}
 use Rattle.rows.specs.Rows.{word, put, touched, keptHeads, keptSlots, rowSlots}
-use Rattle.rows.specs.declared.Room.{Room}
 use Rattle.sets.specs.declared.Sets.{Sets}
 use Rattle.sets.specs.declared.PushAnswer.{PushAnswer}
 use Rattle.sets.specs.declared.PushAnswer.the-variants.{Nothing, Set, Conflict}
 use Rattle.sets.specs.declared.inner.Keeping.{Keeping}
 use Rattle.sets.specs.declared.inner.Plan.{Plan}
 use Rattle.sets.specs.declared.inner.Plan.the-variants as plan
-use Rattle.sets.specs.Store.{Store, store, Left, leftPushed, answered, goesOut, settledAnswer, settledHeads, settled, keptSets, keptIn, carried, Whole, KeepOk, RowOk, PlanOk}
+use Rattle.sets.specs.Store.{Store, store, Left, leftPushed, goesOut, settledAnswer, settledHeads, settled, keptSets, keptIn, carried, KeepOk, RowOk, PlanOk}
 
 pub goes : (heads slots : List ℕ) (i m : ℕ) (b : Bool) → m ≡ word heads i 8 → b ≡ allFilled (rowSlots heads slots i) → (eqb m 0 && b) ≡ goesOut heads slots i
 unfolding goesOut

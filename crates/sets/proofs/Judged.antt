@@ -1,14 +1,13 @@
 -- From the section's bytes to its entry: one law for each way out, and what a section that is taken has.
 -- Assumes nothing.
-use mathlib.Core.Path.{_≡_, refl, sym, ap, _∙_}
+use mathlib.Core.Path.{_≡_, refl, sym, _∙_}
 use mathlib.Core.List.{List}
-use mathlib.Core.Bool.{Bool, true, false, cond}
-use Prim.Native.Nat.{ℕ, _+_, _≤_, _<_}
+use mathlib.Core.Bool.{Bool, true, false}
+use Prim.Native.Nat.{ℕ, _≤_, _<_}
 use native.Mathlib.Omega.{arith}
 use borrow.Author.Tests.{eq-eqb, ne-eqb}
 use mir.Val.{Fits}
 use mir.Syntax.{w8}
-use lib.Dec.{eqb}
 use lib.ListN.{length, getD}
 use Rattle.section.specs.Judged.{collectedOf}
 use Rattle.section.specs.Header.{headerOf}
@@ -24,7 +23,7 @@ use Rattle.sets.specs.declared.inner.PidWord.{PidWord}
 use Rattle.sets.specs.declared.inner.PidWord.the-variants as pid-word
 use Rattle.sets.specs.declared.inner.Plan.{Plan}
 use Rattle.sets.specs.declared.inner.Plan.the-variants as plan
-use Rattle.sets.specs.Store.{Store, wholeOf, pidWord, entryOf, Numbered, planHeader, planJudged, planPid, planOf}
+use Rattle.sets.specs.Store.{Store, wholeOf, pidWord, entryOf, Numbered, planHeader, planJudged, planOf}
 
 -- what the header of a section that is taken has: its section_number is at most its last_section_number, a byte
 pub header-numbers : (s : List ℕ) (h : Header) → Takes s h → getD s 7 0 < 256 → (h .number ≤ h .last) × (h .last < 256)

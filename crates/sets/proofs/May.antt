@@ -3,7 +3,7 @@
 use mathlib.Core.Path.{_≡_, refl, sym, subst}
 use mathlib.Core.List.{List}
 use mathlib.Core.Bool.{Bool, true, false, cond, _&&_, true≢false}
-use Prim.Native.Nat.{ℕ, zero, suc, _+_, _≤_, _<_, max}
+use Prim.Native.Nat.{ℕ, zero, suc, _+_, _≤_, _<_}
 use native.Mathlib.Nat.{not-suc-le-zero}
 use native.Mathlib.Omega.{arith}
 use borrow.Author.Tests.{ltb-true, ltb-false, eqb-false}
@@ -18,14 +18,14 @@ use Rattle.cells.specs.Cells.{keptLength, lowestFree, kept}
 use Rattle.rows.specs.Rows.{word, elderOf, oldestOf, rowOf, roomIn, roomRenewed, roomNew, goneRow, slotsAt, takenIn}
 use Rattle.rows.specs.declared.Entry.{Entry}
 use Rattle.rows.specs.declared.Room.{Room}
-use Rattle.sets.specs.declared.PushAnswer.the-variants.{Nothing, NotWhole, CounterFull, PidTooLarge, TooLong, NoCell}
+use Rattle.sets.specs.declared.PushAnswer.the-variants.{Nothing, NotWhole, CounterFull, TooLong, NoCell}
 use Rattle.sets.specs.declared.inner.PidWord.{PidWord}
 use Rattle.sets.specs.declared.inner.PidWord.the-variants as pid-word
 use Rattle.sets.specs.declared.inner.Plan.{Plan}
 use Rattle.sets.specs.declared.inner.Plan.the-variants as plan
 use Rattle.sets.specs.Store.{Store, Left, wholeOf, pidWord, entryOf, Whole, Numbered, RoomOk, PlanOk, planKeep, planSlot, planKnown, planGood, planHeader, planJudged, planPid, planOf, carried, pushedOf}
 use Rattle.sets.proofs.Whole.{whole-means}
-use Rattle.sets.proofs.Judged.{good-numbers}
+use Rattle.sets.proofs.Judged.{good-numbers, good-length}
 
 elder-below : (heads : List ℕ) (n b : ℕ) → b < suc n → elderOf heads b n < suc n
 unfolding elderOf
@@ -43,7 +43,7 @@ oldest-below heads (suc (suc n)) h =
     let l : oldestOf heads (suc n) < suc n = oldest-below heads (suc n) (omega arith) in
     elder-below heads (suc n) (oldestOf heads (suc n)) (omega arith)
 
-module _ (s : Store) (bytes : List ℕ) (f : Whole (s .sets) (s .heads) (s .slots) (s .cells)) (l : length bytes ≤ s .sets .size) (e : Entry) (n : Numbered e) where
+module _ (s : Store) (bytes : List ℕ) (f : Whole (s .sets) (s .heads) (s .slots) (s .cells)) (g : 12 ≤ length bytes) (l : length bytes ≤ s .sets .size) (e : Entry) (n : Numbered e) where
   keep-ok : (r : Room) → RoomOk (s .sets) r → PlanOk s bytes (planKeep s e r)
   unfolding planKeep
   keep-ok r k = go (ltb c (s .sets .count)) refl
@@ -52,7 +52,7 @@ module _ (s : Store) (bytes : List ℕ) (f : Whole (s .sets) (s .heads) (s .slot
       c = lowestFree (takenIn (s .heads) (s .slots) (goneRow r (s .sets .used)) (s .sets .used)) (s .sets .count)
 
       go : (b : Bool) → ltb c (s .sets .count) ≡ b → PlanOk s bytes (cond b (plan.Keep (record { entry = e; room = r; cell = c })) (plan.Refuse NoCell))
-      go true q = record { whole = f; numbered = n; room = k; cell = ltb-true c (s .sets .count) q; fits = l }
+      go true q = record { whole = f; numbered = n; room = k; cell = ltb-true c (s .sets .count) q; long = g; fits = l }
       go false q = tt
 
   renewed-ok : (i a : ℕ) → i < s .sets .used → RoomOk (s .sets) (roomRenewed (s .sets .used) (s .sets .evictions) i a)
@@ -104,21 +104,21 @@ module _ (s : Store) (bytes : List ℕ) (f : Whole (s .sets) (s .heads) (s .slot
       go false q = keep-ok (roomNew (s .heads) (s .sets .limit) (s .sets .used) (s .sets .evictions)) (new-ok z)
 
 module _ (s : Store) (bytes : List ℕ) (b7 : getD bytes 7 0 < 256) where
-  header-ok : Whole (s .sets) (s .heads) (s .slots) (s .cells) → (e : Entry) → Numbered e → PlanOk s bytes (planHeader s bytes e)
+  header-ok : Whole (s .sets) (s .heads) (s .slots) (s .cells) → 12 ≤ length bytes → (e : Entry) → Numbered e → PlanOk s bytes (planHeader s bytes e)
   unfolding planHeader
-  header-ok f e n = go (ltb (s .sets .size) (length bytes)) (eqb (s .sets .limit) 0) refl refl
+  header-ok f g e n = go (ltb (s .sets .size) (length bytes)) (eqb (s .sets .limit) 0) refl refl
     where
       go : (a b : Bool) → ltb (s .sets .size) (length bytes) ≡ a → eqb (s .sets .limit) 0 ≡ b → PlanOk s bytes (cond a (plan.Refuse TooLong) (cond b (plan.Refuse Nothing) (planGood s e bytes)))
       go true b p q = tt
       go false true p q = tt
-      go false false p q = good-ok s bytes f (ltb-false (s .sets .size) (length bytes) p) e n (eqb-false (s .sets .limit) 0 q)
+      go false false p q = good-ok s bytes f g (ltb-false (s .sets .size) (length bytes) p) e n (eqb-false (s .sets .limit) 0 q)
 
   judged-ok : Whole (s .sets) (s .heads) (s .slots) (s .cells) → (pid : ℕ) (c : Collected) → collectedOf bytes ≡ c → PlanOk s bytes (planJudged s bytes pid c)
   judged-ok f pid collected.Malformed q = tt
   judged-ok f pid collected.ShortForm q = tt
   judged-ok f pid collected.BadNumber q = tt
   judged-ok f pid collected.BadCrc q = tt
-  judged-ok f pid (collected.Good h) q = header-ok f (entryOf pid h) (good-numbers bytes pid h q b7)
+  judged-ok f pid (collected.Good h) q = header-ok f (good-length bytes h q) (entryOf pid h) (good-numbers bytes pid h q b7)
 
   pid-ok : Whole (s .sets) (s .heads) (s .slots) (s .cells) → (v : PidWord) → PlanOk s bytes (planPid s bytes v)
   pid-ok f pid-word.TooLarge = tt

@@ -1,22 +1,18 @@
 -- One law for each way out of a function that decides, and what a plan may say.
 -- Assumes nothing.
-use mathlib.Core.Path.{_≡_, refl, sym, ap, subst, _∙_}
+use mathlib.Core.Path.{_≡_, sym, _∙_}
 use mathlib.Core.List.{List}
-use mathlib.Core.Bool.{Bool, true, false, cond, _&&_, true≢false}
-use Prim.Native.Nat.{ℕ, zero, suc, _+_, _-_, _*_, _/_, _%_, _≤_, _<_, max}
-use native.Mathlib.Nat.{mul-le-mul-right, mul-le-mul-left, le-trans, lt-of-le-of-lt, not-suc-le-zero, add-mul, one-mul}
-use native.Mathlib.Decide.{ℕ-discrete}
+use mathlib.Core.Bool.{Bool, true, false, _&&_}
+use Prim.Native.Nat.{ℕ, _+_, _-_, _*_, _≤_, _<_}
+use native.Mathlib.Nat.{mul-le-mul-right, mul-le-mul-left, le-trans, lt-of-le-of-lt, add-mul, one-mul}
 use native.Mathlib.Omega.{arith}
-use borrow.Author.Tests.{eq-eqb, ne-eqb, lt-ltb, le-ltb, ltb-true, ltb-false, eqb-true, eqb-false, leb-true}
+use borrow.Author.Tests.{eq-eqb, ne-eqb, lt-ltb, le-ltb, ltb-true, eqb-true, leb-true}
 use mir.Val.{Fits}
 use mir.Syntax.{w64}
 use lib.Dec.{eqb, ltb, leb, lit<}
-use lib.ListN.{length, take, drop, getD, length-drop}
-use lib.Seq.{getD-take, getD-drop, length-take-le}
-use Rattle.laws.specs.Lists.{sameList, every}
-use Rattle.laws.proofs.Tests.{and-true, or-false}
-use Rattle.laws.proofs.Search.{every-get}
-use Rattle.section.specs.Judged.{collectedOf}
+use lib.ListN.{length, take, drop, getD}
+use Rattle.laws.specs.Lists.{sameList}
+use Rattle.laws.proofs.Tests.{and-true}
 use Rattle.section.specs.Ids.{pidMade}
 use Rattle.section.specs.declared.ids.Pid.{Pid}
 use Rattle.section.specs.declared.ids.Made.{Made}
@@ -24,18 +20,17 @@ use Rattle.section.specs.declared.ids.Made.the-variants as made
 use Rattle.section.specs.declared.ids.MaybePid.{MaybePid}
 use Rattle.section.specs.declared.ids.MaybePid.the-variants as maybe
 use Rattle.cells.specs.Cells.{keptLength, cellNumber, slotWhole, lowestFree, kept}
-use Rattle.rows.specs.Rows.{word, elderOf, oldestOf, rowOf, roomIn, roomRenewed, roomNew, goneRow, slotsAt, slotCount, rowSlots, rowsWhole, takenIn}
+use Rattle.rows.specs.Rows.{word, rowOf, roomIn, roomRenewed, roomNew, goneRow, slotsAt, takenIn}
+use Rattle.rows.proofs.Whole.{slot-get}
 use Rattle.rows.specs.declared.Entry.{Entry}
 use Rattle.rows.specs.declared.Room.{Room}
 use Rattle.sets.specs.declared.Sets.{Sets}
-use Rattle.sets.specs.declared.PushAnswer.{PushAnswer}
-use Rattle.sets.specs.declared.PushAnswer.the-variants.{Nothing, NotWhole, CounterFull, PidTooLarge, TooLong, NoCell}
+use Rattle.sets.specs.declared.PushAnswer.the-variants.{Nothing, TooLong, NoCell}
 use Rattle.sets.specs.declared.inner.PidWord.{PidWord}
 use Rattle.sets.specs.declared.inner.PidWord.the-variants as pid-word
-use Rattle.sets.specs.declared.inner.Keeping.{Keeping}
 use Rattle.sets.specs.declared.inner.Plan.{Plan}
 use Rattle.sets.specs.declared.inner.Plan.the-variants as plan
-use Rattle.sets.specs.Store.{Store, store, wholeOf, pidOf, pidWord, Whole, planKeep, planSlot, planKnown, planGood, planHeader, Numbered}
+use Rattle.sets.specs.Store.{Store, pidOf, pidWord, Whole, planKeep, planSlot, planKnown, planGood, planHeader, Numbered}
 
 -- ---- the PID
 
@@ -119,27 +114,6 @@ pub known-other : (s : Store) (e : Entry) (bytes : List ℕ) (i v l a : ℕ) (p 
     → a ≡ word (s .heads) i 9 → p ≡ planKeep s e (roomRenewed (s .sets .used) (s .sets .evictions) i a) → p ≡ planKnown s e bytes i
 unfolding planKnown
 known-other s e bytes i v l a p f g t h q = rw (← f, ← g, t, ← h) q
-
-rows-get : (heads slots : List ℕ) (count size n i : ℕ) → rowsWhole heads slots count size n ≡ true → i < n → every (slotWhole count size) (rowSlots heads slots i) ≡ true
-unfolding rowsWhole
-rows-get heads slots count size zero i e h = absurd (not-suc-le-zero h)
-rows-get heads slots count size (suc n) i e h =
-    let a = and-true (every (slotWhole count size) (rowSlots heads slots n)) (rowsWhole heads slots count size n) e in
-    go (ℕ-discrete i n) (a .0) (λ q. rows-get heads slots count size n i (a .1) q)
-  where
-    go : Dec (i ≡ n) → every (slotWhole count size) (rowSlots heads slots n) ≡ true → (i < n → every (slotWhole count size) (rowSlots heads slots i) ≡ true) → every (slotWhole count size) (rowSlots heads slots i) ≡ true
-    go (yes q) p ih = rw q p
-    go (no d) p ih = ih (omega arith)
-
--- slot j of a row in use is whole
-pub slot-get : (heads slots : List ℕ) (count size used i j : ℕ) → rowsWhole heads slots count size used ≡ true → i < used → used * 288 ≤ length slots → j < slotCount (word heads i 7)
-    → slotWhole count size (getD slots (slotsAt i + j) 0) ≡ true
-unfolding rowSlots
-slot-get heads slots count size used i j e h l k =
-    let n : ℕ = slotCount (word heads i 7) in
-    let d : length (take n (drop (slotsAt i) slots)) ≡ n = length-take-le n (drop (slotsAt i) slots) (rw (length-drop (slotsAt i) slots) (omega arith)) in
-    let g = every-get (slotWhole count size) (take n (drop (slotsAt i) slots)) 0 j (rows-get heads slots count size used i e h) (omega arith) in
-    rw (getD-take n (drop (slotsAt i) slots) j 0 k, getD-drop (slotsAt i) slots j 0) at g
 
 pub same-last : (a b u v : ℕ) → (eqb a u && eqb b v) ≡ true → b ≡ v
 same-last a b u v e = eqb-true b v (and-true (eqb a u) (eqb b v) e .1)

@@ -1,9 +1,9 @@
 -- What each call of the set collector answers and leaves, for every content of the lent memory (document 01, "Collectors", "Cells" and the
 -- table of answers). `cond test a b` is a where the test is true, else b.
-use Prim.Native.Nat.{ℕ, zero, suc, _+_, _-_, _*_, _≤_, _<_, max}
+use Prim.Native.Nat.{ℕ, _+_, _-_, _*_, _≤_, _<_, max}
 use mathlib.Core.Path.{_≡_}
-use mathlib.Core.List.{List, [], _∷_, map}
-use mathlib.Core.Bool.{Bool, true, false, cond, not, _&&_, _||_}
+use mathlib.Core.List.{List, map}
+use mathlib.Core.Bool.{Bool, true, false, cond, _&&_}
 use lib.ListN.{length, getD}
 use lib.Seq.{paste}
 use lib.Dec.{ltb, leb, eqb}
@@ -17,8 +17,8 @@ use Rattle.section.specs.declared.ids.Made.{Made}
 use Rattle.section.specs.declared.ids.Made.the-variants as made
 use Rattle.section.specs.declared.ids.MaybePid.{MaybePid}
 use Rattle.section.specs.declared.ids.MaybePid.the-variants as maybe
-use Rattle.cells.specs.Cells.{slotWord, keptLength, cellNumber, filled, slotWhole, allFilled, nextFilled, lowestFree, kept}
-use Rattle.rows.specs.Rows.{word, put, keyAt, rowOf, touched, roomIn, roomRenewed, roomNew, goneRow, keptHeads, slotsAt, slotCount, rowSlots, keptSlots, rowsWhole, takenIn}
+use Rattle.cells.specs.Cells.{slotWord, keptLength, cellNumber, allFilled, nextFilled, lowestFree, kept}
+use Rattle.rows.specs.Rows.{word, put, keyAt, rowOf, touched, roomIn, roomRenewed, roomNew, goneRow, keptHeads, slotsAt, rowSlots, keptSlots, rowsWhole, takenIn}
 use Rattle.rows.specs.declared.Key.{Key}
 use Rattle.rows.specs.declared.Entry.{Entry}
 use Rattle.rows.specs.declared.Room.{Room}
@@ -354,6 +354,7 @@ pub record KeepOk (s : Store) (bytes : List ℕ) (k : Keeping) : Type 0 where
   pub numbered : Numbered (k .entry)
   pub room : RoomOk (s .sets) (k .room)
   pub cell : k .cell < s .sets .count
+  pub long : 12 ≤ length bytes
   pub fits : length bytes ≤ s .sets .size
 
 pub record RowOk (s : Store) (i : ℕ) : Type 0 where

@@ -1,11 +1,8 @@
 // The set collector: sections in, complete sets of sections out (document 01, "Collectors"). The host keeps a `Sets` by value and lends
 // three slices at every call: heads (12 words a row), slots (288 words a row) and cells. Every call takes any content of them and has one
 // answer; a refusal leaves them as they were, but 22, which touches the key.
-use rows::Key;
 use section::ids::MaybePid;
 ghost use mathlib.Core.Path.{_≡_};
-ghost use Prim.Native.Nat.{ℕ};
-ghost use lib.ListN.{length};
 ghost use Rattle.cells.specs.Cells.{partOf};
 ghost use Rattle.sets.specs.Store.{store, asked, openNumber, pushNumber, clearNumber, nextNumber};
 ghost use Rattle.sets.specs.Store.{leftOpened, leftPushed, leftCleared, openedOf, pushedOf, clearedOf, questionOf, nextOf};
@@ -234,4 +231,42 @@ pub fn section_part<'a>(cells: &'a [u8], start: usize, length: usize) -> &'a [u8
     ensures { λ r. ⌜ now r ≡ partOf (now (cells .entry)) start length ⌝ }
 {
     cells::part(cells, start, length)
+}
+
+// A reader over a complete set: the lent cells, and the slot to look at next. It asks `next_section` from that slot on, and hands out each
+// section as a part of the cells.
+pub struct SetReader<'a> {
+    pub cells: &'a [u8],
+    pub next: usize,
+}
+
+// A reader at the first slot.
+pub fn reader<'a>(cells: &'a [u8]) -> SetReader<'a>
+    ensures { λ r. ⌜ (r .cells ≡ cells .entry) × (r .next ≡ 0) ⌝ }
+{
+    SetReader { cells, next: 0 }
+}
+
+// The slot from which the reader asks on.
+pub fn next_from<'a>(r: SetReader<'a>) -> usize
+    ensures { λ n. ⌜ n ≡ r .entry .next ⌝ }
+{
+    r.next
+}
+
+// The section that `next_section` told of.
+pub fn section_at<'a>(r: SetReader<'a>, start: usize, length: usize) -> &'a [u8]
+    ensures { λ s. ⌜ now s ≡ partOf (now (r .entry .cells)) start length ⌝ }
+{
+    section_part(r.cells, start, length)
+}
+
+// The reader at another slot.
+pub fn moved<'a>(r: SetReader<'a>, next: usize) -> SetReader<'a>
+    ensures { λ q. ⌜ (q .cells ≡ r .entry .cells) × (q .next ≡ next) ⌝ }
+{
+    SetReader {
+        cells: r.cells,
+        next,
+    }
 }

@@ -1,0 +1,205 @@
+-- What the words of heads and slots are after a change, row by row.
+-- Assumes nothing.
+use mathlib.Core.Path.{_≡_, refl, sym, ap, _∙_}
+use mathlib.Core.Logic.{_≢_}
+use mathlib.Core.List.{List}
+use mathlib.Core.Bool.{Bool, true, false, cond}
+use Prim.Native.Nat.{ℕ, zero, suc, _+_, _-_, _*_, _≤_, _<_}
+use native.Mathlib.Nat.{not-suc-le-zero, le-refl}
+use native.Mathlib.Decide.{ℕ-discrete, decLt}
+use native.Mathlib.Omega.{arith}
+use lib.ListN.{length, getD, drop, replicate, length-set, length-drop, length-replicate}
+use lib.Seq.{getD-set-same, getD-set-other, paste, length-paste, getD-take, getD-drop, length-take-le}
+use Rattle.laws.proofs.Lists.{paste-past, paste-before, paste-in, getD-none}
+use Rattle.rows.specs.declared.Entry.{Entry}
+use Rattle.rows.specs.declared.Room.{Room}
+use Rattle.rows.specs.Rows.{word, put, older, aged, touched, headOf, freshHead, keptHeads, slotsAt, slotCount, rowSlots, emptied, keptSlots}
+
+-- ---- one word
+
+pub put-same : (h : List ℕ) (i k v : ℕ) → i * 12 + k < length h → word (put i k v h) i k ≡ v
+put-same h i k v l = getD-set-same h (i * 12 + k) v 0 l
+
+pub put-row : (h : List ℕ) (i k v j m : ℕ) → j ≢ i → k < 12 → m < 12 → word (put i k v h) j m ≡ word h j m
+put-row h i k v j m ne hk hm = getD-set-other h (i * 12 + k) (j * 12 + m) v 0 (omega arith)
+
+pub put-not : (h : List ℕ) (i k v j m : ℕ) → m ≢ k → k < 12 → m < 12 → word (put i k v h) j m ≡ word h j m
+put-not h i k v j m ne hk hm = getD-set-other h (i * 12 + k) (j * 12 + m) v 0 (omega arith)
+
+pub length-put : (i k v : ℕ) (h : List ℕ) → length (put i k v h) ≡ length h
+length-put i k v h = length-set h (i * 12 + k) v
+
+-- ---- ages
+
+pub length-aged : (a n : ℕ) (h : List ℕ) → length (aged a n h) ≡ length h
+unfolding aged
+length-aged a zero h = refl
+length-aged a (suc n) h = length-aged a n (put n 9 (older a (word h n 9)) h) ∙ length-put n 9 (older a (word h n 9)) h
+
+pub aged-not : (a n : ℕ) (h : List ℕ) (j m : ℕ) → m ≢ 9 → m < 12 → word (aged a n h) j m ≡ word h j m
+unfolding aged
+aged-not a zero h j m ne l = refl
+aged-not a (suc n) h j m ne l = aged-not a n (put n 9 (older a (word h n 9)) h) j m ne l ∙ put-not h n 9 (older a (word h n 9)) j m ne (omega arith) l
+
+aged-past : (a n : ℕ) (h : List ℕ) (j : ℕ) → n ≤ j → word (aged a n h) j 9 ≡ word h j 9
+unfolding aged
+aged-past a zero h j l = refl
+aged-past a (suc n) h j l = aged-past a n (put n 9 (older a (word h n 9)) h) j (omega arith) ∙ put-row h n 9 (older a (word h n 9)) j 9 (omega arith) (omega arith) (omega arith)
+
+pub aged-age : (a n : ℕ) (h : List ℕ) (j : ℕ) → n * 12 ≤ length h → j < n → word (aged a n h) j 9 ≡ older a (word h j 9)
+unfolding aged
+aged-age a zero h j l k = absurd (not-suc-le-zero k)
+aged-age a (suc n) h j l k =
+    let v : ℕ = older a (word h n 9) in
+    let e : length (put n 9 v h) ≡ length h = length-put n 9 v h in
+    go (ℕ-discrete j n) (λ q. aged-age a n (put n 9 v h) j (omega arith) q)
+  where
+    go : Dec (j ≡ n) → (j < n → word (aged a n (put n 9 (older a (word h n 9)) h)) j 9 ≡ older a (word (put n 9 (older a (word h n 9)) h) j 9))
+        → word (aged a n (put n 9 (older a (word h n 9)) h)) j 9 ≡ older a (word h j 9)
+    go (yes q) ih =
+        let v : ℕ = older a (word h n 9) in
+        aged-past a n (put n 9 v h) j (omega arith) ∙ ap (λ (z : ℕ). word (put n 9 v h) z 9) q ∙ put-same h n 9 v (omega arith) ∙ ap (λ (z : ℕ). older a (word h z 9)) (sym q)
+    go (no d) ih = ih (omega arith) ∙ ap (older a) (put-row h n 9 (older a (word h n 9)) j 9 d (omega arith) (omega arith))
+
+-- ---- a touch
+
+pub length-touched : (used i : ℕ) (h : List ℕ) → length (touched used i h) ≡ length h
+unfolding touched
+length-touched used i h = length-put i 9 0 (aged (word h i 9) used h) ∙ length-aged (word h i 9) used h
+
+-- a touch changes ages alone
+pub touched-not : (used i : ℕ) (h : List ℕ) (j m : ℕ) → m ≢ 9 → m < 12 → word (touched used i h) j m ≡ word h j m
+unfolding touched
+touched-not used i h j m ne l = put-not (aged (word h i 9) used h) i 9 0 j m ne (omega arith) l ∙ aged-not (word h i 9) used h j m ne l
+
+pub touched-newest : (used i : ℕ) (h : List ℕ) → used * 12 ≤ length h → i < used → word (touched used i h) i 9 ≡ 0
+unfolding touched
+touched-newest used i h l k =
+    let e : length (aged (word h i 9) used h) ≡ length h = length-aged (word h i 9) used h in
+    put-same (aged (word h i 9) used h) i 9 0 (omega arith)
+
+pub touched-other : (used i : ℕ) (h : List ℕ) (j : ℕ) → used * 12 ≤ length h → j < used → j ≢ i → word (touched used i h) j 9 ≡ older (word h i 9) (word h j 9)
+unfolding touched
+touched-other used i h j l k ne = put-row (aged (word h i 9) used h) i 9 0 j 9 ne (omega arith) (omega arith) ∙ aged-age (word h i 9) used h j l k
+
+-- ---- a row that begins anew
+
+module _ (i : ℕ) (e : Entry) (age : ℕ) (h : List ℕ) (l : i * 12 + 12 ≤ length h) where
+  pub length-fresh : length (freshHead i e age h) ≡ length h
+  unfolding freshHead
+  length-fresh = length-paste h (i * 12) (headOf e age) 12 l (le-refl 12)
+
+  -- its head is the section's
+  pub fresh-word : (k : ℕ) → k < 12 → word (freshHead i e age h) i k ≡ getD (headOf e age) k 0
+  unfolding freshHead
+  fresh-word k hk = paste-in h (i * 12) (headOf e age) 12 k 0 l (le-refl 12) hk
+
+  pub fresh-row : (j k : ℕ) → j ≢ i → k < 12 → word (freshHead i e age h) j k ≡ word h j k
+  unfolding freshHead
+  fresh-row j k ne hk = go (decLt j i)
+    where
+      go : Dec (j < i) → word (paste h (i * 12) (headOf e age) 12) j k ≡ word h j k
+      go (yes lt) = paste-before h (i * 12) (headOf e age) 12 (j * 12 + k) 0 l (le-refl 12) (omega arith)
+      go (no ge) = paste-past h (i * 12) (headOf e age) 12 (j * 12 + k) 0 (omega arith) (le-refl 12) (omega arith)
+
+module _ (r : Room) (e : Entry) (h : List ℕ) (l : r .row * 12 + 12 ≤ length h) where
+  pub length-kept : length (keptHeads r e h) ≡ length h
+  unfolding keptHeads
+  length-kept = go (r .fresh)
+    where
+      go : (b : Bool) → length (cond b (freshHead (r .row) e (r .age) h) (put (r .row) 8 0 h)) ≡ length h
+      go true = length-fresh (r .row) e (r .age) h l
+      go false = length-put (r .row) 8 0 h
+
+  -- the other rows' heads are as they were
+  pub kept-row : (j k : ℕ) → j ≢ r .row → k < 12 → word (keptHeads r e h) j k ≡ word h j k
+  unfolding keptHeads
+  kept-row j k ne hk = go (r .fresh)
+    where
+      go : (b : Bool) → word (cond b (freshHead (r .row) e (r .age) h) (put (r .row) 8 0 h)) j k ≡ word h j k
+      go true = fresh-row (r .row) e (r .age) h l j k ne hk
+      go false = put-row h (r .row) 8 0 j k ne (omega arith) hk
+
+  pub kept-fresh : r .fresh ≡ true → (k : ℕ) → k < 12 → word (keptHeads r e h) (r .row) k ≡ getD (headOf e (r .age)) k 0
+  unfolding keptHeads
+  kept-fresh t k hk = rw t (fresh-word (r .row) e (r .age) h l k hk)
+
+  -- a known row's head loses its mark, and is else as it was
+  pub kept-known : r .fresh ≡ false → (k : ℕ) → k ≢ 8 → k < 12 → word (keptHeads r e h) (r .row) k ≡ word h (r .row) k
+  unfolding keptHeads
+  kept-known t k ne hk = rw t (put-not h (r .row) 8 0 (r .row) k ne (omega arith) hk)
+
+-- ---- slots
+
+-- slot k of row i
+pub slot-at : (heads slots : List ℕ) (i k : ℕ) → k < slotCount (word heads i 7) → getD (rowSlots heads slots i) k 0 ≡ getD slots (slotsAt i + k) 0
+unfolding rowSlots
+slot-at heads slots i k h = getD-take (slotCount (word heads i 7)) (drop (slotsAt i) slots) k 0 h ∙ getD-drop (slotsAt i) slots k 0
+
+pub length-slots : (heads slots : List ℕ) (i : ℕ) → i * 288 + 288 ≤ length slots → length (rowSlots heads slots i) ≡ slotCount (word heads i 7)
+unfolding rowSlots
+length-slots heads slots i l = length-take-le (slotCount (word heads i 7)) (drop (slotsAt i) slots) (rw (length-drop (slotsAt i) slots) (omega arith))
+
+module _ (at n : ℕ) (slots : List ℕ) (l : at + n ≤ length slots) where
+  zeros : n ≤ length (replicate {A = ℕ} n 0)
+  zeros = rw (length-replicate {A = ℕ} n 0) (le-refl n)
+
+  pub length-emptied : length (emptied at n slots) ≡ length slots
+  length-emptied = length-paste slots at (replicate n 0) n l zeros
+
+  pub emptied-in : (k : ℕ) → at ≤ k → k < at + n → getD (emptied at n slots) k 0 ≡ 0
+  emptied-in k a b =
+      let e : k ≡ at + (k - at) = omega arith in
+      rw e (paste-in slots at (replicate n 0) n (k - at) 0 l zeros (omega arith) ∙ getD-none n (k - at) 0)
+
+  pub emptied-out : (k : ℕ) → (at ≤ k → k < at + n → ⊥) → getD (emptied at n slots) k 0 ≡ getD slots k 0
+  emptied-out k f = go (decLt k at)
+    where
+      go : Dec (k < at) → getD (emptied at n slots) k 0 ≡ getD slots k 0
+      go (yes lt) = paste-before slots at (replicate n 0) n k 0 l zeros lt
+      go (no ge) = go′ (decLt k (at + n))
+        where
+          go′ : Dec (k < at + n) → getD (emptied at n slots) k 0 ≡ getD slots k 0
+          go′ (yes lt) = absurd (f (omega arith) lt)
+          go′ (no gt) = paste-past slots at (replicate n 0) n k 0 (omega arith) zeros (omega arith)
+
+-- the slots after a section is kept
+module _ (r : Room) (e : Entry) (w : ℕ) (slots : List ℕ) (l : r .row * 288 + 288 ≤ length slots) (hn : e .number ≤ e .last) (hl : e .last < 256) where
+  abbrev begun : List ℕ
+  begun = cond (r .fresh) (emptied (slotsAt (r .row)) (e .last + 1) slots) slots
+
+  length-begun : length begun ≡ length slots
+  length-begun = go (r .fresh)
+    where
+      go : (b : Bool) → length (cond b (emptied (slotsAt (r .row)) (e .last + 1) slots) slots) ≡ length slots
+      go true = length-emptied (slotsAt (r .row)) (e .last + 1) slots (omega arith)
+      go false = refl
+
+  pub length-kept-slots : length (keptSlots r e w slots) ≡ length slots
+  unfolding keptSlots
+  length-kept-slots = length-set begun (slotsAt (r .row) + e .number) w ∙ length-begun
+
+  -- the section's own slot
+  pub kept-slot : getD (keptSlots r e w slots) (slotsAt (r .row) + e .number) 0 ≡ w
+  unfolding keptSlots
+  kept-slot = getD-set-same begun (slotsAt (r .row) + e .number) w 0 (let q = length-begun in omega arith)
+
+  -- the slots of the other rows
+  pub kept-other : (j k : ℕ) → j ≢ r .row → k < 256 → getD (keptSlots r e w slots) (slotsAt j + k) 0 ≡ getD slots (slotsAt j + k) 0
+  unfolding keptSlots
+  kept-other j k ne hk = getD-set-other begun (slotsAt (r .row) + e .number) (slotsAt j + k) w 0 (omega arith) ∙ go (r .fresh)
+    where
+      go : (b : Bool) → getD (cond b (emptied (slotsAt (r .row)) (e .last + 1) slots) slots) (slotsAt j + k) 0 ≡ getD slots (slotsAt j + k) 0
+      go true = emptied-out (slotsAt (r .row)) (e .last + 1) slots (omega arith) (slotsAt j + k) (λ p q. absurd (omega arith))
+      go false = refl
+
+  -- the other slots of the section's row: empty where it begins anew, else as they were
+  pub kept-empty : r .fresh ≡ true → (k : ℕ) → k ≢ e .number → k ≤ e .last → getD (keptSlots r e w slots) (slotsAt (r .row) + k) 0 ≡ 0
+  unfolding keptSlots
+  kept-empty t k ne hk =
+      getD-set-other begun (slotsAt (r .row) + e .number) (slotsAt (r .row) + k) w 0 (omega arith)
+      ∙ rw t (emptied-in (slotsAt (r .row)) (e .last + 1) slots (omega arith) (slotsAt (r .row) + k) (omega arith) (omega arith))
+
+  pub kept-same : r .fresh ≡ false → (k : ℕ) → k ≢ e .number → getD (keptSlots r e w slots) (slotsAt (r .row) + k) 0 ≡ getD slots (slotsAt (r .row) + k) 0
+  unfolding keptSlots
+  kept-same t k ne = getD-set-other begun (slotsAt (r .row) + e .number) (slotsAt (r .row) + k) w 0 (omega arith) ∙ rw t
