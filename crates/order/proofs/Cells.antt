@@ -1,22 +1,22 @@
 -- Cells: what lies in the lent bytes, cell by cell.
 -- Assumes nothing.
 use mathlib.Core.Path.{_≡_, refl, sym, ap, _∙_}
-use mathlib.Core.Logic.{_≢_, _⊎_, inl, inr}
+use mathlib.Core.Logic.{_≢_}
 use mathlib.Core.Bool.{Bool, _&&_}
 use mathlib.Core.List.{List, [], _∷_, _++_}
 use Prim.Native.Nat.{ℕ, zero, suc, _+_, _-_, _*_, _≤_, _<_}
 use native.Mathlib.Nat.{mul-le-mul-right, not-suc-le-zero, le-refl, add-zero, add-mul, one-mul}
-use native.Mathlib.Decide.{decLe}
 use native.Mathlib.Omega.{arith}
 use lib.ListN.{length, take, drop, getD, set}
-use lib.Seq.{paste, take-take, take-add, drop-drop, drop-paste, take-length, length-paste}
+use lib.Seq.{paste, take-take, take-add, drop-drop, drop-paste, length-paste}
 use Rattle.laws.specs.Lists.{sameList}
 use Rattle.laws.proofs.Lists.{drop-take}
 use Rattle.touch.specs.Same.{Bytes, sameBytes}
 use Rattle.touch.specs.Cells.{bytesOf, write}
 use Rattle.cells.specs.Cells.{keptLength, cellNumber, kept}
+use Rattle.cells.proofs.Bytes.{other-cell, same-cell}
 use Rattle.order.specs.Slots.{upFrom, cellsSeen}
-use Rattle.order.proofs.Slots.{part-pasted, part-beside, place}
+use Rattle.order.proofs.Slots.{place}
 
 -- ---- lists by a function
 
@@ -91,16 +91,9 @@ module _ (bytes : List ℕ) (size count c : ℕ) (b : Bytes) (hc : c < count) (l
       let h = inside in
       ap (λ (k : ℕ). take k (drop (c * size) written)) n
       ∙ take-add (length b) m (drop (c * size) written)
-      ∙ ap (λ (l : List ℕ). l ++ take m (drop (length b) (drop (c * size) written))) (part-pasted bytes (c * size) b (length b) (omega arith) (le-refl (length b)) ∙ take-length b)
+      ∙ ap (λ (l : List ℕ). l ++ take m (drop (length b) (drop (c * size) written))) (same-cell bytes (c * size) b (omega arith))
       ∙ ap (λ (l : List ℕ). b ++ take m l) (drop-drop (length b) (c * size) written ∙ drop-paste bytes (c * size) b (length b) (omega arith) (le-refl (length b)) ∙ sym (drop-drop (length b) (c * size) bytes))
       ∙ ap (λ (l : List ℕ). b ++ l) (sym (drop-take (length b) m (drop (c * size) bytes)) ∙ ap (λ (k : ℕ). drop (length b) (take k (drop (c * size) bytes))) (sym n))
-
-  other-cell : (d : ℕ) → d < count → d ≢ c → take size (drop (d * size) written) ≡ take size (drop (d * size) bytes)
-  other-cell d h ne = part-beside 0 bytes (c * size) b (length b) (d * size) size (let i = inside in omega arith) (le-refl (length b)) (side (decLe (suc d) c))
-    where
-      side : Dec (suc d ≤ c) → (d * size + size ≤ c * size) ⊎ (c * size + length b ≤ d * size)
-      side (yes l) = let m : (d + 1) * size ≤ c * size = mul-le-mul-right size (omega arith) in let e = more d size in inl (omega arith)
-      side (no l) = let m : (c + 1) * size ≤ d * size = mul-le-mul-right size (omega arith) in let e = more c size in inr (omega arith)
 
   pub cells-written : cellsSeen written size count ≡ write (cellsSeen bytes size count) c b
   unfolding cellsSeen write
@@ -109,7 +102,7 @@ module _ (bytes : List ℕ) (size count c : ℕ) (b : Bytes) (hc : c < count) (l
       up-set (λ (d : ℕ). take size (drop (d * size) bytes)) (λ (d : ℕ). take size (drop (d * size) written)) count 0 c
       (b ++ drop (length b) (getD (cellsSeen bytes size count) c [])) hc
       (rw z (own-cell ∙ ap (λ (l : List ℕ). b ++ drop (length b) l) (sym (cells-get bytes size count c hc))))
-      (λ k p q ne. other-cell k (omega arith) (omega arith))
+      (λ k p q ne. other-cell bytes b size count c k size (omega arith) hc (omega arith) long hb (omega arith))
 
   pub written-length : length written ≡ length bytes
   written-length = let i = inside in length-paste bytes (c * size) b (length b) (omega arith) (le-refl (length b))

@@ -6,16 +6,15 @@ use mathlib.Core.Bool.{Bool, true, false, cond, not, _&&_, _||_, and-comm}
 use mathlib.Core.Option.{Option, none, some}
 use mathlib.Core.List.{List, [], _∷_, map}
 use Prim.Native.Nat.{ℕ, zero, suc, _+_, _-_, _*_, _/_, _%_, _≤_, _<_, min}
-use native.Mathlib.Nat.{not-suc-le-zero}
-use native.Mathlib.Decide.{ℕ-discrete, decLe}
+use native.Mathlib.Decide.{decLe}
 use native.Mathlib.Omega.{arith}
 use borrow.Author.Tests.{eq-eqb, ne-eqb, lt-ltb, le-ltb}
 use lib.Dec.{eqb, ltb, leb}
 use lib.ListN.{length, take, drop, getD, set, replicate, length-take, length-drop, length-set, length-replicate, List·getD-map, length-map}
 use lib.Seq.{paste, getD-take, getD-drop, ext-getD, take-paste, drop-at, take-all, length-take-le, take-set-lt, drop-set-add, getD-set-other, length-paste}
 use Rattle.laws.specs.Lists.{every, any, firstFrom}
-use Rattle.laws.proofs.Lists.{paste-past, drop-take}
-use Rattle.laws.proofs.Tests.{and-true, or-false, same-test}
+use Rattle.laws.proofs.Lists.{paste-before, paste-past, drop-take}
+use Rattle.laws.proofs.Tests.{same-test}
 use Rattle.touch.specs.Slots.{someHeld, everyHeld}
 use Rattle.touch.specs.Touch.{everyRow}
 use Rattle.touch.specs.Cells.{Settings, Held, Cells, names, heldWhole, lowest}
@@ -23,11 +22,11 @@ use Rattle.cells.specs.Cells.{slotWord, keptLength, cellNumber, filled, slotWho
 use Rattle.rows.specs.declared.Key.{Key}
 use Rattle.rows.specs.declared.Entry.{Entry}
 use Rattle.rows.specs.declared.Room.{Room}
-use Rattle.rows.specs.Rows.{word, slotsAt, slotCount, rowSlots, emptied, keptSlots, rowsWhole, takenIn}
+use Rattle.rows.specs.Rows.{word, slotsAt, slotCount, rowSlots, emptied, keptSlots, rowsWhole}
+use Rattle.rows.proofs.Whole.{rows-get, rows-all}
 use Rattle.order.specs.Order.{ageOf, rowsSeen, Ages}
 use Rattle.order.specs.Slots.{heldOf, heldSlots}
 use Rattle.order.proofs.Ages.{order-every, every-order}
-use Rattle.order.proofs.Words.{paste-before}
 
 -- ---- parts of a list
 
@@ -52,7 +51,7 @@ pub part-beside : {A : Type 0} (z : A) (d : List A) (at : ℕ) (s : List A) (n a
 part-beside z d at s n a l h k o = part-alike z (paste d at s n) d a l (length-paste d at s n h k) (λ i p q. beside i p q o)
   where
     beside : (i : ℕ) → a ≤ i → i < a + l → (a + l ≤ at) ⊎ (at + n ≤ a) → getD (paste d at s n) i z ≡ getD d i z
-    beside i p q (inl r) = paste-before d at s n z (omega arith) k i (omega arith)
+    beside i p q (inl r) = paste-before d at s n i z h k (omega arith)
     beside i p q (inr r) = paste-past d at s n i z (omega arith) k (omega arith)
 
 -- ---- one word
@@ -133,32 +132,15 @@ held-names c (w ∷ ws) = go (filled w) (held-names c ws)
 abbrev slotsOf : List ℕ → ℕ → ℕ → List ℕ
 slotsOf slots i n = take n (drop (slotsAt i) slots)
 
-pub slot-at : (heads slots : List ℕ) (i n : ℕ) → n < slotCount (word heads i 7) → getD (rowSlots heads slots i) n 0 ≡ getD slots (slotsAt i + n) 0
-unfolding rowSlots
-slot-at heads slots i n h = getD-take (slotCount (word heads i 7)) (drop (slotsAt i) slots) n 0 h ∙ getD-drop (slotsAt i) slots n 0
-
 -- the row's last_section_number is all that its slots know of its head
 pub slots-same : (heads heads′ slots : List ℕ) (i : ℕ) → word heads′ i 7 ≡ word heads i 7 → rowSlots heads′ slots i ≡ rowSlots heads slots i
 unfolding rowSlots
 slots-same heads heads′ slots i e = rw e
 
--- what a section that is kept leaves in the slots; s are the slots, w is the section's word
+-- what a section that is kept leaves in the slots; w is the section's word
 module _ (r : Room) (e : Entry) (w : ℕ) (slots : List ℕ) (long : r .row * 288 + 288 ≤ length slots) (number : e .number ≤ e .last) (last : e .last < 256) where
   abbrev ready : Bool → List ℕ
   ready b = cond b (emptied (slotsAt (r .row)) (e .last + 1) slots) slots
-
-  emptied-length : length (emptied (slotsAt (r .row)) (e .last + 1) slots) ≡ length slots
-  emptied-length =
-      let z : length (replicate {A = ℕ} (e .last + 1) 0) ≡ e .last + 1 = length-replicate (e .last + 1) 0 in
-      length-paste slots (slotsAt (r .row)) (replicate (e .last + 1) 0) (e .last + 1) (omega arith) (omega arith)
-
-  ready-length : (b : Bool) → length (ready b) ≡ length slots
-  ready-length true = emptied-length
-  ready-length false = refl
-
-  pub slots-length : length (keptSlots r e w slots) ≡ length slots
-  unfolding keptSlots
-  slots-length = length-set (ready (r .fresh)) (slotsAt (r .row) + e .number) w ∙ ready-length (r .fresh)
 
   -- no word before or after the row's changes
   pub slots-beside : (a n : ℕ) → (a + n ≤ slotsAt (r .row)) ⊎ (r .row * 288 + 288 ≤ a) → take n (drop a (keptSlots r e w slots)) ≡ take n (drop a slots)
@@ -213,52 +195,14 @@ module _ (r : Room) (e : Entry) (w : ℕ) (slots : List ℕ) (long : r .row * 28
 
 -- ---- all rows in use
 
-pub whole-each : (heads slots : List ℕ) (count size n j : ℕ) → rowsWhole heads slots count size n ≡ true → j < n → allWhole count size (rowSlots heads slots j) ≡ true
-unfolding rowsWhole
-whole-each heads slots count size zero j e h = absurd (not-suc-le-zero h)
-whole-each heads slots count size (suc n) j e h = go (ℕ-discrete j n) (λ l. whole-each heads slots count size n j (c .1) l)
-  where
-    c : (allWhole count size (rowSlots heads slots n) ≡ true) × (rowsWhole heads slots count size n ≡ true)
-    c = and-true (allWhole count size (rowSlots heads slots n)) (rowsWhole heads slots count size n) e
-
-    go : Dec (j ≡ n) → (j < n → allWhole count size (rowSlots heads slots j) ≡ true) → allWhole count size (rowSlots heads slots j) ≡ true
-    go (yes q) ih = rw q (c .0)
-    go (no d) ih = ih (omega arith)
-
-pub each-whole : (heads slots : List ℕ) (count size n : ℕ) → ((j : ℕ) → j < n → allWhole count size (rowSlots heads slots j) ≡ true) → rowsWhole heads slots count size n ≡ true
-unfolding rowsWhole
-each-whole heads slots count size zero e = refl
-each-whole heads slots count size (suc n) e = rw (e n (omega arith)) (each-whole heads slots count size n (λ j h. e j (omega arith)))
-
 -- the code's test of all slots is the rules' test of every row. `test` is the rules' test of one row
 pub rows-whole : {K R : Type 0} (shown : Key → K) (heads slots : List ℕ) (count size used : ℕ) → Ages (ageOf heads) used → (test : R → Bool) (row : ℕ → R)
     → ((j : ℕ) → test (row j) ≡ allWhole count size (rowSlots heads slots j)) → everyRow test (rowsSeen shown heads used row) ≡ rowsWhole heads slots count size used
 unfolding rowsSeen
 rows-whole shown heads slots count size used w test row e =
     same-test (everyRow test (rowsSeen shown heads used row)) (rowsWhole heads slots count size used)
-    (λ t. each-whole heads slots count size used (λ j h. sym (e j) ∙ every-order test (ageOf heads) used w _ j t h))
-    (λ t. order-every test (ageOf heads) used w _ (λ j h. e j ∙ whole-each heads slots count size used j t h))
-
-pub taken-each : (heads slots : List ℕ) (gone n c j : ℕ) → takenIn heads slots gone n c ≡ false → j < n → j ≢ gone → someNames c (rowSlots heads slots j) ≡ false
-unfolding takenIn
-taken-each heads slots gone zero c j e h ne = absurd (not-suc-le-zero h)
-taken-each heads slots gone (suc n) c j e h ne = go (ℕ-discrete j n) (λ l. taken-each heads slots gone n c j (s .1) l ne)
-  where
-    s : ((not (eqb n gone) && someNames c (rowSlots heads slots n)) ≡ false) × (takenIn heads slots gone n c ≡ false)
-    s = or-false (not (eqb n gone) && someNames c (rowSlots heads slots n)) (takenIn heads slots gone n c) e
-
-    go : Dec (j ≡ n) → (j < n → someNames c (rowSlots heads slots j) ≡ false) → someNames c (rowSlots heads slots j) ≡ false
-    go (yes q) ih = rw q (rw (ne-eqb n gone (λ (z : n ≡ gone). ne (q ∙ z))) at (s .0))
-    go (no d) ih = ih (omega arith)
-
-pub each-taken : (heads slots : List ℕ) (gone n c : ℕ) → ((j : ℕ) → j < n → j ≢ gone → someNames c (rowSlots heads slots j) ≡ false) → takenIn heads slots gone n c ≡ false
-unfolding takenIn
-each-taken heads slots gone zero c e = refl
-each-taken heads slots gone (suc n) c e = go (ℕ-discrete n gone) (each-taken heads slots gone n c (λ j h. e j (omega arith)))
-  where
-    go : Dec (n ≡ gone) → takenIn heads slots gone n c ≡ false → ((not (eqb n gone) && someNames c (rowSlots heads slots n)) || takenIn heads slots gone n c) ≡ false
-    go (yes q) ih = rw (eq-eqb n gone q) ih
-    go (no d) ih = rw (ne-eqb n gone d, e n (omega arith) d) ih
+    (λ t. rows-all heads slots count size used (λ j h. sym (e j) ∙ every-order test (ageOf heads) used w _ j t h))
+    (λ t. order-every test (ageOf heads) used w _ (λ j h. e j ∙ rows-get heads slots count size used j t h))
 
 -- ---- the lowest free cell
 

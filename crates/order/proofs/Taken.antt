@@ -11,9 +11,9 @@ use Rattle.cells.specs.Cells.{someNames}
 use Rattle.rows.specs.declared.Key.{Key}
 use Rattle.rows.specs.declared.Room.{Room}
 use Rattle.rows.specs.Rows.{goneRow, rowSlots, takenIn}
+use Rattle.rows.proofs.Taken.{taken-row, row-free}
 use Rattle.order.specs.Order.{orderSeen, Stands, Goes, Touched}
 use Rattle.order.proofs.Touch.{none-after, after-none}
-use Rattle.order.proofs.Slots.{taken-each, each-taken}
 
 -- two tests that fail together are one
 same-fails : (p q : Bool) → (p ≡ false → q ≡ false) → (q ≡ false → p ≡ false) → p ≡ q
@@ -32,14 +32,14 @@ module _ {K R : Type 0} (shown : Key → K) (words : K → Key) (same : K → K 
   pub taken-fresh : (met : R) → ((c : ℕ) → takes c met ≡ false) → r .fresh ≡ true → (c : ℕ) → named met c ≡ takenIn heads slots (goneRow r used) used c
   taken-fresh met free f c =
       rw f (same-fails (named met c) (takenIn heads slots (r .row) used c)
-      (λ h. each-taken heads slots (r .row) used c (λ j l ne. sym (each c j) ∙ after-none shown words same law self heads limit used evictions key w proper row heads′ g t (takes c) met h .1 j l ne))
-      (λ h. none-after shown words same law self heads limit used evictions key w proper row heads′ g t (takes c) met (free c) (λ j l ne. each c j ∙ taken-each heads slots (r .row) used c j h l ne)))
+      (λ h. row-free heads slots (r .row) c used (λ j l ne. sym (each c j) ∙ after-none shown words same law self heads limit used evictions key w proper row heads′ g t (takes c) met h .1 j l ne))
+      (λ h. none-after shown words same law self heads limit used evictions key w proper row heads′ g t (takes c) met (free c) (λ j l ne. each c j ∙ taken-row heads slots (r .row) c used j h l ne)))
 
   -- the key's row goes on as it is
   pub taken-known : r .row < used → r .fresh ≡ false → (c : ℕ) → named (row (r .row)) c ≡ takenIn heads slots (goneRow r used) used c
   taken-known h f c =
       rw f (same-fails (named (row (r .row)) c) (takenIn heads slots used used c)
-      (λ n. each-taken heads slots used used c (λ j l ne. sym (each c j) ∙ all n j l (ℕ-discrete j (r .row))))
+      (λ n. row-free heads slots used c used (λ j l ne. sym (each c j) ∙ all n j l (ℕ-discrete j (r .row))))
       (λ n. none-after shown words same law self heads limit used evictions key w proper row heads′ g t (takes c) (row (r .row)) (none n (r .row) h) (λ j l ne. none n j l)))
     where
       all : named (row (r .row)) c ≡ false → (j : ℕ) → j < used → Dec (j ≡ r .row) → takes c (row j) ≡ false
@@ -47,4 +47,4 @@ module _ {K R : Type 0} (shown : Key → K) (words : K → Key) (same : K → K 
       all n j l (no ne) = after-none shown words same law self heads limit used evictions key w proper row heads′ g t (takes c) (row (r .row)) n .1 j l ne
 
       none : takenIn heads slots used used c ≡ false → (j : ℕ) → j < used → takes c (row j) ≡ false
-      none n j l = each c j ∙ taken-each heads slots used used c j n l (λ (e : j ≡ used). absurd (omega arith))
+      none n j l = each c j ∙ taken-row heads slots used c used j n l (λ (e : j ≡ used). absurd (omega arith))

@@ -1,3 +1,5 @@
 pub mod Demand3
 pub mod Examples
+pub mod Runs
 pub mod NotEmpty
+pub mod Needed

@@ -40,7 +40,9 @@ use Rattle.order.specs.Order.{downFrom, inOrder, ageOf, rowsSeen, Goes, known}
 use Rattle.order.specs.Slots.{heldOf, cellsSeen}
 use Rattle.order.proofs.Ages.{length-order}
 use Rattle.order.proofs.Touch.{row-has-key, no-row-has-key, goes-known, goes-new, stands-none, finds-known, finds-none}
-use Rattle.order.proofs.Slots.{place, held-filled, held-empty, held-get, slot-at, held-whole, rows-whole, whole-each}
+use Rattle.order.proofs.Slots.{place, held-filled, held-empty, held-get, held-whole, rows-whole}
+use Rattle.rows.proofs.Words.{slot-at}
+use Rattle.rows.proofs.Whole.{rows-get}
 use Rattle.order.proofs.Cells.{cells-length, bytes-kept, same-bytes}
 use Rattle.sets.specs.declared.inner.Plan.the-variants as plan
 use Rattle.sets.specs.declared.PushAnswer.the-variants.{Nothing, NotWhole, CounterFull, TooLong}
@@ -208,7 +210,7 @@ module _ (s : Store) (z : Reached s) (f : Whole (s .sets) (s .heads) (s .slots) 
       slot-is = rw m (held-get (rowSlots (s .heads) (s .slots) there) (e .number) ∙ ap heldOf (slot-at (s .heads) (s .slots) there (e .number) in-row))
 
       row-ok : allWhole (s .sets .count) (s .sets .size) (rowSlots (s .heads) (s .slots) there) ≡ true
-      row-ok = whole-each (s .heads) (s .slots) (s .sets .count) (s .sets .size) (s .sets .used) there (f .rows) h
+      row-ok = rows-get (s .heads) (s .slots) (s .sets .count) (s .sets .size) (s .sets .used) there (f .rows) h
 
       slots-there : slotsAt there + 256 ≤ length (s .slots)
       slots-there = let a = f .slots-long in let b = f .used in omega arith

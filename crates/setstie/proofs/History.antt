@@ -122,10 +122,10 @@ as-before s (section pid bytes) h = carried-as-before s bytes (planOf s pid byte
 
 -- ---- many calls
 
-abbrev pub AllBytes : List Given → Type 0
-AllBytes calls = (t : ℕ) (i : Given) → At calls t i → OfBytes i
+abbrev pub EachOfBytes : List Given → Type 0
+EachOfBytes calls = (t : ℕ) (i : Given) → At calls t i → OfBytes i
 
-pub same-answers : (calls : List Given) → AllBytes calls → (s : Store) → Reached s → answers tells acts s calls ≡ answers callTells callActs (seen s) (map reads calls)
+pub same-answers : (calls : List Given) → EachOfBytes calls → (s : Store) → Reached s → answers tells acts s calls ≡ answers callTells callActs (seen s) (map reads calls)
 unfolding answers
 same-answers [] o s z = refl
 same-answers (i ∷ is) o s z =
@@ -133,7 +133,7 @@ same-answers (i ∷ is) o s z =
     let q = same-answers is (λ t j e. o (suc t) j e) (acts s i) (acts-reached s z i (o 0 i refl)) ∙ ap (λ (t : Shown). answers callTells callActs t (map reads is)) (acts-seen s z i (o 0 i refl)) in
     λ k. p k ∷ q k
 
-pub same-store : (calls : List Given) → AllBytes calls → (s : Store) → Reached s → (seen (storeAfter acts s calls) ≡ storeAfter callActs (seen s) (map reads calls)) × Reached (storeAfter acts s calls)
+pub same-store : (calls : List Given) → EachOfBytes calls → (s : Store) → Reached s → (seen (storeAfter acts s calls) ≡ storeAfter callActs (seen s) (map reads calls)) × Reached (storeAfter acts s calls)
 unfolding storeAfter
 same-store [] o s z = (refl, z)
 same-store (i ∷ is) o s z =
@@ -167,7 +167,7 @@ opened-room s o =
     rw (cells-length (s .cells) (s .sets .size) (s .sets .count), le-leb 12 (s .sets .size) (l .size-low), le-leb (s .sets .size) 4096 (l .size-high), le-leb (s .sets .count) 65535 (l .few))
 
 -- in no history 10 occurs
-pub never-not-whole : (s : Store) → Opened s → (calls : List Given) → AllBytes calls → Never notWhole (answers tells acts s calls)
+pub never-not-whole : (s : Store) → Opened s → (calls : List Given) → EachOfBytes calls → Never notWhole (answers tells acts s calls)
 never-not-whole s o calls b =
     subst (Never notWhole) (sym (same-answers calls b s (opened-reached s o)))
     (never-10 (seen s) (opened-room s o) (opened-seen s o) (map reads calls) (each-read LongEnough reads reads-long calls))

@@ -26,8 +26,10 @@ use Rattle.rows.specs.declared.Room.{Room}
 use Rattle.rows.specs.Rows.{word, keyAt, touched, keptHeads, goneRow, rowSlots, keptSlots, takenIn}
 use Rattle.order.specs.Order.{ageOf, Goes, known, added, evicted, Touched}
 use Rattle.order.specs.Slots.{heldOf, heldSlots, cellsSeen}
-use Rattle.order.proofs.Words.{key-same, ready-touched, kept-length, kept-other, kept-fresh, kept-fresh-key, kept-known, kept-unmarked}
-use Rattle.order.proofs.Slots.{held-new, held-set, held-none, slots-length, other-slots, own-slots, fresh-slots, whole-each, lowest-is}
+use Rattle.rows.proofs.Words.{length-kept, kept-row, kept-fresh, kept-known, length-kept-slots}
+use Rattle.rows.proofs.Whole.{rows-get}
+use Rattle.order.proofs.Words.{key-same, ready-touched, kept-fresh-key, kept-unmarked}
+use Rattle.order.proofs.Slots.{held-new, held-set, held-none, other-slots, own-slots, fresh-slots, lowest-is}
 use Rattle.order.proofs.Slots.{held-whole as words-whole}
 use Rattle.order.proofs.Cells.{cells-length, cells-written, written-length}
 use Rattle.order.proofs.Touch.{goes-row}
@@ -92,12 +94,12 @@ module _ (s : Store) (z : Reached s) (f : Whole (s .sets) (s .heads) (s .slots) 
   own-last (goesOn t l k u v) = kept-known r e (s .heads) head-long t 7 (omega arith) (omega arith) ∙ v
 
   heads-still-long : r .used * 12 ≤ length (keptHeads r e (s .heads))
-  heads-still-long = let a = within in let b = f .heads-long in let c = kept-length r e (s .heads) head-long in omega arith
+  heads-still-long = let a = within in let b = f .heads-long in let c = length-kept r e (s .heads) head-long in omega arith
 
   then-touched : {met : SetOf Held} → Meets s e bytes r a met → Touched (s .heads) (touched (r .used) (r .row) (keptHeads r e (s .heads))) (e .key) (r .row) a (r .used)
   then-touched m =
       ready-touched (s .heads) (keptHeads r e (s .heads)) (e .key) (r .row) a (r .used) heads-still-long (goes-row g) (own-key m) (own-age m)
-      (λ j k l ne q. kept-other r e (s .heads) head-long j k ne q)
+      (λ j k l ne q. kept-row r e (s .heads) head-long j k ne q)
 
   -- ---- the cells that are named
 
@@ -170,18 +172,18 @@ module _ (s : Store) (z : Reached s) (f : Whole (s .sets) (s .heads) (s .slots) 
         (set-ok (replicate (suc (e .last)) 0) (rw (held-none (suc (e .last))) (every-free ok (suc (e .last)))))
     own-whole (goesOn t h k u v) =
         rw (own-slots r e w (s .slots) slots-long (n .number) (n .last) (s .heads) (keptHeads r e (s .heads)) t v (own-last (goesOn t h k u v)))
-        (set-ok (rowSlots (s .heads) (s .slots) (r .row)) (words-ok (rowSlots (s .heads) (s .slots) (r .row)) ∙ whole-each (s .heads) (s .slots) (s .sets .count) (s .sets .size) (s .sets .used) (r .row) (f .rows) h))
+        (set-ok (rowSlots (s .heads) (s .slots) (r .row)) (words-ok (rowSlots (s .heads) (s .slots) (r .row)) ∙ rows-get (s .heads) (s .slots) (s .sets .count) (s .sets .size) (s .sets .used) (r .row) (f .rows) h))
 
     ready : {met : SetOf Held} → Meets s e bytes r a met → Ready s s₁ (e .key) (r .row) a
     unfolding keptIn
     ready m = record {
-      fits = rw (kept-length r e (s .heads) head-long, slots-length r e w (s .slots) slots-long (n .number) (n .last), written-length (s .cells) (s .sets .size) (s .sets .count) c bytes hc (f .cells-long) hs) (z .fits);
+      fits = rw (length-kept r e (s .heads) head-long, length-kept-slots r e w (s .slots) slots-long (n .number) (n .last), written-length (s .cells) (s .sets .size) (s .sets .count) c bytes hc (f .cells-long) hs) (z .fits);
       counts = let q = goes-count g in omega arith;
       long = heads-still-long;
       own = own-key m;
       age = own-age m;
-      others = λ j k l ne q. kept-other r e (s .heads) head-long j k ne q;
-      slots = λ j l ne. other-slots r e w (s .slots) slots-long (n .number) (n .last) (s .heads) (keptHeads r e (s .heads)) j ne (kept-other r e (s .heads) head-long j 7 ne (omega arith));
+      others = λ j k l ne q. kept-row r e (s .heads) head-long j k ne q;
+      slots = λ j l ne. other-slots r e w (s .slots) slots-long (n .number) (n .last) (s .heads) (keptHeads r e (s .heads)) j ne (kept-row r e (s .heads) head-long j 7 ne (omega arith));
       row-whole = own-whole m;
     }
 

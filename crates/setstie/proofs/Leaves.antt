@@ -15,7 +15,7 @@ use Rattle.cells.specs.Cells.{names}
 use Rattle.rows.specs.Rows.{word, touched, slotsAt, slotCount, rowSlots}
 use Rattle.order.specs.Order.{ageOf, rowsSeen}
 use Rattle.order.proofs.Ages.{order-none, none-order}
-use Rattle.order.proofs.Slots.{slot-at}
+use Rattle.rows.proofs.Words.{slot-at}
 use Rattle.sets.specs.declared.inner.Plan.{Plan}
 use Rattle.sets.specs.declared.inner.Plan.the-variants as plan
 use Rattle.sets.specs.declared.PushAnswer.the-variants.{Nothing, Set}

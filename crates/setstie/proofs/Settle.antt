@@ -19,7 +19,8 @@ use Rattle.rows.specs.declared.Key.{Key}
 use Rattle.rows.specs.Rows.{word, put, keyAt, touched, rowSlots}
 use Rattle.order.specs.Order.{ageOf, Goes, Touched}
 use Rattle.order.specs.Slots.{cellsSeen}
-use Rattle.order.proofs.Words.{put-same, put-not, put-row, length-put, length-touched, touched-not, ready-touched, put-touched, key-same}
+use Rattle.rows.proofs.Words.{put-same, put-not, put-row, length-put, length-touched, touched-not}
+use Rattle.order.proofs.Words.{ready-touched, put-touched, key-same}
 use Rattle.order.proofs.Slots.{slots-same}
 use Rattle.order.proofs.Touch.{goes-row, touched-seen, touched-stands, goes-in}
 use Rattle.sets.specs.declared.PushAnswer.the-variants.{Nothing, Set, Conflict}
