@@ -96,7 +96,7 @@ module _ (m : Memory) (n : Row) (r : Reached m) (small : n .change < 2 ^ 32) whe
     unfolding seenOf renewed
     known-seen = rw known
 
-    known-memory :
+    pub known-memory :
         memoryAfter m n ≡ record { ring = m .ring; keys = m .keys; changes = set (m .changes) (rowFor (m .ring) (m .keys) (n .key)) (stampAt n) }
     unfolding memoryAfter keysAfter changesAfter
     known-memory = rw (known-seen, known)
@@ -149,7 +149,7 @@ module _ (m : Memory) (n : Row) (r : Reached m) (small : n .change < 2 ^ 32) whe
       free : hasFree (m .ring) ≡ true
       free = lt-ltb _ _ more
 
-      more-memory :
+      pub more-memory :
           memoryAfter m n ≡ record { ring = ringWith (m .ring) (m .ring .used + 1) (m .ring .first); keys = set (m .keys) (m .ring .used) (n .key); changes = set (m .changes) (m .ring .used) (stampAt n) }
       unfolding arrived
       more-memory = new-memory ∙ rw free
@@ -197,7 +197,7 @@ module _ (m : Memory) (n : Row) (r : Reached m) (small : n .change < 2 ^ 32) whe
       none-free : hasFree (m .ring) ≡ false
       none-free = le-ltb _ _ full
 
-      full-memory :
+      pub full-memory :
           memoryAfter m n ≡ record { ring = ringWith (m .ring) (m .ring .used) ((m .ring .first + 1) % roomOf (m .ring .capacity)); keys = set (m .keys) (m .ring .first) (n .key); changes = set (m .changes) (m .ring .first) (stampAt n) }
       unfolding arrived
       full-memory = new-memory ∙ rw none-free
