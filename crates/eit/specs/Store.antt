@@ -18,13 +18,13 @@ use Rattle.section.specs.declared.eit.Kind.the-variants as kind
 use Rattle.section.specs.declared.eit.Reading.{Reading}
 use Rattle.section.specs.declared.eit.Reading.the-variants as reading
 use Rattle.section.specs.declared.ids.MaybePid.{MaybePid}
-use Rattle.cells.specs.Cells.{slotWord, filled, lowestFree, kept}
+use Rattle.cells.specs.Cells.{slotWord, filled, nextFilled, lowestFree, kept}
 use Rattle.rows.specs.Rows.{word, put, keyAt, touched, goneRow, keptHeads, rowSlots}
 use Rattle.rows.specs.declared.Key.{Key}
 use Rattle.rows.specs.declared.Entry.{Entry}
 use Rattle.rows.specs.declared.Room.{Room}
 use Rattle.sets.specs.Store as sets
-use Rattle.sets.specs.Store.{openNumber, clearNumber, pidWord, bitOf, Numbered, RoomOk}
+use Rattle.sets.specs.Store.{Question, noSection, slotTold, openNumber, clearNumber, pidWord, bitOf, Numbered, RoomOk}
 use Rattle.sets.specs.declared.Sets.{Sets}
 use Rattle.sets.specs.declared.inner.PidWord.{PidWord}
 use Rattle.sets.specs.declared.inner.PidWord.the-variants as pid-word
@@ -32,7 +32,7 @@ use Rattle.places.specs.Places.{placeOf}
 use Rattle.places.specs.declared.Place.{Place}
 use Rattle.places.specs.declared.Place.the-variants as place
 use Rattle.schedules.specs.Segments.{wordOf, setComplete, keptSection}
-use Rattle.schedules.specs.Units.{unitSlots, unitsWhole, takenAnywhere, withTable}
+use Rattle.schedules.specs.Units.{isPresent, unitSlots, unitsWhole, takenAnywhere, withTable}
 use Rattle.berths.specs.Berths.{berthOf, berthedHeads, tableCount, berthedUnits, tablesThere}
 use Rattle.berths.specs.declared.Berth.{Berth}
 use Rattle.eit.specs.declared.Eit.{Eit}
@@ -407,6 +407,28 @@ carried s bytes (plan.Keep k) = keptAndSettled s bytes k
 
 unfoldable pub pushedOf : Store → MaybePid → List ℕ → Left
 pushedOf s pid bytes = carried s bytes (planOf s pid bytes)
+
+-- ---- the sections of a set and of a table of a schedule, one after another
+
+-- 8 with the first filled slot at or after `from`; 9 where there is none or the row is not in use
+unfoldable pub nextOf : Store → ℕ → ℕ → Question
+nextOf s row from =
+    cond (wholeOf s)
+    (cond (ltb row (s .eit .used))
+    (slotTold (s .eit .size) (rowSlots (s .heads) (s .slots) row) (nextFilled (rowSlots (s .heads) (s .slots) row) from))
+    (noSection 9))
+    (noSection 10)
+
+-- the same of unit u, which has no sections where it is not present
+unfoldable pub unitTold : ℕ → List ℕ → ℕ → ℕ → Question
+unitTold size units u from = cond (isPresent units u) (slotTold size (unitSlots units u) (nextFilled (unitSlots units u) from)) (noSection 9)
+
+-- of a table of a schedule, by its number from the first of the kind on
+unfoldable pub nextInOf : Store → ℕ → ℕ → ℕ → Question
+nextInOf s row table from =
+    cond (wholeOf s)
+    (cond (ltb row (s .eit .schedules)) (cond (ltb table 16) (unitTold (s .eit .size) (s .units) (row * 16 + table) from) (noSection 9)) (noSection 9))
+    (noSection 10)
 
 -- ---- what the functions ask of each other
 

@@ -12,6 +12,8 @@ use section::eit::Reading;
 use section::header::Collected;
 use section::header::Header;
 use section::ids::MaybePid;
+use sets::Next;
+use sets::NextAnswer;
 use sets::Sets;
 use sets::inner::PidWord;
 ghost use mathlib.Core.Path.{_≡_};
@@ -23,13 +25,13 @@ ghost use Rattle.section.specs.Judged.{collectedOf};
 ghost use Rattle.section.specs.Eit.{eitOf};
 ghost use Rattle.cells.specs.Cells.{slotWord};
 ghost use Rattle.rows.specs.Rows.{keptHeads};
-ghost use Rattle.sets.specs.Store.{Numbered};
+ghost use Rattle.sets.specs.Store.{Numbered, questionOf};
 ghost use Rattle.schedules.specs.Segments.{keptSection};
 ghost use Rattle.berths.specs.Berths.{BerthOk};
 ghost use Rattle.eit.specs.Store.{store, setsOf, shelvesFit, settingsFit, wholeOf, kindNumber, keyOf, entryOf, arrivalOf, countersFull, scheduleEntry, withRows, withSchedules};
 ghost use Rattle.eit.specs.Store.{Whole, CellOk, KeepOk, SettleOk, ShelveOk, PlanOk};
 ghost use Rattle.eit.specs.Store.{planKeep, planPlaced, planGood, planRead, planJudged, planOf};
-ghost use Rattle.eit.specs.Store.{courseOf, shelf, shelvedIn, shelved, settled, leftPushed, keptAndSettled, carried};
+ghost use Rattle.eit.specs.Store.{courseOf, shelf, shelvedIn, shelved, settled, leftPushed, keptAndSettled, carried, unitTold};
 
 // What an EIT section says: its row and slot; its kind, by number; the word of its segment, segment_last_section_number and 1; last_table_id.
 pub struct Arrival {
@@ -577,4 +579,17 @@ pub fn carry(
         Plan::Repeat(x) => settle(eit, heads, slots, schedule_heads, units, x.arrival, x.row),
         Plan::Keep(k) => keep_section(eit, heads, slots, cells, schedule_heads, units, bytes, k),
     }
+}
+
+// ---- the sections of a table of a schedule
+
+// The first filled slot at or after `from` of unit u, where the unit is present.
+pub fn next_in_unit(units: &[u32], size: usize, u: usize, from: usize) -> Next
+    requires { ⌜ (u * 288 + 288 ≤ length (now units)) × (size ≤ 4096) ⌝ }
+    ensures { λ r. ⌜ questionOf r ≡ unitTold size (now (units .entry)) u from ⌝ }
+{
+    if schedules::is_present(units, u) {
+        return sets::inner::next_slot(schedules::unit_slots(units, u), size, from);
+    }
+    sets::inner::no_section(NextAnswer::No)
 }

@@ -4,10 +4,15 @@
 // refusal leaves them as they were, but 22, which touches the key, and 23, which keeps the section.
 use section::ids::MaybePid;
 use sets::ClearAnswer;
+use sets::Next;
+use sets::NextAnswer;
 use sets::OpenAnswer;
 ghost use mathlib.Core.Path.{_≡_};
 ghost use Prim.Native.Nat.{ℕ};
 ghost use lib.ListN.{length};
+ghost use Rattle.cells.specs.Cells.{partOf};
+ghost use Rattle.sets.specs.Store.{questionOf};
+ghost use Rattle.eit.specs.Store.{nextOf, nextInOf};
 ghost use Rattle.eit.specs.Store.{store, asked, pushNumber, leftOpened, leftPushed, leftCleared, openedOf, pushedOf, clearedOf};
 
 pub mod inner;
@@ -179,4 +184,59 @@ pub fn clear(
             eit,
         }
     }
+}
+
+// Has the set in a row another section? The first filled slot at or after `from`: its number, and where its bytes are in the cells.
+pub fn next_section(
+    eit: Eit,
+    heads: &[u64],
+    slots: &[u32],
+    cells: &[u8],
+    schedule_heads: &[u64],
+    units: &[u32],
+    row: usize,
+    from: usize,
+) -> Next
+    ensures { λ r. ⌜ questionOf r ≡ nextOf (store eit (now (heads .entry)) (now (slots .entry)) (now (cells .entry)) (now («schedule_heads» .entry)) (now (units .entry))) row from ⌝ }
+{
+    if inner::is_whole(eit, heads, slots, cells, schedule_heads, units) {
+        if row < eit.used {
+            return sets::inner::next_slot(rows::row_slots(heads, slots, row), eit.size, from);
+        }
+        return sets::inner::no_section(NextAnswer::No);
+    }
+    sets::inner::no_section(NextAnswer::NotWhole)
+}
+
+// Has that table of the schedule in a row another section? Tables count from the first of the kind, 0x50 or 0x60, on.
+pub fn next_in_schedule(
+    eit: Eit,
+    heads: &[u64],
+    slots: &[u32],
+    cells: &[u8],
+    schedule_heads: &[u64],
+    units: &[u32],
+    row: usize,
+    table: usize,
+    from: usize,
+) -> Next
+    ensures { λ r. ⌜ questionOf r ≡ nextInOf (store eit (now (heads .entry)) (now (slots .entry)) (now (cells .entry)) (now («schedule_heads» .entry)) (now (units .entry))) row table from ⌝ }
+{
+    if inner::is_whole(eit, heads, slots, cells, schedule_heads, units) {
+        if eit.schedules <= row {
+            return sets::inner::no_section(NextAnswer::No);
+        }
+        if 16 <= table {
+            return sets::inner::no_section(NextAnswer::No);
+        }
+        return inner::next_in_unit(units, eit.size, row * 16 + table, from);
+    }
+    sets::inner::no_section(NextAnswer::NotWhole)
+}
+
+// The bytes of a section, by what a question told of it: exactly the kept ones, or an empty part where the cells have not that many.
+pub fn section_part<'a>(cells: &'a [u8], start: usize, length: usize) -> &'a [u8]
+    ensures { λ r. ⌜ now r ≡ partOf (now (cells .entry)) start length ⌝ }
+{
+    cells::part(cells, start, length)
 }

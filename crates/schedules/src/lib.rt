@@ -112,7 +112,8 @@ const UNIT_VERSION: usize = 1;
 
 const UNIT_LAST: usize = 2;
 
-fn is_present(units: &[u32], u: usize) -> bool
+// Whether unit u is present.
+pub fn is_present(units: &[u32], u: usize) -> bool
     requires { ⌜ u * 288 + 288 ≤ length (now units) ⌝ }
     ensures { λ r. ⌜ r ≡ isPresent (now (units .entry)) u ⌝ }
 {
