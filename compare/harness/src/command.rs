@@ -220,7 +220,7 @@ pub fn parse(line: &str) -> Option<Command> {
         (Part::Gate, "ask") => Command::Ask { pid: hex16(words.get(2)?)? },
         (Part::Gate, "watched") => Command::Watched,
         (Part::Sets | Part::Eit, "open") => {
-            Command::Open { part, limit: small("limit", 64)?, cells: small("cells", 256)?, size: small("size", 4096)? }
+            Command::Open { part, limit: small("limit", 64)?, cells: small("cells", 64)?, size: small("size", 4096)? }
         }
         (Part::Sets | Part::Eit, "push") => {
             Command::Push { part, pid: maybe_pid(words.get(2)?)?, section: unhex(words.get(3)?)? }

@@ -23,7 +23,7 @@ use std::process::ExitCode;
 const USAGE: &str = "usage: compare/run [SEEDS] [COMMANDS]             scripts inside document 01's domain, damaged and cell-bound
        compare/run --faults [SEEDS] [COMMANDS]    the same, with each fault in turn in the second implementation
        compare/run --script FILE                  a script of your own
-       compare/run --store                        makes the stored runs of crates/replay anew";
+       compare/run --store                        makes the stored runs of crates/replay and replay_damaged anew";
 
 fn main() -> ExitCode {
     let root = PathBuf::from(env!("CARGO_MANIFEST_DIR")).join("../..");
@@ -40,7 +40,7 @@ fn main() -> ExitCode {
         Some(&"--script") if words.len() == 2 => compare_file(programs, Path::new(words[1])),
         Some(&"--store") if words.len() == 1 => store(programs, &root),
         _ => match (number(0, 20), number(1, 5000)) {
-            (Some(seeds), Some(commands)) => compare_seeds(programs, seeds, commands),
+            (Some(seeds), Some(commands)) => compare_seeds(programs, &root, seeds, commands),
             _ => return usage(),
         },
     };
@@ -62,11 +62,11 @@ fn differing(programs: Option<&Programs>, script: &[Command]) -> Option<Found> {
     })
 }
 
-fn compare_seeds(programs: Option<&Programs>, seeds: usize, commands: usize) -> bool {
+fn compare_seeds(programs: Option<&Programs>, root: &Path, seeds: usize, commands: usize) -> bool {
     if programs.is_none() {
         println!("no Rattle kit: the port's programs are left out");
     }
-    let mut good = fixed(programs);
+    let mut good = fixed(programs, root);
     for (domain, name) in DOMAINS {
         let mut report = Report::default();
         for seed in 0..seeds as u64 {
@@ -84,14 +84,60 @@ fn compare_seeds(programs: Option<&Programs>, seeds: usize, commands: usize) -> 
     good
 }
 
-/// The runs that are no script: the CRC's published check, and `watch` on document 01's example, cut at each place, and on a stream of each seed.
-fn fixed(programs: Option<&Programs>) -> bool {
+/// What is the same in every run: the CRC's published check, the written scripts, and the programs' own input.
+fn fixed(programs: Option<&Programs>, root: &Path) -> bool {
     let check = second::crc(b"123456789");
     println!("the CRC of the nine digits by the second implementation: {check:08X}");
+    let mut good = check == 0x0376_E6E7 && compare_written(programs, root) && compare_watch(programs);
+    if let Some(programs) = programs {
+        good &= compare_ends(programs, root);
+    }
+    println!();
+    good
+}
+
+/// The scripts that were written by hand, and those that show the named differences: there the original's line stands beside document 01's.
+fn compare_written(programs: Option<&Programs>, root: &Path) -> bool {
+    let scripts = written(root, "scripts");
+    let differ: Vec<Found> = scripts.iter().filter_map(|script| differing(programs, script)).collect();
+    println!("{} written scripts: {}", scripts.len(), if differ.is_empty() { "equal" } else { "DIFFER" });
+    differ.iter().for_each(|found| println!("{found}"));
+    let mut named = true;
+    for script in written(root, "differences") {
+        let shown = first_difference(None, [Side::Original, Side::DOCUMENT], &script);
+        named &= shown.is_some() && differing(programs, &script).is_none();
+    }
+    println!("written scripts of named differences: {}", if named { "each differs as said" } else { "NOT as said" });
+    differ.is_empty() && named
+}
+
+/// A tape that ends inside a command, at each place, and a command that there is not.
+fn compare_ends(programs: &Programs, root: &Path) -> bool {
+    let script = replayed(&written(root, "scripts").concat());
+    let script = &script[..script.len().min(12)];
+    let lines = Side::DOCUMENT.lines(None, script);
+    let starts: Vec<usize> = (0..=script.len()).map(|whole| tape_of(&script[..whole]).len()).collect();
+    let tape = tape_of(script);
+    let expected = |end: usize| {
+        let whole = starts.iter().rposition(|&start| start <= end).expect("a tape starts at 0");
+        let cut = if starts[whole] < end { "cut\n" } else { "" };
+        lines[..whole].iter().map(|line| format!("{line}\n")).collect::<String>() + cut
+    };
+    let mut good = (0..=tape.len()).all(|end| programs.output("replay", &tape[..end]) == expected(end));
+    for bad in [0x00, 0x0F, 0x15, 0x1F, 0x23, 0x34, 0xFF] {
+        let output = programs.output("replay", &[&tape[..], &[bad, 0x14]].concat());
+        good &= output == expected(tape.len()) + &format!("bad {}\n", tape.len());
+    }
+    println!("replay on a tape cut at each of {} places: {}", tape.len(), if good { "equal" } else { "DIFFERS" });
+    good
+}
+
+/// `watch` on document 01's example, cut at each place, and on streams of sections.
+fn compare_watch(programs: Option<&Programs>) -> bool {
     let example = watch::EXAMPLE.concat().concat();
     let mut inputs: Vec<Vec<u8>> = (0..=example.len()).map(|end| example[..end].to_vec()).collect();
     inputs.extend((0..20).map(watch_stream));
-    let mut good = check == 0x0376_E6E7 && watch_second(&example) == watch::EXAMPLE_OUTPUT;
+    let mut good = watch_second(&example) == watch::EXAMPLE_OUTPUT;
     for input in &inputs {
         let second = watch_second(input);
         let mut original = original::Original::new();
@@ -100,7 +146,7 @@ fn fixed(programs: Option<&Programs>) -> bool {
             good &= second == programs.output("watch", input);
         }
     }
-    println!("watch on {} inputs: {}\n", inputs.len(), if good { "equal" } else { "DIFFERS" });
+    println!("watch on {} inputs: {}", inputs.len(), if good { "equal" } else { "DIFFERS" });
     good
 }
 
@@ -180,24 +226,37 @@ fn compare_file(programs: Option<&Programs>, path: &Path) -> bool {
     }
 }
 
-/// The stored run of crates/replay: the written scripts and some seeds inside the domain, answered by the original.
-fn store(programs: Option<&Programs>, root: &Path) -> bool {
-    let mut script = Vec::new();
-    let mut written: Vec<PathBuf> = std::fs::read_dir(root.join("compare/scripts"))
-        .expect("a folder of the project")
-        .map(|entry| entry.expect("a file of the project").path())
-        .collect();
-    written.sort();
-    written.iter().for_each(|path| script.extend(read_script(path)));
-    (1000..1003).for_each(|seed| script.extend(make::script(seed, 2000, Domain::Inside)));
-    let script = replayed(&script);
-    if let Some(found) = differing(programs, &script) {
-        println!("a difference at command {}; the smallest script found:\n{}", found.line + 1, smallest(programs, found));
-    }
-    let lines = Side::Original.lines(None, &script);
-    let folder = root.join("crates/replay");
-    std::fs::write(folder.join("stdin"), tape_of(&script)).expect("the crate's folder can be written");
-    std::fs::write(folder.join("stdout"), lines.join("\n") + "\n").expect("the crate's folder can be written");
-    println!("crates/replay: {} commands", script.len());
-    lines == Side::DOCUMENT.lines(None, &script)
+/// The scripts in a folder of compare/, in order of their names.
+fn written(root: &Path, folder: &str) -> Vec<Vec<Command>> {
+    let entries = std::fs::read_dir(root.join("compare").join(folder)).expect("a folder of the project");
+    let mut paths: Vec<PathBuf> = entries.map(|entry| entry.expect("a file of the project").path()).collect();
+    paths.sort();
+    paths.iter().map(|path| read_script(path)).collect()
 }
+
+/// The stored runs: crates/replay has the written scripts and some seeds inside the domain, answered by the original; crates/replay_damaged has
+/// damaged and cell-bound seeds, answered by the second implementation.
+fn store(programs: Option<&Programs>, root: &Path) -> bool {
+    let seeds = |domain| STORED_SEEDS.flat_map(move |seed| make::script(seed, STORED_COMMANDS, domain));
+    let inside: Vec<Command> = written(root, "scripts").into_iter().flatten().chain(seeds(Domain::Inside)).collect();
+    let outside: Vec<Command> = seeds(Domain::Damaged).chain(seeds(Domain::CellBound)).collect();
+    store_run(programs, root, "replay", Side::Original, &replayed(&inside))
+        && store_run(programs, root, "replay_damaged", Side::DOCUMENT, &replayed(&outside))
+}
+
+fn store_run(programs: Option<&Programs>, root: &Path, name: &str, side: Side, script: &[Command]) -> bool {
+    if let Some(found) = differing(programs, script) {
+        println!("a difference at command {}; the smallest script found:\n{}", found.line + 1, smallest(programs, found));
+        return false;
+    }
+    let folder = root.join("crates").join(name);
+    let output: String = side.lines(None, script).iter().map(|line| format!("{line}\n")).collect();
+    std::fs::write(folder.join("stdin"), tape_of(script)).expect("the crate's folder can be written");
+    std::fs::write(folder.join("stdout"), output).expect("the crate's folder can be written");
+    println!("crates/{name}: {} commands, answered by {side}", script.len());
+    true
+}
+
+/// Seeds that no comparison of less than a thousand uses.
+const STORED_SEEDS: std::ops::Range<u64> = 1000..1004;
+const STORED_COMMANDS: usize = 2500;

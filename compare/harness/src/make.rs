@@ -403,19 +403,21 @@ fn collector_run(dice: &mut Dice, length: usize, domain: Domain, part: Part) -> 
     let eit = part == Part::Eit;
     let limit = dice.of(&[0, 1, 1, 2, 2, 3, 4, 5, 8, 16, 64]);
     let (cells, size) = match domain {
-        Domain::CellBound => (dice.of(&[0, 1, 2, 3, 5, 8, 13, 40, 200]), dice.of(&[12, 18, 30, 64, 200, 4096])),
-        _ => dice.of(&[(256, 4096), (2048, 512), (8192, 128), (8192, 128)]),
+        Domain::CellBound => (dice.of(&[0, 1, 2, 3, 5, 8, 13, 40, 60]), dice.of(&[12, 18, 30, 64, 200, 4096])),
+        _ => dice.of(&[(64, 4096), (512, 512), (2048, 128), (2048, 128)]),
     };
     // The largest section that the sender makes; a cell-bound run has some that no cell takes.
     let largest = if domain == Domain::CellBound { 64.max(usize::from(size)) } else { usize::from(size) };
     let mut run = vec![Command::Open { part, limit, cells, size }];
     let mut tables = tables(dice, eit);
+    // How many times rarer than usual anything changes: sets of many sections are completed in calm runs only.
+    let calm = dice.of(&[1, 1, 1, 20]);
     let mut now = 0;
     while run.len() < length {
-        if dice.once_in(8) {
+        if dice.once_in(8 * calm) {
             now = dice.below(tables.len());
         }
-        unrest(dice, &mut tables, now, eit);
+        unrest(dice, &mut tables, now, eit, calm);
         let numbers = tables[now].numbers();
         let table = &mut tables[now];
         let number = match dice.below(20) {
@@ -448,7 +450,7 @@ fn collector_run(dice: &mut Dice, length: usize, domain: Domain, part: Part) -> 
             run.push(Command::Drop(filter(dice, &tables, domain)));
         }
         if domain == Domain::Damaged && dice.once_in(200) {
-            let (limit, cells, size) = dice.of(&[(65, 1, 12), (1, 257, 4096), (1, 1, 11), (1, 1, 4097)]);
+            let (limit, cells, size) = dice.of(&[(65, 1, 12), (1, 65, 4096), (1, 1, 11), (1, 1, 4097)]);
             run.push(Command::Open { part, limit, cells, size });
         }
     }
@@ -456,14 +458,14 @@ fn collector_run(dice: &mut Dice, length: usize, domain: Domain, part: Part) -> 
 }
 
 /// What a broadcaster changes between two sections: a version, current_next, or the range of a schedule.
-fn unrest(dice: &mut Dice, tables: &mut [Table], now: usize, eit: bool) {
-    if dice.once_in(25) {
+fn unrest(dice: &mut Dice, tables: &mut [Table], now: usize, eit: bool, calm: usize) {
+    if dice.once_in(25 * calm) {
         tables[now].renew(dice, eit);
     }
-    if dice.once_in(120) {
+    if dice.once_in(120 * calm) {
         tables[now].head.current_next ^= true;
     }
-    if eit && dice.once_in(33) {
+    if eit && dice.once_in(33 * calm) {
         let here = tables[now].clone();
         let table_id = here.head.table_id;
         let range = match dice.below(6) {

@@ -29,6 +29,7 @@ impl Programs {
         fs::write(&stdin, input).expect("the folder for temporary files can be written");
         let status = Command::new(self.root.join("run"))
             .arg(name)
+            .env("PETRIZOLU_BUILT", "1")
             .stdin(File::open(&stdin).expect("just written"))
             .stdout(File::create(&stdout).expect("the folder for temporary files can be written"))
             .status();

@@ -50,7 +50,7 @@ impl Display for Report {
         let answers: Vec<String> = self.answers.iter().map(|((part, n), count)| format!("{part} {n}: {count}")).collect();
         writeln!(f, "  answers: {}", answers.join(", "))?;
         let met: Vec<String> =
-            Difference::ALL.iter().map(|&difference| format!("{difference:?} {}", self.met[difference as usize])).collect();
+            Difference::ALL.iter().map(|&difference| format!("{} {}", difference.name(), self.met[difference as usize])).collect();
         writeln!(f, "  named differences from the original met: {}", met.join(", "))
     }
 }

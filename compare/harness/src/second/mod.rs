@@ -25,6 +25,15 @@ pub enum Difference {
 
 impl Difference {
     pub const ALL: [Difference; 3] = [Difference::ShortFormPat, Difference::ShortAndNoEit, Difference::Cells];
+
+    /// Its name in docs/DIFFERENCES.md.
+    pub fn name(self) -> &'static str {
+        match self {
+            Difference::ShortFormPat => "D1 (short-form PAT)",
+            Difference::ShortAndNoEit => "D2 (short and no EIT)",
+            Difference::Cells => "D3 and D5 (cells)",
+        }
+    }
 }
 
 /// How document 01 is read, and what was met on the way.
