@@ -2,7 +2,7 @@
 -- refusals leave the memory as before; 21 exactly where the rules would keep a section and every cell is named.
 -- Assumes nothing.
 use mathlib.Core.Path.{_≡_, refl, sym, ap, subst, _∙_}
-use mathlib.Core.Logic.{_⊎_, inl, inr}
+use mathlib.Core.Logic.{_≢_, _⊎_, inl, inr}
 use mathlib.Core.Bool.{Bool, true, false, cond, true≢false}
 use mathlib.Core.Option.{Option, none, some}
 use mathlib.Core.List.{List, [], _∷_, map}
@@ -26,15 +26,12 @@ use Rattle.section.specs.Judged.{collectedOf}
 use Rattle.section.specs.declared.header.Collected.{Collected}
 use Rattle.section.specs.declared.header.Collected.the-variants.{Malformed, ShortForm, BadNumber, BadCrc, Good}
 use Rattle.section.specs.declared.ids.MaybePid.the-variants as maybe
-use Rattle.rows.specs.Rows.{touched}
 use Rattle.order.specs.Order.{downFrom, inOrder, rowsSeen}
 use Rattle.order.proofs.Touch.{stands-none}
 use Rattle.order.proofs.Cells.{cells-length}
 use Rattle.setrules.proofs.Keys.{sameKey-true}
-use Rattle.sets.specs.declared.inner.Plan.{Plan}
-use Rattle.sets.specs.declared.inner.Plan.the-variants as plan
-use Rattle.sets.specs.Store.{Store, plain, settingsFit, wholeOf, openedOf, clearedOf, planOf, goesOut, settledAnswer, settledHeads, settled, carried, pushedOf, keptIn}
-use Rattle.sets.specs.declared.PushAnswer.the-variants.{Nothing, Set}
+use Rattle.sets.specs.Store.{Store, Told, plain, handed, settingsFit, wholeOf, openedOf, clearedOf, pushedOf}
+use Rattle.sets.proofs.Refusals.{refusal-keeps}
 use Rattle.sets.specs.Store as sets
 use Rattle.sets.proofs.Whole.{long}
 use Rattle.sets.proofs.Judged.{good-length}
@@ -95,30 +92,22 @@ module _ (s : Store) (z : Reached s) (i : Given) (o : OfBytes i) where
 
 -- ---- refusals: the memory is as before, whatever it holds
 
-settled-accepts : (s : Store) (i : ℕ) → asBefore (answerTold ((settled s i) .told)) ≡ false
-unfolding settled settledAnswer asBefore answerTold
-settled-accepts s i = go (goesOut (touched (s .sets .used) i (s .heads)) (s .slots) i)
-  where
-    go : (b : Bool) → asBefore (answerTold (sets.answerOf (cond b (Set i) Nothing) (sets.store (s .sets) (settledHeads (s .sets .used) (s .heads) (s .slots) i) (s .slots) (s .cells)))) ≡ false
-    go true = refl
-    go false = refl
-
-carried-as-before : (s : Store) (bytes : Bytes) (p : Plan) → asBefore (answerTold ((carried s bytes p) .told)) ≡ true → (carried s bytes p) .store ≡ s
+kept-told : (s after : Store) (t : Told) → ((n : ℕ) → t ≡ plain n → n ≢ 4 → n ≢ 22 → after ≡ s) → asBefore (answerTold t) ≡ true → after ≡ s
 unfolding asBefore answerTold
-carried-as-before s bytes (plan.Refuse a) h = refl
-carried-as-before s bytes (plan.Conflict i) h = absurd (true≢false (sym h))
-carried-as-before s bytes (plan.Repeat i) h = absurd (true≢false (sym h ∙ settled-accepts s i))
-carried-as-before s bytes (plan.Keep k) h = absurd (true≢false (sym h ∙ settled-accepts (keptIn s bytes k) (k .room .row)))
+kept-told s after (handed w) f h = absurd (true≢false (sym h))
+kept-told s after (plain n) f h =
+    f n refl (λ (e : n ≡ 4). absurd (true≢false (sym (subst (λ (m : ℕ). asBefore (answerTold (plain m)) ≡ true) e h))))
+    (λ (e : n ≡ 22). absurd (true≢false (sym (subst (λ (m : ℕ). asBefore (answerTold (plain m)) ≡ true) e h))))
 
 pub as-before : (s : Store) (i : Given) → asBefore (tells s i) ≡ true → acts s i ≡ s
-unfolding tells acts called asBefore answerTold clearedOf pushedOf
+unfolding tells acts called asBefore answerTold clearedOf
 as-before s clears h = go (wholeOf s) h
   where
     go : (b : Bool) → asBefore (answerTold ((cond b (sets.left (plain 7) (sets.store (sets.emptySets (s .sets)) (s .heads) (s .slots) (s .cells))) (sets.left (plain 10) s)) .told)) ≡ true
         → (cond b (sets.left (plain 7) (sets.store (sets.emptySets (s .sets)) (s .heads) (s .slots) (s .cells))) (sets.left (plain 10) s)) .store ≡ s
     go true h = absurd (true≢false (sym h))
     go false h = refl
-as-before s (section pid bytes) h = carried-as-before s bytes (planOf s pid bytes) h
+as-before s (section pid bytes) h = kept-told s ((pushedOf s pid bytes) .store) ((pushedOf s pid bytes) .told) (refusal-keeps s pid bytes) h
 
 -- ---- many calls
 
