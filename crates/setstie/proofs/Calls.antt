@@ -50,7 +50,8 @@ use Rattle.sets.specs.Store.{Store, store, wholeOf, Whole, Numbered, emptySets,
 use Rattle.sets.proofs.Whole.{whole-means, long}
 use Rattle.sets.proofs.Plans.{slot-bounds, same-last}
 use Rattle.sets.proofs.Judged.{good-numbers, good-length}
-use Rattle.setstie.specs.View.{pidShown, keyShown, keyWords, rowSeen, seen, Given, clears, section, readsAs, readSection, reads, OfBytes, answerTold, called, Reached}
+use Rattle.sets.specs.History.{Call as Given, empty as clears, offer as section, Bytes as OfBytes, called}
+use Rattle.setstie.specs.View.{pidShown, keyShown, keyWords, rowSeen, seen, readsAs, readSection, reads, answerTold, Reached}
 use Rattle.setstie.proofs.Rows.{same-self, written-shown, written-reads}
 use Rattle.setstie.proofs.Settle.{Tied, Ready, settle-tied, conflict-tied}
 use Rattle.setstie.proofs.Keep.{sectionFor, anew, goesOn, keep-tied}
@@ -345,6 +346,6 @@ module _ (s : Store) (z : Reached s) where
 
   -- every call
   pub tied : (i : Given) → OfBytes i → Tied (called s i) (call (seen s) (reads i))
-  unfolding called reads OfBytes
+  unfolding reads
   tied clears o = clear-tied s z
   tied (section pid bytes) o = push-tied pid bytes o

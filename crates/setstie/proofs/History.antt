@@ -35,7 +35,8 @@ use Rattle.sets.proofs.Refusals.{refusal-keeps}
 use Rattle.sets.specs.Store as sets
 use Rattle.sets.proofs.Whole.{long}
 use Rattle.sets.proofs.Judged.{good-length}
-use Rattle.setstie.specs.View.{keyShown, keyWords, seen, settingsOf, Given, clears, section, readsAs, readSection, reads, OfBytes, answerTold, called, tells, acts, Opened, Reached}
+use Rattle.sets.specs.History.{Call as Given, empty as clears, offer as section, Bytes as OfBytes}
+use Rattle.setstie.specs.View.{keyShown, keyWords, seen, settingsOf, readsAs, readSection, reads, answerTold, tells, acts, Opened, Reached}
 use Rattle.setstie.proofs.Rows.{same-self}
 use Rattle.setstie.proofs.Calls.{tied}
 
@@ -44,9 +45,9 @@ use Rattle.setstie.proofs.Calls.{tied}
 pub opened-reached : (s : Store) → Opened s → Reached s
 unfolding openedOf
 opened-reached s o = record {
-  fits = go (settingsFit (s .sets) (length (s .heads)) (length (s .slots)) (length (s .cells))) (o .fits);
+  fits = go (settingsFit (s .sets) (length (s .heads)) (length (s .slots)) (length (s .cells))) (o .opened .opened);
   counts = let e = o .evictions in omega arith;
-  stands = rw (o .used) (stands-none keyShown keyWords sameKey sameKey-true same-self (s .heads));
+  stands = rw (o .opened .none) (stands-none keyShown keyWords sameKey sameKey-true same-self (s .heads));
 }
   where
     go : (b : Bool) → plain (cond b 7 13) ≡ plain 7 → b ≡ true
@@ -56,7 +57,7 @@ opened-reached s o = record {
 -- "no rows, counts 0"
 pub opened-seen : (s : Store) → Opened s → (seen s) .sets ≡ untouched
 unfolding seen untouched rowsSeen inOrder downFrom
-opened-seen s o = rw (o .used, o .evictions)
+opened-seen s o = rw (o .opened .none, o .evictions)
 
 -- ---- one call
 
@@ -100,7 +101,7 @@ kept-told s after (plain n) f h =
     (λ (e : n ≡ 22). absurd (true≢false (sym (subst (λ (m : ℕ). asBefore (answerTold (plain m)) ≡ true) e h))))
 
 pub as-before : (s : Store) (i : Given) → asBefore (tells s i) ≡ true → acts s i ≡ s
-unfolding tells acts called asBefore answerTold clearedOf
+unfolding tells acts asBefore answerTold clearedOf
 as-before s clears h = go (wholeOf s) h
   where
     go : (b : Bool) → asBefore (answerTold ((cond b (sets.left (plain 7) (sets.store (sets.emptySets (s .sets)) (s .heads) (s .slots) (s .cells))) (sets.left (plain 10) s)) .told)) ≡ true

@@ -21,7 +21,8 @@ use Rattle.rows.proofs.Words.{slot-at, length-slots}
 use Rattle.section.specs.declared.ids.MaybePid.{MaybePid}
 use Rattle.sets.specs.Store.{Store, Told, plain, handed, pushedOf}
 use Rattle.sets.proofs.Refusals.{AsBefore, conflict-keeps}
-use Rattle.setstie.specs.View.{seen, Given, section, reads, OfBytes, answerTold, called, tells, acts, Reached}
+use Rattle.sets.specs.History.{Call as Given, offer as section, Bytes as OfBytes}
+use Rattle.setstie.specs.View.{seen, reads, answerTold, tells, acts, Reached}
 use Rattle.setstie.proofs.Rows.{row-takes}
 use Rattle.setstie.proofs.History.{tells-seen, acts-seen}
 
@@ -54,7 +55,7 @@ conflict-told (plain n) e = go (eqb n 7) (eqb n 4) (eqb n 10) (eqb n 11) (eqb n 
     go false false false false false false q e = let z : _≡_ {A = ℕ} 0 1 = cc in absurd (omega arith)
 
 pub conflict-memory : (s : Store) (pid : MaybePid) (bytes : Bytes) → tells s (section pid bytes) ≡ conflict → AsBefore s bytes (acts s (section pid bytes))
-unfolding tells acts called
+unfolding tells acts
 conflict-memory s pid bytes h = conflict-keeps s pid bytes (conflict-told ((pushedOf s pid bytes) .told) h)
 
 -- ---- "A cell is free exactly when no slot .. of a row in use names it"
