@@ -9,7 +9,8 @@ use Rattle.touch.specs.Runs.{At, Never, GivenBy}
 use Rattle.setrules.specs.Rules.{Whole, Answer, clear, handout, counterFull, noCell}
 use Rattle.setrules.specs.Demand.{run, withCells, Smaller, NoConflict, NeverBarred}
 use Rattle.setrules.proofs.Demand.{demand-3-cells}
-use Rattle.setstie.specs.View.{Given, clears, reads, seen}
+use Rattle.sets.specs.History.{Call as Given, empty as clears}
+use Rattle.setstie.specs.View.{reads, seen}
 use Rattle.setstie.proofs.History.{opened-reached, opened-seen, same-answers, never-not-whole}
 use Rattle.promises.specs.Demand3.{Collector, StartsEmpty, EqualCellSize, LimitNoLarger, Calls, SectionsOfBytes, answersOf, RefusesNoneAsConflicting, RefusesNoneForItsStore, HandsOut, HandedOutSinceTheLastClear, Demand3}
 

@@ -124,7 +124,7 @@ clash-bytes = refl
 
 clash-small-opened : StartsEmpty (collector 1 16 2)
 unfolding openedOf
-clash-small-opened = record { fits = refl; used = refl; evictions = refl }
+clash-small-opened = record { opened = record { opened = refl; none = refl }; evictions = refl }
 
 clash-small-seen : seen (collector 1 16 2) ≡ shown 1 16 2
 unfolding seen untouched rowsSeen inOrder downFrom cellsSeen upFrom
@@ -139,7 +139,7 @@ clash-small = runs (collector 1 16 2) clash-small-opened (shown 1 16 2) clash-sm
 
 clash-large-opened : StartsEmpty (collector 2 16 3)
 unfolding openedOf
-clash-large-opened = record { fits = refl; used = refl; evictions = refl }
+clash-large-opened = record { opened = record { opened = refl; none = refl }; evictions = refl }
 
 clash-large-seen : seen (collector 2 16 3) ≡ shown 2 16 3
 unfolding seen untouched rowsSeen inOrder downFrom cellsSeen upFrom
@@ -185,7 +185,7 @@ driven-bytes = refl
 
 driven-small-opened : StartsEmpty (collector 2 16 3)
 unfolding openedOf
-driven-small-opened = record { fits = refl; used = refl; evictions = refl }
+driven-small-opened = record { opened = record { opened = refl; none = refl }; evictions = refl }
 
 driven-small-seen : seen (collector 2 16 3) ≡ shown 2 16 3
 unfolding seen untouched rowsSeen inOrder downFrom cellsSeen upFrom
@@ -200,7 +200,7 @@ driven-small = runs (collector 2 16 3) driven-small-opened (shown 2 16 3) driven
 
 driven-large-opened : StartsEmpty (collector 1 16 2)
 unfolding openedOf
-driven-large-opened = record { fits = refl; used = refl; evictions = refl }
+driven-large-opened = record { opened = record { opened = refl; none = refl }; evictions = refl }
 
 driven-large-seen : seen (collector 1 16 2) ≡ shown 1 16 2
 unfolding seen untouched rowsSeen inOrder downFrom cellsSeen upFrom
@@ -239,7 +239,7 @@ alone-bytes = refl
 
 alone-small-opened : StartsEmpty (collector 1 16 1)
 unfolding openedOf
-alone-small-opened = record { fits = refl; used = refl; evictions = refl }
+alone-small-opened = record { opened = record { opened = refl; none = refl }; evictions = refl }
 
 alone-small-seen : seen (collector 1 16 1) ≡ shown 1 16 1
 unfolding seen untouched rowsSeen inOrder downFrom cellsSeen upFrom
@@ -254,7 +254,7 @@ alone-small = runs (collector 1 16 1) alone-small-opened (shown 1 16 1) alone-sm
 
 alone-short-opened : StartsEmpty (collector 1 12 1)
 unfolding openedOf
-alone-short-opened = record { fits = refl; used = refl; evictions = refl }
+alone-short-opened = record { opened = record { opened = refl; none = refl }; evictions = refl }
 
 alone-short-seen : seen (collector 1 12 1) ≡ shown 1 12 1
 unfolding seen untouched rowsSeen inOrder downFrom cellsSeen upFrom
@@ -269,7 +269,7 @@ alone-short = runs (collector 1 12 1) alone-short-opened (shown 1 12 1) alone-sh
 
 alone-none-opened : StartsEmpty (collector 1 16 0)
 unfolding openedOf
-alone-none-opened = record { fits = refl; used = refl; evictions = refl }
+alone-none-opened = record { opened = record { opened = refl; none = refl }; evictions = refl }
 
 alone-none-seen : seen (collector 1 16 0) ≡ shown 1 16 0
 unfolding seen untouched rowsSeen inOrder downFrom cellsSeen upFrom
@@ -319,7 +319,7 @@ wanting-bytes = refl
 
 wanting-small-opened : StartsEmpty (collector 2 16 3)
 unfolding openedOf
-wanting-small-opened = record { fits = refl; used = refl; evictions = refl }
+wanting-small-opened = record { opened = record { opened = refl; none = refl }; evictions = refl }
 
 wanting-small-seen : seen (collector 2 16 3) ≡ shown 2 16 3
 unfolding seen untouched rowsSeen inOrder downFrom cellsSeen upFrom
@@ -334,7 +334,7 @@ wanting-small = runs (collector 2 16 3) wanting-small-opened (shown 2 16 3) want
 
 wanting-large-opened : StartsEmpty (collector 2 16 9)
 unfolding openedOf
-wanting-large-opened = record { fits = refl; used = refl; evictions = refl }
+wanting-large-opened = record { opened = record { opened = refl; none = refl }; evictions = refl }
 
 wanting-large-seen : seen (collector 2 16 9) ≡ shown 2 16 9
 unfolding seen untouched rowsSeen inOrder downFrom cellsSeen upFrom
@@ -387,7 +387,7 @@ second-bytes = refl
 
 both-small-opened : StartsEmpty (collector 1 16 2)
 unfolding openedOf
-both-small-opened = record { fits = refl; used = refl; evictions = refl }
+both-small-opened = record { opened = record { opened = refl; none = refl }; evictions = refl }
 
 both-small-seen : seen (collector 1 16 2) ≡ shown 1 16 2
 unfolding seen untouched rowsSeen inOrder downFrom cellsSeen upFrom
@@ -402,7 +402,7 @@ both-small = runs (collector 1 16 2) both-small-opened (shown 1 16 2) both-small
 
 second-large-opened : StartsEmpty (collector 1 16 2)
 unfolding openedOf
-second-large-opened = record { fits = refl; used = refl; evictions = refl }
+second-large-opened = record { opened = record { opened = refl; none = refl }; evictions = refl }
 
 second-large-seen : seen (collector 1 16 2) ≡ shown 1 16 2
 unfolding seen untouched rowsSeen inOrder downFrom cellsSeen upFrom

@@ -65,11 +65,11 @@ larger = collector 2 16 3
 
 smaller-opened : StartsEmpty smaller
 unfolding openedOf
-smaller-opened = record { fits = refl; used = refl; evictions = refl }
+smaller-opened = record { opened = record { opened = refl; none = refl }; evictions = refl }
 
 larger-opened : StartsEmpty larger
 unfolding openedOf
-larger-opened = record { fits = refl; used = refl; evictions = refl }
+larger-opened = record { opened = record { opened = refl; none = refl }; evictions = refl }
 
 smaller-seen : seen smaller ≡ shown 1 16 2
 unfolding seen untouched rowsSeen inOrder downFrom cellsSeen upFrom

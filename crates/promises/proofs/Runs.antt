@@ -24,7 +24,8 @@ use Rattle.setrules.specs.Cells.{Store as Shown}
 use Rattle.setrules.specs.Demand.{run, withCells}
 use Rattle.setrules.proofs.Examples.{replies}
 use Rattle.sets.specs.Store.{store, asked}
-use Rattle.setstie.specs.View.{Given, section, reads, OfBytes, seen}
+use Rattle.sets.specs.History.{Call as Given, offer as section, Bytes as OfBytes}
+use Rattle.setstie.specs.View.{reads, seen}
 use Rattle.promises.specs.Demand3.{Collector, StartsEmpty, Calls, SectionsOfBytes, answersOf, RefusesNoneAsConflicting, RefusesNoneForItsStore}
 use Rattle.promises.proofs.Demand3.{as-rules}
 
@@ -57,7 +58,6 @@ bytesIn [] = true
 bytesIn (b ∷ bs) = every (λ (x : ℕ). ltb x 256) b && bytesIn bs
 
 pub of-bytes : (bs : List Bytes) → bytesIn bs ≡ true → SectionsOfBytes (map on bs)
-unfolding OfBytes
 of-bytes [] h t i e = absurd (none≢some refl e)
 of-bytes (b ∷ bs) h zero i e = subst OfBytes (Option·some-injective (on b) i e) (byte-test b (and-true (every (λ (x : ℕ). ltb x 256) b) (bytesIn bs) h .0))
 of-bytes (b ∷ bs) h (suc t) i e = of-bytes bs (and-true (every (λ (x : ℕ). ltb x 256) b) (bytesIn bs) h .1) t i e

@@ -14,7 +14,8 @@ use mathlib.Core.List.{List}
 use Rattle.touch.specs.Runs.{answers, At, Never, GivenBy}
 use Rattle.setrules.specs.Rules.{Whole, Answer, handout, conflict, notWhole, counterFull, noCell}
 use Rattle.sets.specs.Store.{Store}
-use Rattle.setstie.specs.View.{Given, clears, OfBytes, tells, acts, Opened}
+use Rattle.sets.specs.History.{Call as Given, empty as clears, Bytes as OfBytes}
+use Rattle.setstie.specs.View.{tells, acts, Opened}
 
 -- "Two set collectors": the settings and counts of a collector, with the content of the memory that is lent to it
 abbrev pub Collector : Type 0

@@ -5,12 +5,11 @@ use mathlib.Core.Logic.{_≢_}
 use mathlib.Core.Bool.{Bool, true, false, cond, not, _&&_}
 use mathlib.Core.Option.{Option, none, some}
 use mathlib.Core.List.{List}
-use Prim.Native.Nat.{ℕ, zero, suc, _+_, _-_, _≤_, _<_}
+use Prim.Native.Nat.{ℕ, zero, suc, _+_, _*_, _≤_, _<_}
 use native.Mathlib.Omega.{arith}
 use borrow.Author.Tests.{eq-eqb, ne-eqb, eqb-true, eqb-false, ltb-true, ltb-false, leb-true, le-leb, lt-leb}
 use lib.Dec.{eqb, ltb, leb}
-use lib.ListN.{length, getD, drop, length-take, length-drop}
-use lib.Seq.{length-take-le}
+use lib.ListN.{length, getD}
 use Rattle.laws.specs.Lists.{sameList}
 use Rattle.laws.proofs.Tests.{same-test}
 use Rattle.laws.proofs.Search.{every-get}
@@ -41,7 +40,7 @@ use Rattle.order.specs.Slots.{heldOf, cellsSeen}
 use Rattle.order.proofs.Ages.{length-order}
 use Rattle.order.proofs.Touch.{row-has-key, no-row-has-key, goes-known, goes-new, stands-none, finds-known, finds-none}
 use Rattle.order.proofs.Slots.{place, held-filled, held-empty, held-get, held-whole, rows-whole}
-use Rattle.rows.proofs.Words.{slot-at}
+use Rattle.rows.proofs.Words.{slot-at, length-slots}
 use Rattle.rows.proofs.Whole.{rows-get}
 use Rattle.order.proofs.Cells.{cells-length, bytes-kept, same-bytes}
 use Rattle.sets.specs.declared.inner.Plan.the-variants as plan
@@ -50,7 +49,8 @@ use Rattle.sets.specs.Store.{Store, store, wholeOf, Whole, Numbered, emptySets,
 use Rattle.sets.proofs.Whole.{whole-means, long}
 use Rattle.sets.proofs.Plans.{slot-bounds, same-last}
 use Rattle.sets.proofs.Judged.{good-numbers, good-length}
-use Rattle.setstie.specs.View.{pidShown, keyShown, keyWords, rowSeen, seen, Given, clears, section, readsAs, readSection, reads, OfBytes, answerTold, called, Reached}
+use Rattle.sets.specs.History.{Call as Given, empty as clears, offer as section, Bytes as OfBytes, called}
+use Rattle.setstie.specs.View.{pidShown, keyShown, keyWords, rowSeen, seen, readsAs, readSection, reads, answerTold, Reached}
 use Rattle.setstie.proofs.Rows.{same-self, written-shown, written-reads}
 use Rattle.setstie.proofs.Settle.{Tied, Ready, settle-tied, conflict-tied}
 use Rattle.setstie.proofs.Keep.{sectionFor, anew, goesOn, keep-tied}
@@ -66,18 +66,6 @@ unfolding rowSeen seen
 row-whole s j =
     held-whole ((seen s) .settings) ((seen s) .cells) (rowSlots (s .heads) (s .slots) j)
     ∙ ap (λ (m : ℕ). allWhole m (s .sets .size) (rowSlots (s .heads) (s .slots) j)) (cells-length (s .cells) (s .sets .size) (s .sets .count))
-
--- a row in use has its slots
-pub slots-many : (s : Store) (i j : ℕ) → j < slotCount (word (s .heads) i 7) → slotsAt i + 256 ≤ length (s .slots) → j < length (rowSlots (s .heads) (s .slots) i)
-unfolding rowSlots
-slots-many s i j h l =
-    let a = length-take-le (slotCount (word (s .heads) i 7)) (drop (slotsAt i) (s .slots)) (rw (length-drop (slotsAt i) (s .slots)) (omega arith)) in
-    omega arith
-
--- .. and no more
-pub slots-few : (s : Store) (i j : ℕ) → j < length (rowSlots (s .heads) (s .slots) i) → j < slotCount (word (s .heads) i 7)
-unfolding rowSlots
-slots-few s i j h = let a = length-take (slotCount (word (s .heads) i 7)) (drop (slotsAt i) (s .slots)) in omega arith
 
 new-fresh : (heads : List ℕ) (limit used evictions : ℕ) → (roomNew heads limit used evictions) .fresh ≡ true
 unfolding roomNew
@@ -212,13 +200,13 @@ module _ (s : Store) (z : Reached s) (f : Whole (s .sets) (s .heads) (s .slots) 
       row-ok : allWhole (s .sets .count) (s .sets .size) (rowSlots (s .heads) (s .slots) there) ≡ true
       row-ok = rows-get (s .heads) (s .slots) (s .sets .count) (s .sets .size) (s .sets .used) there (f .rows) h
 
-      slots-there : slotsAt there + 256 ≤ length (s .slots)
+      slots-there : there * 288 + 288 ≤ length (s .slots)
       slots-there = let a = f .slots-long in let b = f .used in omega arith
 
       word-ok : slotWhole (s .sets .count) (s .sets .size) w ≡ true
       word-ok =
           subst (λ (v : ℕ). slotWhole (s .sets .count) (s .sets .size) v ≡ true) (slot-at (s .heads) (s .slots) there (e .number) in-row)
-          (every-get (slotWhole (s .sets .count) (s .sets .size)) (rowSlots (s .heads) (s .slots) there) 0 (e .number) row-ok (slots-many s there (e .number) in-row slots-there))
+          (every-get (slotWhole (s .sets .count) (s .sets .size)) (rowSlots (s .heads) (s .slots) there) 0 (e .number) row-ok (let d = length-slots (s .heads) (s .slots) there slots-there in let i = in-row in omega arith))
 
       itself : Ready s s (e .key) there (ageOf (s .heads) there)
       itself = record {
@@ -357,6 +345,6 @@ module _ (s : Store) (z : Reached s) where
 
   -- every call
   pub tied : (i : Given) → OfBytes i → Tied (called s i) (call (seen s) (reads i))
-  unfolding called reads OfBytes
+  unfolding reads
   tied clears o = clear-tied s z
   tied (section pid bytes) o = push-tied pid bytes o

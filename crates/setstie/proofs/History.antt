@@ -3,7 +3,7 @@
 -- Assumes nothing.
 use borrow.Author.Tests.{le-leb}
 use mathlib.Core.Path.{_≡_, refl, sym, ap, subst, _∙_}
-use mathlib.Core.Logic.{_⊎_, inl, inr}
+use mathlib.Core.Logic.{_≢_, _⊎_, inl, inr}
 use mathlib.Core.Bool.{Bool, true, false, cond, true≢false}
 use mathlib.Core.Option.{Option, none, some}
 use mathlib.Core.List.{List, [], _∷_, map}
@@ -26,19 +26,17 @@ use Rattle.section.specs.Judged.{collectedOf}
 use Rattle.section.specs.declared.header.Collected.{Collected}
 use Rattle.section.specs.declared.header.Collected.the-variants.{Malformed, ShortForm, BadNumber, BadCrc, Good}
 use Rattle.section.specs.declared.ids.MaybePid.the-variants as maybe
-use Rattle.rows.specs.Rows.{touched}
 use Rattle.order.specs.Order.{downFrom, inOrder, rowsSeen}
 use Rattle.order.proofs.Touch.{stands-none}
 use Rattle.order.proofs.Cells.{cells-length}
 use Rattle.setrules.proofs.Keys.{sameKey-true}
-use Rattle.sets.specs.declared.inner.Plan.{Plan}
-use Rattle.sets.specs.declared.inner.Plan.the-variants as plan
-use Rattle.sets.specs.Store.{Store, plain, settingsFit, wholeOf, openedOf, clearedOf, planOf, goesOut, settledAnswer, settledHeads, settled, carried, pushedOf, keptIn}
-use Rattle.sets.specs.declared.PushAnswer.the-variants.{Nothing, Set}
+use Rattle.sets.specs.Store.{Store, Told, plain, handed, settingsFit, wholeOf, openedOf, clearedOf, pushedOf}
+use Rattle.sets.proofs.Refusals.{refusal-keeps}
 use Rattle.sets.specs.Store as sets
 use Rattle.sets.proofs.Whole.{long}
 use Rattle.sets.proofs.Judged.{good-length}
-use Rattle.setstie.specs.View.{keyShown, keyWords, seen, settingsOf, Given, clears, section, readsAs, readSection, reads, OfBytes, answerTold, called, tells, acts, Opened, Reached}
+use Rattle.sets.specs.History.{Call as Given, empty as clears, offer as section, Bytes as OfBytes}
+use Rattle.setstie.specs.View.{keyShown, keyWords, seen, settingsOf, readsAs, readSection, reads, answerTold, tells, acts, Opened, Reached}
 use Rattle.setstie.proofs.Rows.{same-self}
 use Rattle.setstie.proofs.Calls.{tied}
 
@@ -47,9 +45,9 @@ use Rattle.setstie.proofs.Calls.{tied}
 pub opened-reached : (s : Store) → Opened s → Reached s
 unfolding openedOf
 opened-reached s o = record {
-  fits = go (settingsFit (s .sets) (length (s .heads)) (length (s .slots)) (length (s .cells))) (o .fits);
+  fits = go (settingsFit (s .sets) (length (s .heads)) (length (s .slots)) (length (s .cells))) (o .opened .opened);
   counts = let e = o .evictions in omega arith;
-  stands = rw (o .used) (stands-none keyShown keyWords sameKey sameKey-true same-self (s .heads));
+  stands = rw (o .opened .none) (stands-none keyShown keyWords sameKey sameKey-true same-self (s .heads));
 }
   where
     go : (b : Bool) → plain (cond b 7 13) ≡ plain 7 → b ≡ true
@@ -59,7 +57,7 @@ opened-reached s o = record {
 -- "no rows, counts 0"
 pub opened-seen : (s : Store) → Opened s → (seen s) .sets ≡ untouched
 unfolding seen untouched rowsSeen inOrder downFrom
-opened-seen s o = rw (o .used, o .evictions)
+opened-seen s o = rw (o .opened .none, o .evictions)
 
 -- ---- one call
 
@@ -95,30 +93,22 @@ module _ (s : Store) (z : Reached s) (i : Given) (o : OfBytes i) where
 
 -- ---- refusals: the memory is as before, whatever it holds
 
-settled-accepts : (s : Store) (i : ℕ) → asBefore (answerTold ((settled s i) .told)) ≡ false
-unfolding settled settledAnswer asBefore answerTold
-settled-accepts s i = go (goesOut (touched (s .sets .used) i (s .heads)) (s .slots) i)
-  where
-    go : (b : Bool) → asBefore (answerTold (sets.answerOf (cond b (Set i) Nothing) (sets.store (s .sets) (settledHeads (s .sets .used) (s .heads) (s .slots) i) (s .slots) (s .cells)))) ≡ false
-    go true = refl
-    go false = refl
-
-carried-as-before : (s : Store) (bytes : Bytes) (p : Plan) → asBefore (answerTold ((carried s bytes p) .told)) ≡ true → (carried s bytes p) .store ≡ s
+kept-told : (s after : Store) (t : Told) → ((n : ℕ) → t ≡ plain n → n ≢ 4 → n ≢ 22 → after ≡ s) → asBefore (answerTold t) ≡ true → after ≡ s
 unfolding asBefore answerTold
-carried-as-before s bytes (plan.Refuse a) h = refl
-carried-as-before s bytes (plan.Conflict i) h = absurd (true≢false (sym h))
-carried-as-before s bytes (plan.Repeat i) h = absurd (true≢false (sym h ∙ settled-accepts s i))
-carried-as-before s bytes (plan.Keep k) h = absurd (true≢false (sym h ∙ settled-accepts (keptIn s bytes k) (k .room .row)))
+kept-told s after (handed w) f h = absurd (true≢false (sym h))
+kept-told s after (plain n) f h =
+    f n refl (λ (e : n ≡ 4). absurd (true≢false (sym (subst (λ (m : ℕ). asBefore (answerTold (plain m)) ≡ true) e h))))
+    (λ (e : n ≡ 22). absurd (true≢false (sym (subst (λ (m : ℕ). asBefore (answerTold (plain m)) ≡ true) e h))))
 
 pub as-before : (s : Store) (i : Given) → asBefore (tells s i) ≡ true → acts s i ≡ s
-unfolding tells acts called asBefore answerTold clearedOf pushedOf
+unfolding tells acts asBefore answerTold clearedOf
 as-before s clears h = go (wholeOf s) h
   where
     go : (b : Bool) → asBefore (answerTold ((cond b (sets.left (plain 7) (sets.store (sets.emptySets (s .sets)) (s .heads) (s .slots) (s .cells))) (sets.left (plain 10) s)) .told)) ≡ true
         → (cond b (sets.left (plain 7) (sets.store (sets.emptySets (s .sets)) (s .heads) (s .slots) (s .cells))) (sets.left (plain 10) s)) .store ≡ s
     go true h = absurd (true≢false (sym h))
     go false h = refl
-as-before s (section pid bytes) h = carried-as-before s bytes (planOf s pid bytes) h
+as-before s (section pid bytes) h = kept-told s ((pushedOf s pid bytes) .store) ((pushedOf s pid bytes) .told) (refusal-keeps s pid bytes) h
 
 -- ---- many calls
 

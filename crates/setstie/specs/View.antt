@@ -16,12 +16,12 @@ use Rattle.section.specs.declared.header.Collected.{Collected}
 use Rattle.section.specs.declared.header.Collected.the-variants.{Malformed, ShortForm, BadNumber, BadCrc, Good}
 use Rattle.section.specs.declared.ids.MaybePid.{MaybePid}
 use Rattle.section.specs.declared.ids.MaybePid.the-variants as maybe
-use Rattle.section.specs.Facts.{Bytes as AllBytes}
 use Rattle.rows.specs.declared.Key.{Key}
 use Rattle.rows.specs.Rows.{word, rowSlots}
 use Rattle.order.specs.Order.{orderSeen, Stands}
 use Rattle.order.specs.Slots.{heldSlots, cellsSeen}
-use Rattle.sets.specs.Store.{Store, Told, plain, handed, Left, settingsFit, bitOf, openedOf, clearedOf, pushedOf}
+use Rattle.sets.specs.History.{Call as Given, offer as section, empty as clears, called, OpenedStore}
+use Rattle.sets.specs.Store.{Store, Told, plain, handed, settingsFit, bitOf}
 
 -- ---- a key
 
@@ -72,11 +72,6 @@ seen s = record {
 
 -- ---- calls and answers
 
--- a call on an opened collector: a clear, or a section's bytes with a PID or without
-pub data Given : Type 0 where
-  clears : Given
-  section : MaybePid → Bytes → Given
-
 -- 14 to 17, or what the section says
 unfoldable pub readsAs : Option ℕ → Bytes → Collected → Call
 readsAs pid bytes Malformed = refuse 14
@@ -100,11 +95,6 @@ unfoldable pub reads : Given → Call
 reads clears = clear
 reads (section pid bytes) = readSection pid bytes
 
--- bytes are numbers below 256
-unfoldable pub OfBytes : Given → Type 0
-OfBytes clears = Unit {0}
-OfBytes (section pid bytes) = AllBytes bytes
-
 -- what is told, by 01's number; 5 comes with the set
 unfoldable pub answerTold : Told → Answer
 answerTold (handed w) = handout (record { key = keyShown (w .key); version = w .version; last = w .last; sections = w .sections })
@@ -117,11 +107,7 @@ answerTold (plain n) =
     (cond (eqb n 22) conflict
     (refused n))))))
 
--- what `clear` and `push` are proved to tell and to leave
-unfoldable pub called : Store → Given → Left
-called s clears = clearedOf s
-called s (section pid bytes) = pushedOf s pid bytes
-
+-- what `clear` and `push` are proved to tell and to leave (`called` of the crate sets)
 unfoldable pub tells : Store → Given → Answer
 tells s i = answerTold ((called s i) .told)
 
@@ -130,8 +116,7 @@ acts s i = (called s i) .store
 
 -- as `open` leaves a store where it answers 7: no rows, count 0, nothing asked of what the lent memory holds
 pub record Opened (s : Store) : Type 0 where
-  pub fits : (openedOf s) .told ≡ plain 7
-  pub used : s .sets .used ≡ 0
+  pub opened : OpenedStore s
   pub evictions : s .sets .evictions ≡ 0
 
 -- what every store that comes from opening has: settings that opening takes, an eviction count that fits its 64 bits, and ages that are a touch order
