@@ -1,5 +1,6 @@
 -- What a conflict leaves, which cells are free, and when a cell's bytes change.
 -- Assumes nothing.
+use borrow.Author.Tests.{eqb-true}
 use mathlib.Core.Path.{_≡_, refl, sym, ap, subst, _∙_}
 use mathlib.Core.Logic.{_⊎_}
 use mathlib.Core.Bool.{Bool, true, false, cond}
@@ -7,7 +8,7 @@ use Prim.Native.Nat.{ℕ, _+_, _*_, _≤_, _<_}
 use native.Mathlib.Omega.{arith}
 use lib.Dec.{eqb}
 use lib.ListN.{length, getD}
-use Rattle.laws.proofs.Tests.{eq-true}
+
 use Rattle.laws.proofs.Search.{any-not, none-any}
 use Rattle.touch.specs.Same.{Bytes}
 use Rattle.setrules.specs.Rules.{Section, offer, Answer, cleared, refused, nothing, conflict, notWhole, counterFull, noCell}
@@ -51,7 +52,7 @@ conflict-told (plain n) e = go (eqb n 7) (eqb n 4) (eqb n 10) (eqb n 11) (eqb n 
     go false false true d f g q e = let z : _≡_ {A = ℕ} 0 1 = cc in absurd (omega arith)
     go false false false true f g q e = let z : _≡_ {A = ℕ} 0 1 = cc in absurd (omega arith)
     go false false false false true g q e = let z : _≡_ {A = ℕ} 0 1 = cc in absurd (omega arith)
-    go false false false false false true q e = ap plain (eq-true n 22 q)
+    go false false false false false true q e = ap plain (eqb-true n 22 q)
     go false false false false false false q e = let z : _≡_ {A = ℕ} 0 1 = cc in absurd (omega arith)
 
 pub conflict-memory : (s : Store) (pid : MaybePid) (bytes : Bytes) → tells s (section pid bytes) ≡ conflict → AsBefore s bytes (acts s (section pid bytes))
