@@ -8,7 +8,6 @@ use Prim.Native.Nat.{ℕ, _+_, _*_, _≤_, _<_}
 use native.Mathlib.Omega.{arith}
 use lib.Dec.{eqb}
 use lib.ListN.{length, getD}
-
 use Rattle.laws.proofs.Search.{any-not, none-any}
 use Rattle.touch.specs.Same.{Bytes}
 use Rattle.setrules.specs.Rules.{Section, offer, Answer, cleared, refused, nothing, conflict, notWhole, counterFull, noCell}
