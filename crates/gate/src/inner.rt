@@ -108,7 +108,7 @@ fn counted(c: Counters, emitted: bool, evicted: bool) -> Counters
 }
 
 // 3: one more section and one more CRC failure, and nothing else.
-fn fail(gate: Gate, c: Counters) -> Offered
+pub fn fail(gate: Gate, c: Counters) -> Offered
     requires { ⌜ CanCount c ⌝ }
     ensures { λ r. ⌜ r ≡ failure gate c ⌝ }
 {
@@ -137,7 +137,7 @@ fn answered(emits: bool) -> Answer
 }
 
 // The answer to a section that the ring has seen: changed, or repeats on, is emitted.
-fn tell(gate: Gate, counters: Counters, seen: Seen) -> Offered
+pub fn tell(gate: Gate, counters: Counters, seen: Seen) -> Offered
     requires { ⌜ CanCount counters ⌝ }
     ensures { λ r. ⌜ r ≡ seenBy gate counters seen ⌝ }
 {
@@ -167,7 +167,7 @@ fn follow_pat(words: &mut [u64], section: &[u8])
 }
 
 // A PAT emitted only because repeats are on is not followed.
-fn follow_where(follows: bool, words: &mut [u64], section: &[u8])
+pub fn follow_where(follows: bool, words: &mut [u64], section: &[u8])
     requires { ⌜ 384 ≤ length (now words) ⌝ }
     ensures { λ _. ⌜ now (words .exit) ≡ watchAfter follows (now (words .entry)) (now (section .entry)) ⌝ }
 {

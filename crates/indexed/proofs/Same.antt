@@ -1,0 +1,125 @@
+-- The gate with an index and the gate without: from an opened store every sequence of offers has the same answers, and leaves the same gate,
+-- counters, rows and watch.
+-- Assumes nothing.
+use Prim.Native.Nat.{ℕ, _^_, _<_, _≤_}
+use mathlib.Core.Path.{_≡_, refl, sym, ap, subst, _∙_}
+use mathlib.Core.List.{List, [], _∷_}
+use mathlib.Core.Bool.{Bool, true, false, cond}
+use lib.ListN.{length}
+use lib.Dec.{ltb}
+use borrow.Author.Tests.{le-leb}
+use Rattle.laws.proofs.Tests.{true-and}
+use Rattle.touch.specs.Runs.{answers, storeAfter}
+use Rattle.ring.specs.Store.{roomOf, stampOf}
+use Rattle.ring.specs.Rules.{memoryAfter}
+use Rattle.ring.proofs.Laws.{whole-test}
+use Rattle.ring.proofs.Order.{opened-reached}
+use Rattle.index.specs.Store.{Index, indexOf, indexBy}
+use Rattle.index.specs.Runs.{openedIndex}
+use Rattle.index.proofs.Same.{Sound as Kept, seen-same, keys-same, changes-same, sound-after, opened-sound}
+use Rattle.section.specs.Judged.{judgedOf}
+use Rattle.section.specs.Facts.{Bytes}
+use Rattle.section.specs.declared.header.Parts.{Parts}
+use Rattle.section.specs.declared.header.Judged.{Judged}
+use Rattle.section.specs.declared.header.Judged.the-variants.{Short, Mismatch, Sound}
+use Rattle.section.proofs.Facts.{judged-change}
+use Rattle.gate.specs.Store.{emptyGate, zeroes, wholeOf, anyFull, Store, storeOf, soundOf, judgedAs, consideredOf, offered}
+use Rattle.gate.specs.Store.{Left as Told, seenBy as answeredBy}
+use Rattle.gate.specs.Rules.{Offer, memoryOf, rowFrom, Opened, storeTells, storeActs, OfBytes}
+use Rattle.gate.specs.declared.Settings.{Settings}
+use Rattle.gate.proofs.Order.{follows}
+use Rattle.indexed.specs.Store.{wholeBy, Indexed, indexedOf, Left, soundBy, judgedBy, consideredBy, offeredBy}
+use Rattle.indexed.specs.Runs.{tellsBy, actsBy}
+
+-- what every store has that came from an opened one
+pub record OpenedBy (s : Indexed) : Type 0 where
+  pub opened : Opened (s .store)
+  pub kept : Kept (memoryOf (s .store)) (s .index)
+
+-- what the gate with an index answered and left, and what the one without
+pub record Same (l : Left) (k : Told) : Type 0 where
+  pub answer : l .answer ≡ k .answer
+  pub store : l .left .store ≡ k .store
+  pub kept : Kept (memoryOf (k .store)) (l .left .index)
+
+module _ (s : Indexed) (r : OpenedBy s) (pid : ℕ) (section : List ℕ) where
+  sound-same : (p : Parts) → p .change < 2 ^ 32 → Same (soundBy s pid section p) (soundOf (s .store) pid section p)
+  unfolding soundBy soundOf answeredBy memoryAfter
+  sound-same p small =
+      let a = seen-same (memoryOf (s .store)) (r .opened .reached) (s .index) (r .kept) (rowFrom pid p .key) (stampOf (p .version) (p .change)) in
+      let b = keys-same (memoryOf (s .store)) (r .opened .reached) (s .index) (r .kept) (rowFrom pid p .key) 0 in
+      let c = changes-same (memoryOf (s .store)) (r .opened .reached) (s .index) (r .kept) (rowFrom pid p .key) (stampOf (p .version) (p .change)) in
+      record {
+        answer = rw a;
+        store = rw (a, b, c);
+        kept = sound-after (memoryOf (s .store)) (s .index) (rowFrom pid p) (r .opened .reached) (r .kept) small;
+      }
+
+  judged-same : Bytes section → (v : Judged) → v ≡ judgedOf section → Same (judgedBy s pid section v) (judgedAs (s .store) pid section v)
+  unfolding judgedBy judgedAs
+  judged-same b Short e = record { answer = refl; store = refl; kept = record { covers = r .kept .covers; holds = r .kept .holds } }
+  judged-same b (Mismatch stored worked) e = record { answer = refl; store = refl; kept = record { covers = r .kept .covers; holds = r .kept .holds } }
+  judged-same b (Sound p) e = sound-same p (judged-change section b p (sym e))
+
+  -- every offer
+  pub offer-same : Bytes section → Same (offeredBy s pid section) (offered (s .store) pid section)
+  unfolding offeredBy offered consideredBy consideredOf
+  offer-same b = rw (whole-by, whole) (refuse (anyFull (s .store .counters)) (ltb pid 8192))
+    where
+      whole : wholeOf (s .store .gate) (length (s .store .keys)) (length (s .store .changes)) (length (s .store .words)) ≡ true
+      whole =
+          true-and (whole-test (s .store .gate .ring) (length (s .store .keys)) (length (s .store .changes)) (r .opened .reached .whole))
+          (le-leb 384 (length (s .store .words)) (r .opened .watch))
+
+      whole-by :
+          wholeBy (s .store .gate) (length (s .store .keys)) (length (s .store .changes)) (length (s .index .buckets)) (length (s .index .links)) (length (s .store .words)) ≡ true
+      whole-by =
+          true-and (true-and whole (le-leb (roomOf (s .store .gate .ring .capacity)) (length (s .index .buckets)) (r .kept .covers .buckets-long)))
+          (le-leb (roomOf (s .store .gate .ring .capacity)) (length (s .index .links)) (r .kept .covers .links-long))
+
+      refuse :
+          (f k : Bool) →
+          Same (cond f (record { answer = 11; left = s }) (cond k (judgedBy s pid section (judgedOf section)) (record { answer = 12; left = s })))
+          (cond f (record { answer = 11; store = s .store }) (cond k (judgedAs (s .store) pid section (judgedOf section)) (record { answer = 12; store = s .store })))
+      refuse true k = record { answer = refl; store = refl; kept = r .kept }
+      refuse false true = judged-same b (judgedOf section) refl
+      refuse false false = record { answer = refl; store = refl; kept = r .kept }
+
+-- the store that is left came from opening too
+next : (s : Indexed) (o : Offer) → OpenedBy s → Bytes (o .section) → OpenedBy (actsBy s o)
+unfolding actsBy
+next s o r b =
+    let e = offer-same s r (o .pid) (o .section) b in
+    record {
+      opened = subst (λ (t : Store). Opened t) (sym (e .store)) (follows (s .store) o (r .opened) b .opened);
+      kept = subst (λ (t : Store). Kept (memoryOf t) (offeredBy s (o .pid) (o .section) .left .index)) (sym (e .store)) (e .kept);
+    }
+
+-- THE THEOREM: the answers, and the gate, counters, rows and watch that are left
+pub same-answers :
+    (s : Indexed) (os : List Offer) → OpenedBy s → OfBytes os → answers tellsBy actsBy s os ≡ answers storeTells storeActs (s .store) os
+unfolding answers tellsBy storeTells actsBy storeActs
+same-answers s [] r b = refl
+same-answers s (o ∷ os) r b =
+    let e = offer-same s r (o .pid) (o .section) (b .0) in
+    let ih = same-answers (offeredBy s (o .pid) (o .section) .left) os (next s o r (b .0)) (b .1) in
+    rw (e .answer, ih, e .store)
+
+pub same-store : (s : Indexed) (os : List Offer) → OpenedBy s → OfBytes os → storeAfter actsBy s os .store ≡ storeAfter storeActs (s .store) os
+unfolding storeAfter actsBy storeActs
+same-store s [] r b = refl
+same-store s (o ∷ os) r b =
+    let e = offer-same s r (o .pid) (o .section) (b .0) in
+    let ih = same-store (offeredBy s (o .pid) (o .section) .left) os (next s o r (b .0)) (b .1) in
+    ih ∙ ap (λ (t : Store). storeAfter storeActs t os) (e .store)
+
+-- what opening leaves, whatever the slices held
+pub opened-by :
+    (st : Settings) (keys changes buckets links words : List ℕ) →
+    roomOf (st .capacity) ≤ length keys → roomOf (st .capacity) ≤ length changes → roomOf (st .capacity) ≤ length buckets → roomOf (st .capacity) ≤ length links →
+    384 ≤ length words → OpenedBy (indexedOf (emptyGate st) zeroes keys changes (openedIndex (st .capacity) buckets links) words)
+opened-by st keys changes buckets links words k c b l w =
+    record {
+      opened = record { reached = opened-reached (st .capacity) keys changes k c; watch = w };
+      kept = opened-sound (st .capacity) keys changes buckets links b l;
+    }

@@ -1,0 +1,67 @@
+use Rattle.index.specs.Store.{indexOf}
+use Rattle.indexed.proofs.Laws.{sound-told}
+use borrow.Author.Needs.{needs}
+use Rattle.indexed.proofs.inner.admit.Statement.{statement}
+use Rattle.indexed.proofs.inner.admit.Tie as tie
+use Rattle.indexed.proofs.inner.admit.Reads as reads
+use Rattle.indexed.proofs.inner.admit.Lts as lts
+use Rattle.gate.proofs.inner.follow_where.Reads as follow-where-reads
+use Rattle.gate.proofs.inner.tell.Reads as tell-reads
+use Rattle.index.proofs.admit.Reads as admit-reads
+use Rattle.section.proofs.header.key.Reads as key-reads
+
+-- src/inner.rt:51:9
+key-requires : tie.Need-key-requires
+key-requires c κs = search needs
+
+-- src/inner.rt:52:9
+admit-requires : tie.Need-admit-requires
+admit-requires c κs = search needs
+
+-- src/inner.rt:53:5
+follow-where-requires : tie.Need-follow-where-requires
+follow-where-requires c κs = c .before .before .before .before .before .before .before .before .before .before .before .before .before .before .before .before .before .before .before .before .before .before .before .before .before .pre .1 .0 .rows .watch
+
+-- src/inner.rt:58:5
+tell-requires : tie.Need-tell-requires
+tell-requires c κs = c .before .before .before .before .before .before .before .before .before .before .before .before .before .before .before .before .before .before .before .before .before .before .before .before .before .before .before .before .pre .0
+
+-- src/inner.rt:33:1
+same-length : tie.Need-same-length
+same-length c = search needs
+
+-- src/inner.rt:33:1
+same-length-2 : tie.Need-same-length-2
+same-length-2 c = search needs
+
+-- src/inner.rt:33:1
+same-length-3 : tie.Need-same-length-3
+same-length-3 c = search needs
+
+-- src/inner.rt:33:1
+same-length-4 : tie.Need-same-length-4
+same-length-4 c = search needs
+
+-- src/inner.rt:33:1
+same-length-5 : tie.Need-same-length-5
+same-length-5 c = search needs
+
+-- src/inner.rt:33:1
+returns : tie.Need-returns
+returns c = let a = c .before .before .before .before .before .before .before .before .before .before .before .before .before .before .before .before .before .before .before .before .before .before .before .before .before .before .before .before .before .args in
+    sound-told (a .gate) (a .counters) (a .keys .now) (a .changes .now) (indexOf (a .buckets .now) (a .links .now)) (a .words .now) (a .pid .0) (a .section .now) (a .parts) _ _ _ _ _ _ _ (c .before .before .before .before .before .before .before .before .before .before .before .before .before .before .before .before .before .before .before .before .before .before .before .before .before .before .before .before .before .pre .1 .1) (c .before .before .before .before .before .before .before .before .before .before .before .before .before .before .before .before .before .before .before .before .before .key .ensures) (c .before .before .before .before .before .before .before .before .before .before .before .before .before .before .before .before .admit .ensures .0) (c .before .before .before .before .before .before .before .before .before .before .before .before .before .before .before .before .admit .ensures .1 .0) (c .before .before .before .before .before .before .before .before .before .before .before .before .before .before .before .before .admit .ensures .1 .1 .0) (c .before .before .before .before .before .before .before .before .before .before .before .before .before .before .before .before .admit .ensures .1 .1 .1) (c .before .before .before .follow-where .ensures) (c .tell .ensures)
+
+pub admit-spec : {M : Type 1} → statement M
+admit-spec =
+    tie.close
+    (tie.spec
+    key-requires
+    admit-requires
+    follow-where-requires
+    tell-requires
+    same-length
+    same-length-2
+    same-length-3
+    same-length-4
+    same-length-5
+    returns)

@@ -1,0 +1,109 @@
+use Rattle.index.specs.Store.{indexOf}
+use Rattle.gate.proofs.Laws.{can-count}
+use Rattle.indexed.proofs.Laws.{fits-by, offered-broken, offered-full, offered-pid, offered-considered}
+use borrow.Author.Needs.{needs}
+use Rattle.indexed.proofs.offer.Statement.{statement}
+use Rattle.indexed.proofs.offer.Tie as tie
+use Rattle.indexed.proofs.offer.Reads as reads
+use Rattle.indexed.proofs.offer.Lts as lts
+use Rattle.gate.proofs.inner.any_full.Reads as any-full-reads
+use Rattle.gate.proofs.inner.unchanged.Reads as unchanged-reads
+use Rattle.indexed.proofs.inner.consider.Reads as consider-reads
+use Rattle.indexed.proofs.inner.is_whole.Reads as is-whole-reads
+use Rattle.section.proofs.ids.Pid.make.Reads as make-reads
+
+-- src/lib.rt:57:9
+is-whole-requires : tie.Need-is-whole-requires
+is-whole-requires c κs = search needs
+
+-- src/lib.rt:58:9
+unchanged-requires : tie.Need-unchanged-requires
+unchanged-requires c κs = search needs
+
+-- src/lib.rt:58:9
+returns : tie.Need-returns
+returns c = search offered-broken
+
+-- src/lib.rt:60:8
+any-full-requires : tie.Need-any-full-requires
+any-full-requires c κs = search needs
+
+-- src/lib.rt:61:9
+unchanged-requires-2 : tie.Need-unchanged-requires-2
+unchanged-requires-2 c κs = search needs
+
+-- src/lib.rt:61:9
+returns-2 : tie.Need-returns-2
+returns-2 c = search offered-full
+
+-- src/lib.rt:63:11
+make-requires : tie.Need-make-requires
+make-requires c κs = search needs
+
+-- src/lib.rt:64:19
+enum-known-p : tie.Need-enum-known-p
+enum-known-p c = search needs
+
+-- src/lib.rt:64:25
+consider-requires : tie.Need-consider-requires
+consider-requires c κs = (search (can-count, c .before .before .before .before .before .before .before .before .before .before .before .before .before .before .before .before .before .before .before .good .1 .0), fits-by (c .before .before .before .before .before .before .before .before .before .before .before .before .before .before .before .before .before .before .before .args .gate) _ _ _ _ _ _ (c .before .before .before .before .before .before .before .before .before .before .before .before .is-whole .ensures) (c .before .before .before .before .before .before .before .before .before .before .before .if1 .left))
+
+-- src/lib.rt:65:50
+enum-told : tie.Need-enum-told
+enum-told c = search needs
+
+-- src/lib.rt:65:27
+unchanged-requires-3 : tie.Need-unchanged-requires-3
+unchanged-requires-3 c κs = search needs
+
+-- src/lib.rt:44:1
+same-length : tie.Need-same-length
+same-length c = search needs
+
+-- src/lib.rt:44:1
+same-length-2 : tie.Need-same-length-2
+same-length-2 c = search needs
+
+-- src/lib.rt:44:1
+same-length-3 : tie.Need-same-length-3
+same-length-3 c = search needs
+
+-- src/lib.rt:44:1
+same-length-4 : tie.Need-same-length-4
+same-length-4 c = search needs
+
+-- src/lib.rt:44:1
+same-length-5 : tie.Need-same-length-5
+same-length-5 c = search needs
+
+-- src/lib.rt:44:1
+returns-3 : tie.Need-returns-3
+returns-3 c = let a = c .before .before .before .before .before .before .before .before .before .before .before .before .before .before .before .before .before .before .before .before .before .before .before .before .before .before .before .before .before .before .args in
+    search (offered-considered (a .gate) (a .counters) (a .keys .now) (a .changes .now) (indexOf (a .buckets .now) (a .links .now)) (a .words .now) (a .pid) (a .section .now) (c .before .before .before .before .before .before .before .before .before .before .before .before .before .before .before .before .before .before .before .before .before .before .before .is-whole .result) (c .before .before .before .before .before .before .before .before .before .before .before .before .before .before .before .before .before .before .before .before .before .before .before .is-whole .ensures) (c .before .before .before .before .before .before .before .before .before .before .before .before .before .before .before .before .before .before .before .before .before .before .if1 .left) (c .before .before .before .before .before .before .before .before .before .before .before .before .before .before .before .before .before .before .before .before .before .any-full .result) (c .before .before .before .before .before .before .before .before .before .before .before .before .before .before .before .before .before .before .before .before .before .any-full .ensures) (c .before .before .before .before .before .before .before .before .before .before .before .before .before .before .before .before .before .before .before .before .if2 .left) (c .before .before .before .before .before .before .before .before .before .before .before .before .before .before .before .before .before .before .before .make .result) (c .before .before .before .before .before .before .before .before .before .before .before .before .before .before .before .before .before .before .before .make .ensures), c .before .before .before .before .before .before .before .before .before .before .before .before .before .before .before .before .known-told .given, c .before .before .before .before .before .before .before .before .before .before .consider .ensures)
+
+-- src/lib.rt:44:1
+returns-4 : tie.Need-returns-4
+returns-4 c = search offered-pid
+
+pub offer-spec : {M : Type 1} → statement M
+offer-spec =
+    tie.close
+    (tie.spec
+    is-whole-requires
+    unchanged-requires
+    returns
+    any-full-requires
+    unchanged-requires-2
+    returns-2
+    make-requires
+    enum-known-p
+    consider-requires
+    enum-told
+    unchanged-requires-3
+    same-length
+    same-length-2
+    same-length-3
+    same-length-4
+    same-length-5
+    returns-3
+    returns-4)

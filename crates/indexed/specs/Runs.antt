@@ -1,0 +1,11 @@
+-- Offers one after another to a gate with an index.
+use Prim.Native.Nat.{ℕ}
+use Rattle.index.specs.Store.{Index}
+use Rattle.gate.specs.Rules.{Offer}
+use Rattle.indexed.specs.Store.{Indexed, offeredBy}
+
+unfoldable pub tellsBy : Indexed → Offer → ℕ
+tellsBy s o = (offeredBy s (o .pid) (o .section)) .answer
+
+unfoldable pub actsBy : Indexed → Offer → Indexed
+actsBy s o = (offeredBy s (o .pid) (o .section)) .left

@@ -1,0 +1,120 @@
+-- What opening and offering answer and leave where the gate's rows have an index (document 01, "Gate" and "Watched PIDs"), for every gate, every
+-- record of counters and every content of the lent slices. As without an index, but that a key is held where the walk from its bucket finds it.
+use Prim.Native.Nat.{ℕ}
+use mathlib.Core.List.{List}
+use mathlib.Core.Bool.{Bool, cond, _&&_}
+use lib.ListN.{length}
+use lib.Dec.{ltb, leb}
+use Rattle.ring.specs.Store.{roomOf, stampOf}
+use Rattle.ring.specs.declared.Seen.{Seen}
+use Rattle.index.specs.Store.{Covers, Index, indexOf, clearedBy, seenBy, keysBy, changesBy, indexBy}
+use Rattle.section.specs.Key.{keyOf}
+use Rattle.section.specs.Judged.{judgedOf}
+use Rattle.section.specs.declared.header.Parts.{Parts}
+use Rattle.section.specs.declared.header.Judged.{Judged}
+use Rattle.section.specs.declared.header.Judged.the-variants.{Short, Mismatch, Sound}
+use Rattle.watched.specs.Store.{openingNo, allPids, filled}
+use Rattle.gate.specs.Store.{answerNo, emptyGate, zeroes, hasRoom, wholeOf, Fits, anyFull, Store, storeOf, failure, watchAfter}
+use Rattle.gate.specs.Store.{seenBy as answeredBy}
+use Rattle.gate.specs.declared.Settings.{Settings}
+use Rattle.gate.specs.declared.Gate.{Gate}
+use Rattle.gate.specs.declared.Counters.{Counters}
+use Rattle.gate.specs.declared.Offered.{Offered}
+use Rattle.gate.specs.declared.Opened.{Opened}
+
+-- ---- opening
+
+-- not 13: what the gate needs, and a bucket and a link for each row
+abbrev pub hasRoomFor : ℕ → ℕ → ℕ → ℕ → ℕ → ℕ → Bool
+hasRoomFor capacity keys changes buckets links words =
+    hasRoom capacity keys changes words && leb (roomOf capacity) buckets && leb (roomOf capacity) links
+
+-- the paper's number of opening's answer, the gate and the counters, the buckets, and the words of the watch
+pub record Begun : Type 0 where
+  pub answer : ℕ
+  pub gate : Gate
+  pub counters : Counters
+  pub buckets : List ℕ
+  pub words : List ℕ
+
+-- what opening handed back, with the slices as it left them
+abbrev pub begunBy : Opened → List ℕ → List ℕ → Begun
+begunBy o buckets words =
+    record { answer = openingNo (o .answer); gate = o .gate; counters = o .counters; buckets = buckets; words = words }
+
+abbrev pub begins : ℕ → Settings → List ℕ → List ℕ → Begun
+begins answer s buckets words = record { answer = answer; gate = emptyGate s; counters = zeroes; buckets = buckets; words = words }
+
+-- 12, then 13, each with all as before; else 7 with no row in a chain and the watch as set
+unfoldable pub openedBy : Settings → List ℕ → ℕ → ℕ → ℕ → List ℕ → List ℕ → Begun
+openedBy s extra keys changes links buckets words =
+    cond (allPids extra)
+    (cond (hasRoomFor (s .capacity) keys changes (length buckets) links (length words))
+    (begins 7 s (clearedBy (roomOf (s .capacity)) buckets) (filled words (s .«well_known») extra))
+    (begins 13 s buckets words))
+    (begins 12 s buckets words)
+
+-- ---- offering
+
+-- not 10: as without an index, and a bucket and a link for each row
+abbrev pub wholeBy : Gate → ℕ → ℕ → ℕ → ℕ → ℕ → Bool
+wholeBy g keys changes buckets links words =
+    wholeOf g keys changes words && leb (roomOf (g .ring .capacity)) buckets && leb (roomOf (g .ring .capacity)) links
+
+-- the same as orders of numbers
+pub record FitsBy (g : Gate) (keys changes buckets links words : ℕ) : Type 0 where
+  pub rows : Fits g keys changes words
+  pub covers : Covers (g .ring) buckets links
+
+-- a gate's store with the index of its rows
+pub record Indexed : Type 0 where
+  pub store : Store
+  pub index : Index
+
+abbrev pub indexedOf : Gate → Counters → List ℕ → List ℕ → Index → List ℕ → Indexed
+indexedOf g c keys changes x words = record { store = storeOf g c keys changes words; index = x }
+
+-- the paper's number of an answer, and the store that is left
+pub record Left : Type 0 where
+  pub answer : ℕ
+  pub left : Indexed
+
+-- what a call handed back, with the slices as it left them
+abbrev pub leftBy : Offered → List ℕ → List ℕ → Index → List ℕ → Left
+leftBy o keys changes x words = record { answer = answerNo (o .answer); left = indexedOf (o .gate) (o .counters) keys changes x words }
+
+-- a section that passed its CRC, with its parts
+unfoldable pub soundBy : Indexed → ℕ → List ℕ → Parts → Left
+soundBy s pid section p =
+    let key : ℕ = keyOf pid (p .«table_id») (p .extension) (p .number) in
+    let number : ℕ = stampOf (p .version) (p .change) in
+    let seen : Seen = seenBy (s .store .gate .ring) (s .store .keys) (s .store .changes) (s .index) key number in
+    leftBy (answeredBy (s .store .gate) (s .store .counters) seen)
+    (keysBy (s .store .gate .ring) (s .store .keys) (s .index) key)
+    (changesBy (s .store .gate .ring) (s .store .keys) (s .store .changes) (s .index) key number)
+    (indexBy (s .store .gate .ring) (s .store .keys) (s .index) key)
+    (watchAfter (seen .changed && s .store .gate .follow) (s .store .words) section)
+
+-- 3 changes neither rows nor index nor watch
+abbrev pub failedBy : Indexed → Left
+failedBy s = leftBy (failure (s .store .gate) (s .store .counters)) (s .store .keys) (s .store .changes) (s .index) (s .store .words)
+
+-- a section as the gate judges it
+unfoldable pub judgedBy : Indexed → ℕ → List ℕ → Judged → Left
+judgedBy s pid section Short = failedBy s
+judgedBy s pid section (Mismatch stored worked) = failedBy s
+judgedBy s pid section (Sound p) = soundBy s pid section p
+
+unfoldable pub consideredBy : Indexed → ℕ → List ℕ → Left
+consideredBy s pid section = judgedBy s pid section (judgedOf section)
+
+-- every store, PID and section: 10, 11 and 12 leave all as it was
+unfoldable pub offeredBy : Indexed → ℕ → List ℕ → Left
+offeredBy s pid section =
+    cond (wholeBy (s .store .gate) (length (s .store .keys)) (length (s .store .changes)) (length (s .index .buckets)) (length (s .index .links)) (length (s .store .words)))
+    (cond (anyFull (s .store .counters))
+    (record { answer = 11; left = s })
+    (cond (ltb pid 8192)
+    (consideredBy s pid section)
+    (record { answer = 12; left = s })))
+    (record { answer = 10; left = s })

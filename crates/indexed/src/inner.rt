@@ -1,0 +1,116 @@
+// The parts of the gate that know its index.
+use gate::Counters;
+use gate::Gate;
+use gate::Offered;
+use section::header::Judged;
+use section::header::Parts;
+use section::ids::Pid;
+ghost use mathlib.Core.Path.{_≡_};
+ghost use lib.ListN.{length};
+ghost use Rattle.section.specs.Header.{tableId};
+ghost use Rattle.index.specs.Store.{indexOf};
+ghost use Rattle.gate.specs.Store.{CanCount};
+ghost use Rattle.indexed.specs.Store.{hasRoomFor, wholeBy, FitsBy, indexedOf, leftBy, soundBy, consideredBy};
+
+// Not 10: the ring fits its slices, a bucket and a link for each row, and the watch has its 384 words.
+pub fn is_whole(
+    gate: Gate,
+    keys: usize,
+    changes: usize,
+    buckets: usize,
+    links: usize,
+    words: usize,
+) -> bool
+    ensures { λ r. ⌜ r ≡ wholeBy gate keys changes buckets links words ⌝ }
+{
+    let ring = gate.ring;
+    let room = ring::room(ring.capacity);
+    gate::inner::is_whole(gate, keys, changes, words) & (room <= buckets) & (room <= links)
+}
+
+// Not 13: what the gate needs, and a bucket and a link for each row.
+pub fn has_room(
+    capacity: u64,
+    keys: usize,
+    changes: usize,
+    buckets: usize,
+    links: usize,
+    words: usize,
+) -> bool
+    ensures { λ r. ⌜ r ≡ hasRoomFor capacity keys changes buckets links words ⌝ }
+{
+    let room = ring::room(capacity);
+    gate::inner::has_room(capacity, keys, changes, words) & (room <= buckets) & (room <= links)
+}
+
+// A section that passed its CRC.
+fn admit(
+    gate: Gate,
+    counters: Counters,
+    keys: &mut [u64],
+    changes: &mut [u64],
+    buckets: &mut [u64],
+    links: &mut [u64],
+    words: &mut [u64],
+    pid: Pid,
+    parts: Parts,
+    section: &[u8],
+) -> Offered
+    requires { ⌜ CanCount counters ⌝ }
+    requires { ⌜ FitsBy gate (length (now keys)) (length (now changes)) (length (now buckets)) (length (now links)) (length (now words)) ⌝ }
+    requires { ⌜ parts .«table_id» ≡ tableId (now section) ⌝ }
+    ensures { λ r. ⌜ leftBy r (now (keys .exit)) (now (changes .exit)) (indexOf (now (buckets .exit)) (now (links .exit))) (now (words .exit)) ≡ soundBy (indexedOf gate counters (now (keys .entry)) (now (changes .entry)) (indexOf (now (buckets .entry)) (now (links .entry))) (now (words .entry))) (pid .0) (now (section .entry)) parts ⌝ }
+{
+    let ring = gate.ring;
+    let key = section::header::key(pid, parts.table_id, parts.extension, parts.number);
+    let seen = index::admit(
+        ring,
+        keys,
+        changes,
+        buckets,
+        links,
+        key,
+        parts.version,
+        parts.change,
+    );
+    gate::inner::follow_where(
+        seen.changed & gate.follow & (parts.table_id == 0),
+        words,
+        section,
+    );
+    gate::inner::tell(gate, counters, seen)
+}
+
+// A section that nothing refuses, judged by the gate.
+pub fn consider(
+    gate: Gate,
+    counters: Counters,
+    keys: &mut [u64],
+    changes: &mut [u64],
+    buckets: &mut [u64],
+    links: &mut [u64],
+    words: &mut [u64],
+    pid: Pid,
+    section: &[u8],
+) -> Offered
+    requires { ⌜ CanCount counters ⌝ }
+    requires { ⌜ FitsBy gate (length (now keys)) (length (now changes)) (length (now buckets)) (length (now links)) (length (now words)) ⌝ }
+    ensures { λ r. ⌜ leftBy r (now (keys .exit)) (now (changes .exit)) (indexOf (now (buckets .exit)) (now (links .exit))) (now (words .exit)) ≡ consideredBy (indexedOf gate counters (now (keys .entry)) (now (changes .entry)) (indexOf (now (buckets .entry)) (now (links .entry))) (now (words .entry))) (pid .0) (now (section .entry)) ⌝ }
+{
+    match section::header::judge(section) {
+        Judged::Short => gate::inner::fail(gate, counters),
+        Judged::Mismatch(_, _) => gate::inner::fail(gate, counters),
+        Judged::Sound(parts) => admit(
+            gate,
+            counters,
+            keys,
+            changes,
+            buckets,
+            links,
+            words,
+            pid,
+            parts,
+            section,
+        ),
+    }
+}

@@ -1,0 +1,91 @@
+// The gate with an index over its rows: a key is looked up, held and given up in a time that does not grow with the capacity. From an opened store
+// it answers and leaves rows as the gate without an index. What is small goes in by value and comes back in the answer.
+use gate::Answer;
+use gate::Counters;
+use gate::Gate;
+use gate::Offered;
+use gate::Opened;
+use gate::Settings;
+use section::ids::Made;
+use section::ids::Pid;
+use watched::Opening;
+ghost use mathlib.Core.Path.{_≡_};
+ghost use lib.ListN.{length};
+ghost use Rattle.index.specs.Store.{indexOf};
+ghost use Rattle.indexed.specs.Store.{begunBy, openedBy, indexedOf, leftBy, offeredBy};
+
+pub mod inner;
+
+// Opens a gate with no rows and fresh counters, its index and its watch: 12 where an extra PID is 8192 or more, 13 where less is lent than the
+// settings need, else 7. A refusal writes nothing. Only the buckets are cleared: no row is in a chain, so nothing else is read.
+pub fn open(
+    settings: Settings,
+    extra: &[u16],
+    keys: &[u64],
+    changes: &[u64],
+    buckets: &mut [u64],
+    links: &[u64],
+    words: &mut [u64],
+) -> Opened
+    ensures { λ r. ⌜ begunBy r (now (buckets .exit)) (now (words .exit)) ≡ openedBy settings (now (extra .entry)) (length (now (keys .entry))) (length (now (changes .entry))) (length (now (links .entry))) (now (buckets .entry)) (now (words .entry)) ⌝ }
+{
+    if !watched::inner::pids_good(extra) {
+        return gate::inner::begin(Opening::BadPid, settings);
+    }
+    if !inner::has_room(
+        settings.capacity,
+        keys.len(),
+        changes.len(),
+        buckets.len(),
+        links.len(),
+        words.len(),
+    ) {
+        return gate::inner::begin(Opening::TooLittle, settings);
+    }
+    index::clear(buckets, ring::room(settings.capacity));
+    watched::inner::fill(words, settings.well_known, extra);
+    gate::inner::begin(Opening::Opened, settings)
+}
+
+// Offers a section that came on a PID, watched or not. Every input has one answer: 10, 11 and 12 change nothing at all.
+pub fn offer(
+    gate: Gate,
+    counters: Counters,
+    keys: &mut [u64],
+    changes: &mut [u64],
+    buckets: &mut [u64],
+    links: &mut [u64],
+    words: &mut [u64],
+    pid: u16,
+    section: &[u8],
+) -> Offered
+    ensures { λ r. ⌜ leftBy r (now (keys .exit)) (now (changes .exit)) (indexOf (now (buckets .exit)) (now (links .exit))) (now (words .exit)) ≡ offeredBy (indexedOf gate counters (now (keys .entry)) (now (changes .entry)) (indexOf (now (buckets .entry)) (now (links .entry))) (now (words .entry))) pid (now (section .entry)) ⌝ }
+{
+    if !inner::is_whole(
+        gate,
+        keys.len(),
+        changes.len(),
+        buckets.len(),
+        links.len(),
+        words.len(),
+    ) {
+        return gate::inner::unchanged(Answer::NotWhole, gate, counters);
+    }
+    if gate::inner::any_full(counters) {
+        return gate::inner::unchanged(Answer::CounterFull, gate, counters);
+    }
+    match Pid::make(pid) {
+        Made::One(p) => inner::consider(
+            gate,
+            counters,
+            keys,
+            changes,
+            buckets,
+            links,
+            words,
+            p,
+            section,
+        ),
+        Made::TooLarge => gate::inner::unchanged(Answer::BadPid, gate, counters),
+    }
+}
