@@ -7,7 +7,7 @@ use crate::second::{Reading, Second};
 use std::fmt::{self, Display};
 
 /// The parts whose commands `replay` knows.
-const REPLAYED: &[Part] = &[Part::Gate];
+const REPLAYED: &[Part] = &[Part::Gate, Part::Sets];
 
 pub fn replayed(script: &[Command]) -> Vec<Command> {
     script.iter().filter(|command| REPLAYED.contains(&command.part())).cloned().collect()

@@ -6,26 +6,37 @@
 //     12 gate offer    PID u16, length u16, the bytes: offered, watched or not
 //     13 gate ask      PID u16
 //     14 gate watched
+//     20 sets open     limit u16, cells u16, cell size u16
+//     21 sets push     PID u16 (FFFF none), length u16, the bytes
+//     22 sets clear
 //
-// A gate with the default settings is open from the start. An opening that is refused leaves the former gate. A tape that ends inside a
-// command prints `cut`, a command that there is not `bad` and its place, counted from 0; both end the run.
+// A gate with the default settings is open from the start, a collector only once it is opened: until then it answers 10. An opening that is
+// refused leaves what was open. A tape that ends inside a command prints `cut`, a command that there is not `bad` and its place, counted
+// from 0; both end the run.
 use gate::Counters;
 use gate::Gate;
 use gate::Settings;
-use libc::STDOUT_FILENO;
+use sets::Sets;
 ghost use mathlib.Core.Path.{_≡_};
 ghost use lib.ListN.{length};
 
-mod gates;
+mod gate_turns;
 mod lines;
 mod record;
+mod set_turns;
 
-// What a run keeps by value between two commands: whether there may be another, where it would stand, and the gate.
+// What a run keeps by value between two commands.
+struct Open {
+    gate: Gate,
+    counters: Counters,
+    sets: Sets,
+}
+
+// Whether there may be another command, where it would stand, and what is open then.
 struct Between {
     more: bool,
     place: u64,
-    gate: Gate,
-    counters: Counters,
+    open: Open,
 }
 
 // As many rows as the gate's default capacity.
@@ -35,74 +46,150 @@ fn rows() -> [u64; 65536]
     [0; 65536]
 }
 
-fn stop(place: u64, gate: Gate, counters: Counters) -> Between {
+// As many rows as a collector may have keys: 12 words of head each, and 288 of slots.
+fn heads() -> [u64; 768]
+    ensures { λ r. ⌜ 768 ≡ length r ⌝ }
+{
+    [0; 768]
+}
+
+fn slots() -> [u32; 18432]
+    ensures { λ r. ⌜ 18432 ≡ length r ⌝ }
+{
+    [0; 18432]
+}
+
+// A collector's cells.
+fn cells() -> [u8; 262144]
+    ensures { λ r. ⌜ 262144 ≡ length r ⌝ }
+{
+    [0; 262144]
+}
+
+fn stop(place: u64, open: Open) -> Between {
     Between {
         more: false,
-        place: place,
-        gate: gate,
-        counters: counters,
+        place,
+        open,
     }
 }
 
-// After a command of the gate. The place is only told, so it may wrap: no tape has 2^64 bytes.
-fn after(place: u64, done: gates::Done) -> Between {
-    let gate = done.gate;
-    let counters = done.counters;
-    if done.read == 0 {
-        io::write_all(STDOUT_FILENO, b"cut\n");
-        return stop(place, gate, counters);
+// After a command of so many bytes, none where the tape ended inside it. The place is only told, so it may wrap: no tape has 2^64 bytes.
+fn after(place: u64, read: u64, open: Open) -> Between {
+    if read == 0 {
+        lines::say(b"cut\n");
+        return stop(place, open);
     }
     Between {
         more: true,
-        place: std::num::wrapping_add_u64(place, done.read),
-        gate: gate,
-        counters: counters,
+        place: std::num::wrapping_add_u64(place, read),
+        open,
     }
+}
+
+fn after_gate(place: u64, open: Open, done: gate_turns::Done) -> Between {
+    let gate = done.gate;
+    let counters = done.counters;
+    let sets = open.sets;
+    after(
+        place,
+        done.read,
+        Open {
+            gate,
+            counters,
+            sets,
+        },
+    )
+}
+
+fn after_sets(place: u64, open: Open, done: set_turns::Done) -> Between {
+    let gate = open.gate;
+    let counters = open.counters;
+    let sets = done.sets;
+    after(
+        place,
+        done.read,
+        Open {
+            gate,
+            counters,
+            sets,
+        },
+    )
 }
 
 // Reads one command and carries it out.
 fn turn(
     place: u64,
-    gate: Gate,
-    counters: Counters,
+    open: Open,
     keys: &mut [u64],
     changes: &mut [u64],
     words: &mut [u64],
+    heads: &mut [u64],
+    slots: &mut [u32],
+    cells: &mut [u8],
     buf: &mut [u8],
 ) -> Between
-    requires { ⌜ 65539 ≡ length (now buf) ⌝ }
+    requires { ⌜ (65539 ≡ length (now buf)) × (768 ≡ length (now heads)) ⌝ }
 {
     let command = record::command();
+    let gate = open.gate;
+    let counters = open.counters;
+    let sets = open.sets;
     match command {
-        0x10..=0x14 => after(
+        0x10..=0x14 => after_gate(
             place,
-            gates::turn(command, gate, counters, keys, changes, words, buf),
+            open,
+            gate_turns::turn(command, gate, counters, keys, changes, words, buf),
         ),
-        record::END => stop(place, gate, counters),
+        0x20..=0x22 => after_sets(
+            place,
+            open,
+            set_turns::turn(command, sets, heads, slots, cells, buf),
+        ),
+        record::END => stop(place, open),
         _ => {
-            lines::say_count(b"bad ", place);
-            stop(place, gate, counters)
+            lines::say_number(b"bad ", place);
+            lines::say(b"\n");
+            stop(place, open)
         }
     }
 }
 
-// A proved loop has to end, and nothing says that an input does: the turns are counted down from a number that no run uses up.
-fn replay(keys: &mut [u64], changes: &mut [u64], words: &mut [u64], buf: &mut [u8])
-    requires { ⌜ 65539 ≡ length (now buf) ⌝ }
-{
+// A gate with the default settings, and no collector.
+fn begin(keys: &[u64], changes: &[u64], words: &mut [u64]) -> Open {
     let none = [0u16; 1];
     let opened = gate::open(Settings::by_default(), &none[0..0], keys, changes, words);
-    let mut gate = opened.gate;
-    let mut counters = opened.counters;
+    let gate = opened.gate;
+    let counters = opened.counters;
+    Open {
+        gate,
+        counters,
+        sets: set_turns::none(),
+    }
+}
+
+// A proved loop has to end, and nothing says that an input does: the turns are counted down from a number that no run uses up.
+fn replay(
+    begun: Open,
+    keys: &mut [u64],
+    changes: &mut [u64],
+    words: &mut [u64],
+    heads: &mut [u64],
+    slots: &mut [u32],
+    cells: &mut [u8],
+    buf: &mut [u8],
+)
+    requires { ⌜ (65539 ≡ length (now buf)) × (768 ≡ length (now heads)) ⌝ }
+{
+    let mut open = begun;
     let mut place = 0;
     let mut turns = u64::MAX;
     while turns > 0 {
-        let t = turn(place, gate, counters, keys, changes, words, buf);
+        let t = turn(place, open, keys, changes, words, heads, slots, cells, buf);
         if !t.more {
             return;
         }
-        gate = t.gate;
-        counters = t.counters;
+        open = t.open;
         place = t.place;
         turns -= 1;
     }
@@ -113,6 +200,19 @@ pub fn run() {
     let mut keys = rows();
     let mut changes = rows();
     let mut words = [0u64; 384];
+    let mut set_heads = heads();
+    let mut set_slots = slots();
+    let mut set_cells = cells();
     let mut buf = record::room();
-    replay(&mut keys, &mut changes, &mut words, &mut buf);
+    let begun = begin(&keys, &changes, &mut words);
+    replay(
+        begun,
+        &mut keys,
+        &mut changes,
+        &mut words,
+        &mut set_heads,
+        &mut set_slots,
+        &mut set_cells,
+        &mut buf,
+    );
 }

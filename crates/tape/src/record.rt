@@ -1,5 +1,6 @@
 // The parts of a command, read from standard input into a lent buffer.
 use libc::STDIN_FILENO;
+use section::ids::MaybePid;
 ghost use mathlib.Core.Path.{_≡_};
 ghost use Prim.Native.Nat.{_+_, _≤_, _<_};
 ghost use lib.ListN.{length};
@@ -88,6 +89,22 @@ pub fn opening(buf: &mut [u8]) -> usize
         return 0;
     }
     end
+}
+
+// Reads an opening of a collector to the start of the buffer: limit, cells and cell size. False where the tape ends first.
+pub fn collector(buf: &mut [u8]) -> bool
+    requires { ⌜ 65539 ≡ length (now buf) ⌝ }
+{
+    fill(&mut buf[0..6])
+}
+
+// A PID as a tape gives it to a collector.
+pub fn maybe_pid(pid: u16) -> MaybePid {
+    if pid == 0xFFFF {
+        MaybePid::None
+    } else {
+        MaybePid::Some(pid)
+    }
 }
 
 // Reads a PID, a length and that many bytes to the start of the buffer. Answers where they end, 0 where the tape ends first.

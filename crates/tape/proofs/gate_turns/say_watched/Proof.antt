@@ -1,9 +1,9 @@
--- `tape::gates::say_watched` ends with PID 8191.
+-- `tape::gate_turns::say_watched` ends with PID 8191.
 use borrow.Author.Needs.{needs}
 use native.Mathlib.Omega.{arith}
 use Prim.Native.Nat.{_≤_, _-_}
-use Rattle.tape.proofs.gates.say_watched.Statement.{statement}
-use Rattle.tape.proofs.gates.say_watched.Tie as tie
+use Rattle.tape.proofs.gate_turns.say_watched.Statement.{statement}
+use Rattle.tape.proofs.gate_turns.say_watched.Tie as tie
 
 abbrev Inv-loop : tie.InvT-loop
 Inv-loop words pid₀ t4 pid = pid ≤ 8192
@@ -11,11 +11,11 @@ Inv-loop words pid₀ t4 pid = pid ≤ 8192
 abbrev μ-loop : tie.MeasureT-loop
 μ-loop words pid₀ t4 pid = 8192 - pid
 
-slice-aggregate-write-all : tie.Need-slice-aggregate-write-all Inv-loop μ-loop
-slice-aggregate-write-all c = search needs
+slice-aggregate-say : tie.Need-slice-aggregate-say Inv-loop μ-loop
+slice-aggregate-say c = search needs
 
-write-all-requires : tie.Need-write-all-requires Inv-loop μ-loop
-write-all-requires c κs = search needs
+say-requires : tie.Need-say-requires Inv-loop μ-loop
+say-requires c κs = search needs
 
 loop-holds : tie.Need-loop-holds Inv-loop μ-loop
 loop-holds c = search needs
@@ -32,11 +32,11 @@ loop-less c = search needs
 loop-again : tie.Need-loop-again Inv-loop μ-loop
 loop-again c = search needs
 
-slice-aggregate-write-all-2 : tie.Need-slice-aggregate-write-all-2 Inv-loop μ-loop
-slice-aggregate-write-all-2 c = search needs
+slice-aggregate-say-2 : tie.Need-slice-aggregate-say-2 Inv-loop μ-loop
+slice-aggregate-say-2 c = search needs
 
-write-all-requires-2 : tie.Need-write-all-requires-2 Inv-loop μ-loop
-write-all-requires-2 c κs = search needs
+say-requires-2 : tie.Need-say-requires-2 Inv-loop μ-loop
+say-requires-2 c κs = search needs
 
 returns : tie.Need-returns Inv-loop μ-loop
 returns c = search needs
@@ -47,13 +47,13 @@ say-watched-spec =
     (tie.spec
     Inv-loop
     μ-loop
-    slice-aggregate-write-all
-    write-all-requires
+    slice-aggregate-say
+    say-requires
     loop-holds
     say-where-watched-requires
     add-pid
     loop-less
     loop-again
-    slice-aggregate-write-all-2
-    write-all-requires-2
+    slice-aggregate-say-2
+    say-requires-2
     returns)

@@ -6,7 +6,6 @@ use gate::Counters;
 use gate::Gate;
 use gate::Opened;
 use gate::Settings;
-use libc::STDOUT_FILENO;
 use watched::Asked;
 use watched::Opening;
 ghost use mathlib.Core.Path.{_≡_};
@@ -112,7 +111,7 @@ fn begin(
 // A refused opening leaves the former gate.
 fn told(read: u64, gate: Gate, counters: Counters, opened: Opened) -> Done {
     let answer = opened.answer;
-    lines::say_count(b"gate ", answer.number() as u64);
+    lines::say_answer(b"gate ", answer.number());
     match answer {
         Opening::Opened => {
             let begun = opened.gate;
@@ -182,15 +181,15 @@ fn deliver(
     match asked {
         Asked::Yes => arrive(read, gate, counters, keys, changes, words, pid, section),
         Asked::No => {
-            io::write_all(STDOUT_FILENO, b"gate unwatched\n");
+            lines::say(b"gate unwatched\n");
             leave(read, gate, counters)
         }
         Asked::NotWhole => {
-            lines::say_count(b"gate ", asked.number() as u64);
+            lines::say_answer(b"gate ", asked.number());
             leave(read, gate, counters)
         }
         Asked::BadPid => {
-            lines::say_count(b"gate ", asked.number() as u64);
+            lines::say_answer(b"gate ", asked.number());
             leave(read, gate, counters)
         }
     }
@@ -209,7 +208,7 @@ fn arrive(
     if deliverable(section) {
         offer(read, gate, counters, keys, changes, words, pid, section)
     } else {
-        io::write_all(STDOUT_FILENO, b"gate undeliverable\n");
+        lines::say(b"gate undeliverable\n");
         leave(read, gate, counters)
     }
 }
@@ -247,7 +246,7 @@ fn say_answer(answer: Answer, counters: Counters) {
     if number < 10 {
         lines::say_offered(number, counters)
     } else {
-        lines::say_count(b"gate ", number as u64)
+        lines::say_answer(b"gate ", number)
     }
 }
 
@@ -258,24 +257,24 @@ fn ask(gate: Gate, counters: Counters, words: &[u64], buf: &mut [u8]) -> Done
         return leave(0, gate, counters);
     }
     let asked = watched::ask(words, record::word(buf, 0));
-    lines::say_count(b"gate ", asked.number() as u64);
+    lines::say_answer(b"gate ", asked.number());
     leave(3, gate, counters)
 }
 
 // The PIDs watched, in order.
 fn say_watched(words: &[u64]) {
-    io::write_all(STDOUT_FILENO, b"gate watched");
+    lines::say(b"gate watched");
     let mut pid = 0u16;
     while pid < 8192 {
         say_where_watched(words, pid);
         pid += 1;
     }
-    io::write_all(STDOUT_FILENO, b"\n");
+    lines::say(b"\n");
 }
 
 fn say_where_watched(words: &[u64], pid: u16) {
     match watched::ask(words, pid) {
-        Asked::Yes => lines::say_pid(pid),
+        Asked::Yes => lines::say_hex4(b" ", pid),
         Asked::No => {}
         Asked::NotWhole => {}
         Asked::BadPid => {}
