@@ -4,3 +4,4 @@ pub mod Doing
 pub mod May
 pub mod Questions
 pub mod Unique
+pub mod Drops

@@ -6,6 +6,7 @@ use mathlib.Core.Bool.{Bool, true, false, cond}
 use Prim.Native.Nat.{ℕ}
 use lib.Dec.{eqb}
 use Rattle.section.specs.declared.ids.MaybePid.{MaybePid}
+use Rattle.cells.specs.Cells.{partOf}
 use Rattle.sets.specs.Store.{Question, questionOf, openNumber, clearNumber, nextNumber}
 use Rattle.sets.specs.declared.OpenAnswer.{OpenAnswer}
 use Rattle.sets.specs.declared.OpenAnswer.the-variants as open-answer
@@ -18,9 +19,13 @@ use Rattle.eit.specs.declared.Eit.{Eit}
 use Rattle.eit.specs.declared.Opened.{Opened}
 use Rattle.eit.specs.declared.Cleared.{Cleared}
 use Rattle.eit.specs.declared.Pushed.{Pushed}
+use Rattle.eit.specs.declared.Filter.{Filter}
+use Rattle.eit.specs.declared.DropAnswer.{DropAnswer}
+use Rattle.eit.specs.declared.DropAnswer.the-variants as drop-answer
+use Rattle.eit.specs.declared.Dropped.{Dropped}
 use Rattle.eit.specs.declared.PushAnswer.{PushAnswer}
 use Rattle.eit.specs.declared.PushAnswer.the-variants.{Nothing, Set, Schedule, NotWhole, CounterFull, PidTooLarge, Malformed, ShortForm, BadNumber, BadCrc, NotEit, Broken, TooLong, NoCell, Conflict, Range}
-use Rattle.eit.specs.Store.{Store, Told, plain, a-set, a-schedule, setOut, scheduleOut, Left, answerOf, leftOpened, leftPushed, leftCleared, openedOf, pushedOf, clearedOf, nextOf, nextInOf}
+use Rattle.eit.specs.Store.{Store, Told, plain, a-set, a-schedule, setOut, scheduleOut, Left, answerOf, leftOpened, leftPushed, leftCleared, dropNumber, leftDropped, openedOf, pushedOf, clearedOf, droppedOf, nextOf, nextInOf}
 
 -- the answer that is told
 abbrev byNumber : ℕ → PushAnswer
@@ -82,6 +87,14 @@ clear-back : (a : ClearAnswer) → clearBy (clearNumber a) ≡ a
 clear-back clear-answer.Cleared = refl
 clear-back clear-answer.NotWhole = refl
 
+abbrev dropBy : ℕ → DropAnswer
+dropBy n = cond (eqb n 7) drop-answer.Dropped (cond (eqb n 10) drop-answer.NotWhole drop-answer.PidTooLarge)
+
+drop-back : (a : DropAnswer) → dropBy (dropNumber a) ≡ a
+drop-back drop-answer.Dropped = refl
+drop-back drop-answer.NotWhole = refl
+drop-back drop-answer.PidTooLarge = refl
+
 abbrev nextBy : ℕ → NextAnswer
 nextBy n = cond (eqb n 8) next-answer.Yes (cond (eqb n 9) next-answer.No next-answer.NotWhole)
 
@@ -126,6 +139,15 @@ module _ (h l c t u h' l' c' t' u' : List ℕ) where
         record { heads = ap (λ (x : Left). x .store .heads) q; slots = ap (λ (x : Left). x .store .slots) q; cells = ap (λ (x : Left). x .store .cells) q; schedule-heads = ap (λ (x : Left). x .store .schedule-heads) q; units = ap (λ (x : Left). x .store .units) q },
       )
 
+  pub dropping : (s : Store) (f : Filter) (r r' : Dropped) → leftDropped r h l c t u ≡ droppedOf s f → leftDropped r' h' l' c' t' u' ≡ droppedOf s f → (r ≡ r') × Same h l c t u h' l' c' t' u'
+  dropping s f r r' p p' =
+      let q : leftDropped r h l c t u ≡ leftDropped r' h' l' c' t' u' = p ∙ sym p' in
+      let e : r .eit ≡ r' .eit = ap (λ (x : Left). x .store .eit) q in
+      let a : r .answer ≡ r' .answer = sym (drop-back (r .answer)) ∙ ap (λ (x : Left). dropBy (toldNumber (x .told))) q ∙ drop-back (r' .answer) in (
+        (λ i. record { answer = a i; eit = e i }),
+        record { heads = ap (λ (x : Left). x .store .heads) q; slots = ap (λ (x : Left). x .store .slots) q; cells = ap (λ (x : Left). x .store .cells) q; schedule-heads = ap (λ (x : Left). x .store .schedule-heads) q; units = ap (λ (x : Left). x .store .units) q },
+      )
+
 -- a question leaves everything as it was: one answer
 asking : (d : Question) (r r' : Next) → questionOf r ≡ d → questionOf r' ≡ d → r ≡ r'
 asking d r r' p p' =
@@ -138,3 +160,6 @@ next-section s row from r r' = asking (nextOf s row from) r r'
 
 pub next-in-schedule : (s : Store) (row table from : ℕ) (r r' : Next) → questionOf r ≡ nextInOf s row table from → questionOf r' ≡ nextInOf s row table from → r ≡ r'
 next-in-schedule s row table from r r' = asking (nextInOf s row table from) r r'
+
+pub section-part : (cells : List ℕ) (start length : ℕ) (r r' : List ℕ) → r ≡ partOf cells start length → r' ≡ partOf cells start length → r ≡ r'
+section-part cells start length r r' p p' = p ∙ sym p'

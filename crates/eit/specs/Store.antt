@@ -35,7 +35,25 @@ use Rattle.schedules.specs.Segments.{wordOf, setComplete, keptSection}
 use Rattle.schedules.specs.Units.{isPresent, unitSlots, unitsWhole, takenAnywhere, withTable}
 use Rattle.berths.specs.Berths.{berthOf, berthedHeads, tableCount, berthedUnits, tablesThere}
 use Rattle.berths.specs.declared.Berth.{Berth}
+use Rattle.section.specs.Ids.{pidMade}
+use Rattle.section.specs.declared.ids.Made.{Made}
+use Rattle.section.specs.declared.ids.Made.the-variants as made
+use Rattle.drops.specs.declared.Wanted.{Wanted}
+use Rattle.drops.specs.declared.Wanted.the-variants as wanted
+use Rattle.drops.specs.declared.Fields.{Fields}
+use Rattle.drops.specs.declared.Of.the-variants as of
+use Rattle.drops.specs.Drops.{Rest, rest, droppedRows, Fits}
 use Rattle.eit.specs.declared.Eit.{Eit}
+use Rattle.eit.specs.declared.WantedPid.{WantedPid}
+use Rattle.eit.specs.declared.WantedPid.the-variants as wanted-pid
+use Rattle.eit.specs.declared.Filter.{Filter}
+use Rattle.eit.specs.declared.DropAnswer.{DropAnswer}
+use Rattle.eit.specs.declared.DropAnswer.the-variants as drop-answer
+use Rattle.eit.specs.declared.Dropped.{Dropped}
+use Rattle.eit.specs.declared.inner.Drop.{Drop}
+use Rattle.eit.specs.declared.inner.Drop.the-variants as drop
+use Rattle.eit.specs.declared.inner.PidWanted.{PidWanted}
+use Rattle.eit.specs.declared.inner.PidWanted.the-variants as pid-wanted
 use Rattle.eit.specs.declared.Opened.{Opened}
 use Rattle.eit.specs.declared.PushAnswer.{PushAnswer}
 use Rattle.eit.specs.declared.PushAnswer.the-variants.{Nothing, Set, Schedule, NotWhole, CounterFull, PidTooLarge, Malformed, ShortForm, BadNumber, BadCrc, NotEit, Broken, TooLong, NoCell, Conflict, Range}
@@ -193,6 +211,14 @@ leftPushed r heads slots cells tops units = left (answerOf (r .answer) (store (r
 abbrev pub leftCleared : Cleared → List ℕ → List ℕ → List ℕ → List ℕ → List ℕ → Left
 leftCleared r heads slots cells tops units = left (plain (clearNumber (r .answer))) (store (r .eit) heads slots cells tops units)
 
+abbrev pub dropNumber : DropAnswer → ℕ
+dropNumber drop-answer.Dropped = 7
+dropNumber drop-answer.NotWhole = 10
+dropNumber drop-answer.PidTooLarge = 12
+
+abbrev pub leftDropped : Dropped → List ℕ → List ℕ → List ℕ → List ℕ → List ℕ → Left
+leftDropped r heads slots cells tops units = left (plain (dropNumber (r .answer))) (store (r .eit) heads slots cells tops units)
+
 -- ---- 13 and 10
 
 -- the lent slices have the limit's schedules, of 12 words and of 16 * 288 words, and no more are in use
@@ -250,6 +276,75 @@ emptyEit e = withSchedules (withRows e 0 (e .evictions)) 0 (e .«schedule_evicti
 unfoldable pub clearedOf : Store → Left
 clearedOf s =
     cond (wholeOf s) (left (plain 7) (store (emptyEit (s .eit)) (s .heads) (s .slots) (s .cells) (s .schedule-heads) (s .units))) (left (plain 10) s)
+
+-- ---- dropping by a filter
+
+-- "an exact PID of 8192 or more" is refused (12)
+abbrev pub madeWanted : Made → PidWanted
+madeWanted (made.One p) = pid-wanted.Is (wanted.Exactly (p .0))
+madeWanted made.TooLarge = pid-wanted.TooLarge
+
+-- the PID is free, exactly none or exactly p
+abbrev pub wantedPid : WantedPid → PidWanted
+wantedPid wanted-pid.Any = pid-wanted.Is wanted.Any
+wantedPid wanted-pid.Without = pid-wanted.Is (wanted.Exactly 8192)
+wantedPid (wanted-pid.Exactly v) = madeWanted (pidMade v)
+
+-- the filter in the words of a head
+abbrev pub fieldsOf : Wanted → Filter → Fields
+fieldsOf pid f = record {
+  pid = pid;
+  kind = f .kind;
+  «service_id» = f .«service_id»;
+  «transport_stream_id» = f .«transport_stream_id»;
+  «original_network_id» = f .«original_network_id»;
+  «current_next» = f .«current_next»;
+}
+
+-- 12
+abbrev pub dropPid : Filter → PidWanted → Drop
+dropPid f pid-wanted.TooLarge = drop.Refuse drop-answer.PidTooLarge
+dropPid f (pid-wanted.Is w) = drop.Matching (fieldsOf w f)
+
+-- 10, then 12
+unfoldable pub dropOf : Store → Filter → Drop
+dropOf s f = cond (wholeOf s) (dropPid f (wantedPid (f .pid))) (drop.Refuse drop-answer.NotWhole)
+
+-- what a drop leaves: an answer, and all that it may write
+pub record Remains : Type 0 where
+  pub answer : DropAnswer
+  pub eit : Eit
+  pub heads : List ℕ
+  pub slots : List ℕ
+  pub schedule-heads : List ℕ
+  pub units : List ℕ
+
+abbrev pub remains : Dropped → List ℕ → List ℕ → List ℕ → List ℕ → Remains
+remains r heads slots tops units = record { answer = r .answer; eit = r .eit; heads = heads; slots = slots; schedule-heads = tops; units = units }
+
+-- "sets and schedules that match go"; no eviction is counted
+unfoldable pub matchingGone : Eit → List ℕ → List ℕ → List ℕ → List ℕ → Fields → Remains
+matchingGone e heads slots tops units f =
+    let a : Rest = droppedRows of.Sets f (e .used) (rest heads slots (e .used)) in
+    let b : Rest = droppedRows of.Schedules f (e .schedules) (rest tops units (e .schedules)) in
+    record {
+      answer = drop-answer.Dropped;
+      eit = withSchedules (withRows e (a .used) (e .evictions)) (b .used) (e .«schedule_evictions»);
+      heads = a .heads;
+      slots = a .words;
+      schedule-heads = b .heads;
+      units = b .words;
+    }
+
+abbrev pub carriedDrop : Eit → List ℕ → List ℕ → List ℕ → List ℕ → Drop → Remains
+carriedDrop e heads slots tops units (drop.Refuse a) = record { answer = a; eit = e; heads = heads; slots = slots; schedule-heads = tops; units = units }
+carriedDrop e heads slots tops units (drop.Matching f) = matchingGone e heads slots tops units f
+
+abbrev pub leftRemains : Remains → List ℕ → Left
+leftRemains r cells = left (plain (dropNumber (r .answer))) (store (r .eit) (r .heads) (r .slots) cells (r .schedule-heads) (r .units))
+
+unfoldable pub droppedOf : Store → Filter → Left
+droppedOf s f = leftRemains (carriedDrop (s .eit) (s .heads) (s .slots) (s .schedule-heads) (s .units) (dropOf s f)) (s .cells)
 
 -- ---- a section, as the rows see it
 
@@ -481,3 +576,12 @@ PlanOk s bytes (plan.Refuse a) = Unit {0}
 PlanOk s bytes (plan.Conflict i) = SettleOk (s .eit) (s .heads) (s .slots) (s .schedule-heads) (s .units) i
 PlanOk s bytes (plan.Repeat x) = SettleOk (s .eit) (s .heads) (s .slots) (s .schedule-heads) (s .units) (x .row)
 PlanOk s bytes (plan.Keep k) = KeepOk s bytes k
+
+-- what a drop of all that matches asks
+pub record RowsFit (e : Eit) (heads slots tops units : List ℕ) : Type 0 where
+  pub sets : Fits of.Sets heads slots (e .used)
+  pub schedules : Fits of.Schedules tops units (e .schedules)
+
+abbrev pub DropOk : Eit → List ℕ → List ℕ → List ℕ → List ℕ → Drop → Type 0
+DropOk e heads slots tops units (drop.Refuse a) = Unit {0}
+DropOk e heads slots tops units (drop.Matching f) = RowsFit e heads slots tops units

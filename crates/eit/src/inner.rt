@@ -1,8 +1,15 @@
 // What the public calls are made of: is the store whole, what does a section do (decided before anything is written), and the doing.
+use crate::DropAnswer;
+use crate::Dropped;
 use crate::Eit;
+use crate::Filter;
 use crate::PushAnswer;
 use crate::Pushed;
+use crate::WantedPid;
 use berths::Berth;
+use drops::Fields;
+use drops::Of;
+use drops::Wanted;
 use places::Place;
 use rows::Entry;
 use rows::Key;
@@ -11,7 +18,9 @@ use section::eit::Kind;
 use section::eit::Reading;
 use section::header::Collected;
 use section::header::Header;
+use section::ids::Made;
 use section::ids::MaybePid;
+use section::ids::Pid;
 use sets::Next;
 use sets::NextAnswer;
 use sets::Sets;
@@ -28,6 +37,7 @@ ghost use Rattle.rows.specs.Rows.{keptHeads};
 ghost use Rattle.sets.specs.Store.{Numbered, questionOf};
 ghost use Rattle.schedules.specs.Segments.{keptSection};
 ghost use Rattle.berths.specs.Berths.{BerthOk};
+ghost use Rattle.eit.specs.Store.{madeWanted, wantedPid, fieldsOf, dropOf, remains, matchingGone, carriedDrop, RowsFit, DropOk};
 ghost use Rattle.eit.specs.Store.{store, setsOf, shelvesFit, settingsFit, wholeOf, kindNumber, keyOf, entryOf, arrivalOf, countersFull, scheduleEntry, withRows, withSchedules};
 ghost use Rattle.eit.specs.Store.{Whole, CellOk, KeepOk, SettleOk, ShelveOk, PlanOk};
 ghost use Rattle.eit.specs.Store.{planKeep, planPlaced, planGood, planRead, planJudged, planOf};
@@ -59,6 +69,18 @@ pub enum Plan {
     Conflict(usize),
     Repeat(Seen),
     Keep(Keeping),
+}
+
+// What a filter wants of the PID word, or that the number given is no PID.
+pub enum PidWanted {
+    Is(Wanted),
+    TooLarge,
+}
+
+// What a drop does: it is refused, or all that matches leaves.
+pub enum Drop {
+    Refuse(DropAnswer),
+    Matching(Fields),
 }
 
 // What becomes of a set that was touched: it stays as it is, it goes out, its table_id is out of range, or it goes into its schedule.
@@ -592,4 +614,112 @@ pub fn next_in_unit(units: &[u32], size: usize, u: usize, from: usize) -> Next
         return sets::inner::next_slot(schedules::unit_slots(units, u), size, from);
     }
     sets::inner::no_section(NextAnswer::No)
+}
+
+// ---- dropping
+
+fn made_wanted(m: Made) -> PidWanted
+    ensures { λ r. ⌜ r ≡ madeWanted m ⌝ }
+{
+    match m {
+        Made::One(p) => PidWanted::Is(Wanted::Exactly(p.0 as u64)),
+        Made::TooLarge => PidWanted::TooLarge,
+    }
+}
+
+// What a filter wants of the PID word: a number of 8192 or more is refused (12).
+pub fn wanted_pid(pid: WantedPid) -> PidWanted
+    ensures { λ r. ⌜ r ≡ wantedPid pid ⌝ }
+{
+    match pid {
+        WantedPid::Any => PidWanted::Is(Wanted::Any),
+        WantedPid::Without => PidWanted::Is(Wanted::Exactly(Key::NO_PID)),
+        WantedPid::Exactly(v) => made_wanted(Pid::make(v)),
+    }
+}
+
+// The filter in the words of a head.
+pub fn fields_of(pid: Wanted, filter: Filter) -> Fields
+    ensures { λ r. ⌜ r ≡ fieldsOf pid filter ⌝ }
+{
+    let kind = filter.kind;
+    let service_id = filter.service_id;
+    let transport_stream_id = filter.transport_stream_id;
+    let original_network_id = filter.original_network_id;
+    let current_next = filter.current_next;
+    Fields {
+        pid,
+        kind,
+        service_id,
+        transport_stream_id,
+        original_network_id,
+        current_next,
+    }
+}
+
+// 10, then 12, then what is to leave.
+pub fn decide_drop(
+    eit: Eit,
+    heads: &[u64],
+    slots: &[u32],
+    cells: &[u8],
+    schedule_heads: &[u64],
+    units: &[u32],
+    filter: Filter,
+) -> Drop
+    ensures { λ r. ⌜ r ≡ dropOf (store eit (now (heads .entry)) (now (slots .entry)) (now (cells .entry)) (now («schedule_heads» .entry)) (now (units .entry))) filter ⌝ }
+{
+    if is_whole(eit, heads, slots, cells, schedule_heads, units) {
+        let pid = filter.pid;
+        return match wanted_pid(pid) {
+            PidWanted::TooLarge => Drop::Refuse(DropAnswer::PidTooLarge),
+            PidWanted::Is(w) => Drop::Matching(fields_of(w, filter)),
+        };
+    }
+    Drop::Refuse(DropAnswer::NotWhole)
+}
+
+// Every set and every schedule that matches leaves.
+fn drop_matching(
+    eit: Eit,
+    heads: &mut [u64],
+    slots: &mut [u32],
+    schedule_heads: &mut [u64],
+    units: &mut [u32],
+    f: Fields,
+) -> Dropped
+    requires { ⌜ RowsFit eit (now heads) (now slots) (now «schedule_heads») (now units) ⌝ }
+    ensures { λ r. ⌜ remains r (now (heads .exit)) (now (slots .exit)) (now («schedule_heads» .exit)) (now (units .exit)) ≡ matchingGone eit (now (heads .entry)) (now (slots .entry)) (now («schedule_heads» .entry)) (now (units .entry)) f ⌝ }
+{
+    let used = drops::drop_rows(Of::Sets, f, heads, slots, eit.used);
+    let schedules = drops::drop_rows(Of::Schedules, f, schedule_heads, units, eit.schedules);
+    Dropped {
+        answer: DropAnswer::Dropped,
+        eit: Eit {
+            limit: eit.limit,
+            size: eit.size,
+            count: eit.count,
+            used,
+            evictions: eit.evictions,
+            schedules,
+            schedule_evictions: eit.schedule_evictions,
+        },
+    }
+}
+
+pub fn carry_drop(
+    eit: Eit,
+    heads: &mut [u64],
+    slots: &mut [u32],
+    schedule_heads: &mut [u64],
+    units: &mut [u32],
+    drop: Drop,
+) -> Dropped
+    requires { ⌜ DropOk eit (now heads) (now slots) (now «schedule_heads») (now units) drop ⌝ }
+    ensures { λ r. ⌜ remains r (now (heads .exit)) (now (slots .exit)) (now («schedule_heads» .exit)) (now (units .exit)) ≡ carriedDrop eit (now (heads .entry)) (now (slots .entry)) (now («schedule_heads» .entry)) (now (units .entry)) drop ⌝ }
+{
+    match drop {
+        Drop::Refuse(answer) => Dropped { answer, eit },
+        Drop::Matching(f) => drop_matching(eit, heads, slots, schedule_heads, units, f),
+    }
 }

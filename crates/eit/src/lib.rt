@@ -2,6 +2,7 @@
 // The host keeps an `Eit` by value and lends five slices at every call: heads (12 words a set) and slots (288 words a set), cells,
 // schedule_heads (12 words a schedule) and units (16 * 288 words a schedule). Every call takes any content of them and has one answer; a
 // refusal leaves them as they were, but 22, which touches the key, and 23, which keeps the section.
+use drops::Wanted;
 use section::ids::MaybePid;
 use sets::ClearAnswer;
 use sets::Next;
@@ -14,6 +15,7 @@ ghost use Rattle.cells.specs.Cells.{partOf};
 ghost use Rattle.sets.specs.Store.{questionOf};
 ghost use Rattle.eit.specs.Store.{nextOf, nextInOf};
 ghost use Rattle.eit.specs.Store.{store, asked, pushNumber, leftOpened, leftPushed, leftCleared, openedOf, pushedOf, clearedOf};
+ghost use Rattle.eit.specs.Store.{dropNumber, leftDropped, droppedOf};
 
 pub mod inner;
 
@@ -67,6 +69,48 @@ pub struct Pushed {
 pub struct Cleared {
     pub answer: ClearAnswer,
     pub eit: Eit,
+}
+
+// The PID that a filter wants: free, exactly none, or exactly a number.
+pub enum WantedPid {
+    Any,
+    Without,
+    Exactly(u16),
+}
+
+// Which sets and schedules a drop takes: each field is free or exact. Kinds are 0 and 1 for present/following actual and other, 2 and 3 for
+// schedule actual and other; current_next is 0 or 1.
+pub struct Filter {
+    pub pid: WantedPid,
+    pub kind: Wanted,
+    pub service_id: Wanted,
+    pub transport_stream_id: Wanted,
+    pub original_network_id: Wanted,
+    pub current_next: Wanted,
+}
+
+pub enum DropAnswer {
+    Dropped,
+    NotWhole,
+    PidTooLarge,
+}
+
+pub struct Dropped {
+    pub answer: DropAnswer,
+    pub eit: Eit,
+}
+
+impl DropAnswer {
+    // Document 01's number of the answer.
+    pub fn number(self) -> u8
+        ensures { λ r. ⌜ r ≡ dropNumber self ⌝ }
+    {
+        match self {
+            DropAnswer::Dropped => 7,
+            DropAnswer::NotWhole => 10,
+            DropAnswer::PidTooLarge => 12,
+        }
+    }
 }
 
 impl PushAnswer {
@@ -184,6 +228,22 @@ pub fn clear(
             eit,
         }
     }
+}
+
+// The sets and the schedules that match the filter are no longer in use. The order of the others stays, and so do the counts of evictions.
+pub fn drop(
+    eit: Eit,
+    heads: &mut [u64],
+    slots: &mut [u32],
+    cells: &[u8],
+    schedule_heads: &mut [u64],
+    units: &mut [u32],
+    filter: Filter,
+) -> Dropped
+    ensures { λ r. ⌜ leftDropped r (now (heads .exit)) (now (slots .exit)) (now (cells .entry)) (now («schedule_heads» .exit)) (now (units .exit)) ≡ droppedOf (store eit (now (heads .entry)) (now (slots .entry)) (now (cells .entry)) (now («schedule_heads» .entry)) (now (units .entry))) filter ⌝ }
+{
+    let drop = inner::decide_drop(eit, heads, slots, cells, schedule_heads, units, filter);
+    inner::carry_drop(eit, heads, slots, schedule_heads, units, drop)
 }
 
 // Has the set in a row another section? The first filled slot at or after `from`: its number, and where its bytes are in the cells.
