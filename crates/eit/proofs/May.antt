@@ -56,7 +56,7 @@ module _ (s : Store) (bytes : List ℕ) (f : Whole (s .eit) (s .heads) (s .slots
     keep-ok r k = go (ltb c (s .eit .count)) refl
       where
         c : ℕ
-        c = lowestFree (takenAnywhere (s .heads) (s .slots) (s .units) (goneRow r (s .eit .used)) (s .eit .used) (s .eit .schedules * 16)) (s .eit .count)
+        c = lowestFree (takenAnywhere (s .heads) (s .slots) (s .schedule-heads) (s .units) (goneRow r (s .eit .used)) (s .eit .used) (s .eit .schedules)) (s .eit .count)
 
         go : (b : Bool) → ltb c (s .eit .count) ≡ b → PlanOk s bytes (cond b (plan.Keep (record { arrival = a; room = r; cell = c })) (plan.Refuse NoCell))
         go true q = record { whole = f; numbered = m; room = k; cell = ltb-true c (s .eit .count) q; fits = l; counts = n }

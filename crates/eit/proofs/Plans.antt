@@ -56,7 +56,7 @@ arrival-made pid h f k e n p q r = rw (q, p, r)
 -- ---- a cell
 
 module _ (s : Store) (a : Arrival) (r : Room) (gone c : ℕ) (p : gone ≡ goneRow r (s .eit .used))
-    (q : c ≡ lowestFree (takenAnywhere (s .heads) (s .slots) (s .units) gone (s .eit .used) (s .eit .schedules * 16)) (s .eit .count)) where
+    (q : c ≡ lowestFree (takenAnywhere (s .heads) (s .slots) (s .schedule-heads) (s .units) gone (s .eit .used) (s .eit .schedules)) (s .eit .count)) where
   pub keep-cell : c < s .eit .count → plan.Keep (record { arrival = a; room = r; cell = c }) ≡ planKeep s a r
   unfolding planKeep
   keep-cell h = rw (← p, ← q, lt-ltb c (s .eit .count) h)

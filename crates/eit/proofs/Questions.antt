@@ -11,7 +11,7 @@ use lib.ListN.{length}
 use Rattle.cells.specs.Cells.{nextFilled}
 use Rattle.rows.specs.Rows.{rowSlots}
 use Rattle.sets.specs.Store.{Question, noSection, slotTold}
-use Rattle.schedules.specs.Units.{isPresent, unitSlots}
+use Rattle.schedules.specs.Units.{tablesOf, isPresent, unitSlots}
 use Rattle.eit.specs.declared.Eit.{Eit}
 use Rattle.eit.specs.Store.{Store, store, wholeOf, nextOf, unitTold, nextInOf}
 use Rattle.eit.proofs.Whole.{is-whole-means}
@@ -38,13 +38,13 @@ module _ (s : Store) (row from : ℕ) (b : Bool) (q : Question) (e : b ≡ whole
     unfolding nextInOf
     in-no-row t h f = rw (← e, t, le-ltb row (s .eit .schedules) h) f
 
-    pub in-no-table : b ≡ true → row < s .eit .schedules → 16 ≤ table → q ≡ noSection 9 → q ≡ nextInOf s row table from
+    pub in-no-table : (n : ℕ) → b ≡ true → row < s .eit .schedules → n ≡ tablesOf (s .schedule-heads) row → n ≤ table → q ≡ noSection 9 → q ≡ nextInOf s row table from
     unfolding nextInOf
-    in-no-table t h k f = rw (← e, t, lt-ltb row (s .eit .schedules) h, le-ltb table 16 k) f
+    in-no-table n t h g k f = rw (← e, t, lt-ltb row (s .eit .schedules) h, ← g, le-ltb table n k) f
 
-    pub in-table : b ≡ true → row < s .eit .schedules → table < 16 → q ≡ unitTold (s .eit .size) (s .units) (row * 16 + table) from → q ≡ nextInOf s row table from
+    pub in-table : (n : ℕ) → b ≡ true → row < s .eit .schedules → n ≡ tablesOf (s .schedule-heads) row → table < n → q ≡ unitTold (s .eit .size) (s .units) (row * 16 + table) from → q ≡ nextInOf s row table from
     unfolding nextInOf
-    in-table t h k f = rw (← e, t, lt-ltb row (s .eit .schedules) h, lt-ltb table 16 k) f
+    in-table n t h g k f = rw (← e, t, lt-ltb row (s .eit .schedules) h, ← g, lt-ltb table n k) f
 
 module _ (size : ℕ) (units : List ℕ) (u from : ℕ) (b : Bool) (q : Question) (e : b ≡ isPresent units u) where
   pub unit-there : (part : List ℕ) → b ≡ true → part ≡ unitSlots units u → q ≡ slotTold size part (nextFilled part from) → q ≡ unitTold size units u from
@@ -63,5 +63,8 @@ module _ (e : Eit) (heads slots cells tops units : List ℕ) (b : Bool) (q : b �
   pub size-small : e .size ≤ 4096
   size-small = is-whole-means e heads slots cells tops units b q t .sets .size-high
 
-  pub unit-long : (row table : ℕ) → row < e .schedules → table < 16 → ((row * 16 + table) * 288 + 288 ≤ length units) × (e .size ≤ 4096)
-  unit-long row table h k = let w = is-whole-means e heads slots cells tops units b q t in (omega arith, w .sets .size-high)
+  pub top-there : (row : ℕ) → row < e .schedules → row * 12 + 12 ≤ length tops
+  top-there row h = let w = is-whole-means e heads slots cells tops units b q t in omega arith
+
+  pub unit-long : (row table n : ℕ) → row < e .schedules → n ≤ 16 → table < n → ((row * 16 + table) * 288 + 288 ≤ length units) × (e .size ≤ 4096)
+  unit-long row table n h l k = let w = is-whole-means e heads slots cells tops units b q t in (omega arith, w .sets .size-high)

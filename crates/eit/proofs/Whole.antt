@@ -15,7 +15,7 @@ use Rattle.laws.proofs.Tests.{and-true, and-none, same-test}
 use Rattle.sets.specs.Store as sets
 use Rattle.sets.specs.declared.Sets.{Sets}
 use Rattle.sets.proofs.Whole.{whole-means}
-use Rattle.schedules.specs.Units.{unitsWhole}
+use Rattle.schedules.specs.Units.{schedulesWhole}
 use Rattle.eit.specs.declared.Eit.{Eit}
 use Rattle.eit.specs.Store.{Store, store, setsOf, setStore, shelvesFit, settingsFit, wholeOf, Whole, Left, left, plain, openedOf, emptyEit, clearedOf}
 
@@ -40,7 +40,7 @@ module _ (e : Eit) (heads slots cells tops units : List ℕ) (s : Sets) (a : Boo
     unfolding wholeOf
     whole-shelves k = rw (← p, ← q, t, ← f, k)
 
-    pub whole-units : (r : Bool) → b ≡ true → r ≡ unitsWhole units (e .count) (e .size) (e .schedules * 16) → r ≡ wholeOf (store e heads slots cells tops units)
+    pub whole-units : (r : Bool) → b ≡ true → r ≡ schedulesWhole tops units (e .count) (e .size) (e .schedules) → r ≡ wholeOf (store e heads slots cells tops units)
     unfolding wholeOf
     whole-units r k g = rw (← p, ← q, t, ← f, k) g
 
@@ -64,7 +64,7 @@ whole-store s q =
     let g = shelves-mean (s .eit) (length (s .schedule-heads)) (length (s .units)) (b .0) in
     record { sets = whole-means (setStore s) (a .0); tops-long = g .tops-long; units-long = g .units-long; schedules = g .schedules }
 
-pub units-whole : (s : Store) → wholeOf s ≡ true → unitsWhole (s .units) (s .eit .count) (s .eit .size) (s .eit .schedules * 16) ≡ true
+pub units-whole : (s : Store) → wholeOf s ≡ true → schedulesWhole (s .schedule-heads) (s .units) (s .eit .count) (s .eit .size) (s .eit .schedules) ≡ true
 unfolding wholeOf
 units-whole s q =
     let a = and-true (sets.wholeOf (setStore s)) _ q in
@@ -84,11 +84,12 @@ module _ (e : Eit) (heads slots cells : List ℕ) (s : Sets) (a : Bool) (p : s �
   pub size-fits : Fits w16 (e .size)
   size-fits = let w = sound in record { fits = lt-of-le-of-lt (w .size-high) (lit< tt) }
 
-  pub units-long : (b : Bool) (tops : ℕ) (units : List ℕ) → b ≡ shelvesFit e tops (length units) → b ≡ true → (e .schedules * 16 * 288 ≤ length units) × (12 ≤ e .size) × (e .size ≤ 4096)
+  pub units-long : (b : Bool) (tops units : List ℕ) → b ≡ shelvesFit e (length tops) (length units) → b ≡ true
+      → (e .schedules * 12 ≤ length tops) × (e .schedules * 4608 ≤ length units) × (12 ≤ e .size) × (e .size ≤ 4096)
   units-long b tops units f k =
-      let g = shelves-mean e tops (length units) (sym f ∙ k) in
+      let g = shelves-mean e (length tops) (length units) (sym f ∙ k) in
       let w = sound in
-      (omega arith, w .size-low, w .size-high)
+      (omega arith, omega arith, w .size-low, w .size-high)
 
 -- ---- opening and clearing
 

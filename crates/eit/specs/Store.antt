@@ -32,7 +32,7 @@ use Rattle.places.specs.Places.{placeOf}
 use Rattle.places.specs.declared.Place.{Place}
 use Rattle.places.specs.declared.Place.the-variants as place
 use Rattle.schedules.specs.Segments.{wordOf, setComplete, keptSection}
-use Rattle.schedules.specs.Units.{isPresent, unitSlots, unitsWhole, takenAnywhere, withTable}
+use Rattle.schedules.specs.Units.{tablesOf, isPresent, unitSlots, schedulesWhole, takenAnywhere, withTable}
 use Rattle.berths.specs.Berths.{berthOf, berthedHeads, tableCount, berthedUnits, tablesThere}
 use Rattle.berths.specs.declared.Berth.{Berth}
 use Rattle.section.specs.Ids.{pidMade}
@@ -234,7 +234,7 @@ unfoldable pub wholeOf : Store → Bool
 wholeOf s =
     sets.wholeOf (setStore s)
     && (shelvesFit (s .eit) (length (s .schedule-heads)) (length (s .units))
-    && unitsWhole (s .units) (s .eit .count) (s .eit .size) (s .eit .schedules * 16))
+    && schedulesWhole (s .schedule-heads) (s .units) (s .eit .count) (s .eit .size) (s .eit .schedules))
 
 -- ---- opening and clearing
 
@@ -387,7 +387,7 @@ scheduleEntry a = record { key = withTable (a .entry .key) (a .kind); version = 
 -- a section that is kept needs a cell: the lowest that is free after the set eviction or the emptying (21 where there is none)
 unfoldable pub planKeep : Store → Arrival → Room → Plan
 planKeep s a r =
-    let c : ℕ = lowestFree (takenAnywhere (s .heads) (s .slots) (s .units) (goneRow r (s .eit .used)) (s .eit .used) (s .eit .schedules * 16)) (s .eit .count) in
+    let c : ℕ = lowestFree (takenAnywhere (s .heads) (s .slots) (s .schedule-heads) (s .units) (goneRow r (s .eit .used)) (s .eit .used) (s .eit .schedules)) (s .eit .count) in
     cond (ltb c (s .eit .count)) (plan.Keep (record { arrival = a; room = r; cell = c })) (plan.Refuse NoCell)
 
 abbrev pub planPlaced : Store → Arrival → Place → Plan
@@ -522,7 +522,7 @@ unitTold size units u from = cond (isPresent units u) (slotTold size (unitSlots 
 unfoldable pub nextInOf : Store → ℕ → ℕ → ℕ → Question
 nextInOf s row table from =
     cond (wholeOf s)
-    (cond (ltb row (s .eit .schedules)) (cond (ltb table 16) (unitTold (s .eit .size) (s .units) (row * 16 + table) from) (noSection 9)) (noSection 9))
+    (cond (ltb row (s .eit .schedules)) (cond (ltb table (tablesOf (s .schedule-heads) row)) (unitTold (s .eit .size) (s .units) (row * 16 + table) from) (noSection 9)) (noSection 9))
     (noSection 10)
 
 -- ---- what the functions ask of each other

@@ -141,8 +141,13 @@ pub fn is_whole(
 {
     if sets::inner::is_whole(sets_of(eit), heads, slots, cells) {
         if shelves_fit(eit, schedule_heads.len(), units.len()) {
-            let n = eit.schedules * 16;
-            return schedules::units_whole(units, eit.count as u16, eit.size as u16, n);
+            return schedules::schedules_whole(
+                schedule_heads,
+                units,
+                eit.count as u16,
+                eit.size as u16,
+                eit.schedules,
+            );
         }
     }
     false
@@ -217,8 +222,16 @@ fn plan_keep(
     ensures { λ r. ⌜ r ≡ planKeep (store eit (now (heads .entry)) (now (slots .entry)) (now (cells .entry)) (now («schedule_heads» .entry)) (now (units .entry))) a room ⌝ }
 {
     let gone = rows::gone_row(room, eit.used);
-    let n = eit.schedules * 16;
-    let c = schedules::lowest_free(heads, slots, units, gone, eit.used, n, eit.count);
+    let c = schedules::lowest_free(
+        heads,
+        slots,
+        schedule_heads,
+        units,
+        gone,
+        eit.used,
+        eit.schedules,
+        eit.count,
+    );
     if c < eit.count {
         Plan::Keep(Keeping {
             arrival: a,

@@ -286,7 +286,7 @@ pub fn next_in_schedule(
         if eit.schedules <= row {
             return sets::inner::no_section(NextAnswer::No);
         }
-        if 16 <= table {
+        if schedules::tables_of(schedule_heads, row) <= table {
             return sets::inner::no_section(NextAnswer::No);
         }
         return inner::next_in_unit(units, eit.size, row * 16 + table, from);

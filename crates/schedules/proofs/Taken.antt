@@ -3,14 +3,20 @@
 use mathlib.Core.Path.{_≡_, refl, sym, ap, _∙_}
 use mathlib.Core.List.{List}
 use mathlib.Core.Bool.{Bool, true, false, cond, not, _&&_, _||_}
-use Prim.Native.Nat.{ℕ, zero, suc}
+use Prim.Native.Nat.{ℕ, zero, suc, _+_, _*_}
 use lib.ListN.{length, replicate, length-replicate}
 use Rattle.laws.specs.Bits.{hasBit}
 use Rattle.cells.specs.Cells.{someNames, markedAll, lowestFree, lowestClear}
 use Rattle.cells.proofs.Laws.{length-all, has-all-marked, has-none, lowest-of}
 use Rattle.rows.specs.Rows.{takenIn, markedRows}
 use Rattle.rows.proofs.Taken.{length-rows, has-rows}
-use Rattle.schedules.specs.Units.{isPresent, unitSlots, takenInUnits, markedUnit, markedUnits, takenAnywhere}
+use Rattle.schedules.specs.Units.{tablesOf, isPresent, unitSlots, takenInUnits, takenInSchedules, markedUnit, markedUnits, markedSchedules, takenAnywhere}
+
+swap : (a b t : Bool) → (a || (b || t)) ≡ ((b || a) || t)
+swap true true t = refl
+swap true false t = refl
+swap false true t = refl
+swap false false t = refl
 
 module _ (units : List ℕ) where
   length-unit : (u : ℕ) (map : List ℕ) → length (markedUnit units u map) ≡ length map
@@ -27,25 +33,31 @@ module _ (units : List ℕ) where
       go true = has-all-marked (unitSlots units u) map c l
       go false = refl
 
-  -- a cell is marked exactly when a slot of a present unit names it, or it was marked before
-  pub has-units : (n : ℕ) (map : List ℕ) (c : ℕ) → length map ≡ 1024 → hasBit (markedUnits units n map) c ≡ (takenInUnits units n c || hasBit map c)
-  unfolding markedUnits takenInUnits
-  has-units zero map c l = refl
-  has-units (suc n) map c l =
-      has-units n (markedUnit units n map) c (length-unit n map ∙ l)
-      ∙ rw (has-unit n map c l) (swap (takenInUnits units n c) (isPresent units n && someNames c (unitSlots units n)) (hasBit map c))
-    where
-      swap : (a b t : Bool) → (a || (b || t)) ≡ ((b || a) || t)
-      swap true true t = refl
-      swap true false t = refl
-      swap false true t = refl
-      swap false false t = refl
+  length-units : (base n : ℕ) (map : List ℕ) → length (markedUnits units base n map) ≡ length map
+  unfolding markedUnits
+  length-units base zero map = refl
+  length-units base (suc n) map = length-units base n (markedUnit units (base + n) map) ∙ length-unit (base + n) map
 
--- from a map of no cells, the lowest that is clear is the lowest that neither a row nor a unit names
-pub lowest-anywhere : (heads slots units : List ℕ) (gone used n count r : ℕ) (m₀ m m' : List ℕ) → m₀ ≡ replicate 1024 0 → m ≡ markedRows heads slots gone used m₀ → m' ≡ markedUnits units n m → r ≡ lowestClear m' count
-    → r ≡ lowestFree (takenAnywhere heads slots units gone used n) count
+  -- a cell is marked exactly when a slot of a present unit names it, or it was marked before
+  has-units : (base n : ℕ) (map : List ℕ) (c : ℕ) → length map ≡ 1024 → hasBit (markedUnits units base n map) c ≡ (takenInUnits units base n c || hasBit map c)
+  unfolding markedUnits takenInUnits
+  has-units base zero map c l = refl
+  has-units base (suc n) map c l =
+      has-units base n (markedUnit units (base + n) map) c (length-unit (base + n) map ∙ l)
+      ∙ rw (has-unit (base + n) map c l) (swap (takenInUnits units base n c) (isPresent units (base + n) && someNames c (unitSlots units (base + n))) (hasBit map c))
+
+  pub has-schedules : (tops : List ℕ) (n : ℕ) (map : List ℕ) (c : ℕ) → length map ≡ 1024 → hasBit (markedSchedules tops units n map) c ≡ (takenInSchedules tops units n c || hasBit map c)
+  unfolding markedSchedules takenInSchedules
+  has-schedules tops zero map c l = refl
+  has-schedules tops (suc n) map c l =
+      has-schedules tops n (markedUnits units (n * 16) (tablesOf tops n) map) c (length-units (n * 16) (tablesOf tops n) map ∙ l)
+      ∙ rw (has-units (n * 16) (tablesOf tops n) map c l) (swap (takenInSchedules tops units n c) (takenInUnits units (n * 16) (tablesOf tops n) c) (hasBit map c))
+
+-- from a map of no cells, the lowest that is clear is the lowest that neither a row nor a schedule names
+pub lowest-anywhere : (heads slots tops units : List ℕ) (gone used n count r : ℕ) (m₀ m m' : List ℕ) → m₀ ≡ replicate 1024 0 → m ≡ markedRows heads slots gone used m₀ → m' ≡ markedSchedules tops units n m → r ≡ lowestClear m' count
+    → r ≡ lowestFree (takenAnywhere heads slots tops units gone used n) count
 unfolding takenAnywhere
-lowest-anywhere heads slots units gone used n count r m₀ m m' z e f q = q ∙ lowest-of (takenAnywhere heads slots units gone used n) m' count has
+lowest-anywhere heads slots tops units gone used n count r m₀ m m' z e f q = q ∙ lowest-of (takenAnywhere heads slots tops units gone used n) m' count has
   where
     long : length m₀ ≡ 1024
     long = ap length z ∙ length-replicate {A = ℕ} 1024 0
@@ -59,7 +71,7 @@ lowest-anywhere heads slots units gone used n count r m₀ m m' z e f q = q ∙ 
     turn false true = refl
     turn false false = refl
 
-    has : (c : ℕ) → hasBit m' c ≡ takenAnywhere heads slots units gone used n c
+    has : (c : ℕ) → hasBit m' c ≡ takenAnywhere heads slots tops units gone used n c
     has c =
-        ap (λ (l : List ℕ). hasBit l c) f ∙ has-units units n m c (ap length e ∙ length-rows heads slots gone used m₀ ∙ long)
-        ∙ ap (λ (t : Bool). takenInUnits units n c || t) (rows c) ∙ turn (takenInUnits units n c) (takenIn heads slots gone used c)
+        ap (λ (l : List ℕ). hasBit l c) f ∙ has-schedules units tops n m c (ap length e ∙ length-rows heads slots gone used m₀ ∙ long)
+        ∙ ap (λ (t : Bool). takenInSchedules tops units n c || t) (rows c) ∙ turn (takenInSchedules tops units n c) (takenIn heads slots gone used c)

@@ -14,11 +14,11 @@ use lib.ListN.{length, take, drop, getD, set, length-drop, length-set}
 use lib.Seq.{paste, length-take-le}
 use Rattle.laws.proofs.Lists.{paste-end}
 use Rattle.cells.specs.Cells.{allWhole, markedAll}
-use Rattle.rows.specs.Rows.{word, rowOf, slotsAt, slotCount, rowSlots}
+use Rattle.rows.specs.Rows.{word, keyAt, rowOf, slotsAt, slotCount, rowSlots}
 use Rattle.rows.specs.declared.Key.{Key}
 use Rattle.rows.proofs.Loops.{before}
 use Rattle.schedules.specs.Segments.{wordOf, withWord, setComplete}
-use Rattle.schedules.specs.Units.{isPresent, unitSlots, unitWhole, unitsWhole, markedUnit, markedUnits, allPresent, withoutUnits, withWords, withSet, firstTable, withTable, withComplete, withTableSet, refilled}
+use Rattle.schedules.specs.Units.{firstBy, tablesOf, isPresent, unitSlots, unitWhole, unitsWhole, schedulesWhole, markedUnit, markedUnits, markedSchedules, allPresent, withoutUnits, withWords, withSet, firstTable, withTable, withComplete, withTableSet, refilled}
 
 pub unit-part : (units : List ℕ) (u w x n : ℕ) → w ≡ wordOf units u 2 → x ≡ w → n ≡ slotCount x → take (u * 288 + 32 + n - (u * 288 + 32)) (drop (u * 288 + 32) units) ≡ unitSlots units u
 unfolding unitSlots
@@ -34,16 +34,53 @@ pub unit-whole-not : (units : List ℕ) (count size u : ℕ) (b : Bool) → b �
 unfolding unitWhole
 unit-whole-not units count size u b e t = rw (← e, t)
 
-pub units-turn : (units : List ℕ) (count size n u : ℕ) (ok r : Bool) → 0 < u → r ≡ unitWhole units count size (u - 1) → unitsWhole units count size n ≡ (ok && unitsWhole units count size u)
-    → unitsWhole units count size n ≡ (ok && r && unitsWhole units count size (u - 1))
-unfolding unitsWhole
-units-turn units count size n u ok r p e q =
-    q ∙ ap (λ (k : ℕ). ok && unitsWhole units count size k) (before u p)
-    ∙ sym (and-assoc ok (unitWhole units count size (u - 1)) (unitsWhole units count size (u - 1))) ∙ rw e
+module _ (units : List ℕ) (count size base n j : ℕ) (ok : Bool) (q : unitsWhole units count size base n ≡ (ok && unitsWhole units count size base j)) where
+  pub units-turn : (r : Bool) → 0 < j → r ≡ unitWhole units count size (base + (j - 1)) → unitsWhole units count size base n ≡ (ok && r && unitsWhole units count size base (j - 1))
+  unfolding unitsWhole
+  units-turn r p e =
+      q ∙ ap (λ (k : ℕ). ok && unitsWhole units count size base k) (before j p)
+      ∙ sym (and-assoc ok (unitWhole units count size (base + (j - 1))) (unitsWhole units count size base (j - 1))) ∙ rw e
 
-pub units-end : (units : List ℕ) (count size n u : ℕ) (ok : Bool) → u ≤ 0 → unitsWhole units count size n ≡ (ok && unitsWhole units count size u) → ok ≡ unitsWhole units count size n
-unfolding unitsWhole
-units-end units count size n u ok p q = let z : u ≡ 0 = omega arith in sym (q ∙ rw z (and-true ok))
+  pub units-end : j ≤ 0 → ok ≡ unitsWhole units count size base n
+  unfolding unitsWhole
+  units-end p = let z : j ≡ 0 = omega arith in sym (q ∙ rw z (and-true ok))
+
+module _ (tops units : List ℕ) (count size n k : ℕ) (ok : Bool) (q : schedulesWhole tops units count size n ≡ (ok && schedulesWhole tops units count size k)) where
+  pub schedules-turn : (t : ℕ) (r : Bool) → 0 < k → t ≡ tablesOf tops (k - 1) → r ≡ unitsWhole units count size ((k - 1) * 16) t
+      → schedulesWhole tops units count size n ≡ (ok && r && schedulesWhole tops units count size (k - 1))
+  unfolding schedulesWhole
+  schedules-turn t r p f e =
+      q ∙ ap (λ (m : ℕ). ok && schedulesWhole tops units count size m) (before k p)
+      ∙ sym (and-assoc ok (unitsWhole units count size ((k - 1) * 16) (tablesOf tops (k - 1))) (schedulesWhole tops units count size (k - 1))) ∙ rw (← f, ← e)
+
+  pub schedules-end : k ≤ 0 → ok ≡ schedulesWhole tops units count size n
+  unfolding schedulesWhole
+  schedules-end p = let z : k ≡ 0 = omega arith in sym (q ∙ rw z (and-true ok))
+
+-- ---- how many tables
+
+pub first-actual : (kind : ℕ) → kind ≡ 2 → 80 ≡ firstBy kind
+first-actual kind e = rw (eq-eqb kind 2 e)
+
+pub first-other : (kind : ℕ) → (kind ≡ 2 → ⊥) → 96 ≡ firstBy kind
+first-other kind e = rw (ne-eqb kind 2 e)
+
+pub kind-word : (tops : List ℕ) (k : ℕ) (key : Key) → key ≡ keyAt tops k → key .«table_id» ≡ word tops k 1
+kind-word tops k key e = rw e
+
+module _ (tops : List ℕ) (k kind first last : ℕ) (e : kind ≡ word tops k 1) (f : first ≡ firstBy kind) (g : last ≡ word tops k 7) where
+  range : min (last - first) 15 + 1 ≡ tablesOf tops k
+  unfolding tablesOf
+  range = rw (f, g, e)
+
+  pub tables-none : last < first → (1 ≡ tablesOf tops k) × (1 ≤ 16)
+  tables-none h = let r = range in (omega arith, omega arith)
+
+  pub tables-some : first ≤ last → last - first < 15 → (last - first + 1 ≡ tablesOf tops k) × (last - first + 1 ≤ 16)
+  tables-some h l = let r = range in (omega arith, omega arith)
+
+  pub tables-all : first ≤ last → 15 ≤ last - first → (16 ≡ tablesOf tops k) × (16 ≤ 16)
+  tables-all h l = let r = range in (omega arith, omega arith)
 
 pub unit-marked : (units : List ℕ) (u : ℕ) (part m m' : List ℕ) (b : Bool) → b ≡ isPresent units u → b ≡ true → part ≡ unitSlots units u → m' ≡ markedAll part m → m' ≡ markedUnit units u m
 unit-marked units u part m m' b e t p q = rw (← e, t, ← p) q
@@ -51,13 +88,23 @@ unit-marked units u part m m' b e t p q = rw (← e, t, ← p) q
 pub unit-passed : (units : List ℕ) (u : ℕ) (m : List ℕ) (b : Bool) → b ≡ isPresent units u → b ≡ false → m ≡ markedUnit units u m
 unit-passed units u m b e t = rw (← e, t)
 
-pub marks-turn : (units : List ℕ) (n u : ℕ) (m₀ m m' : List ℕ) → 0 < u → m' ≡ markedUnit units (u - 1) m → markedUnits units n m₀ ≡ markedUnits units u m → markedUnits units n m₀ ≡ markedUnits units (u - 1) m'
-unfolding markedUnits
-marks-turn units n u m₀ m m' p e q = q ∙ ap (λ (k : ℕ). markedUnits units k m) (before u p) ∙ rw e
+module _ (units : List ℕ) (base n j : ℕ) (m₀ m : List ℕ) (q : markedUnits units base n m₀ ≡ markedUnits units base j m) where
+  pub marks-turn : (m' : List ℕ) → 0 < j → m' ≡ markedUnit units (base + (j - 1)) m → markedUnits units base n m₀ ≡ markedUnits units base (j - 1) m'
+  unfolding markedUnits
+  marks-turn m' p e = q ∙ ap (λ (k : ℕ). markedUnits units base k m) (before j p) ∙ rw e
 
-pub marks-end : (units : List ℕ) (n u : ℕ) (m₀ m : List ℕ) → u ≤ 0 → markedUnits units n m₀ ≡ markedUnits units u m → m ≡ markedUnits units n m₀
-unfolding markedUnits
-marks-end units n u m₀ m p q = let z : u ≡ 0 = omega arith in sym (q ∙ rw z)
+  pub marks-end : j ≤ 0 → m ≡ markedUnits units base n m₀
+  unfolding markedUnits
+  marks-end p = let z : j ≡ 0 = omega arith in sym (q ∙ rw z)
+
+module _ (tops units : List ℕ) (n k : ℕ) (m₀ m : List ℕ) (q : markedSchedules tops units n m₀ ≡ markedSchedules tops units k m) where
+  pub all-marks-turn : (t : ℕ) (m' : List ℕ) → 0 < k → t ≡ tablesOf tops (k - 1) → m' ≡ markedUnits units ((k - 1) * 16) t m → markedSchedules tops units n m₀ ≡ markedSchedules tops units (k - 1) m'
+  unfolding markedSchedules
+  all-marks-turn t m' p f e = q ∙ ap (λ (i : ℕ). markedSchedules tops units i m) (before k p) ∙ rw (e, f)
+
+  pub all-marks-end : k ≤ 0 → m ≡ markedSchedules tops units n m₀
+  unfolding markedSchedules
+  all-marks-end p = let z : k ≡ 0 = omega arith in sym (q ∙ rw z)
 
 -- ---- one schedule
 

@@ -19,32 +19,55 @@ isPresent units u = not (eqb (wordOf units u 0) 0)
 unfoldable pub unitSlots : List ℕ → ℕ → List ℕ
 unitSlots units u = take (slotCount (wordOf units u 2)) (drop (slotsAt u) units)
 
--- ---- all units in use, the first n: "A unit that is not present has no slots"
+-- ---- the tables of the schedules in use: "A unit that is not present has no slots", and units past a schedule's last_table_id are not looked at
+
+-- the first table_id of a schedule kind, by its number: 2 is schedule actual, 3 schedule other
+abbrev pub firstBy : ℕ → ℕ
+firstBy kind = cond (eqb kind 2) 0x50 0x60
+
+-- how many tables the schedule of row k may have: those from the first of its kind to its last_table_id, the 16 of the kind at most
+unfoldable pub tablesOf : List ℕ → ℕ → ℕ
+tablesOf tops k = min (word tops k 7 - firstBy (word tops k 1)) 15 + 1
 
 -- of 01's 10
 unfoldable pub unitWhole : List ℕ → ℕ → ℕ → ℕ → Bool
 unitWhole units count size u = cond (isPresent units u) (allWhole count size (unitSlots units u)) true
 
-unfoldable pub unitsWhole : List ℕ → ℕ → ℕ → ℕ → Bool
-unitsWhole units count size zero = true
-unitsWhole units count size (suc n) = unitWhole units count size n && unitsWhole units count size n
+-- the n units from `base` on
+unfoldable pub unitsWhole : List ℕ → ℕ → ℕ → ℕ → ℕ → Bool
+unitsWhole units count size base zero = true
+unitsWhole units count size base (suc n) = unitWhole units count size (base + n) && unitsWhole units count size base n
 
--- a slot of a unit names cell c
-unfoldable pub takenInUnits : List ℕ → ℕ → ℕ → Bool
-takenInUnits units zero c = false
-takenInUnits units (suc n) c = (isPresent units n && someNames c (unitSlots units n)) || takenInUnits units n c
+-- the tables of the first n schedules
+unfoldable pub schedulesWhole : List ℕ → List ℕ → ℕ → ℕ → ℕ → Bool
+schedulesWhole tops units count size zero = true
+schedulesWhole tops units count size (suc n) = unitsWhole units count size (n * 16) (tablesOf tops n) && schedulesWhole tops units count size n
 
--- "A cell is free exactly when no slot or schedule copy of a row in use names it": a row other than the row `gone` or a unit names cell c
-unfoldable pub takenAnywhere : List ℕ → List ℕ → List ℕ → ℕ → ℕ → ℕ → ℕ → Bool
-takenAnywhere heads slots units gone used n c = takenIn heads slots gone used c || takenInUnits units n c
+-- a slot of one of the n units from `base` on names cell c
+unfoldable pub takenInUnits : List ℕ → ℕ → ℕ → ℕ → Bool
+takenInUnits units base zero c = false
+takenInUnits units base (suc n) c = (isPresent units (base + n) && someNames c (unitSlots units (base + n))) || takenInUnits units base n c
+
+-- a slot of a table of one of the first n schedules names it
+unfoldable pub takenInSchedules : List ℕ → List ℕ → ℕ → ℕ → Bool
+takenInSchedules tops units zero c = false
+takenInSchedules tops units (suc n) c = takenInUnits units (n * 16) (tablesOf tops n) c || takenInSchedules tops units n c
+
+-- "A cell is free exactly when no slot or schedule copy of a row in use names it": a row other than the row `gone` or a schedule names cell c
+unfoldable pub takenAnywhere : List ℕ → List ℕ → List ℕ → List ℕ → ℕ → ℕ → ℕ → ℕ → Bool
+takenAnywhere heads slots tops units gone used n c = takenIn heads slots gone used c || takenInSchedules tops units n c
 
 -- the map with each cell that such a slot names
 abbrev pub markedUnit : List ℕ → ℕ → List ℕ → List ℕ
 markedUnit units u map = cond (isPresent units u) (markedAll (unitSlots units u) map) map
 
-unfoldable pub markedUnits : List ℕ → ℕ → List ℕ → List ℕ
-markedUnits units zero map = map
-markedUnits units (suc n) map = markedUnits units n (markedUnit units n map)
+unfoldable pub markedUnits : List ℕ → ℕ → ℕ → List ℕ → List ℕ
+markedUnits units base zero map = map
+markedUnits units base (suc n) map = markedUnits units base n (markedUnit units (base + n) map)
+
+unfoldable pub markedSchedules : List ℕ → List ℕ → ℕ → List ℕ → List ℕ
+markedSchedules tops units zero map = map
+markedSchedules tops units (suc n) map = markedSchedules tops units n (markedUnits units (n * 16) (tablesOf tops n) map)
 
 -- ---- one schedule, whose units begin with the unit `base`
 

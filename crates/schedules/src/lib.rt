@@ -6,11 +6,11 @@ use rows::Room;
 ghost use mathlib.Core.Path.{_≡_};
 ghost use mathlib.Core.Bool.{Bool, true, false, cond, not, _&&_};
 ghost use Prim.Native.Nat.{ℕ, _+_, _-_, _*_, _/_, _%_, _<_, _≤_};
-ghost use lib.ListN.{length};
+ghost use lib.ListN.{length, getD};
 ghost use lib.Seq.{paste};
 ghost use Rattle.cells.specs.Cells.{lowestFree};
 ghost use Rattle.schedules.specs.Segments.{wordOf, withWord, filledTo, segmentComplete, segmentsComplete, setComplete, keptSection};
-ghost use Rattle.schedules.specs.Units.{isPresent, unitSlots, unitWhole, unitsWhole, markedUnit, markedUnits, takenAnywhere, allPresent, withoutUnits};
+ghost use Rattle.schedules.specs.Units.{firstBy, tablesOf, isPresent, unitSlots, unitWhole, unitsWhole, schedulesWhole, markedUnit, markedUnits, markedSchedules, takenAnywhere, allPresent, withoutUnits};
 ghost use Rattle.schedules.specs.Units.{withWords, withSet, firstTable, withTable, withComplete, withTableSet, refilled};
 
 const SEGMENT: usize = 8;
@@ -141,16 +141,67 @@ fn unit_whole(units: &[u32], count: u16, size: u16, u: usize) -> bool
     true
 }
 
-// Whether the first n units are whole.
-pub fn units_whole(units: &[u32], count: u16, size: u16, n: usize) -> bool
-    requires { ⌜ (n * 288 ≤ length (now units)) × (12 ≤ size) × (size ≤ 4096) ⌝ }
-    ensures { λ r. ⌜ r ≡ unitsWhole (now (units .entry)) count size n ⌝ }
+// The tables of a schedule kind.
+const TABLES: usize = 16;
+
+// The first table_id of a schedule kind, by the number that stands in a schedule's head.
+fn first_by(kind: u64) -> u64
+    ensures { λ r. ⌜ r ≡ firstBy kind ⌝ }
+{
+    if kind == 2 { 0x50 } else { 0x60 }
+}
+
+// The kind of the schedule of row k.
+fn kind_at(heads: &[u64], k: usize) -> u64
+    requires { ⌜ k * 12 + 12 ≤ length (now heads) ⌝ }
+    ensures { λ r. ⌜ r ≡ getD (now (heads .entry)) (k * 12 + 1) 0 ⌝ }
+{
+    let key = rows::key_at(heads, k);
+    key.table_id
+}
+
+// How many tables the schedule of row k may have: those up to its last_table_id, the 16 of its kind at most. Only these are looked at, so that
+// a schedule of few tables costs few.
+pub fn tables_of(heads: &[u64], k: usize) -> usize
+    requires { ⌜ k * 12 + 12 ≤ length (now heads) ⌝ }
+    ensures { λ r. ⌜ (r ≡ tablesOf (now (heads .entry)) k) × (r ≤ 16) ⌝ }
+{
+    let first = first_by(kind_at(heads, k));
+    let last = rows::last(heads, k);
+    if last < first {
+        return 1;
+    }
+    if last - first < 15 {
+        (last - first) as usize + 1
+    } else {
+        TABLES
+    }
+}
+
+// Whether the n units from `base` on are whole.
+fn units_whole(units: &[u32], count: u16, size: u16, base: usize, n: usize) -> bool
+    requires { ⌜ ((base + n) * 288 ≤ length (now units)) × (12 ≤ size) × (size ≤ 4096) ⌝ }
+    ensures { λ r. ⌜ r ≡ unitsWhole (now (units .entry)) count size base n ⌝ }
 {
     let mut ok = true;
-    let mut u = n;
-    while u > 0 {
-        u -= 1;
-        ok = ok & unit_whole(units, count, size, u);
+    let mut j = n;
+    while j > 0 {
+        j -= 1;
+        ok = ok & unit_whole(units, count, size, base + j);
+    }
+    ok
+}
+
+// Whether the tables of the first n schedules are whole.
+pub fn schedules_whole(heads: &[u64], units: &[u32], count: u16, size: u16, n: usize) -> bool
+    requires { ⌜ (n * 12 ≤ length (now heads)) × (n * 4608 ≤ length (now units)) × (12 ≤ size) × (size ≤ 4096) ⌝ }
+    ensures { λ r. ⌜ r ≡ schedulesWhole (now (heads .entry)) (now (units .entry)) count size n ⌝ }
+{
+    let mut ok = true;
+    let mut k = n;
+    while k > 0 {
+        k -= 1;
+        ok = ok & units_whole(units, count, size, k * TABLES, tables_of(heads, k));
     }
     ok
 }
@@ -165,35 +216,48 @@ fn mark_unit(map: &mut [u64; 1024], units: &[u32], u: usize)
     }
 }
 
-// Adds each cell that a slot of the first n units names.
-pub fn mark_units(map: &mut [u64; 1024], units: &[u32], n: usize)
-    requires { ⌜ n * 288 ≤ length (now units) ⌝ }
-    ensures { λ _. ⌜ now (map .exit) ≡ markedUnits (now (units .entry)) n (now (map .entry)) ⌝ }
+// Adds each cell that a slot of the n units from `base` on names.
+fn mark_units(map: &mut [u64; 1024], units: &[u32], base: usize, n: usize)
+    requires { ⌜ (base + n) * 288 ≤ length (now units) ⌝ }
+    ensures { λ _. ⌜ now (map .exit) ≡ markedUnits (now (units .entry)) base n (now (map .entry)) ⌝ }
 {
-    let mut u = n;
-    while u > 0 {
-        u -= 1;
-        mark_unit(map, units, u);
+    let mut j = n;
+    while j > 0 {
+        j -= 1;
+        mark_unit(map, units, base + j);
     }
 }
 
-// The lowest cell that neither a slot of a row in use, other than the row `gone`, nor a slot of the first n units names, or count where there
-// is none.
+// Adds each cell that a slot of a table of the first n schedules names.
+fn mark_schedules(map: &mut [u64; 1024], heads: &[u64], units: &[u32], n: usize)
+    requires { ⌜ (n * 12 ≤ length (now heads)) × (n * 4608 ≤ length (now units)) ⌝ }
+    ensures { λ _. ⌜ now (map .exit) ≡ markedSchedules (now (heads .entry)) (now (units .entry)) n (now (map .entry)) ⌝ }
+{
+    let mut k = n;
+    while k > 0 {
+        k -= 1;
+        mark_units(map, units, k * TABLES, tables_of(heads, k));
+    }
+}
+
+// The lowest cell that neither a slot of a row in use, other than the row `gone`, nor a slot of a table of the first n schedules names, or
+// count where there is none.
 pub fn lowest_free(
     heads: &[u64],
     slots: &[u32],
+    schedule_heads: &[u64],
     units: &[u32],
     gone: usize,
     used: usize,
     n: usize,
     count: usize,
 ) -> usize
-    requires { ⌜ (used * 12 ≤ length (now heads)) × (used * 288 ≤ length (now slots)) × (n * 288 ≤ length (now units)) × (count ≤ 65535) ⌝ }
-    ensures { λ r. ⌜ r ≡ lowestFree (takenAnywhere (now (heads .entry)) (now (slots .entry)) (now (units .entry)) gone used n) count ⌝ }
+    requires { ⌜ (used * 12 ≤ length (now heads)) × (used * 288 ≤ length (now slots)) × (n * 12 ≤ length (now «schedule_heads»)) × (n * 4608 ≤ length (now units)) × (count ≤ 65535) ⌝ }
+    ensures { λ r. ⌜ r ≡ lowestFree (takenAnywhere (now (heads .entry)) (now (slots .entry)) (now («schedule_heads» .entry)) (now (units .entry)) gone used n) count ⌝ }
 {
     let mut map = [0u64; 1024];
     rows::mark_rows(&mut map, heads, slots, gone, used);
-    mark_units(&mut map, units, n);
+    mark_schedules(&mut map, schedule_heads, units, n);
     cells::lowest_clear(&map, count)
 }
 

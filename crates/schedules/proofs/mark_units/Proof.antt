@@ -8,16 +8,19 @@ use Rattle.schedules.proofs.mark_units.Statement.{statement}
 use Rattle.schedules.proofs.mark_units.Tie as tie
 
 abbrev Inv-loop : tie.InvT-loop
-Inv-loop map₀ units n u₀ map u = (u ≤ n) × (markedUnits units n map₀ ≡ markedUnits units u map)
+Inv-loop map₀ units base n j₀ map j = (j ≤ n) × (markedUnits units base n map₀ ≡ markedUnits units base j map)
 
 abbrev μ-loop : tie.MeasureT-loop
-μ-loop map₀ units n u₀ map u = u
+μ-loop map₀ units base n j₀ map j = j
 
 loop-holds : tie.Need-loop-holds Inv-loop μ-loop
 loop-holds c = (omega arith, refl)
 
-sub-u : tie.Need-sub-u Inv-loop μ-loop
-sub-u c = search needs
+sub-j : tie.Need-sub-j Inv-loop μ-loop
+sub-j c = search needs
+
+add-mark-unit : tie.Need-add-mark-unit Inv-loop μ-loop
+add-mark-unit c = search needs
 
 mark-unit-requires : tie.Need-mark-unit-requires Inv-loop μ-loop
 mark-unit-requires c κs = search needs
@@ -34,4 +37,4 @@ returns c = search marks-end
 pub mark-units-spec : {M : Type 1} → statement M
 mark-units-spec =
     tie.close
-    (tie.spec Inv-loop μ-loop loop-holds sub-u mark-unit-requires loop-less loop-again returns)
+    (tie.spec Inv-loop μ-loop loop-holds sub-j add-mark-unit mark-unit-requires loop-less loop-again returns)

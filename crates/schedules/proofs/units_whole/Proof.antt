@@ -9,16 +9,19 @@ use Rattle.schedules.proofs.units_whole.Statement.{statement}
 use Rattle.schedules.proofs.units_whole.Tie as tie
 
 abbrev Inv-loop : tie.InvT-loop
-Inv-loop units count size n ok₀ u₀ ok u = (u ≤ n) × (unitsWhole units count size n ≡ (ok && unitsWhole units count size u))
+Inv-loop units count size base n ok₀ j₀ ok j = (j ≤ n) × (unitsWhole units count size base n ≡ (ok && unitsWhole units count size base j))
 
 abbrev μ-loop : tie.MeasureT-loop
-μ-loop units count size n ok₀ u₀ ok u = u
+μ-loop units count size base n ok₀ j₀ ok j = j
 
 loop-holds : tie.Need-loop-holds Inv-loop μ-loop
 loop-holds c = (omega arith, refl)
 
-sub-u : tie.Need-sub-u Inv-loop μ-loop
-sub-u c = search needs
+sub-j : tie.Need-sub-j Inv-loop μ-loop
+sub-j c = search needs
+
+add-unit-whole : tie.Need-add-unit-whole Inv-loop μ-loop
+add-unit-whole c = search needs
 
 unit-whole-requires : tie.Need-unit-whole-requires Inv-loop μ-loop
 unit-whole-requires c κs = search needs
@@ -35,4 +38,4 @@ returns c = search units-end
 pub units-whole-spec : {M : Type 1} → statement M
 units-whole-spec =
     tie.close
-    (tie.spec Inv-loop μ-loop loop-holds sub-u unit-whole-requires loop-less loop-again returns)
+    (tie.spec Inv-loop μ-loop loop-holds sub-j add-unit-whole unit-whole-requires loop-less loop-again returns)

@@ -1,6 +1,6 @@
 use native.Mathlib.Omega.{arith}
 use lib.ListN.{length}
-use Rattle.eit.proofs.Whole.{shelves-hold, count-fits, size-fits, units-long, whole-sets, whole-shelves, whole-units}
+use Rattle.eit.proofs.Whole.{count-fits, size-fits, units-long, whole-sets, whole-shelves, whole-units}
 use borrow.Author.Needs.{needs}
 use Rattle.eit.proofs.inner.is_whole.Statement.{statement}
 use Rattle.eit.proofs.inner.is_whole.Tie as tie
@@ -14,17 +14,14 @@ is-whole-requires c κs = search needs
 shelves-fit-requires : tie.Need-shelves-fit-requires
 shelves-fit-requires c κs = search needs
 
-mul-n : tie.Need-mul-n
-mul-n c = let a = c .before .before .before .before .before .before .before .before .before .before .before .args in omega (arith, shelves-hold (a .eit) _ (length (a .units .now)) _ (c .before .before .shelves-fit .ensures) (c .before .if2 .taken))
+cast-schedules-whole : tie.Need-cast-schedules-whole
+cast-schedules-whole c = search count-fits
 
-cast-units-whole : tie.Need-cast-units-whole
-cast-units-whole c = search count-fits
+cast-schedules-whole-2 : tie.Need-cast-schedules-whole-2
+cast-schedules-whole-2 c = search size-fits
 
-cast-units-whole-2 : tie.Need-cast-units-whole-2
-cast-units-whole-2 c = search size-fits
-
-units-whole-requires : tie.Need-units-whole-requires
-units-whole-requires c κs = let a = c .before .before .before .before .before .before .before .before .before .before .before .before .before .args in units-long (a .eit) (a .heads .now) (a .slots .now) (a .cells .now) _ _ (c .before .before .before .before .before .before .before .sets-of .ensures) (c .before .before .before .before .before .before .is-whole .ensures) (c .before .before .before .before .before .if1 .taken) _ _ (a .units .now) (c .before .before .before .before .shelves-fit .ensures) (c .before .before .before .if2 .taken)
+schedules-whole-requires : tie.Need-schedules-whole-requires
+schedules-whole-requires c κs = let a = c .before .before .before .before .before .before .before .before .before .before .before .before .args in units-long (a .eit) (a .heads .now) (a .slots .now) (a .cells .now) _ _ (c .before .before .before .before .before .before .sets-of .ensures) (c .before .before .before .before .before .is-whole .ensures) (c .before .before .before .before .if1 .taken) _ (a .schedule-heads .now) (a .units .now) (c .before .before .before .shelves-fit .ensures) (c .before .before .if2 .taken)
 
 returns : tie.Need-returns
 returns c = search whole-units
@@ -42,10 +39,9 @@ is-whole-spec =
     sets-of-requires
     is-whole-requires
     shelves-fit-requires
-    mul-n
-    cast-units-whole
-    cast-units-whole-2
-    units-whole-requires
+    cast-schedules-whole
+    cast-schedules-whole-2
+    schedules-whole-requires
     returns
     returns-2
     returns-3)

@@ -6,9 +6,6 @@ use Rattle.eit.proofs.inner.plan_keep.Tie as tie
 gone-row-requires : tie.Need-gone-row-requires
 gone-row-requires c κs = search needs
 
-mul-n : tie.Need-mul-n
-mul-n c = search needs
-
 lowest-free-requires : tie.Need-lowest-free-requires
 lowest-free-requires c κs = search needs
 
@@ -20,4 +17,4 @@ returns-2 c = search keep-none
 
 pub plan-keep-spec : {M : Type 1} → statement M
 plan-keep-spec =
-    tie.close (tie.spec gone-row-requires mul-n lowest-free-requires returns returns-2)
+    tie.close (tie.spec gone-row-requires lowest-free-requires returns returns-2)

@@ -1,0 +1,44 @@
+use native.Mathlib.Omega.{arith}
+use mathlib.Core.Path.{_≡_, refl}
+use mathlib.Core.Bool.{_&&_}
+use Prim.Native.Nat.{_≤_}
+use Rattle.schedules.specs.Units.{schedulesWhole}
+use Rattle.schedules.proofs.Units.{schedules-turn, schedules-end}
+use borrow.Author.Needs.{needs}
+use Rattle.schedules.proofs.schedules_whole.Statement.{statement}
+use Rattle.schedules.proofs.schedules_whole.Tie as tie
+
+abbrev Inv-loop : tie.InvT-loop
+Inv-loop tops units count size n ok₀ k₀ ok k = (k ≤ n) × (schedulesWhole tops units count size n ≡ (ok && schedulesWhole tops units count size k))
+
+abbrev μ-loop : tie.MeasureT-loop
+μ-loop tops units count size n ok₀ k₀ ok k = k
+
+loop-holds : tie.Need-loop-holds Inv-loop μ-loop
+loop-holds c = (omega arith, refl)
+
+sub-k : tie.Need-sub-k Inv-loop μ-loop
+sub-k c = search needs
+
+mul-units-whole : tie.Need-mul-units-whole Inv-loop μ-loop
+mul-units-whole c = search needs
+
+tables-of-requires : tie.Need-tables-of-requires Inv-loop μ-loop
+tables-of-requires c κs = search needs
+
+units-whole-requires : tie.Need-units-whole-requires Inv-loop μ-loop
+units-whole-requires c κs = search needs
+
+loop-less : tie.Need-loop-less Inv-loop μ-loop
+loop-less c = search needs
+
+loop-again : tie.Need-loop-again Inv-loop μ-loop
+loop-again c = (search needs, search schedules-turn)
+
+returns : tie.Need-returns Inv-loop μ-loop
+returns c = search schedules-end
+
+pub schedules-whole-spec : {M : Type 1} → statement M
+schedules-whole-spec =
+    tie.close
+    (tie.spec Inv-loop μ-loop loop-holds sub-k mul-units-whole tables-of-requires units-whole-requires loop-less loop-again returns)
