@@ -8,14 +8,11 @@ use lib.ListN.{length, getD, set}
 use lib.Dec.{ltb, eqb}
 use native.Mathlib.Omega.{arith}
 use borrow.Author.Tests.{ltb-false, eqb-false, eq-eqb, ne-eqb, lt-ltb, le-ltb}
+use Rattle.laws.proofs.Tests.{or-false}
 use Rattle.ring.specs.Store.{roomOf, freeRow, renewed, arrived}
 use Rattle.ring.specs.declared.Ring.{Ring}
 use Rattle.ring.specs.declared.Seen.{Seen}
 use Rattle.index.specs.Store.{bucketOf, Index, indexOf, ends, walkOf, clearedBy, linked, unlinked, entered, foundBy, seenBy, keysBy, changesBy, indexBy}
-
-or-false : (a b : Bool) → (a || b) ≡ false → (a ≡ false) × (b ≡ false)
-or-false true b e = let z : _≡_ {A = ℕ} 0 1 = cc in absurd (omega arith)
-or-false false b e = (refl, e)
 
 pub record Names (used at : ℕ) : Type 0 where
   pub some : 1 ≤ at

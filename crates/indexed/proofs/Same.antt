@@ -4,17 +4,18 @@
 use Prim.Native.Nat.{ℕ, _^_, _<_, _≤_}
 use mathlib.Core.Path.{_≡_, refl, sym, ap, subst, _∙_}
 use mathlib.Core.List.{List, [], _∷_}
-use mathlib.Core.Bool.{Bool, true, false, cond}
+use mathlib.Core.Bool.{Bool, true, false, cond, _&&_}
 use lib.ListN.{length}
-use lib.Dec.{ltb}
-use borrow.Author.Tests.{le-leb}
-use Rattle.laws.proofs.Tests.{true-and}
+use lib.Dec.{ltb, leb}
+use native.Mathlib.Omega.{arith}
+use borrow.Author.Tests.{le-leb, leb-true}
+use Rattle.laws.proofs.Tests.{true-and, and-true}
 use Rattle.touch.specs.Runs.{answers, storeAfter}
 use Rattle.ring.specs.Store.{roomOf, stampOf}
 use Rattle.ring.specs.Rules.{memoryAfter}
 use Rattle.ring.proofs.Laws.{whole-test}
 use Rattle.ring.proofs.Order.{opened-reached}
-use Rattle.index.specs.Store.{Index, indexOf, indexBy}
+use Rattle.index.specs.Store.{Index, indexOf, indexBy, clearedBy}
 use Rattle.index.specs.Runs.{openedIndex}
 use Rattle.index.proofs.Same.{Sound as Kept, seen-same, keys-same, changes-same, sound-after, opened-sound}
 use Rattle.section.specs.Judged.{judgedOf}
@@ -23,12 +24,14 @@ use Rattle.section.specs.declared.header.Parts.{Parts}
 use Rattle.section.specs.declared.header.Judged.{Judged}
 use Rattle.section.specs.declared.header.Judged.the-variants.{Short, Mismatch, Sound}
 use Rattle.section.proofs.Facts.{judged-change}
-use Rattle.gate.specs.Store.{emptyGate, zeroes, wholeOf, anyFull, Store, storeOf, soundOf, judgedAs, consideredOf, offered}
+use Rattle.gate.specs.Store.{emptyGate, zeroes, hasRoom, wholeOf, anyFull, Store, storeOf, soundOf, judgedAs, consideredOf, offered}
 use Rattle.gate.specs.Store.{Left as Told, seenBy as answeredBy}
 use Rattle.gate.specs.Rules.{Offer, memoryOf, rowFrom, Opened, storeTells, storeActs, OfBytes}
 use Rattle.gate.specs.declared.Settings.{Settings}
+use Rattle.watched.specs.Store.{allPids, filled}
+use Rattle.watched.proofs.Meaning.{length-filled}
 use Rattle.gate.proofs.Order.{follows}
-use Rattle.indexed.specs.Store.{wholeBy, Indexed, indexedOf, Left, soundBy, judgedBy, consideredBy, offeredBy}
+use Rattle.indexed.specs.Store.{hasRoomFor, Begun, begins, openedBy, wholeBy, Indexed, indexedOf, Left, soundBy, judgedBy, consideredBy, offeredBy}
 use Rattle.indexed.specs.Runs.{tellsBy, actsBy}
 
 -- what every store has that came from an opened one
@@ -123,3 +126,38 @@ opened-by st keys changes buckets links words k c b l w =
       opened = record { reached = opened-reached (st .capacity) keys changes k c; watch = w };
       kept = opened-sound (st .capacity) keys changes buckets links b l;
     }
+
+-- what a call of `open` left, with the slices that it does not write
+abbrev pub leftOpen : Begun → List ℕ → List ℕ → List ℕ → Indexed
+leftOpen o keys changes links = indexedOf (o .gate) (o .counters) keys changes (indexOf (o .buckets) links) (o .words)
+
+-- where opening answers 7, the store that it leaves is an opened one: the theorems above hold of it
+pub opening-opens : (st : Settings) (extra keys changes buckets links words : List ℕ)
+    → openedBy st extra (length keys) (length changes) (length links) buckets words .answer ≡ 7
+    → OpenedBy (leftOpen (openedBy st extra (length keys) (length changes) (length links) buckets words) keys changes links)
+unfolding openedBy
+opening-opens st extra keys changes buckets links words = go (allPids extra) (hasRoomFor (st .capacity) (length keys) (length changes) (length buckets) (length links) (length words)) refl
+  where
+    n : ℕ
+    n = roomOf (st .capacity)
+
+    done : Begun
+    done = begins 7 st (clearedBy n buckets) (filled words (st .«well_known») extra)
+
+    room : hasRoomFor (st .capacity) (length keys) (length changes) (length buckets) (length links) (length words) ≡ true → OpenedBy (leftOpen done keys changes links)
+    room e =
+        let a = and-true (hasRoom (st .capacity) (length keys) (length changes) (length words) && leb n (length buckets)) (leb n (length links)) e in
+        let b = and-true (hasRoom (st .capacity) (length keys) (length changes) (length words)) (leb n (length buckets)) (a .0) in
+        let c = and-true (leb n (length keys) && leb n (length changes)) (leb 384 (length words)) (b .0) in
+        let d = and-true (leb n (length keys)) (leb n (length changes)) (c .0) in
+        let w = leb-true 384 (length words) (c .1) in
+        opened-by st keys changes buckets links (filled words (st .«well_known») extra)
+        (leb-true _ _ (d .0)) (leb-true _ _ (d .1)) (leb-true _ _ (b .1)) (leb-true _ _ (a .1))
+        (subst (λ (l : ℕ). 384 ≤ l) (sym (length-filled words (st .«well_known») extra w)) w)
+
+    go : (p q : Bool) → hasRoomFor (st .capacity) (length keys) (length changes) (length buckets) (length links) (length words) ≡ q
+        → cond p (cond q done (begins 13 st buckets words)) (begins 12 st buckets words) .answer ≡ 7
+        → OpenedBy (leftOpen (cond p (cond q done (begins 13 st buckets words)) (begins 12 st buckets words)) keys changes links)
+    go true true e h = room e
+    go true false e h = absurd (omega arith)
+    go false q e h = absurd (omega arith)
