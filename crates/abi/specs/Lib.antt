@@ -1,0 +1,4 @@
+pub mod Pids
+pub mod Gates
+pub mod Collectors
+pub mod Eits

@@ -1,0 +1,5 @@
+pub mod GateLaws
+pub mod SetLaws
+pub mod EitLaws
+pub mod Refusals
+pub mod Unique

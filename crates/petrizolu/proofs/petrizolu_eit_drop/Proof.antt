@@ -1,0 +1,66 @@
+use Rattle.petrizolu.proofs.EitLaws.{eit-dropped}
+use borrow.Author.Needs.{needs}
+use Rattle.petrizolu.proofs.petrizolu_eit_drop.Statement.{statement}
+use Rattle.petrizolu.proofs.petrizolu_eit_drop.Tie as tie
+use Rattle.petrizolu.proofs.petrizolu_eit_drop.Reads as reads
+use Rattle.petrizolu.proofs.petrizolu_eit_drop.Lts as lts
+use Rattle.abi.proofs.eits.eit.Reads as eit-reads
+use Rattle.abi.proofs.eits.filter.Reads as filter-reads
+use Rattle.abi.proofs.eits.write_counts.Reads as write-counts-reads
+use Rattle.eit.proofs.DropAnswer.number.Reads as number-reads
+use Rattle.eit.proofs.drop.Reads as drop-reads
+
+-- src/lib.rt:294:9
+eit-requires : tie.Need-eit-requires
+eit-requires c κs = search needs
+
+-- src/lib.rt:295:9
+filter-requires : tie.Need-filter-requires
+filter-requires c κs = search needs
+
+-- src/lib.rt:296:9
+drop-requires : tie.Need-drop-requires
+drop-requires c κs = search needs
+
+-- src/lib.rt:298:5
+write-counts-requires : tie.Need-write-counts-requires
+write-counts-requires c κs = search needs
+
+-- src/lib.rt:299:5
+number-requires : tie.Need-number-requires
+number-requires c κs = search needs
+
+-- src/lib.rt:282:1
+same-length : tie.Need-same-length
+same-length c = search needs
+
+-- src/lib.rt:282:1
+same-length-2 : tie.Need-same-length-2
+same-length-2 c = search needs
+
+-- src/lib.rt:282:1
+same-length-3 : tie.Need-same-length-3
+same-length-3 c = search needs
+
+-- src/lib.rt:282:1
+same-length-4 : tie.Need-same-length-4
+same-length-4 c = search needs
+
+-- src/lib.rt:282:1
+returns : tie.Need-returns
+returns c = search eit-dropped
+
+pub petrizolu-eit-drop-spec : {M : Type 1} → statement M
+petrizolu-eit-drop-spec =
+    tie.close
+    (tie.spec
+    eit-requires
+    filter-requires
+    drop-requires
+    write-counts-requires
+    number-requires
+    same-length
+    same-length-2
+    same-length-3
+    same-length-4
+    returns)

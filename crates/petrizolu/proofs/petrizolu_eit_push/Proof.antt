@@ -1,0 +1,77 @@
+use Rattle.petrizolu.proofs.EitLaws.{eit-pushed}
+use borrow.Author.Needs.{needs}
+use Rattle.petrizolu.proofs.petrizolu_eit_push.Statement.{statement}
+use Rattle.petrizolu.proofs.petrizolu_eit_push.Tie as tie
+use Rattle.petrizolu.proofs.petrizolu_eit_push.Reads as reads
+use Rattle.petrizolu.proofs.petrizolu_eit_push.Lts as lts
+use Rattle.abi.proofs.eits.eit.Reads as eit-reads
+use Rattle.abi.proofs.eits.write_counts.Reads as write-counts-reads
+use Rattle.abi.proofs.eits.write_row.Reads as write-row-reads
+use Rattle.abi.proofs.pids.maybe.Reads as maybe-reads
+use Rattle.eit.proofs.PushAnswer.number.Reads as number-reads
+use Rattle.eit.proofs.push.Reads as push-reads
+
+-- src/lib.rt:243:9
+eit-requires : tie.Need-eit-requires
+eit-requires c κs = search needs
+
+-- src/lib.rt:244:9
+maybe-requires : tie.Need-maybe-requires
+maybe-requires c κs = search needs
+
+-- src/lib.rt:245:9
+push-requires : tie.Need-push-requires
+push-requires c κs = search needs
+
+-- src/lib.rt:247:5
+write-counts-requires : tie.Need-write-counts-requires
+write-counts-requires c κs = search needs
+
+-- src/lib.rt:248:5
+write-row-requires : tie.Need-write-row-requires
+write-row-requires c κs = search needs
+
+-- src/lib.rt:249:5
+number-requires : tie.Need-number-requires
+number-requires c κs = search needs
+
+-- src/lib.rt:229:1
+same-length : tie.Need-same-length
+same-length c = search needs
+
+-- src/lib.rt:229:1
+same-length-2 : tie.Need-same-length-2
+same-length-2 c = search needs
+
+-- src/lib.rt:229:1
+same-length-3 : tie.Need-same-length-3
+same-length-3 c = search needs
+
+-- src/lib.rt:229:1
+same-length-4 : tie.Need-same-length-4
+same-length-4 c = search needs
+
+-- src/lib.rt:229:1
+same-length-5 : tie.Need-same-length-5
+same-length-5 c = search needs
+
+-- src/lib.rt:229:1
+returns : tie.Need-returns
+returns c = search eit-pushed
+
+pub petrizolu-eit-push-spec : {M : Type 1} → statement M
+petrizolu-eit-push-spec =
+    tie.close
+    (tie.spec
+    eit-requires
+    maybe-requires
+    push-requires
+    write-counts-requires
+    write-row-requires
+    number-requires
+    same-length
+    same-length-2
+    same-length-3
+    same-length-4
+    same-length-5
+    returns)

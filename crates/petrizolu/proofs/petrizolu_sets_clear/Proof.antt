@@ -1,0 +1,34 @@
+use Rattle.petrizolu.proofs.SetLaws.{sets-cleared}
+use borrow.Author.Needs.{needs}
+use Rattle.petrizolu.proofs.petrizolu_sets_clear.Statement.{statement}
+use Rattle.petrizolu.proofs.petrizolu_sets_clear.Tie as tie
+use Rattle.petrizolu.proofs.petrizolu_sets_clear.Reads as reads
+use Rattle.petrizolu.proofs.petrizolu_sets_clear.Lts as lts
+use Rattle.abi.proofs.collectors.sets.Reads as sets-reads
+use Rattle.abi.proofs.collectors.write_counts.Reads as write-counts-reads
+use Rattle.sets.proofs.ClearAnswer.number.Reads as number-reads
+use Rattle.sets.proofs.clear.Reads as clear-reads
+
+-- src/lib.rt:115:9
+sets-requires : tie.Need-sets-requires
+sets-requires c κs = search needs
+
+-- src/lib.rt:116:9
+clear-requires : tie.Need-clear-requires
+clear-requires c κs = search needs
+
+-- src/lib.rt:118:5
+write-counts-requires : tie.Need-write-counts-requires
+write-counts-requires c κs = search needs
+
+-- src/lib.rt:119:5
+number-requires : tie.Need-number-requires
+number-requires c κs = search needs
+
+-- src/lib.rt:106:1
+returns : tie.Need-returns
+returns c = search sets-cleared
+
+pub petrizolu-sets-clear-spec : {M : Type 1} → statement M
+petrizolu-sets-clear-spec =
+    tie.close (tie.spec sets-requires clear-requires write-counts-requires number-requires returns)

@@ -1,0 +1,373 @@
+// The library for hosts in C and Rust: every public call as a C function over memory that the host lends. An array comes as a pointer, a slice as a
+// pointer and a count of its elements. Each function takes any content of what is lent, answers document 01's number, and leaves what its promise says.
+// `include/petrizolu.h` has the words of each array as structs.
+ghost use mathlib.Core.Path.{_≡_};
+ghost use Rattle.crc.specs.Crc.{crcOf};
+ghost use Rattle.petrizolu.specs.Gates.{begun, gateOpened, left, gateOffered, watchAsked, indexedBegun, indexedOpened, indexedLeft, indexedOffered};
+ghost use Rattle.petrizolu.specs.Collectors.{words, setsLeft, setsOpened, setsPushed, setsCleared, setsNext};
+ghost use Rattle.petrizolu.specs.Eits.{eitOpened, eitLeft, eitPushed, eitCleared, eitDroppedTo, eitDropped, eitNext, eitNextIn};
+
+// The CRC of ISO/IEC 13818-1, Annex A.
+#[no_mangle]
+pub extern "C" fn petrizolu_crc(bytes: &[u8]) -> u32
+    ensures { λ r. ⌜ r ≡ crcOf (now (bytes .entry)) ⌝ }
+{
+    crc::crc(bytes)
+}
+
+// Opens a gate and its watch: 7, 12 or 13. `settings` are bits: 1 repeats, 2 follow, 4 well-known PIDs. A refusal writes nothing.
+#[no_mangle]
+pub extern "C" fn petrizolu_gate_open(
+    gate: &mut [u64; 10],
+    capacity: u64,
+    settings: u32,
+    extra: &[u16],
+    keys: &[u64],
+    changes: &[u64],
+    watch: &mut [u64],
+) -> u8
+    ensures { λ r. ⌜ begun r (now (gate .exit)) (now (watch .exit)) ≡ gateOpened (now (gate .entry)) capacity settings (now (extra .entry)) (now (keys .entry)) (now (changes .entry)) (now (watch .entry)) ⌝ }
+{
+    let asked = abi::gates::settings(capacity, settings);
+    let opened = gate::open(asked, extra, keys, changes, watch);
+    let answer = opened.answer;
+    abi::gates::write_opened(gate, answer, opened.gate, opened.counters);
+    answer.number()
+}
+
+// Offers a section that came on a PID, watched or not: 1, 2, 3, 10, 11 or 12.
+#[no_mangle]
+pub extern "C" fn petrizolu_gate_offer(
+    gate: &mut [u64; 10],
+    keys: &mut [u64],
+    changes: &mut [u64],
+    watch: &mut [u64],
+    pid: u32,
+    section: &[u8],
+) -> u8
+    ensures { λ r. ⌜ left r (now (gate .exit)) (now (keys .exit)) (now (changes .exit)) (now (watch .exit)) ≡ gateOffered (now (gate .entry)) (now (keys .entry)) (now (changes .entry)) (now (watch .entry)) pid (now (section .entry)) ⌝ }
+{
+    let before = abi::gates::gate(gate);
+    let counters = abi::gates::counters(gate);
+    let number = abi::pids::number(pid);
+    let offered = gate::offer(before, counters, keys, changes, watch, number, section);
+    let answer = offered.answer;
+    abi::gates::write_offered(gate, offered.gate, offered.counters);
+    answer.number()
+}
+
+// Whether a PID is watched: 8, 9, 10 or 12.
+#[no_mangle]
+pub extern "C" fn petrizolu_watch_ask(watch: &[u64], pid: u32) -> u8
+    ensures { λ r. ⌜ r ≡ watchAsked (now (watch .entry)) pid ⌝ }
+{
+    watched::ask(watch, abi::pids::number(pid)).number()
+}
+
+// `petrizolu_gate_open` for a gate with an index over its rows: also the buckets are written.
+#[no_mangle]
+pub extern "C" fn petrizolu_indexed_open(
+    gate: &mut [u64; 10],
+    capacity: u64,
+    settings: u32,
+    extra: &[u16],
+    keys: &[u64],
+    changes: &[u64],
+    buckets: &mut [u64],
+    links: &[u64],
+    watch: &mut [u64],
+) -> u8
+    ensures { λ r. ⌜ indexedBegun r (now (gate .exit)) (now (buckets .exit)) (now (watch .exit)) ≡ indexedOpened (now (gate .entry)) capacity settings (now (extra .entry)) (now (keys .entry)) (now (changes .entry)) (now (buckets .entry)) (now (links .entry)) (now (watch .entry)) ⌝ }
+{
+    let asked = abi::gates::settings(capacity, settings);
+    let opened = indexed::open(asked, extra, keys, changes, buckets, links, watch);
+    let answer = opened.answer;
+    abi::gates::write_opened(gate, answer, opened.gate, opened.counters);
+    answer.number()
+}
+
+// `petrizolu_gate_offer` through the index.
+#[no_mangle]
+pub extern "C" fn petrizolu_indexed_offer(
+    gate: &mut [u64; 10],
+    keys: &mut [u64],
+    changes: &mut [u64],
+    buckets: &mut [u64],
+    links: &mut [u64],
+    watch: &mut [u64],
+    pid: u32,
+    section: &[u8],
+) -> u8
+    ensures { λ r. ⌜ indexedLeft r (now (gate .exit)) (now (keys .exit)) (now (changes .exit)) (now (buckets .exit)) (now (links .exit)) (now (watch .exit)) ≡ indexedOffered (now (gate .entry)) (now (keys .entry)) (now (changes .entry)) (now (buckets .entry)) (now (links .entry)) (now (watch .entry)) pid (now (section .entry)) ⌝ }
+{
+    let before = abi::gates::gate(gate);
+    let counters = abi::gates::counters(gate);
+    let number = abi::pids::number(pid);
+    let offered = indexed::offer(
+        before,
+        counters,
+        keys,
+        changes,
+        buckets,
+        links,
+        watch,
+        number,
+        section,
+    );
+    let answer = offered.answer;
+    abi::gates::write_offered(gate, offered.gate, offered.counters);
+    answer.number()
+}
+
+// Opens a set collector: 7 or 13. A refusal leaves the words as they were; nothing else lent is written.
+#[no_mangle]
+pub extern "C" fn petrizolu_sets_open(
+    sets: &mut [u64; 5],
+    limit: u64,
+    size: u64,
+    count: u64,
+    heads: &[u64],
+    slots: &[u32],
+    cells: &[u8],
+) -> u8
+    ensures { λ r. ⌜ words r (now (sets .exit)) ≡ setsOpened (now (sets .entry)) limit size count (now (heads .entry)) (now (slots .entry)) (now (cells .entry)) ⌝ }
+{
+    let opened = sets::open(
+        limit as usize,
+        size as usize,
+        count as usize,
+        heads,
+        slots,
+        cells,
+    );
+    let answer = opened.answer;
+    abi::collectors::write_opened(sets, answer, opened.sets);
+    answer.number()
+}
+
+// Offers a section, with the PID that it came on or, for 0xFFFFFFFF, without. 5 writes the set's row into `row`.
+#[no_mangle]
+pub extern "C" fn petrizolu_sets_push(
+    sets: &mut [u64; 5],
+    heads: &mut [u64],
+    slots: &mut [u32],
+    cells: &mut [u8],
+    pid: u32,
+    section: &[u8],
+    row: &mut [u64; 1],
+) -> u8
+    ensures { λ r. ⌜ setsLeft r (now (sets .exit)) (now (heads .exit)) (now (slots .exit)) (now (cells .exit)) (now (row .exit)) ≡ setsPushed (now (sets .entry)) (now (heads .entry)) (now (slots .entry)) (now (cells .entry)) pid (now (section .entry)) (now (row .entry)) ⌝ }
+{
+    let before = abi::collectors::sets(sets);
+    let from = abi::pids::maybe(pid);
+    let pushed = sets::push(before, heads, slots, cells, from, section);
+    let answer = pushed.answer;
+    abi::collectors::write_counts(sets, pushed.sets);
+    abi::collectors::write_row(row, answer);
+    answer.number()
+}
+
+// No row is in use then: 7, or 10.
+#[no_mangle]
+pub extern "C" fn petrizolu_sets_clear(
+    sets: &mut [u64; 5],
+    heads: &[u64],
+    slots: &[u32],
+    cells: &[u8],
+) -> u8
+    ensures { λ r. ⌜ words r (now (sets .exit)) ≡ setsCleared (now (sets .entry)) (now (heads .entry)) (now (slots .entry)) (now (cells .entry)) ⌝ }
+{
+    let before = abi::collectors::sets(sets);
+    let cleared = sets::clear(before, heads, slots, cells);
+    let answer = cleared.answer;
+    abi::collectors::write_counts(sets, cleared.sets);
+    answer.number()
+}
+
+// Has the set in a row another section, from a slot on? 8, 9 or 10; `next` gets its number, and where its bytes are in the cells.
+#[no_mangle]
+pub extern "C" fn petrizolu_sets_next(
+    sets: &[u64; 5],
+    heads: &[u64],
+    slots: &[u32],
+    cells: &[u8],
+    row: u64,
+    from: u64,
+    next: &mut [u64; 3],
+) -> u8
+    ensures { λ r. ⌜ words r (now (next .exit)) ≡ setsNext (now (sets .entry)) (now (heads .entry)) (now (slots .entry)) (now (cells .entry)) row from ⌝ }
+{
+    let collector = abi::collectors::sets(sets);
+    let told = sets::next_section(collector, heads, slots, cells, row as usize, from as usize);
+    let answer = told.answer;
+    abi::collectors::write_next(next, told);
+    answer.number()
+}
+
+// Opens an EIT collector: 7 or 13. A refusal leaves the words as they were; nothing else lent is written.
+#[no_mangle]
+pub extern "C" fn petrizolu_eit_open(
+    eit: &mut [u64; 7],
+    limit: u64,
+    size: u64,
+    count: u64,
+    heads: &[u64],
+    slots: &[u32],
+    cells: &[u8],
+    schedule_heads: &[u64],
+    units: &[u32],
+) -> u8
+    ensures { λ r. ⌜ words r (now (eit .exit)) ≡ eitOpened (now (eit .entry)) limit size count (now (heads .entry)) (now (slots .entry)) (now (cells .entry)) (now («schedule_heads» .entry)) (now (units .entry)) ⌝ }
+{
+    let opened = eit::open(
+        limit as usize,
+        size as usize,
+        count as usize,
+        heads,
+        slots,
+        cells,
+        schedule_heads,
+        units,
+    );
+    let answer = opened.answer;
+    abi::eits::write_opened(eit, answer, opened.eit);
+    answer.number()
+}
+
+// Offers a section, with the PID that it came on or, for 0xFFFFFFFF, without. 5 writes the set's row into `row`, 6 the schedule's.
+#[no_mangle]
+pub extern "C" fn petrizolu_eit_push(
+    eit: &mut [u64; 7],
+    heads: &mut [u64],
+    slots: &mut [u32],
+    cells: &mut [u8],
+    schedule_heads: &mut [u64],
+    units: &mut [u32],
+    pid: u32,
+    section: &[u8],
+    row: &mut [u64; 1],
+) -> u8
+    ensures { λ r. ⌜ eitLeft r (now (eit .exit)) (now (heads .exit)) (now (slots .exit)) (now (cells .exit)) (now («schedule_heads» .exit)) (now (units .exit)) (now (row .exit)) ≡ eitPushed (now (eit .entry)) (now (heads .entry)) (now (slots .entry)) (now (cells .entry)) (now («schedule_heads» .entry)) (now (units .entry)) pid (now (section .entry)) (now (row .entry)) ⌝ }
+{
+    let before = abi::eits::eit(eit);
+    let from = abi::pids::maybe(pid);
+    let pushed = eit::push(
+        before,
+        heads,
+        slots,
+        cells,
+        schedule_heads,
+        units,
+        from,
+        section,
+    );
+    let answer = pushed.answer;
+    abi::eits::write_counts(eit, pushed.eit);
+    abi::eits::write_row(row, answer);
+    answer.number()
+}
+
+// No set and no schedule is in use then: 7, or 10.
+#[no_mangle]
+pub extern "C" fn petrizolu_eit_clear(
+    eit: &mut [u64; 7],
+    heads: &[u64],
+    slots: &[u32],
+    cells: &[u8],
+    schedule_heads: &[u64],
+    units: &[u32],
+) -> u8
+    ensures { λ r. ⌜ words r (now (eit .exit)) ≡ eitCleared (now (eit .entry)) (now (heads .entry)) (now (slots .entry)) (now (cells .entry)) (now («schedule_heads» .entry)) (now (units .entry)) ⌝ }
+{
+    let before = abi::eits::eit(eit);
+    let cleared = eit::clear(before, heads, slots, cells, schedule_heads, units);
+    let answer = cleared.answer;
+    abi::eits::write_counts(eit, cleared.eit);
+    answer.number()
+}
+
+// Sets and schedules that match the filter go: 7, 10, or 12 for a PID of the filter that is none. A word with all 64 bits set is free, the PID 0xFFFFFFFF
+// is "exactly none".
+#[no_mangle]
+pub extern "C" fn petrizolu_eit_drop(
+    eit: &mut [u64; 7],
+    heads: &mut [u64],
+    slots: &mut [u32],
+    cells: &[u8],
+    schedule_heads: &mut [u64],
+    units: &mut [u32],
+    filter: &[u64; 6],
+) -> u8
+    ensures { λ r. ⌜ eitDroppedTo r (now (eit .exit)) (now (heads .exit)) (now (slots .exit)) (now («schedule_heads» .exit)) (now (units .exit)) ≡ eitDropped (now (eit .entry)) (now (heads .entry)) (now (slots .entry)) (now (cells .entry)) (now («schedule_heads» .entry)) (now (units .entry)) (now (filter .entry)) ⌝ }
+{
+    let before = abi::eits::eit(eit);
+    let wanted = abi::eits::filter(filter);
+    let dropped = eit::drop(before, heads, slots, cells, schedule_heads, units, wanted);
+    let answer = dropped.answer;
+    abi::eits::write_counts(eit, dropped.eit);
+    answer.number()
+}
+
+// Has the set in a row another section, from a slot on? 8, 9 or 10; `next` gets its number, and where its bytes are in the cells.
+#[no_mangle]
+pub extern "C" fn petrizolu_eit_next(
+    eit: &[u64; 7],
+    heads: &[u64],
+    slots: &[u32],
+    cells: &[u8],
+    schedule_heads: &[u64],
+    units: &[u32],
+    row: u64,
+    from: u64,
+    next: &mut [u64; 3],
+) -> u8
+    ensures { λ r. ⌜ words r (now (next .exit)) ≡ eitNext (now (eit .entry)) (now (heads .entry)) (now (slots .entry)) (now (cells .entry)) (now («schedule_heads» .entry)) (now (units .entry)) row from ⌝ }
+{
+    let collector = abi::eits::eit(eit);
+    let told = eit::next_section(
+        collector,
+        heads,
+        slots,
+        cells,
+        schedule_heads,
+        units,
+        row as usize,
+        from as usize,
+    );
+    let answer = told.answer;
+    abi::collectors::write_next(next, told);
+    answer.number()
+}
+
+// Has that table of the schedule in a row another section, from a slot on? Tables count from the first of the kind, 0x50 or 0x60, on.
+#[no_mangle]
+pub extern "C" fn petrizolu_eit_next_in_schedule(
+    eit: &[u64; 7],
+    heads: &[u64],
+    slots: &[u32],
+    cells: &[u8],
+    schedule_heads: &[u64],
+    units: &[u32],
+    row: u64,
+    table: u64,
+    from: u64,
+    next: &mut [u64; 3],
+) -> u8
+    ensures { λ r. ⌜ words r (now (next .exit)) ≡ eitNextIn (now (eit .entry)) (now (heads .entry)) (now (slots .entry)) (now (cells .entry)) (now («schedule_heads» .entry)) (now (units .entry)) row table from ⌝ }
+{
+    let collector = abi::eits::eit(eit);
+    let told = eit::next_in_schedule(
+        collector,
+        heads,
+        slots,
+        cells,
+        schedule_heads,
+        units,
+        row as usize,
+        table as usize,
+        from as usize,
+    );
+    let answer = told.answer;
+    abi::collectors::write_next(next, told);
+    answer.number()
+}

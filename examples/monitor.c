@@ -1,0 +1,230 @@
+/*
+ * A guide monitor in C over the proved library. It reads records from standard input or from the file named: a PID (two bytes, high byte first)
+ * and a section. Sections of watched PIDs go through the gate; new ones go on to the set collector, EIT sections to the EIT collector. It
+ * prints what a monitor shows: each new section, each complete set with its sections, each complete schedule table by table, and totals.
+ */
+#include "../include/petrizolu.h"
+
+#include <inttypes.h>
+#include <stdbool.h>
+#include <stdio.h>
+#include <stdlib.h>
+
+enum { CAPACITY = 4096, LIMIT = 64, CELL_SIZE = 4096, CELLS = 1024, LONGEST_SECTION = 3 + 0xFFF };
+
+/* ---- the stores: a struct of words and the arrays that it goes with */
+
+struct gate {
+    petrizolu_gate state;
+    uint64_t keys[CAPACITY], changes[CAPACITY], buckets[CAPACITY], links[CAPACITY], watch[PETRIZOLU_WATCH_WORDS];
+};
+
+struct sets {
+    petrizolu_sets state;
+    uint64_t heads[LIMIT * PETRIZOLU_HEAD_WORDS];
+    uint32_t slots[LIMIT * PETRIZOLU_SLOT_WORDS];
+    uint8_t cells[CELL_SIZE * CELLS];
+};
+
+struct eit {
+    petrizolu_eit state;
+    uint64_t heads[LIMIT * PETRIZOLU_HEAD_WORDS], schedule_heads[LIMIT * PETRIZOLU_HEAD_WORDS];
+    uint32_t slots[LIMIT * PETRIZOLU_SLOT_WORDS], units[LIMIT * PETRIZOLU_UNIT_WORDS];
+    uint8_t cells[CELL_SIZE * CELLS];
+};
+
+struct monitor {
+    struct gate gate;
+    struct sets sets;
+    struct eit eit;
+    uint64_t unwatched, complete_sets, complete_schedules, refused;
+};
+
+/* An array and its number of elements, as every call takes them. */
+#define LEND(array) (array), sizeof(array) / sizeof((array)[0])
+#define LEND_GATE(g) LEND((g)->keys), LEND((g)->changes), LEND((g)->buckets), LEND((g)->links), LEND((g)->watch)
+#define LEND_SETS(s) LEND((s)->heads), LEND((s)->slots), LEND((s)->cells)
+#define LEND_EIT(e) LEND((e)->heads), LEND((e)->slots), LEND((e)->cells), LEND((e)->schedule_heads), LEND((e)->units)
+
+static bool open_all(struct monitor *m)
+{
+    static const uint16_t no_extra[1];
+    return petrizolu_indexed_open(&m->gate.state, CAPACITY, PETRIZOLU_DEFAULT_SETTINGS, no_extra, 0, LEND_GATE(&m->gate)) == PETRIZOLU_DONE
+        && petrizolu_sets_open(&m->sets.state, LIMIT, CELL_SIZE, CELLS, LEND_SETS(&m->sets)) == PETRIZOLU_DONE
+        && petrizolu_eit_open(&m->eit.state, LIMIT, CELL_SIZE, CELLS, LEND_EIT(&m->eit)) == PETRIZOLU_DONE;
+}
+
+/* ---- what is shown */
+
+static void show_pid(uint64_t pid)
+{
+    if (pid < 8192)
+        printf(" pid %04" PRIX64, pid);
+}
+
+static void show_section(const petrizolu_section *part)
+{
+    printf("  section %" PRIu64 ", %" PRIu64 " bytes\n", part->number, part->length);
+}
+
+static void show_set(const struct sets *s, uint64_t row)
+{
+    const uint64_t *head = s->heads + row * PETRIZOLU_HEAD_WORDS;
+    petrizolu_section part;
+    uint64_t from = 0;
+
+    printf("set");
+    show_pid(head[PETRIZOLU_HEAD_PID]);
+    printf(" table %02" PRIX64 " extension %04" PRIX64 " version %" PRIu64 "\n", head[PETRIZOLU_HEAD_TABLE_ID], head[PETRIZOLU_HEAD_EXTENSION],
+           head[PETRIZOLU_HEAD_VERSION]);
+    while (petrizolu_sets_next(&s->state, LEND_SETS(s), row, from, &part) == PETRIZOLU_YES) {
+        show_section(&part);
+        from = part.number + 1;
+    }
+}
+
+static void show_event_set(const struct eit *e, uint64_t row)
+{
+    const uint64_t *head = e->heads + row * PETRIZOLU_HEAD_WORDS;
+    petrizolu_section part;
+    uint64_t from = 0;
+
+    printf("present/following");
+    show_pid(head[PETRIZOLU_HEAD_PID]);
+    printf(" service %04" PRIX64 " version %" PRIu64 "\n", head[PETRIZOLU_HEAD_EXTENSION], head[PETRIZOLU_HEAD_VERSION]);
+    while (petrizolu_eit_next(&e->state, LEND_EIT(e), row, from, &part) == PETRIZOLU_YES) {
+        show_section(&part);
+        from = part.number + 1;
+    }
+}
+
+static void show_schedule(const struct eit *e, uint64_t row)
+{
+    const uint64_t *head = e->schedule_heads + row * PETRIZOLU_HEAD_WORDS;
+    uint64_t first = head[PETRIZOLU_HEAD_TABLE_ID] == PETRIZOLU_SCHEDULE_ACTUAL ? 0x50 : 0x60;
+
+    printf("schedule");
+    show_pid(head[PETRIZOLU_HEAD_PID]);
+    printf(" service %04" PRIX64 " tables %02" PRIX64 " to %02" PRIX64 "\n", head[PETRIZOLU_HEAD_EXTENSION], first, head[PETRIZOLU_HEAD_LAST]);
+    for (uint64_t table = 0; first + table <= head[PETRIZOLU_HEAD_LAST]; table++) {
+        petrizolu_section part;
+        uint64_t from = 0;
+        printf(" table %02" PRIX64 "\n", first + table);
+        while (petrizolu_eit_next_in_schedule(&e->state, LEND_EIT(e), row, table, from, &part) == PETRIZOLU_YES) {
+            show_section(&part);
+            from = part.number + 1;
+        }
+    }
+}
+
+/* ---- a section's way through the monitor */
+
+static bool is_event_table(uint8_t table_id)
+{
+    return table_id >= 0x4E && table_id <= 0x6F;
+}
+
+static void collect_events(struct monitor *m, uint32_t pid, const uint8_t *section, size_t length)
+{
+    uint64_t row;
+    uint8_t answer = petrizolu_eit_push(&m->eit.state, LEND_EIT(&m->eit), pid, section, length, &row);
+    switch (answer) {
+    case PETRIZOLU_NOTHING:
+        break;
+    case PETRIZOLU_SET:
+        m->complete_sets++;
+        show_event_set(&m->eit, row);
+        break;
+    case PETRIZOLU_SCHEDULE:
+        m->complete_schedules++;
+        show_schedule(&m->eit, row);
+        break;
+    default:
+        m->refused++;
+        printf("refused %u\n", answer);
+    }
+}
+
+static void collect_set(struct monitor *m, uint32_t pid, const uint8_t *section, size_t length)
+{
+    uint64_t row;
+    uint8_t answer = petrizolu_sets_push(&m->sets.state, LEND_SETS(&m->sets), pid, section, length, &row);
+    switch (answer) {
+    case PETRIZOLU_NOTHING:
+    case PETRIZOLU_SHORT_FORM: /* a TDT or TOT: there is no set of it */
+        break;
+    case PETRIZOLU_SET:
+        m->complete_sets++;
+        show_set(&m->sets, row);
+        break;
+    default:
+        m->refused++;
+        printf("refused %u\n", answer);
+    }
+}
+
+static void take(struct monitor *m, uint32_t pid, const uint8_t *section, size_t length)
+{
+    uint8_t answer;
+    if (petrizolu_watch_ask(LEND(m->gate.watch), pid) != PETRIZOLU_YES) {
+        m->unwatched++;
+        return;
+    }
+    answer = petrizolu_indexed_offer(&m->gate.state, LEND_GATE(&m->gate), pid, section, length);
+    if (answer != PETRIZOLU_EMITTED)
+        return;
+    printf("new pid %04" PRIX32 " table %02X, %zu bytes\n", pid, section[0], length);
+    if (is_event_table(section[0]))
+        collect_events(m, pid, section, length);
+    else
+        collect_set(m, pid, section, length);
+}
+
+/* ---- records */
+
+/* Reads one record: 1, or 0 at the end of the input, or -1 where it ends inside a record. */
+static int read_record(FILE *in, uint32_t *pid, uint8_t *section, size_t *length)
+{
+    uint8_t head[5];
+    size_t n = fread(head, 1, sizeof head, in);
+    size_t rest;
+    if (n == 0)
+        return 0;
+    if (n < sizeof head)
+        return -1;
+    *pid = (uint32_t)head[0] << 8 | head[1];
+    section[0] = head[2];
+    section[1] = head[3];
+    section[2] = head[4];
+    rest = (size_t)(head[3] & 0x0F) << 8 | head[4];
+    *length = 3 + rest;
+    return fread(section + 3, 1, rest, in) == rest ? 1 : -1;
+}
+
+int main(int argc, char **argv)
+{
+    static struct monitor m;
+    static uint8_t section[LONGEST_SECTION];
+    FILE *in = argc > 1 ? fopen(argv[1], "rb") : stdin;
+    uint32_t pid;
+    size_t length;
+    int more;
+
+    if (in == NULL) {
+        perror(argv[1]);
+        return 1;
+    }
+    if (!open_all(&m)) {
+        fputs("monitor: the stores do not open\n", stderr);
+        return 1;
+    }
+    while ((more = read_record(in, &pid, section, &length)) == 1)
+        take(&m, pid, section, length);
+    if (more == -1)
+        puts("cut");
+    printf("sections %" PRIu64 " new %" PRIu64 " repeats %" PRIu64 " crc %" PRIu64 " unwatched %" PRIu64 "\n", m.gate.state.completed, m.gate.state.emitted,
+           m.gate.state.suppressed, m.gate.state.crc_failures, m.unwatched);
+    printf("sets %" PRIu64 " schedules %" PRIu64 " refused %" PRIu64 " evicted %" PRIu64 "\n", m.complete_sets, m.complete_schedules, m.refused,
+           m.sets.state.evictions + m.eit.state.evictions + m.eit.state.schedule_evictions);
+    return 0;
+}

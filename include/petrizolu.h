@@ -1,0 +1,271 @@
+/*
+ * Petrizolu: which sections of a DVB programme guide are new, which tables are complete, which PIDs to look at.
+ *
+ * The library keeps no memory of its own, allocates nothing and has no global state. Whatever it needs is lent to each call: a small struct of
+ * 64-bit words that holds settings and counts, and arrays of the sizes that the macros below tell. An array crosses as a pointer and the
+ * number of its elements. Every pointer must point to that many readable elements (writable ones where it is not const), even where a call is
+ * going to be refused; no two of the arrays of one call may overlap. A length of 0 goes with any pointer that is not NULL.
+ *
+ * Everything else is the library's business: any content of the structs and arrays, any length, any number gets exactly one of the answers of
+ * enum petrizolu_answer, and a refusal leaves every lent word as it was (22 and 23 say below what they leave). Memory that came from nowhere is
+ * read within its bounds, found out where it is not whole (10), and otherwise taken by the rules as written. That is proved for every call.
+ *
+ * Threads: a store (a struct with its arrays) is used by one caller at a time. Different stores may be used at the same time, and the calls
+ * that ask (const struct) may run together on one store while nobody changes it.
+ */
+#ifndef PETRIZOLU_H
+#define PETRIZOLU_H
+
+#include <stddef.h>
+#include <stdint.h>
+
+#ifdef __cplusplus
+extern "C" {
+#endif
+
+/* ---- answers */
+
+enum petrizolu_answer {
+    PETRIZOLU_EMITTED = 1,           /* gate: new or changed, or repeats are on */
+    PETRIZOLU_SUPPRESSED = 2,        /* gate: repeats what was seen */
+    PETRIZOLU_CRC_FAILURE = 3,       /* gate: too short, or its CRC does not fit */
+    PETRIZOLU_NOTHING = 4,           /* collector: nothing to hand out */
+    PETRIZOLU_SET = 5,               /* collector: a set is complete; its row is told */
+    PETRIZOLU_SCHEDULE = 6,          /* EIT collector: a schedule is complete; its row is told */
+    PETRIZOLU_DONE = 7,              /* opened, cleared or dropped */
+    PETRIZOLU_YES = 8,
+    PETRIZOLU_NO = 9,
+    PETRIZOLU_NOT_WHOLE = 10,        /* the store is damaged, or less is lent than it was opened with: only opening it anew helps */
+    PETRIZOLU_COUNTER_FULL = 11,     /* a counter of this part is at 2^64 - 1 */
+    PETRIZOLU_BAD_PID = 12,          /* a PID of 8192 or more */
+    PETRIZOLU_TOO_LITTLE = 13,       /* opening: less lent than the settings need, or a cell size or count out of range */
+    PETRIZOLU_MALFORMED = 14,        /* under 3 bytes, not 3 + section_length bytes, or a long form under 12 */
+    PETRIZOLU_SHORT_FORM = 15,       /* a collector takes long forms only */
+    PETRIZOLU_BAD_NUMBER = 16,       /* section_number above last_section_number */
+    PETRIZOLU_BAD_CRC = 17,
+    PETRIZOLU_NOT_EIT = 18,          /* no EIT's table_id */
+    PETRIZOLU_BROKEN_EIT = 19,       /* the EIT's events do not end at its CRC */
+    PETRIZOLU_TOO_LONG = 20,         /* longer than a cell */
+    PETRIZOLU_NO_CELL = 21,          /* it would be kept, and no cell is free */
+    PETRIZOLU_CONFLICT = 22,         /* other bytes under a section number that is held; its key is the newest now, else all is as before */
+    PETRIZOLU_RANGE = 23             /* EIT: complete, but its table_id is above the section's last_table_id; the section is kept */
+};
+
+/* ---- numbers */
+
+#define PETRIZOLU_NO_PID UINT32_MAX    /* to a collector: the section came with no PID */
+#define PETRIZOLU_ANY UINT64_MAX       /* in a filter: this field is free */
+
+#define PETRIZOLU_DEFAULT_CAPACITY 65536u    /* keys of a gate */
+#define PETRIZOLU_DEFAULT_LIMIT 256u         /* keys of a collector */
+
+/* Settings of a gate. */
+#define PETRIZOLU_REPEATS 1u       /* emit repeats too */
+#define PETRIZOLU_FOLLOW 2u        /* a changed PAT changes the watch */
+#define PETRIZOLU_WELL_KNOWN 4u    /* the eight well-known PIDs are watched and protected */
+#define PETRIZOLU_DEFAULT_SETTINGS (PETRIZOLU_FOLLOW | PETRIZOLU_WELL_KNOWN)
+
+/* EIT kinds, in schedule heads and in filters. */
+#define PETRIZOLU_PRESENT_FOLLOWING_ACTUAL 0u    /* table_id 0x4E */
+#define PETRIZOLU_PRESENT_FOLLOWING_OTHER 1u     /* 0x4F */
+#define PETRIZOLU_SCHEDULE_ACTUAL 2u             /* 0x50 to 0x5F */
+#define PETRIZOLU_SCHEDULE_OTHER 3u              /* 0x60 to 0x6F */
+
+/*
+ * How many elements each array needs. `capacity` and `limit` are what the store is opened with; more may be lent, and what is past these numbers
+ * is never read or written. The caller sees to it that the products fit a size_t: where they do not, no memory would do.
+ */
+#define PETRIZOLU_GATE_ROWS(capacity) ((size_t)((capacity) == 0 ? 1 : (capacity)))    /* keys, changes, buckets, links: uint64_t each */
+#define PETRIZOLU_WATCH_WORDS 384u                                                    /* watch: uint64_t */
+#define PETRIZOLU_HEAD_WORDS 12u                                                      /* a row's words in heads */
+#define PETRIZOLU_SLOT_WORDS 288u                                                     /* a row's words in slots */
+#define PETRIZOLU_UNIT_WORDS (16u * PETRIZOLU_SLOT_WORDS)                             /* a schedule's words in units */
+#define PETRIZOLU_HEADS(limit) ((size_t)(limit) * PETRIZOLU_HEAD_WORDS)               /* heads and schedule_heads: uint64_t */
+#define PETRIZOLU_SLOTS(limit) ((size_t)(limit) * PETRIZOLU_SLOT_WORDS)               /* slots: uint32_t */
+#define PETRIZOLU_UNITS(limit) ((size_t)(limit) * PETRIZOLU_UNIT_WORDS)               /* units: uint32_t */
+#define PETRIZOLU_CELLS(size, count) ((size_t)(size) * (size_t)(count))               /* cells: uint8_t */
+#define PETRIZOLU_SMALLEST_CELL 12u
+#define PETRIZOLU_LARGEST_CELL 4096u
+#define PETRIZOLU_MOST_CELLS 65535u
+
+/*
+ * What a row's head says. heads + row * PETRIZOLU_HEAD_WORDS has these words; a host may read them of a row that was handed out, to name the
+ * set. The library alone writes them.
+ */
+#define PETRIZOLU_HEAD_PID 0u                    /* 8192: no PID */
+#define PETRIZOLU_HEAD_TABLE_ID 1u               /* in schedule_heads: the kind */
+#define PETRIZOLU_HEAD_EXTENSION 2u              /* service_id of an EIT */
+#define PETRIZOLU_HEAD_CURRENT_NEXT 3u
+#define PETRIZOLU_HEAD_TRANSPORT_STREAM_ID 4u    /* EIT only */
+#define PETRIZOLU_HEAD_ORIGINAL_NETWORK_ID 5u    /* EIT only */
+#define PETRIZOLU_HEAD_VERSION 6u
+#define PETRIZOLU_HEAD_LAST 7u                   /* last_section_number; in schedule_heads: last_table_id */
+
+/* ---- the CRC of ISO/IEC 13818-1, Annex A: over a section with its own CRC at the end it is 0 */
+
+uint32_t petrizolu_crc(const uint8_t *bytes, size_t byte_count);
+
+/*
+ * ---- the gate: which sections are new
+ *
+ * A struct of words and not a value that comes back: one pointer reads better in C than a struct in and a struct out, the counters can be read
+ * at any time by name, and no value of a flag is out of range.
+ */
+
+typedef struct petrizolu_gate {
+    uint64_t capacity;    /* keys kept; 0 acts as 1 */
+    uint64_t repeats;     /* not 0: on */
+    uint64_t follow;      /* not 0: on */
+    uint64_t used;        /* rows in use */
+    uint64_t first;       /* the row that leaves next */
+    uint64_t completed;   /* sections offered: emitted + suppressed + crc_failures */
+    uint64_t emitted;
+    uint64_t suppressed;
+    uint64_t crc_failures;
+    uint64_t evictions;
+} petrizolu_gate;
+
+/*
+ * Opens a gate and its watch. settings: PETRIZOLU_REPEATS and so on, or'ed; other bits are not looked at. extra: PIDs that are watched and
+ * protected besides the well-known ones. keys and changes need not be written before.
+ * 7: *gate and watch are written, counters 0. 12: an extra PID is 8192 or more. 13: keys, changes or watch are too short. A refusal writes nothing.
+ */
+uint8_t petrizolu_gate_open(petrizolu_gate *gate, uint64_t capacity, uint32_t settings, const uint16_t *extra, size_t extra_count,
+                            const uint64_t *keys, size_t key_count, const uint64_t *changes, size_t change_count, uint64_t *watch,
+                            size_t watch_words);
+
+/*
+ * Offers a section that came on a PID, watched or not: 1, 2 or 3. Counters and rows move, and a changed PAT changes the watch where following is
+ * on. 10, 11, 12: all as before.
+ */
+uint8_t petrizolu_gate_offer(petrizolu_gate *gate, uint64_t *keys, size_t key_count, uint64_t *changes, size_t change_count, uint64_t *watch,
+                             size_t watch_words, uint32_t pid, const uint8_t *section, size_t section_length);
+
+/* Is this PID watched? 8, 9; 10 (fewer than 384 words), 12. */
+uint8_t petrizolu_watch_ask(const uint64_t *watch, size_t watch_words, uint32_t pid);
+
+/*
+ * The same gate with an index over its rows: for thousands of keys. It answers as the one above and keeps the same rows; opening writes the
+ * buckets, links need not be written before. The two forms do not share a store. On damaged memory a key counts as held where the chain from its
+ * bucket reaches it.
+ */
+uint8_t petrizolu_indexed_open(petrizolu_gate *gate, uint64_t capacity, uint32_t settings, const uint16_t *extra, size_t extra_count,
+                               const uint64_t *keys, size_t key_count, const uint64_t *changes, size_t change_count, uint64_t *buckets,
+                               size_t bucket_count, const uint64_t *links, size_t link_count, uint64_t *watch, size_t watch_words);
+
+uint8_t petrizolu_indexed_offer(petrizolu_gate *gate, uint64_t *keys, size_t key_count, uint64_t *changes, size_t change_count,
+                                uint64_t *buckets, size_t bucket_count, uint64_t *links, size_t link_count, uint64_t *watch,
+                                size_t watch_words, uint32_t pid, const uint8_t *section, size_t section_length);
+
+/* ---- a section of a row */
+
+/* Its bytes are cells[start] to cells[start + length - 1], until the next call that is not a question. */
+typedef struct petrizolu_section {
+    uint64_t number;    /* section_number */
+    uint64_t start;
+    uint64_t length;
+} petrizolu_section;
+
+/* ---- the set collector: which tables are complete */
+
+typedef struct petrizolu_sets {
+    uint64_t limit;    /* keys at most; 0: nothing is kept */
+    uint64_t size;     /* bytes of a cell, 12 to 4096; a longer section is refused */
+    uint64_t count;    /* cells, at most 65535 */
+    uint64_t used;     /* rows in use */
+    uint64_t evictions;
+} petrizolu_sets;
+
+/*
+ * Opens a collector. heads: PETRIZOLU_HEADS(limit), slots: PETRIZOLU_SLOTS(limit), cells: PETRIZOLU_CELLS(size, count) elements at least; they
+ * need not be written before and are not written here.
+ * 7: *sets is written. 13: *sets as before.
+ */
+uint8_t petrizolu_sets_open(petrizolu_sets *sets, uint64_t limit, uint64_t size, uint64_t count, const uint64_t *heads, size_t head_words,
+                            const uint32_t *slots, size_t slot_words, const uint8_t *cells, size_t cell_bytes);
+
+/*
+ * Gives a section with the PID that it came on, or PETRIZOLU_NO_PID. 5: the set in *row is complete and handed out. 4, 10 to 12, 14 to 17, 20 to
+ * 22 else, and *row is not written then.
+ */
+uint8_t petrizolu_sets_push(petrizolu_sets *sets, uint64_t *heads, size_t head_words, uint32_t *slots, size_t slot_words, uint8_t *cells,
+                            size_t cell_bytes, uint32_t pid, const uint8_t *section, size_t section_length, uint64_t *row);
+
+/* Empties all rows; the eviction count stays. 7, 10. */
+uint8_t petrizolu_sets_clear(petrizolu_sets *sets, const uint64_t *heads, size_t head_words, const uint32_t *slots, size_t slot_words,
+                             const uint8_t *cells, size_t cell_bytes);
+
+/*
+ * Has the set in a row another section, its number `from` or more? 8: *next tells of it; go on from next->number + 1. 9: no, or no such row. 10.
+ * *next is written with zeros where there is none.
+ */
+uint8_t petrizolu_sets_next(const petrizolu_sets *sets, const uint64_t *heads, size_t head_words, const uint32_t *slots, size_t slot_words,
+                            const uint8_t *cells, size_t cell_bytes, uint64_t row, uint64_t from, petrizolu_section *next);
+
+/* ---- the EIT collector: which guides are complete */
+
+typedef struct petrizolu_eit {
+    uint64_t limit;    /* sets at most, and schedules at most; 0: nothing is kept */
+    uint64_t size;
+    uint64_t count;
+    uint64_t used;     /* sets in use */
+    uint64_t evictions;
+    uint64_t schedules;    /* schedules in use */
+    uint64_t schedule_evictions;
+} petrizolu_eit;
+
+/*
+ * Opens a collector. As the set collector's, and schedule_heads: PETRIZOLU_HEADS(limit), units: PETRIZOLU_UNITS(limit) elements at least.
+ * 7: *eit is written. 13: *eit as before.
+ */
+uint8_t petrizolu_eit_open(petrizolu_eit *eit, uint64_t limit, uint64_t size, uint64_t count, const uint64_t *heads, size_t head_words,
+                           const uint32_t *slots, size_t slot_words, const uint8_t *cells, size_t cell_bytes, const uint64_t *schedule_heads,
+                           size_t schedule_head_words, const uint32_t *units, size_t unit_words);
+
+/*
+ * Gives an EIT section. 5: the present/following set in row *row is complete. 6: the schedule in row *row of the schedules is complete. 4, 10
+ * to 12, 14 to 23 else, and *row is not written then.
+ */
+uint8_t petrizolu_eit_push(petrizolu_eit *eit, uint64_t *heads, size_t head_words, uint32_t *slots, size_t slot_words, uint8_t *cells,
+                           size_t cell_bytes, uint64_t *schedule_heads, size_t schedule_head_words, uint32_t *units, size_t unit_words,
+                           uint32_t pid, const uint8_t *section, size_t section_length, uint64_t *row);
+
+/* Empties all sets and schedules; the eviction counts stay. 7, 10. */
+uint8_t petrizolu_eit_clear(petrizolu_eit *eit, const uint64_t *heads, size_t head_words, const uint32_t *slots, size_t slot_words,
+                            const uint8_t *cells, size_t cell_bytes, const uint64_t *schedule_heads, size_t schedule_head_words,
+                            const uint32_t *units, size_t unit_words);
+
+/* Which sets and schedules to drop: each field exact, or PETRIZOLU_ANY. pid may be PETRIZOLU_NO_PID: those without a PID. */
+typedef struct petrizolu_filter {
+    uint64_t pid;
+    uint64_t kind;
+    uint64_t service_id;
+    uint64_t transport_stream_id;
+    uint64_t original_network_id;
+    uint64_t current_next;    /* 0 or 1 */
+} petrizolu_filter;
+
+/* Drops each set and each schedule that the filter matches; no eviction is counted. 7; 10 and 12 (an exact PID of 8192 or more): as before. */
+uint8_t petrizolu_eit_drop(petrizolu_eit *eit, uint64_t *heads, size_t head_words, uint32_t *slots, size_t slot_words, const uint8_t *cells,
+                           size_t cell_bytes, uint64_t *schedule_heads, size_t schedule_head_words, uint32_t *units, size_t unit_words,
+                           const petrizolu_filter *filter);
+
+/* As petrizolu_sets_next, of a set's row. */
+uint8_t petrizolu_eit_next(const petrizolu_eit *eit, const uint64_t *heads, size_t head_words, const uint32_t *slots, size_t slot_words,
+                           const uint8_t *cells, size_t cell_bytes, const uint64_t *schedule_heads, size_t schedule_head_words,
+                           const uint32_t *units, size_t unit_words, uint64_t row, uint64_t from, petrizolu_section *next);
+
+/*
+ * The same of one table of the schedule in a row. Tables are counted from the first of the kind: table_id 0x50 or 0x60 is 0. A schedule that was
+ * handed out has all tables from 0 to last_table_id - 0x50 or 0x60. 9 where the schedule has not that table.
+ */
+uint8_t petrizolu_eit_next_in_schedule(const petrizolu_eit *eit, const uint64_t *heads, size_t head_words, const uint32_t *slots,
+                                       size_t slot_words, const uint8_t *cells, size_t cell_bytes, const uint64_t *schedule_heads,
+                                       size_t schedule_head_words, const uint32_t *units, size_t unit_words, uint64_t row, uint64_t table,
+                                       uint64_t from, petrizolu_section *next);
+
+#ifdef __cplusplus
+}
+#endif
+
+#endif
