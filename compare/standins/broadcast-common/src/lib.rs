@@ -16,10 +16,16 @@ pub trait Serialize {
 
 /// The CRC of ISO/IEC 13818-1, Annex A.
 pub mod crc32_mpeg2 {
+    use core::sync::atomic::{AtomicBool, Ordering};
+
+    /// Whether `compute` goes by eight tables and eight bytes a turn, or by one table and byte by byte: what the original's own routine does is
+    /// not known, and its speed is measured over both.
+    pub static EIGHT_TABLES: AtomicBool = AtomicBool::new(false);
+
     const POLYNOMIAL: u32 = 0x04C1_1DB7;
 
     /// What eight steps make of a register whose first byte is the index and whose others are 0.
-    const TABLE: [u32; 256] = {
+    static TABLE: [u32; 256] = {
         let mut table = [0; 256];
         let mut first = 0;
         while first < 256 {
@@ -36,10 +42,46 @@ pub mod crc32_mpeg2 {
         table
     };
 
+    /// `TABLES[k]`: the same, with k bytes of 0 after it.
+    static TABLES: [[u32; 256]; 8] = {
+        let mut tables = [[0; 256]; 8];
+        let mut first = 0;
+        while first < 256 {
+            let mut register = TABLE[first];
+            let mut k = 0;
+            while k < 8 {
+                tables[k][first] = register;
+                register = (register << 8) ^ TABLE[(register >> 24) as usize];
+                k += 1;
+            }
+            first += 1;
+        }
+        tables
+    };
+
+    fn by_one_table(register: u32, bytes: &[u8]) -> u32 {
+        bytes.iter().fold(register, |register, &byte| (register << 8) ^ TABLE[((register >> 24) as u8 ^ byte) as usize])
+    }
+
+    fn by_eight_tables(bytes: &[u8]) -> u32 {
+        let groups = bytes.chunks_exact(8);
+        let rest = groups.remainder();
+        let register = groups.fold(u32::MAX, |register, group| {
+            let [a, b, c, d] = register.to_be_bytes();
+            TABLES[7][usize::from(a ^ group[0])]
+                ^ TABLES[6][usize::from(b ^ group[1])]
+                ^ TABLES[5][usize::from(c ^ group[2])]
+                ^ TABLES[4][usize::from(d ^ group[3])]
+                ^ TABLES[3][usize::from(group[4])]
+                ^ TABLES[2][usize::from(group[5])]
+                ^ TABLES[1][usize::from(group[6])]
+                ^ TABLES[0][usize::from(group[7])]
+        });
+        by_one_table(register, rest)
+    }
+
     pub fn compute(bytes: &[u8]) -> u32 {
-        bytes.iter().fold(u32::MAX, |register, &byte| {
-            (register << 8) ^ TABLE[((register >> 24) as u8 ^ byte) as usize]
-        })
+        if EIGHT_TABLES.load(Ordering::Relaxed) { by_eight_tables(bytes) } else { by_one_table(u32::MAX, bytes) }
     }
 }
 

@@ -1,0 +1,314 @@
+//! bench [quick]: nanoseconds a section, the port beside the original on the same sections in the same scattered order. Times are the thread's
+//! processor time, the best of some rounds; the rounds of the port and of the original take turns, so that a busy machine slows both.
+
+mod sections;
+
+use broadcast_common::crc32_mpeg2::{EIGHT_TABLES, compute};
+use bytes::Bytes;
+use dvb_si::collect::{EitCollector, SectionSetCollector};
+use dvb_si::demux::SiDemux;
+use mpeg_ts::pid::Pid;
+use petrizolu::{Eit, Gate, Sets, SmallGate};
+use sections::{eit, long};
+use std::hint::black_box;
+use std::sync::atomic::Ordering;
+
+/// The processor time of this thread.
+fn now() -> u64 {
+    #[repr(C)]
+    struct Time {
+        seconds: i64,
+        nanoseconds: i64,
+    }
+    unsafe extern "C" {
+        fn clock_gettime(clock: i32, time: *mut Time) -> i32;
+    }
+    const THREAD_CPUTIME: i32 = 3;
+    let mut time = Time { seconds: 0, nanoseconds: 0 };
+    // SAFETY: the struct has the layout of a timespec.
+    unsafe { clock_gettime(THREAD_CPUTIME, &mut time) };
+    time.seconds as u64 * 1_000_000_000 + time.nanoseconds as u64
+}
+
+/// One side of a comparison: what it does with all sections of a round.
+type Side<'a> = Box<dyn FnMut() + 'a>;
+
+/// Best nanoseconds an item of each side; the last side runs twice, over each of the original's CRCs.
+fn measure(items: usize, rounds: usize, port: &mut [Side], original: &mut Side) -> Row {
+    let time = |side: &mut Side| {
+        let start = now();
+        side();
+        (now() - start) as f64 / items as f64
+    };
+    let mut row = Row { port: vec![f64::MAX; port.len()], one_table: f64::MAX, eight_tables: f64::MAX };
+    for round in 0..=rounds {
+        for (best, side) in row.port.iter_mut().zip(port.iter_mut()) {
+            let took = time(side);
+            // The first round warms up.
+            if round > 0 {
+                *best = best.min(took);
+            }
+        }
+        for (eight, best) in [(false, &mut row.one_table), (true, &mut row.eight_tables)] {
+            EIGHT_TABLES.store(eight, Ordering::Relaxed);
+            let took = time(original);
+            if round > 0 {
+                *best = best.min(took);
+            }
+        }
+    }
+    row
+}
+
+struct Row {
+    port: Vec<f64>,
+    one_table: f64,
+    eight_tables: f64,
+}
+
+impl Row {
+    /// A line of a table in the documents' form: each port figure, the original's two, and each port figure's ratio to the two.
+    fn print(&self, name: &str, bytes: usize) {
+        let port: String = self.port.iter().map(|p| format!(" {p:.0} |")).collect();
+        let ratios: String = self.port.iter().map(|p| format!(" {:.2} | {:.2} |", p / self.one_table, p / self.eight_tables)).collect();
+        println!("| {name} | {bytes} |{port} {:.0} | {:.0} |{ratios}", self.one_table, self.eight_tables);
+    }
+}
+
+fn head(title: &str, first: &str, ports: &[&str]) {
+    println!("\n{title}\n");
+    let columns: String = ports.iter().map(|p| format!(" {p} |")).collect();
+    let ratios: String = ports.iter().map(|_| " ratio | ratio |".to_string()).collect();
+    println!("| {first} | bytes |{columns} original, one table | eight tables |{ratios}");
+    println!("|---|---|{}", "---|".repeat(2 + 3 * ports.len()));
+}
+
+/// The numbers below n, scattered, so that neither side walks its rows in order.
+fn scattered(n: usize) -> Vec<usize> {
+    (0..n).map(|i| i * 7919 % n).collect()
+}
+
+fn crc(rounds: usize) {
+    head("CRC alone", "what", &["port"]);
+    for size in [12, 64, 184, 1000, 4000] {
+        let bytes = vec![0xA5; size];
+        let turns = 2_000_000 / (size + 20);
+        let mut port: [Side; 1] = [Box::new(|| {
+            for _ in 0..turns {
+                black_box(petrizolu::crc(black_box(&bytes)));
+            }
+        })];
+        let mut original: Side = Box::new(|| {
+            for _ in 0..turns {
+                black_box(compute(black_box(&bytes)));
+            }
+        });
+        measure(turns, rounds, &mut port, &mut original).print("CRC", size);
+    }
+}
+
+const PID: u16 = 0x11;
+
+fn gate(rounds: usize) {
+    head("Gate: a repeat that is suppressed", "keys held", &["port", "with an index"]);
+    for keys in [16, 200, 512, 5_000, 65_536] {
+        for size in [64, 184, 4000] {
+            let all: Vec<Bytes> = (0..keys).map(|i| Bytes::from(&long(0x42, i as u16, 0, 0, &vec![i as u8; size - 12])[..])).collect();
+            let order = scattered(keys);
+            let turns = (20_000 / keys).max(1);
+            let mut small = SmallGate::open(65_536, &[]).expect("opens");
+            let mut gate = Gate::open(65_536, &[]).expect("opens");
+            let mut demux = SiDemux::builder().build();
+            for section in &all {
+                let _ = (small.offer(PID, section), gate.offer(PID, section), demux.offer(Pid::new(PID), section.clone()));
+            }
+            let mut port: [Side; 2] = [
+                Box::new(|| {
+                    for &i in order.iter().cycle().take(turns * keys) {
+                        let _ = black_box(small.offer(PID, &all[i]));
+                    }
+                }),
+                Box::new(|| {
+                    for &i in order.iter().cycle().take(turns * keys) {
+                        let _ = black_box(gate.offer(PID, &all[i]));
+                    }
+                }),
+            ];
+            let mut original: Side = Box::new(|| {
+                for &i in order.iter().cycle().take(turns * keys) {
+                    black_box(demux.offer(Pid::new(PID), all[i].clone()));
+                }
+            });
+            let rounds = if keys > 10_000 { rounds.min(2) } else { rounds };
+            measure(turns * keys, rounds, &mut port, &mut original).print(&keys.to_string(), size);
+        }
+    }
+}
+
+fn gate_new_keys(rounds: usize) {
+    head("Gate: each section a new key at a full capacity, so each evicts one", "capacity", &["port", "with an index"]);
+    for keys in [200, 5_000, 32_768] {
+        let all: Vec<Bytes> = (0..2 * keys).map(|i| Bytes::from(&long(0x42, i as u16, 0, 0, &[i as u8; 52])[..])).collect();
+        let mut small = SmallGate::open(keys, &[]).expect("opens");
+        let mut gate = Gate::open(keys, &[]).expect("opens");
+        let mut demux = SiDemux::builder().gate_capacity(keys).build();
+        let mut port: [Side; 2] = [
+            Box::new(|| {
+                for section in &all {
+                    let _ = black_box(small.offer(PID, section));
+                }
+            }),
+            Box::new(|| {
+                for section in &all {
+                    let _ = black_box(gate.offer(PID, section));
+                }
+            }),
+        ];
+        let mut original: Side = Box::new(|| {
+            for section in &all {
+                black_box(demux.offer(Pid::new(PID), section.clone()));
+            }
+        });
+        let rounds = if keys > 10_000 { 1 } else { rounds };
+        measure(2 * keys, rounds, &mut port, &mut original).print(&keys.to_string(), 64);
+    }
+}
+
+fn sets(rounds: usize) {
+    head("Set collector: a repeat of a held set of one section", "keys held", &["port"]);
+    for limit in [16, 256, 4096] {
+        for size in [64, 184, 1000, 4000] {
+            let all: Vec<Vec<u8>> = (0..limit).map(|i| long(0x42, i as u16, 0, 0, &vec![i as u8; size - 12])).collect();
+            let order = scattered(limit);
+            let turns = (4_096 / limit).max(1);
+            let mut sets = Sets::open(limit, size, limit).expect("opens");
+            let mut collector = SectionSetCollector::new().with_max_partial_keys(limit);
+            let mut port: [Side; 1] = [Box::new(|| {
+                for &i in order.iter().cycle().take(turns * limit) {
+                    let _ = black_box(sets.push(Some(PID), &all[i]));
+                }
+            })];
+            let mut original: Side = Box::new(|| {
+                for &i in order.iter().cycle().take(turns * limit) {
+                    let _ = black_box(collector.push_section_with_pid(Some(Pid::new(PID)), &all[i]));
+                }
+            });
+            let rounds = if limit > 1_000 { rounds.min(2) } else { rounds };
+            measure(turns * limit, rounds, &mut port, &mut original).print(&limit.to_string(), size);
+        }
+    }
+}
+
+fn sets_new_keys(rounds: usize) {
+    head("Set collector: each section a new key at a full limit, a set of one that goes out", "limit", &["port"]);
+    for limit in [16, 256] {
+        for size in [64, 1000] {
+            let all: Vec<Vec<u8>> = (0..4 * limit).map(|i| long(0x42, i as u16, 0, 0, &vec![i as u8; size - 12])).collect();
+            let mut sets = Sets::open(limit, size, limit + 1).expect("opens");
+            let mut collector = SectionSetCollector::new().with_max_partial_keys(limit);
+            let mut port: [Side; 1] = [Box::new(|| {
+                for section in &all {
+                    let _ = black_box(sets.push(Some(PID), section));
+                }
+            })];
+            let mut original: Side = Box::new(|| {
+                for section in &all {
+                    let _ = black_box(collector.push_section_with_pid(Some(Pid::new(PID)), section));
+                }
+            });
+            measure(4 * limit, rounds, &mut port, &mut original).print(&limit.to_string(), size);
+        }
+    }
+}
+
+fn event_repeats(rounds: usize, title: &str, table_id: u8) {
+    head(title, "keys held", &["port"]);
+    for limit in [16, 256, 4096] {
+        for size in [64, 184, 1000, 4000] {
+            let all: Vec<Vec<u8>> = (0..limit).map(|i| eit(table_id, i as u16, table_id, size)).collect();
+            let order = scattered(limit);
+            let turns = (4_096 / limit).max(1);
+            let mut port_eit = Eit::open(limit, size, limit).expect("opens");
+            let mut collector = EitCollector::new().with_max_logical_keys(limit);
+            let mut port: [Side; 1] = [Box::new(|| {
+                for &i in order.iter().cycle().take(turns * limit) {
+                    assert!(black_box(port_eit.push(Some(0x12), &all[i])).is_ok());
+                }
+            })];
+            let mut original: Side = Box::new(|| {
+                for &i in order.iter().cycle().take(turns * limit) {
+                    let _ = black_box(collector.push_section_with_pid(Some(Pid::new(0x12)), &all[i]));
+                }
+            });
+            let rounds = if limit > 1_000 { rounds.min(2) } else { rounds };
+            measure(turns * limit, rounds, &mut port, &mut original).print(&limit.to_string(), size);
+        }
+    }
+}
+
+/// 150 services with 8 tables of one section each, collected from nothing: the clear is part of a round.
+fn full_guide(rounds: usize) {
+    const SERVICES: u16 = 150;
+    const TABLES: u8 = 8;
+    let count = usize::from(SERVICES) * usize::from(TABLES);
+    head("EIT collector: a full guide, 150 services of 8 tables, from nothing", "sets", &["port"]);
+    for size in [64, 1000, 4000] {
+        let all: Vec<Vec<u8>> =
+            (0..TABLES).flat_map(|t| (0..SERVICES).map(move |s| eit(0x50 + t, s, 0x50 + TABLES - 1, size))).collect();
+        let mut port_eit = Eit::open(count, size, count).expect("opens");
+        let mut collector = EitCollector::new().with_max_logical_keys(count);
+        let mut port: [Side; 1] = [Box::new(|| {
+            port_eit.clear().expect("whole");
+            for section in &all {
+                assert!(black_box(port_eit.push(Some(0x12), section)).is_ok());
+            }
+        })];
+        let mut original: Side = Box::new(|| {
+            collector.clear();
+            for section in &all {
+                let _ = black_box(collector.push_section_with_pid(Some(Pid::new(0x12)), section));
+            }
+        });
+        measure(count, rounds.min(3), &mut port, &mut original).print(&count.to_string(), size);
+    }
+}
+
+/// What the check of the whole store (answer 10) costs: a question past the rows in use does nothing else.
+fn check_of_the_store(rounds: usize) {
+    println!("\nThe check of the whole store alone (answer 10), nanoseconds\n");
+    println!("| rows | slots a row | a check | a row | a slot |");
+    println!("|---|---|---|---|---|");
+    for (limit, last) in [(16usize, 0u8), (256, 0), (4096, 0), (256, 255)] {
+        let slots = usize::from(last) + 1;
+        let mut sets = Sets::open(limit, 64, (limit * slots).min(65_535)).expect("opens");
+        for i in 0..limit {
+            for number in 0..=last {
+                let _ = sets.push(None, &long(0x42, i as u16, number, last, &[0; 52]));
+            }
+        }
+        let turns = 400_000 / (limit * slots) + 4;
+        let mut best = f64::MAX;
+        for _ in 0..=rounds {
+            let start = now();
+            for _ in 0..turns {
+                black_box(sets.has_section(usize::MAX, 0));
+            }
+            best = best.min((now() - start) as f64 / turns as f64);
+        }
+        println!("| {limit} | {slots} | {best:.0} | {:.2} | {:.3} |", best / limit as f64, best / (limit * slots) as f64);
+    }
+}
+
+fn main() {
+    let rounds = if std::env::args().any(|a| a == "quick") { 3 } else { 9 };
+    println!("Nanoseconds a section, best of {rounds} rounds (two at thousands of rows). Ratios: to the original over one table, then over eight.");
+    crc(rounds);
+    gate(rounds);
+    gate_new_keys(rounds);
+    sets(rounds);
+    sets_new_keys(rounds);
+    event_repeats(rounds, "EIT collector: a repeat of a held present/following set of one section", 0x4E);
+    event_repeats(rounds, "EIT collector: a repeat of a held schedule of one table of one section", 0x50);
+    full_guide(rounds);
+    check_of_the_store(rounds);
+}
