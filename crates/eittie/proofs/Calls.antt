@@ -1,0 +1,306 @@
+-- One call: what the store of the EIT collector tells and shows then is what the rules with cells tell and leave, for every store that a history reaches.
+-- Assumes nothing.
+use mathlib.Core.Path.{_≡_, refl, sym, ap, subst, _∙_}
+use mathlib.Core.Logic.{_≢_}
+use mathlib.Core.Bool.{Bool, true, false, cond, _&&_}
+use mathlib.Core.Option.{Option, none, some}
+use mathlib.Core.List.{List}
+use Prim.Native.Nat.{ℕ, zero, suc, _≤_, _<_}
+use native.Mathlib.Nat.{not-suc-le-zero}
+use native.Mathlib.Omega.{arith}
+use borrow.Author.Tests.{eq-eqb, ne-eqb, eqb-true, ltb-true, ltb-false, leb-true, le-leb, lt-leb}
+use lib.Dec.{eqb, ltb, leb}
+use lib.ListN.{length}
+use Rattle.laws.proofs.Tests.{and-true, same-test}
+use Rattle.touch.specs.Same.{Bytes}
+use Rattle.touch.specs.Slots.{everyHeld}
+use Rattle.touch.specs.Touch.{emptied, everyRow}
+use Rattle.touch.specs.Row.{fits}
+use Rattle.touch.specs.Cells.{Held, heldWhole, roomWhole, atEnd}
+use Rattle.eitrules.specs.Keys.{Kind, kindOf, SetKey, sameSet, sameSchedule}
+use Rattle.eitrules.specs.Segments.{SetOf}
+use Rattle.eitrules.specs.Schedules.{ScheduleOf}
+use Rattle.eitrules.specs.Rules.{Section, scheduleOf, keyOf, clear, drop, refuse, offer, cleared}
+use Rattle.eitrules.specs.Cells.{onAnswer, storeWhole, anyAtEnd, ended, shows, pushIn, admitIn, offerIn, good, guarded, call}
+use Rattle.eitrules.proofs.Keys.{sameSet-true, sameSchedule-true}
+use Rattle.section.specs.Judged.{collectedOf}
+use Rattle.section.specs.Header.{byteAt}
+use Rattle.section.specs.Eit.{eitOf, fieldsOf}
+use Rattle.section.specs.Eit.{kindOf as kindRead}
+use Rattle.section.specs.Facts.{Bytes as AllBytes}
+use Rattle.section.specs.declared.header.Header.{Header}
+use Rattle.section.specs.declared.header.Collected.{Collected}
+use Rattle.section.specs.declared.header.Collected.the-variants as collected
+use Rattle.section.specs.declared.eit.Reading.{Reading}
+use Rattle.section.specs.declared.eit.Reading.the-variants as reading
+use Rattle.section.specs.declared.ids.MaybePid.{MaybePid}
+use Rattle.section.specs.declared.ids.MaybePid.the-variants as maybe
+use Rattle.section.specs.declared.ids.Made.the-variants as made
+use Rattle.cells.specs.Cells.{allWhole}
+use Rattle.rows.specs.declared.Key.{Key}
+use Rattle.rows.specs.Rows.{rowSlots, rowsWhole}
+use Rattle.order.specs.Order.{downFrom, inOrder, ageOf, rowsSeen}
+use Rattle.order.specs.Slots.{cellsSeen}
+use Rattle.order.proofs.Ages.{length-order}
+use Rattle.order.proofs.Touch.{stands-none}
+use Rattle.order.proofs.Slots.{held-whole, rows-whole}
+use Rattle.order.proofs.Cells.{cells-length}
+use Rattle.sets.specs.Store as sets
+use Rattle.sets.specs.Store.{pidOf, pidWord}
+use Rattle.sets.proofs.Whole.{long}
+use Rattle.sets.proofs.Judged.{good-length}
+use Rattle.places.specs.Places.{placeOf as placeIn}
+use Rattle.schedules.specs.Units.{schedulesWhole}
+use Rattle.eit.specs.declared.Filter.{Filter}
+use Rattle.eit.specs.declared.DropAnswer.the-variants as drop-answer
+use Rattle.eit.specs.declared.inner.Drop.the-variants as plan-drop
+use Rattle.eit.specs.declared.inner.Arrival.{Arrival}
+use Rattle.eit.specs.declared.inner.Plan.the-variants as plan
+use Rattle.eit.specs.declared.PushAnswer.the-variants.{Nothing, NotWhole, CounterFull, Malformed, ShortForm, BadNumber, BadCrc, NotEit, Broken, TooLong}
+use Rattle.eit.specs.Store.{Store, store, setsOf, setStore, shelvesFit, wholeOf, Whole, left, plain, emptyEit, clearedOf, wantedPid, dropPid, dropOf, carriedDrop, leftRemains, droppedOf, arrivalOf, planPlaced, planGood, planRead, planJudged, planPid, countersFull, planOf, carried, pushedOf}
+use Rattle.eit.proofs.Plans.{counts}
+use Rattle.eit.proofs.Whole.{whole-store, units-whole, shelves-mean}
+use Rattle.eittie.specs.View.{pidShown, keyShown, scheduleShown, keyWords, scheduleWords, rowSeen, scheduleSeen, seen, sectionOf, readsEit, readsAs, readSection, reads, answerTold, Given, clears, drops, section, FilterFits, filterShown, Fitting, called, Reached}
+use Rattle.eittie.proofs.Keys.{set-self, schedule-self}
+use Rattle.eittie.proofs.Places.{copyWhole, schedules-whole}
+use Rattle.eittie.proofs.Shelve.{Tied, fits-schedules}
+use Rattle.eittie.proofs.Settle.{Arrives}
+use Rattle.eittie.proofs.Keep.{sectionFor}
+use Rattle.eittie.proofs.Placed.{placed-tied}
+use Rattle.eittie.proofs.Dropping.{drop-tied}
+use Rattle.eittie.proofs.Arrivals.{Read-as, not-eit, broken, good as read-good, read-as, not-kind, arrives, section-same}
+
+-- ---- lists of rows
+
+seen-length : {K R : Type 0} (shown : Key → K) (heads : List ℕ) (used : ℕ) (row : ℕ → R) → length (rowsSeen shown heads used row) ≡ used
+unfolding rowsSeen
+seen-length shown heads used row = length-order (ageOf heads) used _
+
+-- ---- 10 and 11
+
+limit-is : (s : Store) → (seen s) .settings .limit ≡ s .eit .limit
+unfolding seen
+limit-is s = refl
+
+part-is : (s : Store) → sets.settingsFit (setsOf (s .eit)) (length (s .heads)) (length (s .slots)) (length (s .cells)) ≡ true
+    → sets.wholeOf (setStore s) ≡ (leb (s .eit .used) (s .eit .limit) && rowsWhole (s .heads) (s .slots) (s .eit .count) (s .eit .size) (s .eit .used))
+unfolding sets.wholeOf
+part-is s e = rw e
+
+module _ (s : Store) (z : Reached s) where
+  fits-both : (sets.settingsFit (setsOf (s .eit)) (length (s .heads)) (length (s .slots)) (length (s .cells)) ≡ true) × (shelvesFit (s .eit) (length (s .schedule-heads)) (length (s .units)) ≡ true)
+  fits-both = and-true (sets.settingsFit (setsOf (s .eit)) (length (s .heads)) (length (s .slots)) (length (s .cells))) (shelvesFit (s .eit) (length (s .schedule-heads)) (length (s .units))) (z .fits)
+
+  sets-length : length ((seen s) .eit .sets .rows) ≡ s .eit .used
+  unfolding seen
+  sets-length = seen-length keyShown (s .heads) (s .eit .used) (rowSeen (s .heads) (s .slots))
+
+  schedules-length : length ((seen s) .eit .schedules .rows) ≡ s .eit .schedules
+  unfolding seen
+  schedules-length = seen-length scheduleShown (s .schedule-heads) (s .eit .schedules) (scheduleSeen (s .schedule-heads) (s .units))
+
+  cells-count : length ((seen s) .cells) ≡ s .eit .count
+  unfolding seen
+  cells-count = cells-length (s .cells) (s .eit .size) (s .eit .count)
+
+  pub room-there : roomWhole ((seen s) .settings) ((seen s) .cells) ≡ true
+  unfolding roomWhole seen
+  room-there =
+      let l = long (setsOf (s .eit)) (length (s .heads)) (length (s .slots)) (length (s .cells)) (fits-both .0) in
+      let n : length (cellsSeen (s .cells) (s .eit .size) (s .eit .count)) ≡ s .eit .count = cells-length (s .cells) (s .eit .size) (s .eit .count) in
+      rw (n, le-leb 12 (s .eit .size) (l .size-low), le-leb (s .eit .size) 4096 (l .size-high), le-leb (s .eit .count) 65535 (l .few))
+
+  abbrev setTest : SetOf Held → Bool
+  setTest r = everyHeld (heldWhole ((seen s) .settings) ((seen s) .cells)) (r .slots)
+
+  sets-whole : everyRow setTest ((seen s) .eit .sets .rows) ≡ rowsWhole (s .heads) (s .slots) (s .eit .count) (s .eit .size) (s .eit .used)
+  unfolding seen rowSeen
+  sets-whole =
+      rows-whole keyShown (s .heads) (s .slots) (s .eit .count) (s .eit .size) (s .eit .used) (z .sets .ages) setTest (rowSeen (s .heads) (s .slots)) (λ j.
+      held-whole ((seen s) .settings) ((seen s) .cells) (rowSlots (s .heads) (s .slots) j)
+      ∙ ap (λ (m : ℕ). allWhole m (s .eit .size) (rowSlots (s .heads) (s .slots) j)) (cells-length (s .cells) (s .eit .size) (s .eit .count)))
+
+  schedules-whole-here : everyRow (λ (g : ScheduleOf Held). everyHeld (copyWhole ((seen s) .settings) ((seen s) .cells)) (g .copies)) ((seen s) .eit .schedules .rows)
+      ≡ schedulesWhole (s .schedule-heads) (s .units) (s .eit .count) (s .eit .size) (s .eit .schedules)
+  unfolding seen
+  schedules-whole-here =
+      schedules-whole ((seen s) .settings) ((seen s) .cells) (s .schedule-heads) (s .units) (s .eit .schedules) (z .schedules .ages)
+      ∙ ap (λ (m : ℕ). schedulesWhole (s .schedule-heads) (s .units) m (s .eit .size) (s .eit .schedules)) (cells-length (s .cells) (s .eit .size) (s .eit .count))
+
+  pub whole-seen : storeWhole (seen s) ≡ wholeOf s
+  unfolding storeWhole wholeOf
+  whole-seen =
+      let few = shelves-mean (s .eit) (length (s .schedule-heads)) (length (s .units)) (fits-both .1) .schedules in
+      rw (fits-both .1, sets-part, room-there, sets-length, schedules-length, sets-whole, schedules-whole-here, settings-limit, le-leb (s .eit .schedules) (s .eit .limit) few)
+      (turn (leb (s .eit .used) (s .eit .limit)) (rowsWhole (s .heads) (s .slots) (s .eit .count) (s .eit .size) (s .eit .used)) (schedulesWhole (s .schedule-heads) (s .units) (s .eit .count) (s .eit .size) (s .eit .schedules)))
+    where
+      settings-limit : (seen s) .settings .limit ≡ s .eit .limit
+      settings-limit = limit-is s
+
+      sets-part : sets.wholeOf (setStore s) ≡ (leb (s .eit .used) (s .eit .limit) && rowsWhole (s .heads) (s .slots) (s .eit .count) (s .eit .size) (s .eit .used))
+      sets-part = part-is s (fits-both .0)
+
+      turn : (a b c : Bool) → (a && (b && c)) ≡ ((a && b) && c)
+      turn true b c = refl
+      turn false b c = refl
+
+  ended-one : (n : ℕ) → n ≤ 18446744073709551615 → atEnd n ≡ eqb n 18446744073709551615
+  unfolding atEnd
+  ended-one n c =
+      same-test (leb 18446744073709551615 n) (eqb n 18446744073709551615) (λ e. let h = leb-true 18446744073709551615 n e in eq-eqb n 18446744073709551615 (omega arith))
+      (λ e. let h = eqb-true n 18446744073709551615 e in le-leb 18446744073709551615 n (omega arith))
+
+  -- 11 looks at both eviction counts
+  pub ended-seen : anyAtEnd (seen s) ≡ countersFull (s .eit)
+  unfolding anyAtEnd seen
+  ended-seen = rw (ended-one (s .eit .evictions) (z .counts), ended-one (s .eit .«schedule_evictions») (z .schedule-counts))
+
+  -- ---- a clear
+
+  emptied-tied : Tied (left (plain 7) (store (emptyEit (s .eit)) (s .heads) (s .slots) (s .cells) (s .schedule-heads) (s .units))) (good (seen s) clear)
+  unfolding good shows onAnswer answerTold seen cleared emptied rowsSeen inOrder downFrom
+  emptied-tied = record {
+    told = refl;
+    shown = refl;
+    reached = record {
+      fits = fits-schedules (s .eit) (length (s .heads)) (length (s .slots)) (length (s .cells)) (length (s .schedule-heads)) (length (s .units)) 0 (s .eit .«schedule_evictions») (z .fits) (omega arith);
+      counts = z .counts;
+      schedule-counts = z .schedule-counts;
+      heads-fit = λ i h. absurd (not-suc-le-zero h);
+      sets = stands-none keyShown keyWords sameSet sameSet-true set-self (s .heads);
+      schedules = stands-none scheduleShown scheduleWords sameSchedule sameSchedule-true schedule-self (s .schedule-heads);
+    };
+  }
+
+  pub clear-tied : Tied (clearedOf s) (call (seen s) clear)
+  unfolding clearedOf call guarded ended answerTold
+  clear-tied = rw whole-seen (go (wholeOf s))
+    where
+      go : (b : Bool) → Tied (cond b (left (plain 7) (store (emptyEit (s .eit)) (s .heads) (s .slots) (s .cells) (s .schedule-heads) (s .units))) (left (plain 10) s)) (guarded b false (seen s) clear)
+      go true = emptied-tied
+      go false = record { told = refl; shown = refl; reached = z }
+
+-- ---- a section, in the order of 01's numbers
+
+key-of : (a : Arrival) (bytes : Bytes) (kind : Kind) → kindOf (a .entry .key .«table_id») ≡ some kind → keyOf (sectionFor a bytes) kind ≡ keyShown (a .entry .key)
+unfolding keyOf scheduleOf keyShown
+key-of a bytes kind e = rw e
+
+module _ (s : Store) (z : Reached s) where
+  module _ (f : Whole (s .eit) (s .heads) (s .slots) (s .cells) (s .schedule-heads) (s .units))
+      (units-ok : schedulesWhole (s .schedule-heads) (s .units) (s .eit .count) (s .eit .size) (s .eit .schedules) ≡ true)
+      (more : s .eit .evictions < 18446744073709551615) (more′ : s .eit .«schedule_evictions» < 18446744073709551615) (bytes : Bytes) where
+    -- 20, then limit 0
+    good-tied : (a : Arrival) (kind : Kind) → Arrives a kind → 12 ≤ length bytes → Tied (carried s bytes (planGood s bytes a)) (good (seen s) (offer (sectionFor a bytes)))
+    unfolding planGood good offerIn admitIn pushIn shows onAnswer answerTold seen
+    good-tied a kind arr h12 = rw (arr .table, key-of a bytes kind (arr .table)) (fit (ltb (s .eit .size) (length bytes)) refl)
+      where
+        k : SetKey
+        k = keyShown (a .entry .key)
+
+        limited : length bytes ≤ s .eit .size → (m : ℕ) → s .eit .limit ≡ m
+            → Tied (carried s bytes (cond (eqb m 0) (plan.Refuse Nothing) (planPlaced s a (placeIn (setStore s) (a .entry) bytes)))) (pushIn m (seen s) (sectionFor a bytes) k)
+        limited l zero q = record { told = refl; shown = refl; reached = z }
+        limited l (suc m) q =
+            rw (ne-eqb (suc m) 0 (λ (t : suc m ≡ 0). absurd (omega arith))) (placed-tied s z f units-ok more more′ (omega arith) a kind arr bytes h12 l)
+
+        fit : (b : Bool) → ltb (s .eit .size) (length bytes) ≡ b
+            → Tied (carried s bytes (cond b (plan.Refuse TooLong) (cond (eqb (s .eit .limit) 0) (plan.Refuse Nothing) (planPlaced s a (placeIn (setStore s) (a .entry) bytes)))))
+            (admitIn (seen s) (sectionFor a bytes) k (leb (length bytes) (s .eit .size)))
+        fit true q = rw (lt-leb (length bytes) (s .eit .size) (ltb-true (s .eit .size) (length bytes) q)) (record { told = refl; shown = refl; reached = z })
+        fit false q =
+            let l = ltb-false (s .eit .size) (length bytes) q in
+            rw (le-leb (length bytes) (s .eit .size) l) (limited l (s .eit .limit) refl)
+
+    -- 18 and 19
+    read-tied : AllBytes bytes → (pid : ℕ) (h : Header) → collectedOf bytes ≡ collected.Good h → (r : Reading) → Read-as bytes r
+        → Tied (carried s bytes (planRead s bytes pid h r)) (good (seen s) (readsEit (pidShown pid) bytes h r))
+    unfolding readsEit good offerIn shows onAnswer answerTold seen sectionOf
+    read-tied o pid h q r (not-eit e) = rw (not-kind bytes h q e) (record { told = refl; shown = refl; reached = z })
+    read-tied o pid h q r broken = record { told = refl; shown = refl; reached = z }
+    read-tied o pid h q r (read-good e) =
+        let k = arrives bytes h q (o 7) pid e in
+        subst (λ (x : Section). Tied (carried s bytes (planGood s bytes (arrivalOf pid h (fieldsOf bytes (kindRead (byteAt bytes 0)))))) (good (seen s) (offer x)))
+        (section-same pid bytes h (fieldsOf bytes (kindRead (byteAt bytes 0)))) (good-tied (arrivalOf pid h (fieldsOf bytes (kindRead (byteAt bytes 0)))) (k .0) (k .1) (good-length bytes h q))
+
+    -- 14 to 17
+    judged-tied : AllBytes bytes → (pid : ℕ) (c : Collected) → collectedOf bytes ≡ c → Tied (carried s bytes (planJudged s bytes pid c)) (good (seen s) (readsAs (pidShown pid) bytes c))
+    unfolding readsAs good shows onAnswer answerTold seen
+    judged-tied o pid collected.Malformed q = record { told = refl; shown = refl; reached = z }
+    judged-tied o pid collected.ShortForm q = record { told = refl; shown = refl; reached = z }
+    judged-tied o pid collected.BadNumber q = record { told = refl; shown = refl; reached = z }
+    judged-tied o pid collected.BadCrc q = record { told = refl; shown = refl; reached = z }
+    judged-tied o pid (collected.Good h) q = read-tied o pid h q (eitOf bytes) (read-as bytes)
+
+    -- 12
+    pid-tied : AllBytes bytes → (pid : MaybePid) → Tied (carried s bytes (planPid s bytes (pidWord pid))) (good (seen s) (readSection pid bytes))
+    unfolding readSection good shows onAnswer answerTold seen pidShown
+    pid-tied o maybe.None = judged-tied o 8192 (collectedOf bytes) refl
+    pid-tied o (maybe.Some v) = go (ltb v 8192) refl
+      where
+        go : (b : Bool) → ltb v 8192 ≡ b → Tied (carried s bytes (planPid s bytes (pidOf (cond b (made.One (record { 0 = v })) made.TooLarge)))) (good (seen s) (cond b (readsAs (some v) bytes (collectedOf bytes)) (refuse 12)))
+        go true q =
+            let l = ltb-true v 8192 q in
+            let d : pidShown v ≡ some v = rw (ne-eqb v 8192 (λ (t : v ≡ 8192). absurd (omega arith))) in
+            rw (← d) (judged-tied o v (collectedOf bytes) refl)
+        go false q = record { told = refl; shown = refl; reached = z }
+
+  -- 11 comes before what the section is read as
+  ended-eit : (bytes : Bytes) (pid : Option ℕ) (h : Header) (r : Reading) → ended (seen s) (readsEit pid bytes h r) ≡ anyAtEnd (seen s)
+  unfolding ended readsEit
+  ended-eit bytes pid h reading.NotEit = refl
+  ended-eit bytes pid h reading.Broken = refl
+  ended-eit bytes pid h (reading.Good f) = refl
+
+  ended-as : (bytes : Bytes) (pid : Option ℕ) (c : Collected) → ended (seen s) (readsAs pid bytes c) ≡ anyAtEnd (seen s)
+  unfolding ended readsAs
+  ended-as bytes pid collected.Malformed = refl
+  ended-as bytes pid collected.ShortForm = refl
+  ended-as bytes pid collected.BadNumber = refl
+  ended-as bytes pid collected.BadCrc = refl
+  ended-as bytes pid (collected.Good h) = ended-eit bytes pid h (eitOf bytes)
+
+  ended-read : (pid : MaybePid) (bytes : Bytes) → ended (seen s) (readSection pid bytes) ≡ anyAtEnd (seen s)
+  unfolding readSection ended
+  ended-read maybe.None bytes = ended-as bytes none (collectedOf bytes)
+  ended-read (maybe.Some v) bytes = go (ltb v 8192)
+    where
+      go : (b : Bool) → ended (seen s) (cond b (readsAs (some v) bytes (collectedOf bytes)) (refuse 12)) ≡ anyAtEnd (seen s)
+      go true = ended-as bytes (some v) (collectedOf bytes)
+      go false = refl
+
+  -- 10, then 11
+  pub push-tied : (pid : MaybePid) (bytes : Bytes) → AllBytes bytes → Tied (pushedOf s pid bytes) (call (seen s) (readSection pid bytes))
+  unfolding pushedOf planOf call guarded answerTold
+  push-tied pid bytes o =
+      rw (whole-seen s z, ended-read pid bytes, ended-seen s z) (go (wholeOf s) (countersFull (s .eit)) refl refl)
+    where
+      go : (w t : Bool) → wholeOf s ≡ w → countersFull (s .eit) ≡ t
+          → Tied (carried s bytes (cond w (cond t (plan.Refuse CounterFull) (planPid s bytes (pidWord pid))) (plan.Refuse NotWhole))) (guarded w t (seen s) (readSection pid bytes))
+      go false t p q = record { told = refl; shown = refl; reached = z }
+      go true true p q = record { told = refl; shown = refl; reached = z }
+      go true false p q =
+          let d = counts (s .eit) false (sym q) refl in
+          let d₀ : s .eit .evictions ≢ 18446744073709551615 = d .0 in
+          let d₁ : s .eit .«schedule_evictions» ≢ 18446744073709551615 = d .1 in
+          let c = z .counts in
+          let c′ = z .schedule-counts in
+          pid-tied (whole-store s p) (units-whole s p) (omega arith) (omega arith) bytes o pid
+
+  -- 10, then a drop's 12 and 7; a drop asks for no count
+  dropped-tied : (f : Filter) → FilterFits f → Tied (droppedOf s f) (call (seen s) (drop (filterShown f)))
+  unfolding droppedOf dropOf call guarded ended good answerTold
+  dropped-tied f fit = rw (whole-seen s z) (go (wholeOf s) refl)
+    where
+      go : (b : Bool) → wholeOf s ≡ b
+          → Tied (leftRemains (carriedDrop (s .eit) (s .heads) (s .slots) (s .schedule-heads) (s .units) (cond b (dropPid f (wantedPid (f .pid))) (plan-drop.Refuse drop-answer.NotWhole))) (s .cells))
+          (guarded b false (seen s) (drop (filterShown f)))
+      go true e = drop-tied s z (whole-store s e) f fit
+      go false e = record { told = refl; shown = refl; reached = z }
+
+  -- every call
+  pub tied : (i : Given) → Fitting i → Tied (called s i) (call (seen s) (reads i))
+  unfolding reads
+  tied clears o = clear-tied s z
+  tied (drops f) o = dropped-tied f o
+  tied (section pid bytes) o = push-tied pid bytes o

@@ -1,0 +1,221 @@
+-- A drop by filter: the sets and the schedules that match leave, as the rules say, and no eviction is counted.
+-- Assumes nothing.
+use mathlib.Core.Path.{_≡_, refl, sym, ap, _∙_}
+use mathlib.Core.Bool.{Bool, true, false, cond, not}
+use mathlib.Core.List.{List}
+use Prim.Native.Nat.{ℕ, _+_, _-_, _*_, _≤_, _<_}
+use native.Mathlib.Nat.{le-refl}
+use native.Mathlib.Omega.{arith}
+use borrow.Author.Tests.{lt-leb, le-leb, ltb-true, ltb-false}
+use lib.Dec.{ltb, leb}
+use lib.ListN.{length, take, drop, getD}
+use Rattle.touch.specs.Touch.{retained}
+use Rattle.eitrules.specs.Keys.{kindNumber, ScheduleKey, SetKey, badPid, pidPasses}
+use Rattle.eitrules.specs.Keys.{matches as keyMatches}
+use Rattle.eitrules.specs.Rules.{done, gives, dropped}
+use Rattle.eitrules.specs.Cells.{onAnswer, shows, dropIn}
+use Rattle.section.specs.declared.ids.Made.the-variants as made
+use Rattle.rows.specs.declared.Key.{Key}
+use Rattle.rows.specs.Rows.{word, keyAt, slotCount, slotsAt}
+use Rattle.order.specs.Order.{movedFrom}
+use Rattle.order.proofs.Cells.{up-cong}
+use Rattle.schedules.specs.Segments.{wordOf}
+use Rattle.schedules.specs.Units.{tablesOf}
+use Rattle.drops.specs.declared.Of.the-variants as of
+use Rattle.drops.specs.declared.Wanted.{Wanted}
+use Rattle.drops.specs.declared.Wanted.the-variants as wanted
+use Rattle.drops.specs.Drops.{wants, matches, removedHeads, removedWords, Rest, rest, droppedRows}
+use Rattle.drops.proofs.Removed.{removed-word, removed-words, removed-part, removed-slots}
+use Rattle.eit.specs.declared.Filter.{Filter}
+use Rattle.eit.specs.declared.WantedPid.{WantedPid}
+use Rattle.eit.specs.declared.WantedPid.the-variants as wanted-pid
+use Rattle.eit.specs.declared.inner.Drop.{Drop}
+use Rattle.eit.specs.declared.inner.Drop.the-variants as drop
+use Rattle.eit.specs.Store.{Store, store, Whole, Left, withRows, withSchedules, madeWanted, wantedPid, fieldsOf, dropPid, matchingGone, carriedDrop, leftRemains}
+use Rattle.eittie.specs.View.{pidShown, kindBy, keyShown, scheduleShown, keyWords, scheduleWords, rowSeen, copySeen, placeSeen, scheduleSeen, seen, pidTest, filterShown, answerTold, FilterFits, HeadFits, Reached}
+use Rattle.eittie.proofs.Keys.{Bit}
+use Rattle.eittie.proofs.Rows.{row-as}
+use Rattle.eittie.proofs.Units.{copy-as}
+use Rattle.eittie.proofs.Shelve.{Tied, fits-schedules}
+use Rattle.eittie.proofs.Retained.{Stays, stays}
+use Rattle.eittie.proofs.Filters.{pid-any, pid-without, pid-exactly, sets-match, schedules-match, kind-word}
+
+-- ---- what the row shows that takes another's place
+
+module _ (used i : ℕ) (heads ws : List ℕ) (h : i < used) (lh : used * 12 ≤ length heads) where
+  -- a set
+  pub moved-set : used * 288 ≤ length ws → (j : ℕ) → j < used - 1 → rowSeen (removedHeads used i heads) (removedWords of.Sets used i ws) j ≡ rowSeen heads ws (movedFrom used i j)
+  moved-set lw j k =
+      row-as heads (removedHeads used i heads) ws (removedWords of.Sets used i ws) (movedFrom used i j) j (λ m a b. removed-word used i heads h lh j m (omega arith) (omega arith))
+      (removed-slots used i heads ws h lh lw j (omega arith)) (λ g q. removed-words of.Sets used i ws h lw j g (omega arith))
+
+  pub moved-head : (j : ℕ) → HeadFits heads (movedFrom used i j) → HeadFits (removedHeads used i heads) j
+  moved-head j f = record {
+    version = rw (removed-word used i heads h lh j 6 (omega arith) (omega arith)) (f .version);
+    last = rw (removed-word used i heads h lh j 7 (omega arith) (omega arith)) (f .last);
+    kind = rw (removed-word used i heads h lh j 1 (omega arith) (omega arith)) (f .kind);
+  }
+
+  -- a schedule: its 16 units
+  module _ (lw : used * 4608 ≤ length ws) (j : ℕ) (k : j < used - 1) where
+    abbrev from : ℕ
+    from = movedFrom used i j
+
+    abbrev moved : List ℕ
+    moved = removedWords of.Schedules used i ws
+
+    unit-word : (t n : ℕ) → t < 16 → n < 288 → wordOf moved (j * 16 + t) n ≡ wordOf ws (from * 16 + t) n
+    unit-word t n a b =
+        let p : (j * 16 + t) * 288 + n ≡ j * 4608 + (t * 288 + n) = omega arith in
+        let q : from * 4608 + (t * 288 + n) ≡ (from * 16 + t) * 288 + n = omega arith in
+        ap (λ (x : ℕ). getD moved x 0) p ∙ removed-words of.Schedules used i ws h lw j (t * 288 + n) (omega arith) ∙ ap (λ (x : ℕ). getD ws x 0) q
+
+    unit-part : (t n : ℕ) → t < 16 → n ≤ 256 → take n (drop (slotsAt (j * 16 + t)) moved) ≡ take n (drop (slotsAt (from * 16 + t)) ws)
+    unit-part t n a b =
+        let p : slotsAt (j * 16 + t) ≡ j * 4608 + (t * 288 + 32) = omega arith in
+        let q : from * 4608 + (t * 288 + 32) ≡ slotsAt (from * 16 + t) = omega arith in
+        ap (λ (x : ℕ). take n (drop x moved)) p ∙ removed-part of.Schedules used i ws h lw j (t * 288 + 32) n (omega arith) (omega arith) ∙ ap (λ (x : ℕ). take n (drop x ws)) q
+
+    moved-copy : (t : ℕ) → t < 16 → copySeen moved (j * 16 + t) ≡ copySeen ws (from * 16 + t)
+    moved-copy t a =
+        copy-as ws moved (from * 16 + t) (j * 16 + t) (unit-word t 0 a (omega arith)) (unit-word t 1 a (omega arith)) (unit-word t 2 a (omega arith))
+        (unit-part t (slotCount (wordOf ws (from * 16 + t) 2)) a (omega arith))
+
+    moved-tables : tablesOf (removedHeads used i heads) j ≡ tablesOf heads from
+    unfolding tablesOf
+    moved-tables = rw (removed-word used i heads h lh j 7 (omega arith) (omega arith), removed-word used i heads h lh j 1 (omega arith) (omega arith))
+
+    moved-place : (t : ℕ) → t < 16 → placeSeen (removedHeads used i heads) moved j t ≡ placeSeen heads ws from t
+    unfolding placeSeen
+    moved-place t a = rw (moved-tables, moved-copy t a)
+
+    pub moved-schedule : scheduleSeen (removedHeads used i heads) moved j ≡ scheduleSeen heads ws from
+    unfolding scheduleSeen
+    moved-schedule =
+        let p = removed-word used i heads h lh j 7 (omega arith) (omega arith) in
+        let q = up-cong (placeSeen (removedHeads used i heads) moved j) (placeSeen heads ws from) 16 0 (λ t a b. moved-place t (omega arith)) in
+        λ t. record { lastTable = p t; copies = q t }
+
+-- ---- which rows match
+
+not-twice : (b : Bool) → b ≡ not (not b)
+not-twice true = refl
+not-twice false = refl
+
+set-bit : (k : Key) → keyWords (keyShown k) ≡ k → Bit (k .«current_next»)
+unfolding keyWords keyShown
+set-bit k e = ap (λ (q : Key). q .«current_next») e
+
+schedule-bit : (k : Key) → scheduleWords (scheduleShown k) ≡ k → Bit (k .«current_next») × (k .«table_id» ≡ kindNumber (kindBy (k .«table_id»)))
+unfolding scheduleWords scheduleShown
+schedule-bit k e = (ap (λ (q : Key). q .«current_next») e, sym (ap (λ (q : Key). q .«table_id») e))
+
+module _ (f : Filter) (fit : FilterFits f) (w : Wanted) (pid : (p : ℕ) → wants w p ≡ pidPasses (pidTest (f .pid)) (pidShown p)) where
+  -- the keys that stay
+  abbrev setStays : SetKey → Bool
+  setStays k = not (keyMatches (filterShown f) (k .schedule))
+
+  abbrev scheduleStays : ScheduleKey → Bool
+  scheduleStays l = not (keyMatches (filterShown f) l)
+
+  set-agrees : (heads : List ℕ) (j : ℕ) → HeadFits heads j → keyWords (keyShown (keyAt heads j)) ≡ keyAt heads j → matches of.Sets (fieldsOf w f) (keyAt heads j) ≡ not (setStays (keyShown (keyAt heads j)))
+  set-agrees heads j h e =
+      sets-match f fit w pid (keyAt heads j) (set-bit (keyAt heads j) e) (kind-word (word heads j 1) (h .kind)) ∙ not-twice (keyMatches (filterShown f) ((keyShown (keyAt heads j)) .schedule))
+
+  abbrev Any : List ℕ → ℕ → Type 0
+  Any heads j = Unit {0}
+
+  schedule-agrees : (heads : List ℕ) (j : ℕ) → Any heads j → scheduleWords (scheduleShown (keyAt heads j)) ≡ keyAt heads j
+      → matches of.Schedules (fieldsOf w f) (keyAt heads j) ≡ not (scheduleStays (scheduleShown (keyAt heads j)))
+  schedule-agrees heads j h e =
+      let b = schedule-bit (keyAt heads j) e in
+      schedules-match f fit w pid (keyAt heads j) (b .0) (b .1) ∙ not-twice (keyMatches (filterShown f) (scheduleShown (keyAt heads j)))
+
+  -- ---- the sets and the schedules
+
+  module _ (s : Store) (z : Reached s) (g : Whole (s .eit) (s .heads) (s .slots) (s .cells) (s .schedule-heads) (s .units)) where
+    abbrev setsBefore : Rest
+    setsBefore = rest (s .heads) (s .slots) (s .eit .used)
+
+    abbrev schedulesBefore : Rest
+    schedulesBefore = rest (s .schedule-heads) (s .units) (s .eit .schedules)
+
+    abbrev setsAfter : Rest
+    setsAfter = droppedRows of.Sets (fieldsOf w f) (s .eit .used) setsBefore
+
+    abbrev schedulesAfter : Rest
+    schedulesAfter = droppedRows of.Schedules (fieldsOf w f) (s .eit .schedules) schedulesBefore
+
+    sets-stay : Stays keyShown keyWords of.Sets HeadFits rowSeen setStays setsBefore setsAfter
+    sets-stay =
+        let a = g .sets .used in
+        let b = g .sets .heads-long in
+        let c = g .sets .slots-long in
+        stays keyShown keyWords of.Sets (fieldsOf w f) HeadFits rowSeen setStays (λ used i heads h l j q. moved-head used i heads heads h l j q)
+        (λ used i heads ws h l m j k. moved-set used i heads ws h l m j k) set-agrees (s .eit .used) setsBefore
+        (record { stands = z .sets; heads-long = omega arith; words-long = omega arith; fits = z .heads-fit }) (le-refl (s .eit .used)) (λ j p q. absurd (omega arith))
+
+    schedules-stay : Stays scheduleShown scheduleWords of.Schedules Any scheduleSeen scheduleStays schedulesBefore schedulesAfter
+    schedules-stay =
+        let a = g .schedules in
+        let b = g .tops-long in
+        let c = g .units-long in
+        stays scheduleShown scheduleWords of.Schedules (fieldsOf w f) Any scheduleSeen scheduleStays (λ used i heads h l j q. tt)
+        (λ used i heads ws h l m j k. moved-schedule used i heads ws h l m j k) schedule-agrees (s .eit .schedules) schedulesBefore
+        (record { stands = z .schedules; heads-long = omega arith; words-long = omega arith; fits = λ j k. tt }) (le-refl (s .eit .schedules)) (λ j p q. absurd (omega arith))
+
+    abbrev after : Store
+    after = store (withSchedules (withRows (s .eit) (setsAfter .used) (s .eit .evictions)) (schedulesAfter .used) (s .eit .«schedule_evictions»))
+        (setsAfter .heads) (setsAfter .words) (s .cells) (schedulesAfter .heads) (schedulesAfter .words)
+
+    -- "sets and schedules that match go"
+    shown-after : seen after ≡ record { settings = (seen s) .settings; eit = dropped (filterShown f) ((seen s) .eit); cells = (seen s) .cells }
+    unfolding seen dropped retained
+    shown-after =
+        let p = sets-stay .rows in
+        let q = schedules-stay .rows in
+        λ t. record {
+          settings = (seen s) .settings;
+          eit = record { sets = record { rows = p t; evicted = s .eit .evictions }; schedules = record { rows = q t; evicted = s .eit .«schedule_evictions» } };
+          cells = (seen s) .cells;
+        }
+
+    reached-after : Reached after
+    reached-after = record {
+      fits = rw (sets-stay .same-heads, sets-stay .same-words, schedules-stay .same-heads, schedules-stay .same-words)
+          (fits-schedules (s .eit) (length (s .heads)) (length (s .slots)) (length (s .cells)) (length (s .schedule-heads)) (length (s .units)) (schedulesAfter .used) (s .eit .«schedule_evictions») (z .fits)
+          (let p = schedules-stay .fewer in let q = g .schedules in omega arith));
+      counts = z .counts;
+      schedule-counts = z .schedule-counts;
+      heads-fit = sets-stay .sound .fits;
+      sets = sets-stay .sound .stands;
+      schedules = schedules-stay .sound .stands;
+    }
+
+    pub matching-tied : Tied (leftRemains (carriedDrop (s .eit) (s .heads) (s .slots) (s .schedule-heads) (s .units) (drop.Matching (fieldsOf w f))) (s .cells))
+        (shows (seen s) ((seen s) .cells) (gives done (dropped (filterShown f) ((seen s) .eit))))
+    unfolding matchingGone shows onAnswer answerTold
+    matching-tied = record { told = refl; shown = shown-after; reached = reached-after }
+
+-- ---- 12, then 7
+
+module _ (s : Store) (z : Reached s) (g : Whole (s .eit) (s .heads) (s .slots) (s .cells) (s .schedule-heads) (s .units)) (f : Filter) (fit : FilterFits f) where
+  abbrev leaves : Drop → Left
+  leaves d = leftRemains (carriedDrop (s .eit) (s .heads) (s .slots) (s .schedule-heads) (s .units) d) (s .cells)
+
+  pub drop-tied : Tied (leaves (dropPid f (wantedPid (f .pid)))) (dropIn (seen s) (filterShown f) (badPid ((filterShown f) .pid)))
+  unfolding filterShown badPid dropIn shows onAnswer answerTold seen
+  drop-tied = go (f .pid) refl
+    where
+      exactly-tied : (v : ℕ) → f .pid ≡ wanted-pid.Exactly v → (b : Bool) → ltb v 8192 ≡ b
+          → Tied (leaves (dropPid f (madeWanted (cond b (made.One (record { 0 = v })) made.TooLarge)))) (dropIn (seen s) (filterShown f) (leb 8192 v))
+      exactly-tied v e true q =
+          let l = ltb-true v 8192 q in
+          rw (lt-leb 8192 v l)
+          (matching-tied f fit (wanted.Exactly v) (λ p. pid-exactly v l p ∙ ap (λ (t : WantedPid). pidPasses (pidTest t) (pidShown p)) (sym e)) s z g)
+      exactly-tied v e false q = rw (le-leb 8192 v (ltb-false v 8192 q)) (record { told = refl; shown = refl; reached = z })
+
+      go : (p : WantedPid) → f .pid ≡ p → Tied (leaves (dropPid f (wantedPid p))) (dropIn (seen s) (filterShown f) (badPid (pidTest p)))
+      go wanted-pid.Any e = matching-tied f fit wanted.Any (λ p. pid-any p ∙ ap (λ (t : WantedPid). pidPasses (pidTest t) (pidShown p)) (sym e)) s z g
+      go wanted-pid.Without e = matching-tied f fit (wanted.Exactly 8192) (λ p. pid-without p ∙ ap (λ (t : WantedPid). pidPasses (pidTest t) (pidShown p)) (sym e)) s z g
+      go (wanted-pid.Exactly v) e = exactly-tied v e (ltb v 8192) refl

@@ -1,0 +1,261 @@
+-- Every history of opening, pushes, drops and clears: what the store of the EIT collector answers and shows is what the rules answer and leave; 10 never occurs;
+-- refusals but 22 and 23 leave the memory as before; 21 exactly where the rules would keep a section and every cell is named.
+-- Assumes nothing.
+use mathlib.Core.Path.{_≡_, refl, sym, ap, subst, _∙_}
+use mathlib.Core.Logic.{_≢_}
+use mathlib.Core.Bool.{Bool, true, false, cond, true≢false}
+use mathlib.Core.Option.{Option, none, some}
+use mathlib.Core.List.{List, [], _∷_, map}
+use Prim.Native.Nat.{ℕ, suc}
+use native.Mathlib.Omega.{arith}
+use lib.Dec.{ltb}
+use lib.ListN.{length}
+use Rattle.touch.specs.Same.{Bytes}
+use Rattle.touch.specs.Touch.{untouched, onOrder, seenAs}
+use Rattle.touch.specs.Cells.{Settings}
+use Rattle.touch.specs.Runs.{answers, storeAfter, At, Never, Obeys, bars, does}
+use Rattle.touch.proofs.Runs.{each-read, answers-read}
+use Rattle.touch.proofs.Runs.{same-answers as run-same}
+use Rattle.eitrules.specs.Keys.{Kind, sameSet, sameSchedule}
+use Rattle.eitrules.specs.Rules.{Eit, Section, offer, refuse, Answer, done, refused, nothing, handout, schedule, conflict, range, notWhole, counterFull, noCell, barred, asBefore}
+use Rattle.eitrules.specs.Rules.{tells as rulesTell, acts as rulesAct, opened as rulesOpened}
+use Rattle.eitrules.specs.Cells.{Store as Shown, onEit, view, callTells, callActs}
+use Rattle.eitrules.proofs.Keys.{sameSet-true, sameSchedule-true}
+use Rattle.eitrules.proofs.Cells.{obeys-rules, settings-stay}
+use Rattle.eitrules.proofs.Whole.{LongEnough, never-10}
+use Rattle.eitrules.proofs.Exact.{NeedsCell, only-then-21, then-21}
+use Rattle.section.specs.Judged.{collectedOf}
+use Rattle.section.specs.Eit.{eitOf}
+use Rattle.section.specs.declared.header.Header.{Header}
+use Rattle.section.specs.declared.header.Collected.{Collected}
+use Rattle.section.specs.declared.header.Collected.the-variants as collected
+use Rattle.section.specs.declared.eit.Reading.{Reading}
+use Rattle.section.specs.declared.eit.Reading.the-variants as reading
+use Rattle.section.specs.declared.ids.MaybePid.the-variants as maybe
+use Rattle.order.specs.Order.{downFrom, inOrder, rowsSeen}
+use Rattle.order.proofs.Touch.{stands-none}
+use Rattle.sets.proofs.Judged.{good-length}
+use Rattle.cells.specs.Cells.{slotWord}
+use Rattle.rows.specs.declared.Entry.{Entry}
+use Rattle.rows.specs.Rows.{put, touched, keptHeads}
+use Rattle.schedules.specs.Segments.{keptSection}
+use Rattle.berths.specs.declared.Berth.{Berth}
+use Rattle.berths.specs.Berths.{berthOf, tableCount, berthedUnits, tablesThere}
+use Rattle.eit.specs.declared.Eit.{Eit as Eits}
+use Rattle.eit.specs.declared.PushAnswer.the-variants.{Nothing, Schedule}
+use Rattle.eit.specs.declared.inner.Drop.{Drop}
+use Rattle.eit.specs.declared.inner.Drop.the-variants as plan-drop
+use Rattle.eit.specs.declared.inner.Arrival.{Arrival}
+use Rattle.eit.specs.declared.inner.Course.{Course}
+use Rattle.eit.specs.declared.inner.Course.the-variants as course
+use Rattle.eit.specs.declared.inner.Plan.{Plan}
+use Rattle.eit.specs.declared.inner.Plan.the-variants as plan
+use Rattle.eit.specs.Store.{Store, store, plain, Left, left, settingsFit, wholeOf, openedOf, emptyEit, clearedOf, dropOf, matchingGone, carriedDrop, leftRemains, droppedOf, answerOf, withRows, scheduleEntry, courseOf, shelvedIn, shelved, settledBy, settled, keptAndSettled, carried, planOf, pushedOf}
+use Rattle.eittie.specs.View.{keyShown, scheduleShown, keyWords, scheduleWords, seen, settingsOf, sectionOf, readsEit, readsAs, readSection, reads, answerTold, tells, acts, Given, clears, drops, section, Fitting, Opened, Reached}
+use Rattle.eittie.proofs.Keys.{set-self, schedule-self}
+use Rattle.eittie.proofs.Calls.{tied, room-there}
+
+-- ---- opening
+
+pub opened-reached : (s : Store) → Opened s → Reached s
+unfolding openedOf
+opened-reached s o = record {
+  fits = go (settingsFit (s .eit) (length (s .heads)) (length (s .slots)) (length (s .cells)) (length (s .schedule-heads)) (length (s .units))) (o .opened);
+  counts = let e = o .evictions in omega arith;
+  schedule-counts = let e = o .schedule-evictions in omega arith;
+  heads-fit = λ i h. let e = o .sets in absurd (omega arith);
+  sets = rw (o .sets) (stands-none keyShown keyWords sameSet sameSet-true set-self (s .heads));
+  schedules = rw (o .schedules) (stands-none scheduleShown scheduleWords sameSchedule sameSchedule-true schedule-self (s .schedule-heads));
+}
+  where
+    go : (b : Bool) → plain (cond b 7 13) ≡ plain 7 → b ≡ true
+    go true e = refl
+    go false e = let z : _≡_ {A = ℕ} 13 7 = cc in absurd (omega arith)
+
+-- "no rows, counts 0"
+pub opened-seen : (s : Store) → Opened s → (seen s) .eit ≡ record { sets = untouched; schedules = untouched }
+unfolding seen untouched rowsSeen inOrder downFrom
+opened-seen s o = rw (o .sets, o .evictions, o .schedules, o .schedule-evictions)
+
+-- ---- one call
+
+module _ (s : Store) (z : Reached s) (i : Given) (o : Fitting i) where
+  pub tells-seen : tells s i ≡ callTells (seen s) (reads i)
+  unfolding tells callTells
+  tells-seen = tied s z i o .told
+
+  pub acts-seen : seen (acts s i) ≡ callActs (seen s) (reads i)
+  unfolding acts callActs
+  acts-seen = tied s z i o .shown
+
+  pub acts-reached : Reached (acts s i)
+  unfolding acts
+  acts-reached = tied s z i o .reached
+
+  pub acts-settings : settingsOf (acts s i) ≡ settingsOf s
+  unfolding seen
+  acts-settings = ap (λ (q : Shown). q .settings) acts-seen ∙ settings-stay (seen s) (reads i)
+
+  -- 10, 11 and 21 aside, every answer and every next view is the rules'
+  pub obeys : Obeys barred (λ (q : Store). view (seen q)) Reached tells acts (λ (d : Eit) (j : Given). rulesTell (settingsOf s) d (reads j)) (λ (d : Eit) (j : Given). rulesAct (settingsOf s) d (reads j)) s i
+  unfolding seen
+  obeys = go (obeys-rules (seen s) (reads i))
+    where
+      go : Obeys barred view (λ q. Unit {0}) callTells callActs (rulesTell (settingsOf s)) (rulesAct (settingsOf s)) (seen s) (reads i)
+          → Obeys barred (λ (q : Store). view (seen q)) Reached tells acts (λ (d : Eit) (j : Given). rulesTell (settingsOf s) d (reads j)) (λ (d : Eit) (j : Given). rulesAct (settingsOf s) d (reads j)) s i
+      go (bars e) = bars (ap barred tells-seen ∙ e)
+      go (does e v u) = does (tells-seen ∙ e) (ap view acts-seen ∙ v) acts-reached
+
+  -- 21: only where the rules would keep the section and every cell is named after the eviction or the emptying; and there always
+  pub no-cell-only : tells s i ≡ noCell → (x : Section) × (kind : Kind) × (reads i ≡ offer x) × NeedsCell (seen s) x kind
+  no-cell-only h = only-then-21 (seen s) (reads i) (sym tells-seen ∙ h)
+
+  pub no-cell-there : (x : Section) (kind : Kind) → reads i ≡ offer x → NeedsCell (seen s) x kind → tells s i ≡ noCell
+  no-cell-there x kind q h = tells-seen ∙ ap (callTells (seen s)) q ∙ then-21 (seen s) x kind h
+
+-- ---- refusals: the memory is as before, whatever it holds
+
+-- what settling a row answers changes something
+shelving-changes : (e : Eits) (heads slots tops units : List ℕ) (a : Arrival) (i : ℕ) (b : Berth) (s : Store) → asBefore (answerTold (answerOf ((shelvedIn e heads slots tops units a i b) .answer) s)) ≡ false
+unfolding asBefore answerTold shelvedIn
+shelving-changes e heads slots tops units a i b s =
+    go (tablesThere (berthedUnits heads slots (e .used) (a .entry .key) (tableCount (a .entry .key .«table_id») (a .tables)) i b units) (b .room .row) (a .entry .key .«table_id») (a .tables))
+  where
+    go : (t : Bool) → asBefore (answerTold (answerOf (cond t (Schedule (b .room .row)) Nothing) s)) ≡ false
+    go true = refl
+    go false = refl
+
+settling-changes : (c : Course) (e : Eits) (heads slots tops units : List ℕ) (a : Arrival) (i : ℕ) (s : Store)
+    → asBefore (answerTold (answerOf ((settledBy c e heads slots tops units a i) .answer) s)) ≡ false
+unfolding asBefore answerTold shelved
+settling-changes course.Stay e heads slots tops units a i s = refl
+settling-changes course.Out e heads slots tops units a i s = refl
+settling-changes course.Range e heads slots tops units a i s = refl
+settling-changes course.Shelve e heads slots tops units a i s =
+    shelving-changes e (put i 8 1 heads) slots tops units a i (berthOf tops (e .limit) (e .schedules) (e .«schedule_evictions») (scheduleEntry a)) s
+
+plan-keeps : (s : Store) (bytes : Bytes) (p : Plan) → asBefore (answerTold ((carried s bytes p) .told)) ≡ true → (carried s bytes p) .store ≡ s
+unfolding asBefore answerTold settled keptAndSettled
+plan-keeps s bytes (plan.Refuse a) h = refl
+plan-keeps s bytes (plan.Conflict i) h = absurd (true≢false (sym h))
+plan-keeps s bytes (plan.Repeat x) h =
+    let heads : List ℕ = touched (s .eit .used) (x .row) (s .heads) in
+    absurd (true≢false (sym h ∙ settling-changes (courseOf heads (s .slots) (x .arrival) (x .row)) (s .eit) heads (s .slots) (s .schedule-heads) (s .units) (x .arrival) (x .row) _))
+plan-keeps s bytes (plan.Keep k) h =
+    let e : Entry = k .arrival .entry in
+    let slots : List ℕ = keptSection (k .room) e (k .arrival .segment) (slotWord (length bytes) (k .cell)) (s .slots) in
+    let heads : List ℕ = touched (k .room .used) (k .room .row) (keptHeads (k .room) e (s .heads)) in
+    absurd (true≢false (sym h ∙ settling-changes (courseOf heads slots (k .arrival) (k .room .row)) (withRows (s .eit) (k .room .used) (k .room .evictions)) heads slots (s .schedule-heads) (s .units) (k .arrival) (k .room .row) _))
+
+drop-keeps : (s : Store) (d : Drop) → asBefore (answerTold ((leftRemains (carriedDrop (s .eit) (s .heads) (s .slots) (s .schedule-heads) (s .units) d) (s .cells)) .told)) ≡ true
+    → (leftRemains (carriedDrop (s .eit) (s .heads) (s .slots) (s .schedule-heads) (s .units) d) (s .cells)) .store ≡ s
+unfolding asBefore answerTold matchingGone
+drop-keeps s (plan-drop.Refuse a) h = refl
+drop-keeps s (plan-drop.Matching f) h = absurd (true≢false (sym h))
+
+pub as-before : (s : Store) (i : Given) → asBefore (tells s i) ≡ true → acts s i ≡ s
+unfolding tells acts asBefore answerTold clearedOf droppedOf pushedOf
+as-before s clears h = go (wholeOf s) h
+  where
+    after : Bool → Left
+    after b = cond b (left (plain 7) (store (emptyEit (s .eit)) (s .heads) (s .slots) (s .cells) (s .schedule-heads) (s .units))) (left (plain 10) s)
+
+    go : (b : Bool) → asBefore (answerTold ((after b) .told)) ≡ true → (after b) .store ≡ s
+    go true h = absurd (true≢false (sym h))
+    go false h = refl
+as-before s (drops f) h = drop-keeps s (dropOf s f) h
+as-before s (section pid bytes) h = plan-keeps s bytes (planOf s pid bytes) h
+
+-- ---- many calls
+
+abbrev pub EachFitting : List Given → Type 0
+EachFitting calls = (t : ℕ) (i : Given) → At calls t i → Fitting i
+
+-- the answers are those of the rules with cells
+pub same-answers : (calls : List Given) → EachFitting calls → (s : Store) → Reached s → answers tells acts s calls ≡ answers callTells callActs (seen s) (map reads calls)
+unfolding answers
+same-answers [] o s z = refl
+same-answers (i ∷ is) o s z =
+    let p = tells-seen s z i (o 0 i refl) in
+    let q = same-answers is (λ t j e. o (suc t) j e) (acts s i) (acts-reached s z i (o 0 i refl)) ∙ ap (λ (t : Shown). answers callTells callActs t (map reads is)) (acts-seen s z i (o 0 i refl)) in
+    λ k. p k ∷ q k
+
+pub same-store : (calls : List Given) → EachFitting calls → (s : Store) → Reached s → (seen (storeAfter acts s calls) ≡ storeAfter callActs (seen s) (map reads calls)) × Reached (storeAfter acts s calls)
+unfolding storeAfter
+same-store [] o s z = (refl, z)
+same-store (i ∷ is) o s z =
+    let q = same-store is (λ t j e. o (suc t) j e) (acts s i) (acts-reached s z i (o 0 i refl)) in
+    (q .0 ∙ ap (λ (t : Shown). storeAfter callActs t (map reads is)) (acts-seen s z i (o 0 i refl)), q .1)
+
+-- a section that is read has 12 bytes or more
+eit-long : (pid : Option ℕ) (bytes : Bytes) (h : Header) → collectedOf bytes ≡ collected.Good h → (r : Reading) → LongEnough (readsEit pid bytes h r)
+unfolding readsEit sectionOf
+eit-long pid bytes h e reading.NotEit = good-length bytes h e
+eit-long pid bytes h e reading.Broken = tt
+eit-long pid bytes h e (reading.Good f) = good-length bytes h e
+
+read-long : (pid : Option ℕ) (bytes : Bytes) (c : Collected) → collectedOf bytes ≡ c → LongEnough (readsAs pid bytes c)
+unfolding readsAs
+read-long pid bytes collected.Malformed e = tt
+read-long pid bytes collected.ShortForm e = tt
+read-long pid bytes collected.BadNumber e = tt
+read-long pid bytes collected.BadCrc e = tt
+read-long pid bytes (collected.Good h) e = eit-long pid bytes h e (eitOf bytes)
+
+reads-long : (i : Given) → LongEnough (reads i)
+unfolding reads readSection
+reads-long clears = tt
+reads-long (drops f) = tt
+reads-long (section maybe.None bytes) = read-long none bytes (collectedOf bytes) refl
+reads-long (section (maybe.Some p) bytes) = pick (ltb p 8192)
+  where
+    pick : (b : Bool) → LongEnough (cond b (readsAs (some p) bytes (collectedOf bytes)) (refuse 12))
+    pick true = read-long (some p) bytes (collectedOf bytes) refl
+    pick false = tt
+
+-- in no history 10 occurs
+pub never-not-whole : (s : Store) → Opened s → (calls : List Given) → EachFitting calls → Never notWhole (answers tells acts s calls)
+never-not-whole s o calls b =
+    subst (Never notWhole) (sym (same-answers calls b s (opened-reached s o)))
+    (never-10 (seen s) (room-there s (opened-reached s o)) (opened-seen s o) (map reads calls) (each-read LongEnough reads reads-long calls))
+
+-- ---- the rules without memory
+
+opened-view : (s : Store) → Opened s → view (seen s) ≡ rulesOpened
+unfolding view onEit onOrder seenAs untouched
+opened-view s o = rw (opened-seen s o)
+
+unbarred : (as′ : List Answer) → Never notWhole as′ → Never counterFull as′ → Never noCell as′ → (t : ℕ) (a : Answer) → At as′ t a → barred a ≡ false
+unfolding barred
+unbarred as′ w f n t done e = refl
+unbarred as′ w f n t (refused m) e = refl
+unbarred as′ w f n t nothing e = refl
+unbarred as′ w f n t (handout x) e = refl
+unbarred as′ w f n t (schedule g) e = refl
+unbarred as′ w f n t conflict e = refl
+unbarred as′ w f n t range e = refl
+unbarred as′ w f n t notWhole e = absurd (w t e)
+unbarred as′ w f n t counterFull e = absurd (f t e)
+unbarred as′ w f n t noCell e = absurd (n t e)
+
+-- from an opened store the answers are those of the rules without memory, as long as no count is at its end (11) and no cell is wanting (21)
+pub history : (s : Store) → Opened s → (calls : List Given) → EachFitting calls → Never counterFull (answers tells acts s calls) → Never noCell (answers tells acts s calls)
+    → answers tells acts s calls ≡ answers (rulesTell (settingsOf s)) (rulesAct (settingsOf s)) rulesOpened (map reads calls)
+history s o calls b full cell =
+    run-same barred (λ (q : Store). view (seen q)) Here tells acts (λ (d : Eit) (j : Given). rulesTell (settingsOf s) d (reads j)) (λ (d : Eit) (j : Given). rulesAct (settingsOf s) d (reads j)) Fitting each
+    calls b s (opened-reached s o, refl) (unbarred (answers tells acts s calls) (never-not-whole s o calls b) full cell)
+    ∙ answers-read (rulesTell (settingsOf s)) (rulesAct (settingsOf s)) reads (view (seen s)) calls
+    ∙ ap (λ (d : Eit). answers (rulesTell (settingsOf s)) (rulesAct (settingsOf s)) d (map reads calls)) (opened-view s o)
+  where
+    Here : Store → Type 0
+    Here q = Reached q × (settingsOf q ≡ settingsOf s)
+
+    each : (q : Store) (i : Given) → Fitting i → Here q
+        → Obeys barred (λ (p : Store). view (seen p)) Here tells acts (λ (d : Eit) (j : Given). rulesTell (settingsOf s) d (reads j)) (λ (d : Eit) (j : Given). rulesAct (settingsOf s) d (reads j)) q i
+    each q i p h = go (obeys q (h .0) i p)
+      where
+        go : Obeys barred (λ (p : Store). view (seen p)) Reached tells acts (λ (d : Eit) (j : Given). rulesTell (settingsOf q) d (reads j)) (λ (d : Eit) (j : Given). rulesAct (settingsOf q) d (reads j)) q i
+            → Obeys barred (λ (p : Store). view (seen p)) Here tells acts (λ (d : Eit) (j : Given). rulesTell (settingsOf s) d (reads j)) (λ (d : Eit) (j : Given). rulesAct (settingsOf s) d (reads j)) q i
+        go (bars e) = bars e
+        go (does e v w) =
+            does (e ∙ ap (λ (o : Settings). rulesTell o (view (seen q)) (reads i)) (h .1)) (v ∙ ap (λ (o : Settings). rulesAct o (view (seen q)) (reads i)) (h .1)) (w, acts-settings q (h .0) i p ∙ h .1)

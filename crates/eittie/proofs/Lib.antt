@@ -1,0 +1,15 @@
+pub mod Keys
+pub mod Rows
+pub mod Units
+pub mod Places
+pub mod Shelve
+pub mod Settle
+pub mod Kept
+pub mod Keep
+pub mod Arrivals
+pub mod Placed
+pub mod Retained
+pub mod Filters
+pub mod Dropping
+pub mod Calls
+pub mod History

@@ -1,0 +1,283 @@
+-- What the memory of the EIT collector shows, in the words of the rules; and its calls as the rules have them.
+-- Assumes nothing.
+use Prim.Native.Nat.{ℕ, suc, _+_, _-_, _*_, _≤_, _<_}
+use mathlib.Core.Path.{_≡_}
+use mathlib.Core.Bool.{true, cond, not}
+use mathlib.Core.Option.{Option, none, some}
+use mathlib.Core.List.{List, [], _∷_}
+use lib.Dec.{eqb, ltb}
+use lib.ListN.{length, getD}
+use Rattle.touch.specs.Same.{Bytes}
+use Rattle.touch.specs.Cells.{Settings, Held}
+use Rattle.eitrules.specs.Keys.{Kind, presentActual, presentOther, scheduleActual, scheduleOther, kindOf, kindNumber, ScheduleKey, SetKey, PidTest, anyPid, exactly}
+use Rattle.eitrules.specs.Keys.{Filter as KeyFilter}
+use Rattle.eitrules.specs.Segments.{SetOf}
+use Rattle.eitrules.specs.Schedules.{CopyOf, ScheduleOf, WholeOf, tableOf}
+use Rattle.eitrules.specs.Rules.{Section, Call, clear, drop, refuse, offer, Answer, done, refused, nothing, handout, schedule, conflict, range, notWhole, counterFull, noCell}
+use Rattle.eitrules.specs.Cells.{Store as Shown}
+use Rattle.section.specs.Judged.{collectedOf}
+use Rattle.section.specs.Eit.{eitOf, fieldsOf}
+use Rattle.section.specs.declared.header.Header.{Header}
+use Rattle.section.specs.declared.header.Collected.{Collected}
+use Rattle.section.specs.declared.header.Collected.the-variants as collected
+use Rattle.section.specs.declared.eit.Eit as fields
+use Rattle.section.specs.declared.eit.Kind.the-variants as kind
+use Rattle.section.specs.declared.eit.Reading.{Reading}
+use Rattle.section.specs.declared.eit.Reading.the-variants as reading
+use Rattle.section.specs.declared.ids.MaybePid.{MaybePid}
+use Rattle.section.specs.declared.ids.MaybePid.the-variants as maybe
+use Rattle.rows.specs.declared.Key.{Key}
+use Rattle.rows.specs.Rows.{word, rowSlots}
+use Rattle.order.specs.Order.{orderSeen, Stands}
+use Rattle.order.specs.Slots.{heldSlots, upFrom, cellsSeen}
+use Rattle.sets.specs.Store.{bitOf}
+use Rattle.schedules.specs.Segments.{wordOf}
+use Rattle.schedules.specs.Units.{tablesOf, isPresent, unitSlots}
+use Rattle.drops.specs.declared.Wanted.{Wanted}
+use Rattle.drops.specs.declared.Wanted.the-variants as wanted
+use Rattle.eit.specs.declared.Filter.{Filter}
+use Rattle.eit.specs.declared.WantedPid.{WantedPid}
+use Rattle.eit.specs.declared.WantedPid.the-variants as wanted-pid
+use Rattle.eit.specs.Store.{Store, Told, plain, a-set, a-schedule, TableOut, Left, settingsFit, firstOfKind, openedOf, clearedOf, droppedOf, pushedOf}
+
+-- ---- keys
+
+-- the PID word of a row without a PID is 8192
+unfoldable pub pidShown : ℕ → Option ℕ
+pidShown p = cond (eqb p 8192) none (some p)
+
+abbrev pub pidWords : Option ℕ → ℕ
+pidWords none = 8192
+pidWords (some p) = p
+
+-- the kind of a row's table_id. Every row in use has a table_id of one of the four kinds (`Reached`): the first line is never met
+abbrev pub theKind : Option Kind → Kind
+theKind none = presentActual
+theKind (some k) = k
+
+-- the kind that stands in a schedule's head in place of table_id
+unfoldable pub kindBy : ℕ → Kind
+kindBy n = cond (eqb n 0) presentActual (cond (eqb n 1) presentOther (cond (eqb n 2) scheduleActual scheduleOther))
+
+-- what the words of a key other than table_id show
+abbrev pub shownUnder : Key → Kind → ScheduleKey
+shownUnder k kind = record {
+  pid = pidShown (k .pid);
+  kind = kind;
+  serviceId = k .extension;
+  transportStreamId = k .«transport_stream_id»;
+  originalNetworkId = k .«original_network_id»;
+  currentNext = not (eqb (k .«current_next») 0);
+}
+
+unfoldable pub keyShown : Key → SetKey
+keyShown k = record { schedule = shownUnder k (theKind (kindOf (k .«table_id»))); tableId = k .«table_id» }
+
+unfoldable pub scheduleShown : Key → ScheduleKey
+scheduleShown k = shownUnder k (kindBy (k .«table_id»))
+
+-- the words that a key is written in
+abbrev pub wordsUnder : ScheduleKey → ℕ → Key
+wordsUnder l table = record {
+  pid = pidWords (l .pid);
+  «table_id» = table;
+  extension = l .serviceId;
+  «current_next» = bitOf (l .currentNext);
+  «transport_stream_id» = l .transportStreamId;
+  «original_network_id» = l .originalNetworkId;
+}
+
+unfoldable pub keyWords : SetKey → Key
+keyWords k = wordsUnder (k .schedule) (k .tableId)
+
+unfoldable pub scheduleWords : ScheduleKey → Key
+scheduleWords l = wordsUnder l (kindNumber (l .kind))
+
+-- ---- a store
+
+-- the word of a segment: 0 where no section of it was kept, else its segment_last_section_number and 1
+unfoldable pub lastOf : ℕ → Option ℕ
+lastOf w = cond (eqb w 0) none (some (w - 1))
+
+-- the set in row i: word 6 is its version, word 7 its last_section_number, word 8 not 0 where it went out; the row's first 32 words are its segments'
+unfoldable pub rowSeen : List ℕ → List ℕ → ℕ → SetOf Held
+rowSeen heads slots i = record {
+  version = word heads i 6;
+  last = word heads i 7;
+  slots = heldSlots (rowSlots heads slots i);
+  notes = upFrom (λ (g : ℕ). lastOf (wordOf slots i g)) 32 0;
+  mark = not (eqb (word heads i 8) 0);
+}
+
+-- the copy in unit u: word 0 is not 0 where it is present, 1 its version, 2 its last_section_number
+unfoldable pub copySeen : List ℕ → ℕ → Option (CopyOf Held)
+copySeen units u =
+    cond (isPresent units u) (some (record { version = wordOf units u 1; last = wordOf units u 2; slots = heldSlots (unitSlots units u) })) none
+
+-- place j of the schedule in row k is unit 16k + j; places past its last_table_id are not in use
+unfoldable pub placeSeen : List ℕ → List ℕ → ℕ → ℕ → Option (CopyOf Held)
+placeSeen tops units k j = cond (ltb j (tablesOf tops k)) (copySeen units (k * 16 + j)) none
+
+-- the schedule in row k: word 7 is its last_table_id
+unfoldable pub scheduleSeen : List ℕ → List ℕ → ℕ → ScheduleOf Held
+scheduleSeen tops units k = record { lastTable = word tops k 7; copies = upFrom (placeSeen tops units k) 16 0 }
+
+abbrev pub settingsOf : Store → Settings
+settingsOf s = record { limit = s .eit .limit; cellSize = s .eit .size }
+
+-- the sets and the schedules in use, each in their touch order, and the cells
+unfoldable pub seen : Store → Shown
+seen s = record {
+  settings = settingsOf s;
+  eit = record {
+    sets = orderSeen keyShown (s .heads) (s .eit .used) (s .eit .evictions) (rowSeen (s .heads) (s .slots));
+    schedules = orderSeen scheduleShown (s .schedule-heads) (s .eit .schedules) (s .eit .«schedule_evictions») (scheduleSeen (s .schedule-heads) (s .units));
+  };
+  cells = cellsSeen (s .cells) (s .eit .size) (s .eit .count);
+}
+
+-- ---- calls and answers
+
+-- a call that may change a store
+pub data Given : Type 0 where
+  clears : Given
+  drops : Filter → Given
+  section : MaybePid → Bytes → Given
+
+-- what the calls are proved to tell and to leave
+abbrev pub called : Store → Given → Left
+called s clears = clearedOf s
+called s (drops f) = droppedOf s f
+called s (section pid bytes) = pushedOf s pid bytes
+
+-- a field of a filter is free, or exactly one of the numbers below n
+abbrev pub Below : ℕ → Wanted → Type 0
+Below n wanted.Any = Unit {0}
+Below n (wanted.Exactly x) = x < n
+
+-- "kind .. and current_next, each exact or free": kinds are 0 to 3, current_next is 0 or 1
+pub record FilterFits (f : Filter) : Type 0 where
+  pub kind : Below 4 (f .kind)
+  pub current-next : Below 2 (f .«current_next»)
+
+-- what is given: a section is of bytes, a filter names a kind and a current_next that there are
+abbrev pub Fitting : Given → Type 0
+Fitting clears = Unit {0}
+Fitting (drops f) = FilterFits f
+Fitting (section pid bytes) = (i : ℕ) → getD bytes i 0 < 256
+
+-- "PID or none, kind, service_id, transport_stream_id, original_network_id and current_next, each exact or free"
+abbrev pub wantedAs : {A : Type 0} → (ℕ → A) → Wanted → Option A
+wantedAs shown wanted.Any = none
+wantedAs shown (wanted.Exactly x) = some (shown x)
+
+abbrev pub pidTest : WantedPid → PidTest
+pidTest wanted-pid.Any = anyPid
+pidTest wanted-pid.Without = exactly none
+pidTest (wanted-pid.Exactly p) = exactly (some p)
+
+unfoldable pub filterShown : Filter → KeyFilter
+filterShown f = record {
+  pid = pidTest (f .pid);
+  kind = wantedAs kindBy (f .kind);
+  serviceId = wantedAs (λ (w : ℕ). w) (f .«service_id»);
+  transportStreamId = wantedAs (λ (w : ℕ). w) (f .«transport_stream_id»);
+  originalNetworkId = wantedAs (λ (w : ℕ). w) (f .«original_network_id»);
+  currentNext = wantedAs (λ (w : ℕ). not (eqb w 0)) (f .«current_next»);
+}
+
+-- what a section says
+unfoldable pub sectionOf : Option ℕ → Bytes → Header → fields.Eit → Section
+sectionOf pid bytes h f = record {
+  pid = pid;
+  tableId = h .«table_id»;
+  serviceId = f .«service_id» .0;
+  transportStreamId = f .«transport_stream_id»;
+  originalNetworkId = f .«original_network_id»;
+  currentNext = h .«current_next»;
+  version = h .version;
+  number = h .number;
+  last = h .last;
+  segmentLast = f .«segment_last_section_number»;
+  lastTable = f .«last_table_id»;
+  bytes = bytes;
+}
+
+-- 19, or what the section says. Whether its table_id is one of an EIT (18) is for the rules to say
+unfoldable pub readsEit : Option ℕ → Bytes → Header → Reading → Call
+readsEit pid bytes h reading.NotEit = offer (sectionOf pid bytes h (fieldsOf bytes kind.None))
+readsEit pid bytes h reading.Broken = refuse 19
+readsEit pid bytes h (reading.Good f) = offer (sectionOf pid bytes h f)
+
+-- 14 to 17
+unfoldable pub readsAs : Option ℕ → Bytes → Collected → Call
+readsAs pid bytes collected.Malformed = refuse 14
+readsAs pid bytes collected.ShortForm = refuse 15
+readsAs pid bytes collected.BadNumber = refuse 16
+readsAs pid bytes collected.BadCrc = refuse 17
+readsAs pid bytes (collected.Good h) = readsEit pid bytes h (eitOf bytes)
+
+-- 12 first: a PID of 8192 or more
+unfoldable pub readSection : MaybePid → Bytes → Call
+readSection maybe.None bytes = readsAs none bytes (collectedOf bytes)
+readSection (maybe.Some p) bytes = cond (ltb p 8192) (readsAs (some p) bytes (collectedOf bytes)) (refuse 12)
+
+unfoldable pub reads : Given → Call
+reads clears = clear
+reads (drops f) = drop (filterShown f)
+reads (section pid bytes) = readSection pid bytes
+
+-- the tables of a schedule that goes out, from table_id t on
+unfoldable pub tablesShown : ScheduleKey → ℕ → List TableOut → List (WholeOf Bytes)
+tablesShown l t [] = []
+tablesShown l t (x ∷ xs) = record { key = tableOf l t; version = x .version; last = x .last; sections = x .sections } ∷ tablesShown l (suc t) xs
+
+-- what is told, by 01's number; 5 comes with the set, 6 with the schedule
+unfoldable pub answerTold : Told → Answer
+answerTold (a-set w) = handout (record { key = keyShown (w .key); version = w .version; last = w .last; sections = w .sections })
+answerTold (a-schedule w) =
+    schedule (record {
+      key = scheduleShown (w .key);
+      lastTable = w .last;
+      tables = tablesShown (scheduleShown (w .key)) (firstOfKind (w .key .«table_id»)) (w .tables);
+    })
+answerTold (plain n) =
+    cond (eqb n 7) done
+    (cond (eqb n 4) nothing
+    (cond (eqb n 10) notWhole
+    (cond (eqb n 11) counterFull
+    (cond (eqb n 21) noCell
+    (cond (eqb n 22) conflict
+    (cond (eqb n 23) range
+    (refused n)))))))
+
+unfoldable pub tells : Store → Given → Answer
+tells s i = answerTold ((called s i) .told)
+
+unfoldable pub acts : Store → Given → Store
+acts s i = (called s i) .store
+
+-- ---- opening, and what every store that comes from opening has
+
+-- as `open` leaves a store where it answers 7: no rows, counts 0, nothing asked of what the lent memory holds
+pub record Opened (s : Store) : Type 0 where
+  pub opened : (openedOf s) .told ≡ plain 7
+  pub sets : s .eit .used ≡ 0
+  pub evictions : s .eit .evictions ≡ 0
+  pub schedules : s .eit .schedules ≡ 0
+  pub schedule-evictions : s .eit .«schedule_evictions» ≡ 0
+
+-- the head of a set in use: its version fits the 32 bits of a unit's word, its last_section_number a byte, and its table_id is one of an EIT
+pub record HeadFits (heads : List ℕ) (i : ℕ) : Type 0 where
+  pub version : word heads i 6 < 4294967296
+  pub last : word heads i 7 < 256
+  pub kind : kindOf (word heads i 1) ≡ some (theKind (kindOf (word heads i 1)))
+
+-- settings that opening takes, eviction counts that fit their 64 bits, heads that fit, and ages that are touch orders of keys, none of which stands twice
+pub record Reached (s : Store) : Type 0 where
+  pub fits : settingsFit (s .eit) (length (s .heads)) (length (s .slots)) (length (s .cells)) (length (s .schedule-heads)) (length (s .units)) ≡ true
+  pub counts : s .eit .evictions ≤ 18446744073709551615
+  pub schedule-counts : s .eit .«schedule_evictions» ≤ 18446744073709551615
+  pub heads-fit : (i : ℕ) → i < s .eit .used → HeadFits (s .heads) i
+  pub sets : Stands keyShown keyWords (s .heads) (s .eit .used)
+  pub schedules : Stands scheduleShown scheduleWords (s .schedule-heads) (s .eit .schedules)
