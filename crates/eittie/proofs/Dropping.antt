@@ -102,11 +102,11 @@ not-twice : (b : Bool) → b ≡ not (not b)
 not-twice true = refl
 not-twice false = refl
 
-set-bit : (k : Key) → keyWords (keyShown k) ≡ k → Bit (k .«current_next»)
+pub set-bit : (k : Key) → keyWords (keyShown k) ≡ k → Bit (k .«current_next»)
 unfolding keyWords keyShown
 set-bit k e = ap (λ (q : Key). q .«current_next») e
 
-schedule-bit : (k : Key) → scheduleWords (scheduleShown k) ≡ k → Bit (k .«current_next») × (k .«table_id» ≡ kindNumber (kindBy (k .«table_id»)))
+pub schedule-bit : (k : Key) → scheduleWords (scheduleShown k) ≡ k → Bit (k .«current_next») × (k .«table_id» ≡ kindNumber (kindBy (k .«table_id»)))
 unfolding scheduleWords scheduleShown
 schedule-bit k e = (ap (λ (q : Key). q .«current_next») e, sym (ap (λ (q : Key). q .«table_id») e))
 

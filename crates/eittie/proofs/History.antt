@@ -50,7 +50,7 @@ use Rattle.eit.specs.declared.inner.Course.{Course}
 use Rattle.eit.specs.declared.inner.Course.the-variants as course
 use Rattle.eit.specs.declared.inner.Plan.{Plan}
 use Rattle.eit.specs.declared.inner.Plan.the-variants as plan
-use Rattle.eit.specs.Store.{Store, store, plain, Left, left, settingsFit, wholeOf, openedOf, emptyEit, clearedOf, dropOf, matchingGone, carriedDrop, leftRemains, droppedOf, answerOf, withRows, scheduleEntry, courseOf, shelvedIn, shelved, settledBy, settled, keptAndSettled, carried, planOf, pushedOf}
+use Rattle.eit.specs.Store.{Store, store, asked, plain, Left, left, settingsFit, wholeOf, openedOf, emptyEit, clearedOf, dropOf, matchingGone, carriedDrop, leftRemains, droppedOf, answerOf, withRows, scheduleEntry, courseOf, shelvedIn, shelved, settledBy, settled, keptAndSettled, carried, planOf, pushedOf}
 use Rattle.eittie.specs.View.{keyShown, scheduleShown, keyWords, scheduleWords, seen, settingsOf, sectionOf, readsEit, readsAs, readSection, reads, answerTold, tells, acts, Given, clears, drops, section, Fitting, Opened, Reached}
 use Rattle.eittie.proofs.Keys.{set-self, schedule-self}
 use Rattle.eittie.proofs.Calls.{tied, room-there}
@@ -71,6 +71,13 @@ opened-reached s o = record {
     go : (b : Bool) → plain (cond b 7 13) ≡ plain 7 → b ≡ true
     go true e = refl
     go false e = let z : _≡_ {A = ℕ} 13 7 = cc in absurd (omega arith)
+
+-- what `open` leaves where the settings fit: there are such stores, whatever the lent memory holds
+pub opens : (limit size count : ℕ) (heads slots cells tops units : List ℕ) → settingsFit (asked limit size count) (length heads) (length slots) (length cells) (length tops) (length units) ≡ true
+    → Opened (store (asked limit size count) heads slots cells tops units)
+unfolding openedOf
+opens limit size count heads slots cells tops units e =
+    record { opened = ap (λ (b : Bool). plain (cond b 7 13)) e; sets = refl; evictions = refl; schedules = refl; schedule-evictions = refl }
 
 -- "no rows, counts 0"
 pub opened-seen : (s : Store) → Opened s → (seen s) .eit ≡ record { sets = untouched; schedules = untouched }

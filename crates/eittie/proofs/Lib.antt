@@ -13,3 +13,5 @@ pub mod Filters
 pub mod Dropping
 pub mod Calls
 pub mod History
+pub mod Leaves
+pub mod Foreign

@@ -248,6 +248,20 @@ schedules-taken tops units used c w =
     (λ t. order-none (scheduleTakes c) (ageOf tops) used w _ (λ k h.
     none-places (copyTakes c) (placeSeen tops units k) 16 0 (λ j a b. place-free units c tops k (named-get units c tops used k t h) j)))
 
+-- table by table
+pub named-units : (tops units : List ℕ) (used c : ℕ) → takenInSchedules tops units used c ≡ false
+    → (k j : ℕ) → k < used → j < tablesOf tops k → isPresent units (k * 16 + j) ≡ true → someNames c (unitSlots units (k * 16 + j)) ≡ false
+named-units tops units used c h k j l m p = rw p at (taken-get units c (k * 16) (tablesOf tops k) j (named-get units c tops used k h l) m)
+
+pub units-named : (tops units : List ℕ) (used c : ℕ)
+    → ((k j : ℕ) → k < used → j < tablesOf tops k → isPresent units (k * 16 + j) ≡ true → someNames c (unitSlots units (k * 16 + j)) ≡ false) → takenInSchedules tops units used c ≡ false
+units-named tops units used c f =
+    named-all units c tops used (λ k l. taken-all units c (k * 16) (tablesOf tops k) (λ j m. go (isPresent units (k * 16 + j)) (someNames c (unitSlots units (k * 16 + j))) (f k j l m)))
+  where
+    go : (a b : Bool) → (a ≡ true → b ≡ false) → (a && b) ≡ false
+    go true b f = f refl
+    go false b f = refl
+
 -- ---- all tables there
 
 held-last : {A : Type 0} (slots : List (Option A)) (a n : ℕ) → heldFrom slots a (suc n) ≡ (isHeld (getD slots (a + n) none) && heldFrom slots a n)

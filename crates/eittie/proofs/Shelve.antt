@@ -325,10 +325,8 @@ module _ (L : Store) (z : Reached L) (a : Arrival) (kind : Kind) (first i : ℕ)
       let u = h .units-long in
       let r : Room = roomRenewed held evictions there (word tops there 9) in
       let long : there * 12 + 12 ≤ length tops = omega arith in
-      let n : ℕ = countOf a in
       let low : first ≤ a .tables = let p = h .in-kind .from in let q = h .range in omega arith in
-      let emptied : List ℕ = withoutUnits (there * 16) 16 (L .units) in
-      let same : length emptied ≡ length (L .units) = without-length (there * 16) 16 (L .units) in
+      let d = same in
       record {
         age = ageOf tops there;
         goes = goes-known tops limit held evictions skey k;

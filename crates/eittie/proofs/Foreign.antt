@@ -1,0 +1,107 @@
+-- A filter that names a kind or a current_next that there is none of: nothing matches, and the memory is as before.
+-- Assumes nothing.
+use mathlib.Core.Path.{_≡_, refl, sym, ap, _∙_}
+use mathlib.Core.Logic.{_⊎_, inl, inr}
+use mathlib.Core.Bool.{Bool, true, false, cond, not, _&&_}
+use mathlib.Core.List.{List}
+use Prim.Native.Nat.{ℕ, zero, suc, _≤_, _<_}
+use native.Mathlib.Omega.{arith}
+use borrow.Author.Tests.{ne-eqb}
+use lib.Dec.{eqb}
+use Rattle.laws.proofs.Tests.{and-none}
+use Rattle.eitrules.specs.Keys.{Kind, presentActual, presentOther, scheduleActual, scheduleOther, kindOf, kindNumber}
+use Rattle.rows.specs.declared.Key.{Key}
+use Rattle.rows.specs.Rows.{word, keyAt}
+use Rattle.sets.specs.Store.{bitOf}
+use Rattle.drops.specs.declared.Of.{Of}
+use Rattle.drops.specs.declared.Of.the-variants as of
+use Rattle.drops.specs.declared.Wanted.{Wanted}
+use Rattle.drops.specs.declared.Wanted.the-variants as wanted
+use Rattle.drops.specs.declared.Fields.{Fields}
+use Rattle.drops.specs.Drops.{wants, kindIn, matches, Rest, rest, droppedRow, droppedRows}
+use Rattle.eit.specs.declared.Filter.{Filter}
+use Rattle.eit.specs.declared.DropAnswer.the-variants as drop-answer
+use Rattle.eit.specs.declared.inner.Drop.{Drop}
+use Rattle.eit.specs.declared.inner.Drop.the-variants as drop
+use Rattle.eit.specs.declared.inner.PidWanted.{PidWanted}
+use Rattle.eit.specs.declared.inner.PidWanted.the-variants as pid-wanted
+use Rattle.eit.specs.Store.{Store, wholeOf, wantedPid, fieldsOf, dropPid, dropOf, matchingGone, carriedDrop, leftRemains, droppedOf}
+use Rattle.eittie.specs.View.{theKind, kindBy, acts, drops, Reached}
+use Rattle.eittie.proofs.Keys.{Bit}
+use Rattle.eittie.proofs.Filters.{kind-word}
+use Rattle.eittie.proofs.Dropping.{set-bit, schedule-bit}
+
+-- kinds are 0 to 3, current_next is 0 or 1
+pub data Foreign (f : Filter) : Type 0 where
+  kind : (x : ℕ) → f .kind ≡ wanted.Exactly x → 4 ≤ x → Foreign f
+  current-next : (x : ℕ) → f .«current_next» ≡ wanted.Exactly x → 2 ≤ x → Foreign f
+
+-- where no row matches, none leaves
+none-leave : (o : Of) (f : Fields) (n : ℕ) (r : Rest) → ((j : ℕ) → j < n → matches o f (keyAt (r .heads) j) ≡ false) → droppedRows o f n r ≡ r
+unfolding droppedRows droppedRow
+none-leave o f zero r e = refl
+none-leave o f (suc n) r e = rw (e n (omega arith)) (none-leave o f n r (λ j h. e j (omega arith)))
+
+kind-below : (k : Kind) → kindNumber k < 4
+unfolding kindNumber
+kind-below presentActual = omega arith
+kind-below presentOther = omega arith
+kind-below scheduleActual = omega arith
+kind-below scheduleOther = omega arith
+
+bit-below : (b : Bool) → bitOf b < 2
+bit-below true = omega arith
+bit-below false = omega arith
+
+second : (a b c d e g : Bool) → b ≡ false → (((((a && b) && c) && d) && e) && g) ≡ false
+second a b c d e g q = rw (q, and-none a)
+
+last : (a b c d e g : Bool) → g ≡ false → (((((a && b) && c) && d) && e) && g) ≡ false
+last a b c d e g q = rw q (and-none ((((a && b) && c) && d) && e))
+
+-- a key whose kind is one of the four and whose current_next is a bit
+no-match : (o : Of) (f : Filter) (w : Wanted) → Foreign f → (k : Key) → kindIn o (k .«table_id») < 4 → k .«current_next» < 2 → matches o (fieldsOf w f) k ≡ false
+unfolding matches
+no-match o f w (kind x e h) k l m =
+    second (wants w (k .pid)) (wants (f .kind) (kindIn o (k .«table_id»))) (wants (f .«service_id») (k .extension)) (wants (f .«transport_stream_id») (k .«transport_stream_id»))
+    (wants (f .«original_network_id») (k .«original_network_id»)) (wants (f .«current_next») (k .«current_next»))
+    (ap (λ (q : Wanted). wants q (kindIn o (k .«table_id»))) e ∙ ne-eqb (kindIn o (k .«table_id»)) x (λ (t : kindIn o (k .«table_id») ≡ x). absurd (omega arith)))
+no-match o f w (current-next x e h) k l m =
+    last (wants w (k .pid)) (wants (f .kind) (kindIn o (k .«table_id»))) (wants (f .«service_id») (k .extension)) (wants (f .«transport_stream_id») (k .«transport_stream_id»))
+    (wants (f .«original_network_id») (k .«original_network_id»)) (wants (f .«current_next») (k .«current_next»))
+    (ap (λ (q : Wanted). wants q (k .«current_next»)) e ∙ ne-eqb (k .«current_next») x (λ (t : k .«current_next» ≡ x). absurd (omega arith)))
+
+module _ (s : Store) (z : Reached s) (f : Filter) (g : Foreign f) (w : Wanted) where
+  sets-stay : droppedRows of.Sets (fieldsOf w f) (s .eit .used) (rest (s .heads) (s .slots) (s .eit .used)) ≡ rest (s .heads) (s .slots) (s .eit .used)
+  sets-stay =
+      none-leave of.Sets (fieldsOf w f) (s .eit .used) (rest (s .heads) (s .slots) (s .eit .used)) (λ j h.
+      let t : ℕ = word (s .heads) j 1 in
+      let n = kind-word t (z .heads-fit j h .kind) in
+      let k = kind-below (theKind (kindOf t)) in
+      let b = set-bit (keyAt (s .heads) j) (z .sets .proper j h) in
+      let c = bit-below (not (eqb (word (s .heads) j 3) 0)) in
+      no-match of.Sets f w g (keyAt (s .heads) j) (omega arith) (omega arith))
+
+  schedules-stay : droppedRows of.Schedules (fieldsOf w f) (s .eit .schedules) (rest (s .schedule-heads) (s .units) (s .eit .schedules)) ≡ rest (s .schedule-heads) (s .units) (s .eit .schedules)
+  schedules-stay =
+      none-leave of.Schedules (fieldsOf w f) (s .eit .schedules) (rest (s .schedule-heads) (s .units) (s .eit .schedules)) (λ j h.
+      let b = schedule-bit (keyAt (s .schedule-heads) j) (z .schedules .proper j h) in
+      let n : word (s .schedule-heads) j 1 ≡ kindNumber (kindBy (word (s .schedule-heads) j 1)) = b .1 in
+      let k = kind-below (kindBy (word (s .schedule-heads) j 1)) in
+      let d : Bit (word (s .schedule-heads) j 3) = b .0 in
+      let c = bit-below (not (eqb (word (s .schedule-heads) j 3) 0)) in
+      no-match of.Schedules f w g (keyAt (s .schedule-heads) j) (omega arith) (omega arith))
+
+  gone-stays : (leftRemains (carriedDrop (s .eit) (s .heads) (s .slots) (s .schedule-heads) (s .units) (drop.Matching (fieldsOf w f))) (s .cells)) .store ≡ s
+  unfolding matchingGone
+  gone-stays = rw (sets-stay, schedules-stay)
+
+-- nothing is dropped
+pub foreign-drop : (s : Store) → Reached s → (f : Filter) → Foreign f → acts s (drops f) ≡ s
+unfolding acts droppedOf dropOf
+foreign-drop s z f g = go (wholeOf s) (wantedPid (f .pid))
+  where
+    go : (b : Bool) (p : PidWanted) → (leftRemains (carriedDrop (s .eit) (s .heads) (s .slots) (s .schedule-heads) (s .units) (cond b (dropPid f p) (drop.Refuse drop-answer.NotWhole))) (s .cells)) .store ≡ s
+    go true pid-wanted.TooLarge = refl
+    go true (pid-wanted.Is w) = gone-stays s z f g w
+    go false p = refl
