@@ -6,7 +6,7 @@ const GATE_ROWS: u32 = 65_536;
 /// Rows of a collector, and schedules of the EIT collector.
 const KEYS: u16 = 64;
 /// Bytes of a collector's cells.
-const CELL_BYTES: u32 = 1 << 18;
+const CELL_BYTES: u32 = 1 << 20;
 
 pub const fn is_pid(pid: u16) -> bool {
     pid < 8192

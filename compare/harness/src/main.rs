@@ -14,9 +14,9 @@ mod watch;
 use command::{Command, tape_of};
 use faults::Fault;
 use make::Domain;
-use pairs::{Found, Side, first_difference, replayed, smallest};
+use pairs::{Found, Side, first_difference, smallest};
 use program::Programs;
-use report::Report;
+use report::{Answered, Report};
 use std::path::{Path, PathBuf};
 use std::process::ExitCode;
 
@@ -58,7 +58,7 @@ const DOMAINS: [(Domain, &str); 3] =
 /// The pairs that have to be equal on every script.
 fn differing(programs: Option<&Programs>, script: &[Command]) -> Option<Found> {
     first_difference(programs, [Side::Original, Side::AS_ORIGINAL], script).or_else(|| {
-        programs.and_then(|_| first_difference(programs, [Side::DOCUMENT, Side::Replay], &replayed(script)))
+        programs.and_then(|_| first_difference(programs, [Side::DOCUMENT, Side::Replay], script))
     })
 }
 
@@ -67,6 +67,12 @@ fn compare_seeds(programs: Option<&Programs>, root: &Path, seeds: usize, command
         println!("no Rattle kit: the port's programs are left out");
     }
     let mut good = fixed(programs, root);
+    let mut answered = Answered::default();
+    for script in written(root, "scripts") {
+        let mut report = Report::default();
+        report.add(&script.commands, programs.is_some());
+        answered.add(&report);
+    }
     for (domain, name) in DOMAINS {
         let mut report = Report::default();
         for seed in 0..seeds as u64 {
@@ -80,7 +86,9 @@ fn compare_seeds(programs: Option<&Programs>, root: &Path, seeds: usize, command
         }
         println!("{name}: {seeds} seeds, 0 differences that are not named\n{report}");
         good &= report.named_as_expected(domain);
+        answered.add(&report);
     }
+    println!("over the written scripts and all seeds:\n{answered}");
     good
 }
 
@@ -99,22 +107,26 @@ fn fixed(programs: Option<&Programs>, root: &Path) -> bool {
 /// The scripts that were written by hand, and those that show the named differences: there the original's line stands beside document 01's.
 fn compare_written(programs: Option<&Programs>, root: &Path) -> bool {
     let scripts = written(root, "scripts");
-    let differ: Vec<Found> = scripts.iter().filter_map(|script| differing(programs, script)).collect();
+    let differ: Vec<Found> = scripts.iter().filter_map(|script| differing(programs, &script.commands)).collect();
     println!("{} written scripts: {}", scripts.len(), if differ.is_empty() { "equal" } else { "DIFFER" });
     differ.iter().for_each(|found| println!("{found}"));
+    let sides = if programs.is_some() { &[Side::Original, Side::Replay][..] } else { &[Side::Original] };
+    let wrong: Vec<String> = scripts.iter().flat_map(|script| script.not_as_said(programs, sides)).collect();
+    let said: usize = scripts.iter().map(|script| script.said.len()).sum();
+    println!("{said} answers that they say: {}", if wrong.is_empty() { "as said" } else { "NOT as said" });
+    wrong.iter().for_each(|line| println!("  {line}"));
     let mut named = true;
-    for script in written(root, "differences") {
-        let shown = first_difference(None, [Side::Original, Side::DOCUMENT], &script);
-        named &= shown.is_some() && differing(programs, &script).is_none();
+    for Written { commands, .. } in written(root, "differences") {
+        let shown = first_difference(None, [Side::Original, Side::DOCUMENT], &commands);
+        named &= shown.is_some() && differing(programs, &commands).is_none();
     }
     println!("written scripts of named differences: {}", if named { "each differs as said" } else { "NOT as said" });
-    differ.is_empty() && named
+    differ.is_empty() && wrong.is_empty() && named
 }
 
 /// A tape that ends inside a command, at each place, and a command that there is not.
 fn compare_ends(programs: &Programs, root: &Path) -> bool {
-    let script = replayed(&written(root, "scripts").concat());
-    let script = &script[..script.len().min(12)];
+    let script = &first_of_each_kind(written(root, "scripts").into_iter().flat_map(|script| script.commands))[..];
     let lines = Side::DOCUMENT.lines(None, script);
     let starts: Vec<usize> = (0..=script.len()).map(|whole| tape_of(&script[..whole]).len()).collect();
     let tape = tape_of(script);
@@ -130,6 +142,16 @@ fn compare_ends(programs: &Programs, root: &Path) -> bool {
     }
     println!("replay on a tape cut at each of {} places: {}", tape.len(), if good { "equal" } else { "DIFFERS" });
     good
+}
+
+fn first_of_each_kind(commands: impl Iterator<Item = Command>) -> Vec<Command> {
+    let mut first: Vec<Command> = Vec::new();
+    for command in commands {
+        if first.iter().all(|known| known.kind() != command.kind()) {
+            first.push(command);
+        }
+    }
+    first
 }
 
 /// `watch` on document 01's example, cut at each place, and on streams of sections.
@@ -185,6 +207,10 @@ fn compare_faults(programs: Option<&Programs>, seeds: usize, commands: usize) ->
                 println!("{fault:?}: NOT FOUND in {seeds} seeds: {}", fault.says());
             }
         }
+        if programs.is_some() && !found_by_the_port(programs, fault, seeds, commands) {
+            missed += 1;
+            println!("{fault:?}: NOT FOUND against replay in {seeds} seeds");
+        }
     }
     println!("{} faults, {missed} not found", Fault::ALL.len());
     missed == 0
@@ -206,14 +232,53 @@ fn find_fault(programs: Option<&Programs>, fault: Fault, seeds: usize, commands:
     None
 }
 
-fn read_script(path: &Path) -> Vec<Command> {
-    let text = std::fs::read_to_string(path).unwrap_or_else(|e| panic!("{}: {e}", path.display()));
-    let lines = text.lines().filter(|line| !line.trim().is_empty() && !line.starts_with('#'));
-    lines.map(|line| command::parse(line).unwrap_or_else(|| panic!("no command: {line}"))).collect()
+/// Whether the fault shows where the second implementation is compared with the port.
+fn found_by_the_port(programs: Option<&Programs>, fault: Fault, seeds: usize, commands: usize) -> bool {
+    let faulty = Side::Second { as_original: false, fault: Some(fault) };
+    (0..seeds as u64).any(|seed| {
+        DOMAINS.iter().any(|&(domain, _)| {
+            let mut script = make::script(seed, commands, domain);
+            script.retain(|command| command.part() == fault.part());
+            first_difference(programs, [Side::Replay, faulty], &script).is_some()
+        })
+    })
+}
+
+/// A script of a file, and the answers that it says: of which command, and the words that the answer begins with.
+struct Written {
+    commands: Vec<Command>,
+    said: Vec<(usize, String)>,
+}
+
+impl Written {
+    /// A comment `# -> words` says the answer of the command before it.
+    fn read(path: &Path) -> Written {
+        let text = std::fs::read_to_string(path).unwrap_or_else(|e| panic!("{}: {e}", path.display()));
+        let mut script = Written { commands: Vec::new(), said: Vec::new() };
+        for line in text.lines().map(str::trim).filter(|line| !line.is_empty()) {
+            if let Some(words) = line.strip_prefix("# -> ") {
+                script.said.push((script.commands.len() - 1, words.into()));
+            } else if !line.starts_with('#') {
+                script.commands.push(command::parse(line).unwrap_or_else(|| panic!("no command: {line}")));
+            }
+        }
+        script
+    }
+
+    fn not_as_said(&self, programs: Option<&Programs>, sides: &[Side]) -> Vec<String> {
+        let mut wrong = Vec::new();
+        for &side in sides.iter().filter(|_| !self.said.is_empty()) {
+            let lines = side.lines(programs, &self.commands);
+            let as_said = |(at, words): &&(usize, String)| format!("{} ", lines[*at]).starts_with(&format!("{words} "));
+            let not = self.said.iter().filter(|said| !as_said(said));
+            wrong.extend(not.map(|(at, words)| format!("{}: {side}: {}, not {words}", self.commands[*at], lines[*at])));
+        }
+        wrong
+    }
 }
 
 fn compare_file(programs: Option<&Programs>, path: &Path) -> bool {
-    let script = read_script(path);
+    let script = Written::read(path).commands;
     for (command, line) in script.iter().zip(Side::DOCUMENT.lines(None, &script)) {
         println!("{command}\n    {line}");
     }
@@ -227,21 +292,29 @@ fn compare_file(programs: Option<&Programs>, path: &Path) -> bool {
 }
 
 /// The scripts in a folder of compare/, in order of their names.
-fn written(root: &Path, folder: &str) -> Vec<Vec<Command>> {
+fn written(root: &Path, folder: &str) -> Vec<Written> {
     let entries = std::fs::read_dir(root.join("compare").join(folder)).expect("a folder of the project");
     let mut paths: Vec<PathBuf> = entries.map(|entry| entry.expect("a file of the project").path()).collect();
     paths.sort();
-    paths.iter().map(|path| read_script(path)).collect()
+    paths.iter().map(|path| Written::read(path)).collect()
 }
 
-/// The stored runs: crates/replay has the written scripts and some seeds inside the domain, answered by the original; crates/replay_damaged has
-/// damaged and cell-bound seeds, answered by the second implementation.
+/// The stored runs: crates/replay has the written scripts and some seeds inside the domain, without what a named difference decides, answered by the
+/// original; crates/replay_damaged has damaged and cell-bound seeds, answered by the second implementation.
 fn store(programs: Option<&Programs>, root: &Path) -> bool {
     let seeds = |domain| STORED_SEEDS.flat_map(move |seed| make::script(seed, STORED_COMMANDS, domain));
-    let inside: Vec<Command> = written(root, "scripts").into_iter().flatten().chain(seeds(Domain::Inside)).collect();
+    let by_hand = written(root, "scripts").into_iter().flat_map(|script| script.commands);
+    let inside: Vec<Command> = by_hand.chain(seeds(Domain::Inside)).collect();
     let outside: Vec<Command> = seeds(Domain::Damaged).chain(seeds(Domain::CellBound)).collect();
-    store_run(programs, root, "replay", Side::Original, &replayed(&inside))
-        && store_run(programs, root, "replay_damaged", Side::DOCUMENT, &replayed(&outside))
+    store_run(programs, root, "replay", Side::Original, &without_named(inside))
+        && store_run(programs, root, "replay_damaged", Side::DOCUMENT, &outside)
+}
+
+/// Leaves out the commands that the original answers otherwise than document 01 says. Inside the domain these are refusals (D2), which change nothing.
+fn without_named(script: Vec<Command>) -> Vec<Command> {
+    let [original, document] = [Side::Original, Side::DOCUMENT].map(|side| side.lines(None, &script));
+    let alike = original.iter().zip(&document).map(|(one, other)| one == other);
+    script.into_iter().zip(alike).filter_map(|(command, alike)| alike.then_some(command)).collect()
 }
 
 fn store_run(programs: Option<&Programs>, root: &Path, name: &str, side: Side, script: &[Command]) -> bool {

@@ -13,7 +13,7 @@ pub enum Domain {
 /// A script of at least so many commands.
 pub fn script(seed: u64, commands: usize, domain: Domain) -> Vec<Command> {
     let mut dice = Dice::new(seed ^ (domain as u64) << 60);
-    let mut script = Vec::new();
+    let mut script = if domain == Domain::Damaged { before_opening(&mut dice) } else { Vec::new() };
     while script.len() < commands {
         let part = match domain {
             Domain::CellBound => dice.of(&[Part::Sets, Part::Eit]),
@@ -29,6 +29,19 @@ pub fn script(seed: u64, commands: usize, domain: Domain) -> Vec<Command> {
         }
     }
     script
+}
+
+/// Commands to collectors that nobody has opened.
+fn before_opening(dice: &mut Dice) -> Vec<Command> {
+    let mut commands = Vec::new();
+    for part in [Part::Sets, Part::Eit] {
+        let table = tables(dice, part == Part::Eit).remove(0);
+        let section = table.section(0, 0, part == Part::Eit, 4096);
+        commands.push(Command::Push { part, pid: table.pid, section });
+        commands.push(Command::Clear { part });
+    }
+    commands.push(Command::Drop(Filter::default()));
+    commands
 }
 
 /// Whether there were cells enough: a run that would have needed more is outside the domain.
@@ -404,7 +417,7 @@ fn collector_run(dice: &mut Dice, length: usize, domain: Domain, part: Part) -> 
     let limit = dice.of(&[0, 1, 1, 2, 2, 3, 4, 5, 8, 16, 64]);
     let (cells, size) = match domain {
         Domain::CellBound => (dice.of(&[0, 1, 2, 3, 5, 8, 13, 40, 60]), dice.of(&[12, 18, 30, 64, 200, 4096])),
-        _ => dice.of(&[(64, 4096), (512, 512), (2048, 128), (2048, 128)]),
+        _ => dice.of(&[(256, 4096), (512, 512), (2048, 128), (8192, 128)]),
     };
     // The largest section that the sender makes; a cell-bound run has some that no cell takes.
     let largest = if domain == Domain::CellBound { 64.max(usize::from(size)) } else { usize::from(size) };
@@ -450,7 +463,7 @@ fn collector_run(dice: &mut Dice, length: usize, domain: Domain, part: Part) -> 
             run.push(Command::Drop(filter(dice, &tables, domain)));
         }
         if domain == Domain::Damaged && dice.once_in(200) {
-            let (limit, cells, size) = dice.of(&[(65, 1, 12), (1, 65, 4096), (1, 1, 11), (1, 1, 4097)]);
+            let (limit, cells, size) = dice.of(&[(65, 1, 12), (1, 257, 4096), (1, 1, 11), (1, 1, 4097)]);
             run.push(Command::Open { part, limit, cells, size });
         }
     }

@@ -1,17 +1,10 @@
 //! Which two implementations are compared, and the smallest script that tells two apart.
-use crate::command::{Command, Part, tape_of};
+use crate::command::{Command, tape_of};
 use crate::faults::Fault;
 use crate::original::Original;
 use crate::program::Programs;
 use crate::second::{Reading, Second};
 use std::fmt::{self, Display};
-
-/// The parts whose commands `replay` knows.
-const REPLAYED: &[Part] = &[Part::Gate, Part::Sets];
-
-pub fn replayed(script: &[Command]) -> Vec<Command> {
-    script.iter().filter(|command| REPLAYED.contains(&command.part())).cloned().collect()
-}
 
 #[derive(Clone, Copy, Debug, PartialEq, Eq)]
 pub enum Side {

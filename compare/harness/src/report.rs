@@ -1,7 +1,6 @@
 //! What was compared.
 use crate::command::Command;
 use crate::make::Domain;
-use crate::pairs::replayed;
 use crate::second::{Difference, Reading, Second};
 use std::collections::BTreeMap;
 use std::fmt::{self, Display};
@@ -28,11 +27,16 @@ impl Report {
             }
         }
         if with_replay {
-            self.replayed += replayed(script).len();
+            self.replayed += script.len();
         }
         for (all, met) in self.met.iter_mut().zip(second.reading.met) {
             *all += met;
         }
+    }
+
+    /// How often a number of document 01's table was answered, by whatever part.
+    pub fn answered(&self, number: u8) -> usize {
+        self.answers.iter().filter(|((_, n), _)| *n == number).map(|(_, count)| count).sum()
     }
 
     /// Inside the domain only D2 can be met.
@@ -52,5 +56,23 @@ impl Display for Report {
         let met: Vec<String> =
             Difference::ALL.iter().map(|&difference| format!("{} {}", difference.name(), self.met[difference as usize])).collect();
         writeln!(f, "  named differences from the original met: {}", met.join(", "))
+    }
+}
+
+/// How often each number of document 01's table was answered.
+#[derive(Default)]
+pub struct Answered([usize; 24]);
+
+impl Answered {
+    pub fn add(&mut self, report: &Report) {
+        for (number, count) in self.0.iter_mut().enumerate() {
+            *count += report.answered(number as u8);
+        }
+    }
+}
+
+impl Display for Answered {
+    fn fmt(&self, f: &mut fmt::Formatter<'_>) -> fmt::Result {
+        self.0.iter().enumerate().skip(1).try_for_each(|(number, count)| writeln!(f, "  answer {number}: {count}"))
     }
 }

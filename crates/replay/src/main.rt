@@ -1,4 +1,4 @@
 // Replays the tape on standard input (crates/tape says what a tape is).
 fn main() {
-    tape::run();
+    player::run();
 }

@@ -1,25 +1,15 @@
 // The lines that a replay prints.
-use gate::Counters;
 use libc::STDOUT_FILENO;
 ghost use mathlib.Core.Path.{_≡_};
 ghost use Prim.Native.Nat.{_+_, _≤_};
 ghost use lib.ListN.{length};
 
-// v in decimal.
-fn number(line: &mut [u8], at: usize, v: u64) -> usize
+// v in decimal, which takes at most twenty digits.
+pub fn number(line: &mut [u8], at: usize, v: u64) -> usize
     requires { ⌜ at + 20 ≤ length (now line) ⌝ }
     ensures { λ r. ⌜ r ≤ at + 20 ⌝ }
 {
     text::put_dec(line, at, v)
-}
-
-// A space and v in decimal.
-fn next_number(line: &mut [u8], at: usize, v: u64) -> usize
-    requires { ⌜ at + 21 ≤ length (now line) ⌝ }
-    ensures { λ r. ⌜ r ≤ at + 21 ⌝ }
-{
-    let n = text::put(line, at, b" ");
-    number(line, n, v)
 }
 
 // Words as they stand.
@@ -118,25 +108,4 @@ pub fn say_section(section: &[u8]) {
         say(b" ");
         write_section(&mut line, section);
     }
-}
-
-// The line of a section that the gate judged: the answer's number and the five counters.
-pub fn say_offered(answer: u8, c: Counters) {
-    let mut line = [0u8; 136];
-    let w = text::put(&mut line, 0, b"gate ");
-    let n = number(&mut line, w, answer as u64);
-    let end = put_counters(&mut line, n, c);
-    io::write_all(STDOUT_FILENO, &line[0..end]);
-}
-
-fn put_counters(line: &mut [u8], at: usize, c: Counters) -> usize
-    requires { ⌜ at + 106 ≤ length (now line) ⌝ }
-    ensures { λ r. ⌜ r ≤ at + 106 ⌝ }
-{
-    let a = next_number(line, at, c.completed);
-    let b = next_number(line, a, c.emitted);
-    let d = next_number(line, b, c.suppressed);
-    let e = next_number(line, d, c.crc_failures);
-    let f = next_number(line, e, c.evictions);
-    text::put(line, f, b"\n")
 }

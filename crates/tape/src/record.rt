@@ -1,4 +1,5 @@
 // The parts of a command, read from standard input into a lent buffer.
+use crate::lines;
 use libc::STDIN_FILENO;
 use section::ids::MaybePid;
 ghost use mathlib.Core.Path.{_≡_};
@@ -62,16 +63,49 @@ pub fn extra(s: &[u8], out: &mut [u16])
     }
 }
 
-// No command: the tape has ended.
+// No command: the tape has ended, or the run.
 pub const END: usize = 256;
 
+// Where a run stands: the first byte of the command that is next, END where there is none, and its place on the tape.
+pub struct Reached {
+    pub command: usize,
+    pub place: u64,
+}
+
 // The first byte of a command.
-pub fn command() -> usize {
+fn command() -> usize {
     let mut first = [0u8; 1];
     if fill(&mut first) {
         wide(first[0])
     } else {
         END
+    }
+}
+
+pub fn first() -> Reached {
+    Reached {
+        command: command(),
+        place: 0,
+    }
+}
+
+// The run is over.
+pub fn over(place: u64) -> Reached {
+    Reached {
+        command: END,
+        place,
+    }
+}
+
+// After a command of so many bytes, none where the tape ended inside it. The place is only told, so it may wrap: no tape has 2^64 bytes.
+pub fn after(place: u64, read: u64) -> Reached {
+    if read == 0 {
+        lines::say(b"cut\n");
+        return over(place);
+    }
+    Reached {
+        command: command(),
+        place: std::num::wrapping_add_u64(place, read),
     }
 }
 
@@ -96,6 +130,14 @@ pub fn collector(buf: &mut [u8]) -> bool
     requires { ⌜ 65539 ≡ length (now buf) ⌝ }
 {
     fill(&mut buf[0..6])
+}
+
+// Reads the filter of a drop to the start of the buffer: a mask, a PID, a kind, service_id, transport_stream_id, original_network_id and
+// current_next. False where the tape ends first.
+pub fn filter(buf: &mut [u8]) -> bool
+    requires { ⌜ 65539 ≡ length (now buf) ⌝ }
+{
+    fill(&mut buf[0..11])
 }
 
 // A PID as a tape gives it to a collector.

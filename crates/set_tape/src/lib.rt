@@ -1,23 +1,28 @@
 // The set collector's commands.
-use crate::lines;
-use crate::record;
 use section::ids::MaybePid;
 use sets::OpenAnswer;
 use sets::Opened;
 use sets::PushAnswer;
 use sets::Sets;
+use tape::lines;
+use tape::record;
+use tape::record::Reached;
 ghost use mathlib.Core.Path.{_≡_};
 ghost use Prim.Native.Nat.{_<_};
 ghost use lib.ListN.{length};
 
-// The collector after a command, and how many bytes the command had: 0 where the tape ended inside it.
-pub struct Done {
-    pub read: u64,
+// The collector after a command, and where the run stands.
+pub struct Left {
+    pub reached: Reached,
     pub sets: Sets,
 }
 
-fn leave(read: u64, sets: Sets) -> Done {
-    Done { read, sets }
+// After a command of so many bytes, none where the tape ended inside it.
+fn leave(place: u64, read: u64, sets: Sets) -> Left {
+    Left {
+        reached: record::after(place, read),
+        sets,
+    }
 }
 
 // No collector is open: it would have more keys than anyone can lend, so every call answers 10.
@@ -31,67 +36,85 @@ pub fn none() -> Sets {
     }
 }
 
-// One of the collector's commands, whose first byte has been read.
+// Whether a command is the collector's.
+pub fn knows(command: usize) -> bool {
+    (0x20 <= command) & (command <= 0x22)
+}
+
+// Carries out a command of the collector, whose first byte has been read.
 pub fn turn(
-    command: usize,
+    at: Reached,
     sets: Sets,
     heads: &mut [u64],
     slots: &mut [u32],
     cells: &mut [u8],
     buf: &mut [u8],
-) -> Done
+) -> Left
     requires { ⌜ (65539 ≡ length (now buf)) × (768 ≡ length (now heads)) ⌝ }
 {
+    let command = at.command;
+    let place = at.place;
     match command {
-        0x20 => open(sets, heads, slots, cells, buf),
-        0x21 => push(sets, heads, slots, cells, buf),
-        _ => clear(sets, heads, slots, cells),
+        0x20 => open(place, sets, heads, slots, cells, buf),
+        0x21 => push(place, sets, heads, slots, cells, buf),
+        _ => clear(place, sets, heads, slots, cells),
     }
 }
 
-fn open(sets: Sets, heads: &[u64], slots: &[u32], cells: &[u8], buf: &mut [u8]) -> Done
+fn open(place: u64, sets: Sets, heads: &[u64], slots: &[u32], cells: &[u8], buf: &mut [u8]) -> Left
     requires { ⌜ 65539 ≡ length (now buf) ⌝ }
 {
     if !record::collector(buf) {
-        return leave(0, sets);
+        return leave(place, 0, sets);
     }
     let limit = record::word(buf, 0) as usize;
     let count = record::word(buf, 2) as usize;
     let size = record::word(buf, 4) as usize;
-    told(sets, sets::open(limit, size, count, heads, slots, cells))
+    told(
+        place,
+        sets,
+        sets::open(limit, size, count, heads, slots, cells),
+    )
 }
 
 // A refused opening leaves what was open.
-fn told(sets: Sets, opened: Opened) -> Done {
+fn told(place: u64, sets: Sets, opened: Opened) -> Left {
     let answer = opened.answer;
     lines::say_answer(b"sets ", answer.number());
     match answer {
         OpenAnswer::Opened => {
             let begun = opened.sets;
-            leave(7, begun)
+            leave(place, 7, begun)
         }
-        OpenAnswer::TooLittle => leave(7, sets),
+        OpenAnswer::TooLittle => leave(place, 7, sets),
     }
 }
 
-fn clear(sets: Sets, heads: &[u64], slots: &[u32], cells: &[u8]) -> Done {
+fn clear(place: u64, sets: Sets, heads: &[u64], slots: &[u32], cells: &[u8]) -> Left {
     let cleared = sets::clear(sets, heads, slots, cells);
     let answer = cleared.answer;
     let then = cleared.sets;
     lines::say_answer(b"sets ", answer.number());
-    leave(1, then)
+    leave(place, 1, then)
 }
 
-fn push(sets: Sets, heads: &mut [u64], slots: &mut [u32], cells: &mut [u8], buf: &mut [u8]) -> Done
+fn push(
+    place: u64,
+    sets: Sets,
+    heads: &mut [u64],
+    slots: &mut [u32],
+    cells: &mut [u8],
+    buf: &mut [u8],
+) -> Left
     requires { ⌜ (65539 ≡ length (now buf)) × (768 ≡ length (now heads)) ⌝ }
 {
     let end = record::section(buf);
     if end < 4 {
-        return leave(0, sets);
+        return leave(place, 0, sets);
     }
     let pid = record::maybe_pid(record::word(buf, 0));
     let then = collect(sets, heads, slots, cells, pid, &buf[4..end]);
-    leave(1 + end as u64, then)
+    leave(place, 1 + end as u64, then)
 }
 
 // Pushes a section, and says the answer, the counts, and the set that went out.

@@ -1,20 +1,20 @@
--- `tape::set_turns::sections` ends: a set has at most 256 sections, and each turn passes one.
+-- `eit_tape::out::sections` ends: a set has at most 256 sections, and each turn passes one.
 use borrow.Author.Needs.{needs}
 use Prim.Native.Nat.{_≤_}
-use Rattle.tape.proofs.set_turns.sections.Statement.{statement}
-use Rattle.tape.proofs.set_turns.sections.Tie as tie
+use Rattle.eit_tape.proofs.out.sections.Statement.{statement}
+use Rattle.eit_tape.proofs.out.sections.Tie as tie
 
 abbrev Inv-loop : tie.InvT-loop
-Inv-loop sets heads slots cells row say from₀ left₀ from left = left ≤ 256
+Inv-loop eit heads slots cells «schedule_heads» units whose say from₀ left₀ from left = left ≤ 256
 
 abbrev μ-loop : tie.MeasureT-loop
-μ-loop sets heads slots cells row say from₀ left₀ from left = left
+μ-loop eit heads slots cells «schedule_heads» units whose say from₀ left₀ from left = left
 
 loop-holds : tie.Need-loop-holds Inv-loop μ-loop
 loop-holds c = search needs
 
-next-section-requires : tie.Need-next-section-requires Inv-loop μ-loop
-next-section-requires c κs = search needs
+next-requires : tie.Need-next-requires Inv-loop μ-loop
+next-requires c κs = search needs
 
 number-requires : tie.Need-number-requires Inv-loop μ-loop
 number-requires c κs = search needs
@@ -53,7 +53,7 @@ sections-spec =
     Inv-loop
     μ-loop
     loop-holds
-    next-section-requires
+    next-requires
     number-requires
     sub-result
     returns

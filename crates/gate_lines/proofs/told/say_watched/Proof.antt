@@ -1,9 +1,9 @@
--- `tape::gate_turns::say_watched` ends with PID 8191.
+-- `gate_lines::told::say_watched` ends with PID 8191.
 use borrow.Author.Needs.{needs}
 use native.Mathlib.Omega.{arith}
 use Prim.Native.Nat.{_≤_, _-_}
-use Rattle.tape.proofs.gate_turns.say_watched.Statement.{statement}
-use Rattle.tape.proofs.gate_turns.say_watched.Tie as tie
+use Rattle.gate_lines.proofs.told.say_watched.Statement.{statement}
+use Rattle.gate_lines.proofs.told.say_watched.Tie as tie
 
 abbrev Inv-loop : tie.InvT-loop
 Inv-loop words pid₀ t4 pid = pid ≤ 8192
