@@ -1,11 +1,9 @@
--- One law for each way out of a function, and what words stay as they were.
+-- One law for each way out of a function.
 -- Assumes nothing.
 use Prim.Native.Nat.{ℕ, _<_, _≤_}
-use mathlib.Core.Path.{_≡_, refl, sym, ap, _∙_}
+use mathlib.Core.Path.{_≡_}
 use mathlib.Core.List.{List, [], _∷_}
-use lib.ListN.{length}
 use borrow.Author.Tests.{lt-ltb, le-ltb, eq-eqb, ne-eqb}
-use Rattle.section.specs.declared.ids.MaybePid.{MaybePid}
 use Rattle.section.specs.declared.ids.MaybePid.the-variants as maybe
 use Rattle.watched.specs.declared.Opening.{Opening}
 use Rattle.watched.specs.declared.Opening.the-variants.{Opened}
@@ -24,10 +22,20 @@ use Rattle.eit.specs.declared.WantedPid.{WantedPid}
 use Rattle.eit.specs.declared.WantedPid.the-variants as wanted-pid
 use Rattle.eit.specs.declared.PushAnswer as eit-push
 use Rattle.eit.specs.declared.PushAnswer.the-variants as eit-answer
+use Rattle.abi.specs.Answers.{words, pushes}
+use Rattle.abi.specs.declared.gates.Held.{Held}
 use Rattle.abi.specs.Pids.{pidNumber, maybePid}
-use Rattle.abi.specs.Gates.{at, wordsOf, wordsOpened}
+use Rattle.abi.specs.Gates.{at, gateOf, countersOf, heldIn, wordsOf, wordsOpened}
 use Rattle.abi.specs.Collectors as collectors
 use Rattle.abi.specs.Eits as eits
+
+-- ---- what is handed to the host
+
+pub words-are : (r n : ℕ) (w v : List ℕ) → r ≡ n → w ≡ v → words r w ≡ words n v
+words-are r n w v e f = λ i. record { answer = e i; now = f i }
+
+pub pushes-are : (r n : ℕ) (w v x y : List ℕ) → r ≡ n → w ≡ v → x ≡ y → pushes r w x ≡ pushes n v y
+pushes-are r n w v x y e f g = λ i. record { answer = e i; now = f i; row = g i }
 
 -- ---- PIDs
 
@@ -45,6 +53,9 @@ module _ (pid : ℕ) where
   pid-some n h e = rw (ne-eqb pid 0xFFFF_FFFF h, e)
 
 -- ---- a gate's words
+
+pub held-are : (w : List ℕ) (g : Gate) (c : Counters) → g ≡ gateOf w → c ≡ countersOf w → _≡_ {A = Held} (record { gate = g; counters = c }) (heldIn w)
+held-are w g c e f = λ i. record { gate = e i; counters = f i }
 
 pub all-written : (a : Opening) (g : Gate) (c : Counters) (w ws : List ℕ) → a ≡ Opened → ws ≡ wordsOf g c → ws ≡ wordsOpened a g c w
 all-written a g c w ws h e = rw h e

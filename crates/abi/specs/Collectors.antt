@@ -2,12 +2,17 @@
 -- section that a question tells of.
 use Prim.Native.Nat.{ℕ}
 use mathlib.Core.List.{List, [], _∷_}
+use Rattle.sets.specs.Store.{openNumber, pushNumber, clearNumber, nextNumber}
 use Rattle.sets.specs.declared.Sets.{Sets}
 use Rattle.sets.specs.declared.OpenAnswer.{OpenAnswer}
 use Rattle.sets.specs.declared.OpenAnswer.the-variants as open-answer
 use Rattle.sets.specs.declared.PushAnswer.{PushAnswer}
 use Rattle.sets.specs.declared.PushAnswer.the-variants.{Nothing, Set, NotWhole, CounterFull, PidTooLarge, Malformed, ShortForm, BadNumber, BadCrc, TooLong, NoCell, Conflict}
+use Rattle.sets.specs.declared.Opened.{Opened}
+use Rattle.sets.specs.declared.Pushed.{Pushed}
+use Rattle.sets.specs.declared.Cleared.{Cleared}
 use Rattle.sets.specs.declared.Next.{Next}
+use Rattle.abi.specs.Answers.{Words, words, Pushes, pushes}
 use Rattle.abi.specs.Gates.{at}
 
 abbrev pub setsOf : List ℕ → Sets
@@ -41,6 +46,16 @@ rowBy TooLong row = row
 rowBy NoCell row = row
 rowBy Conflict row = row
 
+-- what each call hands to the host
+abbrev pub tellsOpened : Opened → List ℕ → Words
+tellsOpened o w = words (openNumber (o .answer)) (wordsOpened (o .answer) (o .sets) w)
+
+abbrev pub tellsPushed : Pushed → List ℕ → List ℕ → Pushes
+tellsPushed o w row = pushes (pushNumber (o .answer)) (wordsAfter w (o .sets)) (rowBy (o .answer) row)
+
+abbrev pub tellsCleared : Cleared → List ℕ → Words
+tellsCleared o w = words (clearNumber (o .answer)) (wordsAfter w (o .sets))
+
 -- number, start and length, all 0 where there is no section
-abbrev pub nextWords : Next → List ℕ
-nextWords n = n .number ∷ n .start ∷ n .length ∷ []
+abbrev pub tellsNext : Next → Words
+tellsNext n = words (nextNumber (n .answer)) (n .number ∷ n .start ∷ n .length ∷ [])

@@ -4,16 +4,23 @@ use Prim.Native.Nat.{ℕ}
 use mathlib.Core.List.{List, [], _∷_}
 use mathlib.Core.Bool.{cond}
 use lib.Dec.{eqb}
+use Rattle.sets.specs.Store.{openNumber, clearNumber}
 use Rattle.sets.specs.declared.OpenAnswer.{OpenAnswer}
 use Rattle.sets.specs.declared.OpenAnswer.the-variants as open-answer
 use Rattle.drops.specs.declared.Wanted.{Wanted}
 use Rattle.drops.specs.declared.Wanted.the-variants as wanted
+use Rattle.eit.specs.Store.{pushNumber, dropNumber}
 use Rattle.eit.specs.declared.Eit.{Eit}
+use Rattle.eit.specs.declared.Opened.{Opened}
+use Rattle.eit.specs.declared.Pushed.{Pushed}
+use Rattle.eit.specs.declared.Cleared.{Cleared}
+use Rattle.eit.specs.declared.Dropped.{Dropped}
 use Rattle.eit.specs.declared.Filter.{Filter}
 use Rattle.eit.specs.declared.WantedPid.{WantedPid}
 use Rattle.eit.specs.declared.WantedPid.the-variants as wanted-pid
 use Rattle.eit.specs.declared.PushAnswer.{PushAnswer}
 use Rattle.eit.specs.declared.PushAnswer.the-variants.{Nothing, Set, Schedule, NotWhole, CounterFull, PidTooLarge, Malformed, ShortForm, BadNumber, BadCrc, NotEit, Broken, TooLong, NoCell, Conflict, Range}
+use Rattle.abi.specs.Answers.{Words, words, Pushes, pushes}
 use Rattle.abi.specs.Pids.{pidNumber}
 use Rattle.abi.specs.Gates.{at}
 
@@ -63,6 +70,19 @@ rowBy TooLong row = row
 rowBy NoCell row = row
 rowBy Conflict row = row
 rowBy Range row = row
+
+-- what each call hands to the host
+abbrev pub tellsOpened : Opened → List ℕ → Words
+tellsOpened o w = words (openNumber (o .answer)) (wordsOpened (o .answer) (o .eit) w)
+
+abbrev pub tellsPushed : Pushed → List ℕ → List ℕ → Pushes
+tellsPushed o w row = pushes (pushNumber (o .answer)) (wordsAfter w (o .eit)) (rowBy (o .answer) row)
+
+abbrev pub tellsCleared : Cleared → List ℕ → Words
+tellsCleared o w = words (clearNumber (o .answer)) (wordsAfter w (o .eit))
+
+abbrev pub tellsDropped : Dropped → List ℕ → Words
+tellsDropped o w = words (dropNumber (o .answer)) (wordsAfter w (o .eit))
 
 -- ---- a filter: 0 pid, 1 kind, 2 service_id, 3 transport_stream_id, 4 original_network_id, 5 current_next
 

@@ -5,11 +5,17 @@ use mathlib.Core.List.{List, [], _∷_}
 use mathlib.Core.Bool.{Bool, cond, not}
 use lib.ListN.{getD}
 use lib.Dec.{eqb}
+use Rattle.watched.specs.Store.{openingNo}
 use Rattle.watched.specs.declared.Opening.{Opening}
-use Rattle.watched.specs.declared.Opening.the-variants.{Opened, BadPid, TooLittle}
+use Rattle.watched.specs.declared.Opening.the-variants as opening
+use Rattle.gate.specs.Store.{answerNo}
 use Rattle.gate.specs.declared.Settings.{Settings}
 use Rattle.gate.specs.declared.Gate.{Gate}
 use Rattle.gate.specs.declared.Counters.{Counters}
+use Rattle.gate.specs.declared.Opened.{Opened}
+use Rattle.gate.specs.declared.Offered.{Offered}
+use Rattle.abi.specs.Answers.{Words, words}
+use Rattle.abi.specs.declared.gates.Held.{Held}
 
 -- bit 1 repeats, 2 follow, 4 the well-known PIDs; other bits are not looked at
 abbrev pub settingsOf : ℕ → ℕ → Settings
@@ -29,6 +35,9 @@ gateOf w = record { ring = record { capacity = at w 0; used = at w 3; first = at
 abbrev pub countersOf : List ℕ → Counters
 countersOf w = record { completed = at w 5; emitted = at w 6; suppressed = at w 7; «crc_failures» = at w 8; evictions = at w 9 }
 
+abbrev pub heldIn : List ℕ → Held
+heldIn w = record { gate = gateOf w; counters = countersOf w }
+
 abbrev pub bit : Bool → ℕ
 bit on = cond on 1 0
 
@@ -47,6 +56,13 @@ wordsAfter w g c = at w 0 ∷ at w 1 ∷ at w 2 ∷ countsOf g c
 
 -- an opening that answers 7 writes all ten, a refused one none
 abbrev pub wordsOpened : Opening → Gate → Counters → List ℕ → List ℕ
-wordsOpened Opened g c w = wordsOf g c
-wordsOpened BadPid g c w = w
-wordsOpened TooLittle g c w = w
+wordsOpened opening.Opened g c w = wordsOf g c
+wordsOpened opening.BadPid g c w = w
+wordsOpened opening.TooLittle g c w = w
+
+-- what an opening and an offer hand to the host
+abbrev pub tellsOpened : Opened → List ℕ → Words
+tellsOpened o w = words (openingNo (o .answer)) (wordsOpened (o .answer) (o .gate) (o .counters) w)
+
+abbrev pub tellsOffered : Offered → List ℕ → Words
+tellsOffered o w = words (answerNo (o .answer)) (wordsAfter w (o .gate) (o .counters))

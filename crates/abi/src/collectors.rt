@@ -1,11 +1,15 @@
 // The five words of a set collector: 0 limit, 1 size, 2 count, 3 used, 4 evictions; the word of a row that goes out; and the three words of a
 // section that a question tells of: 0 number, 1 start, 2 length.
+use sets::Cleared;
 use sets::Next;
 use sets::OpenAnswer;
+use sets::Opened;
 use sets::PushAnswer;
+use sets::Pushed;
 use sets::Sets;
 ghost use mathlib.Core.Path.{_≡_};
-ghost use Rattle.abi.specs.Collectors.{setsOf, wordsOf, wordsOpened, wordsAfter, rowBy, nextWords};
+ghost use Rattle.abi.specs.Answers.{words, pushes};
+ghost use Rattle.abi.specs.Collectors.{setsOf, wordsOf, wordsOpened, wordsAfter, rowBy, tellsOpened, tellsPushed, tellsCleared, tellsNext};
 
 pub fn sets(words: &[u64; 5]) -> Sets
     ensures { λ r. ⌜ r ≡ setsOf (now (words .entry)) ⌝ }
@@ -33,7 +37,7 @@ fn write(words: &mut [u64; 5], sets: Sets)
 }
 
 // A collector that was opened writes all five; a refused opening none.
-pub fn write_opened(words: &mut [u64; 5], answer: OpenAnswer, sets: Sets)
+fn write_where(words: &mut [u64; 5], answer: OpenAnswer, sets: Sets)
     ensures { λ _. ⌜ now (words .exit) ≡ wordsOpened answer sets (now (words .entry)) ⌝ }
 {
     match answer {
@@ -43,7 +47,7 @@ pub fn write_opened(words: &mut [u64; 5], answer: OpenAnswer, sets: Sets)
 }
 
 // The counts: no call but opening changes the settings.
-pub fn write_counts(words: &mut [u64; 5], sets: Sets)
+fn write_counts(words: &mut [u64; 5], sets: Sets)
     ensures { λ _. ⌜ now (words .exit) ≡ wordsAfter (now (words .entry)) sets ⌝ }
 {
     *words = [
@@ -56,7 +60,7 @@ pub fn write_counts(words: &mut [u64; 5], sets: Sets)
 }
 
 // The row of a set that goes out. Any other answer leaves the word as it was.
-pub fn write_row(row: &mut [u64; 1], answer: PushAnswer)
+fn write_row(row: &mut [u64; 1], answer: PushAnswer)
     ensures { λ _. ⌜ now (row .exit) ≡ rowBy answer (now (row .entry)) ⌝ }
 {
     match answer {
@@ -75,9 +79,39 @@ pub fn write_row(row: &mut [u64; 1], answer: PushAnswer)
     }
 }
 
-// The section that a question told of; all 0 where it told of none.
-pub fn write_next(words: &mut [u64; 3], next: Next)
-    ensures { λ _. ⌜ now (words .exit) ≡ nextWords next ⌝ }
+// Writes what an opening leaves in the words, and gives its number.
+pub fn write_opened(sets: &mut [u64; 5], opened: Opened) -> u8
+    ensures { λ r. ⌜ words r (now (sets .exit)) ≡ tellsOpened opened (now (sets .entry)) ⌝ }
 {
-    *words = [next.number as u64, next.start as u64, next.length as u64];
+    let answer = opened.answer;
+    write_where(sets, answer, opened.sets);
+    answer.number()
+}
+
+// Writes what a push leaves in the words, and gives its number.
+pub fn write_pushed(sets: &mut [u64; 5], row: &mut [u64; 1], pushed: Pushed) -> u8
+    ensures { λ r. ⌜ pushes r (now (sets .exit)) (now (row .exit)) ≡ tellsPushed pushed (now (sets .entry)) (now (row .entry)) ⌝ }
+{
+    let answer = pushed.answer;
+    write_counts(sets, pushed.sets);
+    write_row(row, answer);
+    answer.number()
+}
+
+// Writes what a clearing leaves in the words, and gives its number.
+pub fn write_cleared(sets: &mut [u64; 5], cleared: Cleared) -> u8
+    ensures { λ r. ⌜ words r (now (sets .exit)) ≡ tellsCleared cleared (now (sets .entry)) ⌝ }
+{
+    let answer = cleared.answer;
+    write_counts(sets, cleared.sets);
+    answer.number()
+}
+
+// Writes the section that a question told of, all 0 where it told of none, and gives the answer's number.
+pub fn write_next(section: &mut [u64; 3], next: Next) -> u8
+    ensures { λ r. ⌜ words r (now (section .exit)) ≡ tellsNext next ⌝ }
+{
+    let answer = next.answer;
+    *section = [next.number as u64, next.start as u64, next.length as u64];
+    answer.number()
 }

@@ -2,13 +2,18 @@
 // goes out; and the six words of a filter: 0 pid, 1 kind, 2 service_id, 3 transport_stream_id, 4 original_network_id, 5 current_next.
 use crate::pids;
 use drops::Wanted;
+use eit::Cleared;
+use eit::Dropped;
 use eit::Eit;
 use eit::Filter;
+use eit::Opened;
 use eit::PushAnswer;
+use eit::Pushed;
 use eit::WantedPid;
 use sets::OpenAnswer;
 ghost use mathlib.Core.Path.{_≡_};
-ghost use Rattle.abi.specs.Eits.{eitOf, wordsOf, wordsOpened, wordsAfter, rowBy, wantedOf, wantedPidOf, filterOf};
+ghost use Rattle.abi.specs.Answers.{words, pushes};
+ghost use Rattle.abi.specs.Eits.{eitOf, wordsOf, wordsOpened, wordsAfter, rowBy, tellsOpened, tellsPushed, tellsCleared, tellsDropped, wantedOf, wantedPidOf, filterOf};
 
 // A field of a filter that is free: all 64 bits set.
 const FREE: u64 = 18446744073709551615;
@@ -43,7 +48,7 @@ fn write(words: &mut [u64; 7], eit: Eit)
 }
 
 // A collector that was opened writes all seven; a refused opening none.
-pub fn write_opened(words: &mut [u64; 7], answer: OpenAnswer, eit: Eit)
+fn write_where(words: &mut [u64; 7], answer: OpenAnswer, eit: Eit)
     ensures { λ _. ⌜ now (words .exit) ≡ wordsOpened answer eit (now (words .entry)) ⌝ }
 {
     match answer {
@@ -53,7 +58,7 @@ pub fn write_opened(words: &mut [u64; 7], answer: OpenAnswer, eit: Eit)
 }
 
 // The counts: no call but opening changes the settings.
-pub fn write_counts(words: &mut [u64; 7], eit: Eit)
+fn write_counts(words: &mut [u64; 7], eit: Eit)
     ensures { λ _. ⌜ now (words .exit) ≡ wordsAfter (now (words .entry)) eit ⌝ }
 {
     *words = [
@@ -68,7 +73,7 @@ pub fn write_counts(words: &mut [u64; 7], eit: Eit)
 }
 
 // The row of a set or a schedule that goes out. Any other answer leaves the word as it was.
-pub fn write_row(row: &mut [u64; 1], answer: PushAnswer)
+fn write_row(row: &mut [u64; 1], answer: PushAnswer)
     ensures { λ _. ⌜ now (row .exit) ≡ rowBy answer (now (row .entry)) ⌝ }
 {
     match answer {
@@ -89,6 +94,43 @@ pub fn write_row(row: &mut [u64; 1], answer: PushAnswer)
         PushAnswer::Conflict => {}
         PushAnswer::Range => {}
     }
+}
+
+// Writes what an opening leaves in the words, and gives its number.
+pub fn write_opened(eit: &mut [u64; 7], opened: Opened) -> u8
+    ensures { λ r. ⌜ words r (now (eit .exit)) ≡ tellsOpened opened (now (eit .entry)) ⌝ }
+{
+    let answer = opened.answer;
+    write_where(eit, answer, opened.eit);
+    answer.number()
+}
+
+// Writes what a push leaves in the words, and gives its number.
+pub fn write_pushed(eit: &mut [u64; 7], row: &mut [u64; 1], pushed: Pushed) -> u8
+    ensures { λ r. ⌜ pushes r (now (eit .exit)) (now (row .exit)) ≡ tellsPushed pushed (now (eit .entry)) (now (row .entry)) ⌝ }
+{
+    let answer = pushed.answer;
+    write_counts(eit, pushed.eit);
+    write_row(row, answer);
+    answer.number()
+}
+
+// Writes what a clearing leaves in the words, and gives its number.
+pub fn write_cleared(eit: &mut [u64; 7], cleared: Cleared) -> u8
+    ensures { λ r. ⌜ words r (now (eit .exit)) ≡ tellsCleared cleared (now (eit .entry)) ⌝ }
+{
+    let answer = cleared.answer;
+    write_counts(eit, cleared.eit);
+    answer.number()
+}
+
+// Writes what a drop leaves in the words, and gives its number.
+pub fn write_dropped(eit: &mut [u64; 7], dropped: Dropped) -> u8
+    ensures { λ r. ⌜ words r (now (eit .exit)) ≡ tellsDropped dropped (now (eit .entry)) ⌝ }
+{
+    let answer = dropped.answer;
+    write_counts(eit, dropped.eit);
+    answer.number()
 }
 
 fn wanted(word: u64) -> Wanted

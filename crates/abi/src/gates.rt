@@ -2,11 +2,20 @@
 // 8 crc_failures, 9 evictions.
 use gate::Counters;
 use gate::Gate;
+use gate::Offered;
+use gate::Opened;
 use gate::Settings;
 use ring::Ring;
 use watched::Opening;
 ghost use mathlib.Core.Path.{_≡_};
-ghost use Rattle.abi.specs.Gates.{settingsOf, gateOf, countersOf, bit, wordsOf, wordsAfter, wordsOpened};
+ghost use Rattle.abi.specs.Answers.{words};
+ghost use Rattle.abi.specs.Gates.{settingsOf, gateOf, countersOf, heldIn, bit, wordsOf, wordsAfter, wordsOpened, tellsOpened, tellsOffered};
+
+// What the words hold.
+pub struct Held {
+    pub gate: Gate,
+    pub counters: Counters,
+}
 
 // Settings as bits: 1 repeats, 2 follow, 4 well-known PIDs. Other bits are not looked at.
 pub fn settings(capacity: u64, bits: u32) -> Settings
@@ -20,7 +29,7 @@ pub fn settings(capacity: u64, bits: u32) -> Settings
     }
 }
 
-pub fn gate(words: &[u64; 10]) -> Gate
+fn gate(words: &[u64; 10]) -> Gate
     ensures { λ r. ⌜ r ≡ gateOf (now (words .entry)) ⌝ }
 {
     Gate {
@@ -34,7 +43,7 @@ pub fn gate(words: &[u64; 10]) -> Gate
     }
 }
 
-pub fn counters(words: &[u64; 10]) -> Counters
+fn counters(words: &[u64; 10]) -> Counters
     ensures { λ r. ⌜ r ≡ countersOf (now (words .entry)) ⌝ }
 {
     Counters {
@@ -43,6 +52,15 @@ pub fn counters(words: &[u64; 10]) -> Counters
         suppressed: words[7],
         crc_failures: words[8],
         evictions: words[9],
+    }
+}
+
+pub fn read(words: &[u64; 10]) -> Held
+    ensures { λ r. ⌜ r ≡ heldIn (now (words .entry)) ⌝ }
+{
+    Held {
+        gate: gate(words),
+        counters: counters(words),
     }
 }
 
@@ -73,7 +91,7 @@ fn write(words: &mut [u64; 10], gate: Gate, counters: Counters)
 }
 
 // A gate that was opened writes all ten; a refused opening none.
-pub fn write_opened(words: &mut [u64; 10], answer: Opening, gate: Gate, counters: Counters)
+fn write_where(words: &mut [u64; 10], answer: Opening, gate: Gate, counters: Counters)
     ensures { λ _. ⌜ now (words .exit) ≡ wordsOpened answer gate counters (now (words .entry)) ⌝ }
 {
     match answer {
@@ -84,7 +102,7 @@ pub fn write_opened(words: &mut [u64; 10], answer: Opening, gate: Gate, counters
 }
 
 // The rows in use and the counters: an offer never changes the settings.
-pub fn write_offered(words: &mut [u64; 10], gate: Gate, counters: Counters)
+fn write_counts(words: &mut [u64; 10], gate: Gate, counters: Counters)
     ensures { λ _. ⌜ now (words .exit) ≡ wordsAfter (now (words .entry)) gate counters ⌝ }
 {
     let ring = gate.ring;
@@ -100,4 +118,22 @@ pub fn write_offered(words: &mut [u64; 10], gate: Gate, counters: Counters)
         counters.crc_failures,
         counters.evictions,
     ];
+}
+
+// Writes what an opening leaves in the words, and gives its number.
+pub fn write_opened(gate: &mut [u64; 10], opened: Opened) -> u8
+    ensures { λ r. ⌜ words r (now (gate .exit)) ≡ tellsOpened opened (now (gate .entry)) ⌝ }
+{
+    let answer = opened.answer;
+    write_where(gate, answer, opened.gate, opened.counters);
+    answer.number()
+}
+
+// Writes what an offer leaves in the words, and gives its number.
+pub fn write_offered(gate: &mut [u64; 10], offered: Offered) -> u8
+    ensures { λ r. ⌜ words r (now (gate .exit)) ≡ tellsOffered offered (now (gate .entry)) ⌝ }
+{
+    let answer = offered.answer;
+    write_counts(gate, offered.gate, offered.counters);
+    answer.number()
 }

@@ -1,18 +1,20 @@
 -- What each call of the gate and of the watch leaves, from what its parts leave.
 -- Assumes nothing.
 use Prim.Native.Nat.{ℕ}
-use mathlib.Core.Path.{_≡_, refl, sym, ap, _∙_}
+use mathlib.Core.Path.{_≡_, refl, sym, ap}
 use mathlib.Core.List.{List}
 use mathlib.Core.Bool.{cond}
 use lib.ListN.{length}
 use lib.Dec.{eqb}
 use Rattle.abi.specs.Pids.{pidNumber}
-use Rattle.abi.specs.Gates.{settingsOf, gateOf, countersOf, wordsOf, wordsAfter, wordsOpened}
+use Rattle.abi.specs.Answers.{Words, words}
+use Rattle.abi.specs.Gates.{settingsOf, heldIn, wordsOf, wordsOpened, tellsOpened, tellsOffered}
+use Rattle.abi.specs.declared.gates.Held.{Held}
 use Rattle.watched.specs.Store.{openingNo, askedNo, asked}
 use Rattle.watched.specs.declared.Opening.{Opening}
 use Rattle.watched.specs.declared.Opening.the-variants as opening
 use Rattle.watched.specs.declared.Asked.{Asked}
-use Rattle.gate.specs.Store.{answerNo, begunBy, opened, leftBy, storeOf, offered}
+use Rattle.gate.specs.Store.{begunBy, opened, leftBy, storeOf, offered}
 use Rattle.gate.specs.declared.Settings.{Settings}
 use Rattle.gate.specs.declared.Gate.{Gate}
 use Rattle.gate.specs.declared.Counters.{Counters}
@@ -33,22 +35,21 @@ pub gate-opened :
     (gate : List ℕ) (capacity settings : ℕ) (extra keys changes watch : List ℕ) (s : Settings) (o : Opened) (ws gs : List ℕ) (r : ℕ) →
     s ≡ settingsOf capacity settings →
     begunBy o ws ≡ opened s extra (length keys) (length changes) watch →
-    gs ≡ wordsOpened (o .answer) (o .gate) (o .counters) gate →
-    r ≡ openingNo (o .answer) →
+    words r gs ≡ tellsOpened o gate →
     begun r gs ws ≡ gateOpened gate capacity settings extra keys changes watch
 unfolding gateOpened
-gate-opened gate capacity settings extra keys changes watch s o ws gs r e f g n =
-    rw (← e, ← f, n, g, opened-words (o .answer) (o .gate) (o .counters) gate)
+gate-opened gate capacity settings extra keys changes watch s o ws gs r e f t =
+    rw (← e, ← f, ap (λ (x : Words). x .answer) t, ap (λ (x : Words). x .now) t, opened-words (o .answer) (o .gate) (o .counters) gate)
 
 pub gate-offered :
-    (gate keys changes watch : List ℕ) (pid : ℕ) (section : List ℕ) (g : Gate) (c : Counters) (p : ℕ) (o : Offered) (ks ms ws gs : List ℕ) (r : ℕ) →
-    g ≡ gateOf gate → c ≡ countersOf gate → p ≡ pidNumber pid →
-    leftBy o ks ms ws ≡ offered (storeOf g c keys changes watch) p section →
-    gs ≡ wordsAfter gate (o .gate) (o .counters) →
-    r ≡ answerNo (o .answer) →
+    (gate keys changes watch : List ℕ) (pid : ℕ) (section : List ℕ) (h : Held) (p : ℕ) (o : Offered) (ks ms ws gs : List ℕ) (r : ℕ) →
+    h ≡ heldIn gate → p ≡ pidNumber pid →
+    leftBy o ks ms ws ≡ offered (storeOf (h .gate) (h .counters) keys changes watch) p section →
+    words r gs ≡ tellsOffered o gate →
     left r gs ks ms ws ≡ gateOffered gate keys changes watch pid section
 unfolding gateOffered
-gate-offered gate keys changes watch pid section g c p o ks ms ws gs r e f h j k n = rw (← e, ← f, ← h, ← j, n, k)
+gate-offered gate keys changes watch pid section h p o ks ms ws gs r d e f t =
+    rw (ap (λ (x : Held). x .gate) (sym d), ap (λ (x : Held). x .counters) (sym d), ← e, ← f, ap (λ (x : Words). x .answer) t, ap (λ (x : Words). x .now) t)
 
 pub watch-asked : (watch : List ℕ) (pid p : ℕ) (a : Asked) (r : ℕ) → p ≡ pidNumber pid → askedNo a ≡ asked watch p → r ≡ askedNo a → r ≡ watchAsked watch pid
 unfolding watchAsked
@@ -60,20 +61,19 @@ pub indexed-opened :
     (gate : List ℕ) (capacity settings : ℕ) (extra keys changes buckets links watch : List ℕ) (s : Settings) (o : Opened) (bs ws gs : List ℕ) (r : ℕ) →
     s ≡ settingsOf capacity settings →
     indexed.begunBy o bs ws ≡ indexed.openedBy s extra (length keys) (length changes) (length links) buckets watch →
-    gs ≡ wordsOpened (o .answer) (o .gate) (o .counters) gate →
-    r ≡ openingNo (o .answer) →
+    words r gs ≡ tellsOpened o gate →
     indexedBegun r gs bs ws ≡ indexedOpened gate capacity settings extra keys changes buckets links watch
 unfolding indexedOpened
-indexed-opened gate capacity settings extra keys changes buckets links watch s o bs ws gs r e f g n =
-    rw (← e, ← f, n, g, opened-words (o .answer) (o .gate) (o .counters) gate)
+indexed-opened gate capacity settings extra keys changes buckets links watch s o bs ws gs r e f t =
+    rw (← e, ← f, ap (λ (x : Words). x .answer) t, ap (λ (x : Words). x .now) t, opened-words (o .answer) (o .gate) (o .counters) gate)
 
 pub indexed-offered :
-    (gate keys changes buckets links watch : List ℕ) (pid : ℕ) (section : List ℕ) (g : Gate) (c : Counters) (p : ℕ) (o : Offered)
+    (gate keys changes buckets links watch : List ℕ) (pid : ℕ) (section : List ℕ) (h : Held) (p : ℕ) (o : Offered)
     (ks ms bs ls ws gs : List ℕ) (r : ℕ) →
-    g ≡ gateOf gate → c ≡ countersOf gate → p ≡ pidNumber pid →
-    indexed.leftBy o ks ms (indexOf bs ls) ws ≡ indexed.offeredBy (indexed.indexedOf g c keys changes (indexOf buckets links) watch) p section →
-    gs ≡ wordsAfter gate (o .gate) (o .counters) →
-    r ≡ answerNo (o .answer) →
+    h ≡ heldIn gate → p ≡ pidNumber pid →
+    indexed.leftBy o ks ms (indexOf bs ls) ws ≡ indexed.offeredBy (indexed.indexedOf (h .gate) (h .counters) keys changes (indexOf buckets links) watch) p section →
+    words r gs ≡ tellsOffered o gate →
     indexedLeft r gs ks ms bs ls ws ≡ indexedOffered gate keys changes buckets links watch pid section
 unfolding indexedOffered
-indexed-offered gate keys changes buckets links watch pid section g c p o ks ms bs ls ws gs r e f h j k n = rw (← e, ← f, ← h, ← j, n, k)
+indexed-offered gate keys changes buckets links watch pid section h p o ks ms bs ls ws gs r d e f t =
+    rw (ap (λ (x : Held). x .gate) (sym d), ap (λ (x : Held). x .counters) (sym d), ← e, ← f, ap (λ (x : Words). x .answer) t, ap (λ (x : Words). x .now) t)

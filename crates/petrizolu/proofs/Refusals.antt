@@ -1,15 +1,16 @@
 -- A refusal leaves every word that is lent as it was, whatever the words hold. An array of n words is a list of length n.
 -- Assumes nothing.
 use Prim.Native.Nat.{ℕ, _≤_, _<_}
-use mathlib.Core.Path.{_≡_, refl, sym, ap, _∙_}
+use mathlib.Core.Path.{_≡_, refl}
 use mathlib.Core.List.{List}
 use mathlib.Core.Bool.{Bool, true, false, cond}
 use native.Mathlib.Omega.{arith}
 use lib.ListN.{length}
 use lib.Dec.{ltb, eqb}
 use borrow.Author.Tests.{ne-eqb}
+use Rattle.abi.specs.Answers as answers
 use Rattle.abi.specs.Pids.{pidNumber, maybePid}
-use Rattle.abi.specs.Gates.{settingsOf, gateOf, countersOf, wordsAfter}
+use Rattle.abi.specs.Gates.{settingsOf, gateOf, countersOf}
 use Rattle.abi.specs.Collectors.{setsOf}
 use Rattle.abi.specs.Eits.{eitOf, filterOf}
 use Rattle.abi.proofs.Same.{gate-same, sets-same, eit-same}
@@ -19,7 +20,10 @@ use Rattle.section.specs.Judged.{judgedOf}
 use Rattle.section.specs.declared.header.Judged.{Judged}
 use Rattle.section.specs.declared.header.Judged.the-variants.{Short, Mismatch, Sound}
 use Rattle.watched.specs.Store.{allPids}
-use Rattle.gate.specs.Store.{answerNo, answerOf, emitsOf, hasRoom, Begun, begins, opened, wholeOf, anyFull, Store, storeOf, Left, seenBy, soundOf, judgedAs, consideredOf, offered}
+use Rattle.gate.specs.Store.{answerNo, answerOf, emitsOf, hasRoom, begins, opened, wholeOf, anyFull, Store, storeOf, Left, seenBy, soundOf, judgedAs, consideredOf, offered}
+use Rattle.index.specs.Store.{indexOf}
+use Rattle.index.specs.Store.{seenBy as foundBy}
+use Rattle.indexed.specs.Store as indexed
 use Rattle.rows.specs.Rows.{put, touched}
 use Rattle.berths.specs.Berths.{berthOf, tableCount, berthedUnits, tablesThere}
 use Rattle.berths.specs.declared.Berth.{Berth}
@@ -38,7 +42,7 @@ use Rattle.eit.specs.declared.inner.Plan.{Plan as EitPlan}
 use Rattle.eit.specs.declared.inner.Plan.the-variants as eit-plan
 use Rattle.eit.specs.declared.inner.Drop.{Drop}
 use Rattle.eit.specs.declared.inner.Drop.the-variants as drop
-use Rattle.petrizolu.specs.Gates.{begun, begunAs, gateOpened, left, leftAs, gateOffered}
+use Rattle.petrizolu.specs.Gates.{begun, begunAs, gateOpened, left, leftAs, gateOffered, indexedBegun, indexedBegunAs, indexedOpened, indexedLeft, indexedLeftAs, indexedOffered}
 use Rattle.petrizolu.specs.Collectors as collectors
 use Rattle.petrizolu.specs.Eits as eits
 use Rattle.petrizolu.proofs.EitLaws.{push-number}
@@ -113,10 +117,79 @@ gate-open-refused gate capacity settings extra keys changes watch answer e h =
     go s ws true false e = rw e
     go s ws false room e = rw e
 
+-- ---- the gate with an index
+
+judged-by : (s : indexed.Indexed) (pid : ℕ) (section : List ℕ) (j : Judged) → (indexed.judgedBy s pid section j) .answer < 10
+unfolding indexed.judgedBy indexed.soundBy seenBy
+judged-by s pid section Short = omega arith
+judged-by s pid section (Mismatch a b) = omega arith
+judged-by s pid section (Sound p) =
+    told
+    (emitsOf (s .store .gate)
+    (foundBy (s .store .gate .ring) (s .store .keys) (s .store .changes) (s .index) (keyOf pid (p .«table_id») (p .extension) (p .number)) (stampOf (p .version) (p .change))))
+
+considered-by : (s : indexed.Indexed) (pid : ℕ) (section : List ℕ) → (indexed.consideredBy s pid section) .answer < 10
+unfolding indexed.consideredBy
+considered-by s pid section = judged-by s pid section (judgedOf section)
+
+picked-by :
+    (s : indexed.Indexed) (l : indexed.Left) → l .answer < 10 → (whole full small : Bool) →
+    10 ≤ (cond whole (cond full (record { answer = 11; left = s }) (cond small l (record { answer = 12; left = s }))) (record { answer = 10; left = s })) .answer →
+    (cond whole (cond full (record { answer = 11; left = s }) (cond small l (record { answer = 12; left = s }))) (record { answer = 10; left = s })) .left ≡ s
+picked-by s l k false full small h = refl
+picked-by s l k true true small h = refl
+picked-by s l k true false false h = refl
+picked-by s l k true false true h = absurd (omega arith)
+
+offer-refused-by :
+    (s : indexed.Indexed) (pid : ℕ) (section : List ℕ) → 10 ≤ (indexed.offeredBy s pid section) .answer → (indexed.offeredBy s pid section) .left ≡ s
+unfolding indexed.offeredBy
+offer-refused-by s pid section h =
+    picked-by s (indexed.consideredBy s pid section) (considered-by s pid section)
+    (indexed.wholeBy (s .store .gate) (length (s .store .keys)) (length (s .store .changes)) (length (s .index .buckets)) (length (s .index .links)) (length (s .store .words)))
+    (anyFull (s .store .counters))
+    (ltb pid 8192)
+    h
+
+-- 10, 11 and 12
+pub indexed-offer-refused :
+    (gate keys changes buckets links watch : List ℕ) (pid : ℕ) (section : List ℕ) (answer : ℕ) → length gate ≡ 10 →
+    answer ≡ (indexedOffered gate keys changes buckets links watch pid section) .answer → 10 ≤ answer →
+    indexedOffered gate keys changes buckets links watch pid section ≡ indexedLeft answer gate keys changes buckets links watch
+unfolding indexedOffered
+indexed-offer-refused gate keys changes buckets links watch pid section answer n e h =
+    let s : indexed.Indexed = indexed.indexedOf (gateOf gate) (countersOf gate) keys changes (indexOf buckets links) watch in
+    let l : indexed.Left = indexed.offeredBy s (pidNumber pid) section in
+    let k : 10 ≤ l .answer = rw (← e) h in
+    go l (offer-refused-by s (pidNumber pid) section k) e
+  where
+    go :
+        (l : indexed.Left) → l .left ≡ indexed.indexedOf (gateOf gate) (countersOf gate) keys changes (indexOf buckets links) watch → answer ≡ l .answer →
+        indexedLeftAs gate l ≡ indexedLeft answer gate keys changes buckets links watch
+    go l p e = rw (p, e, gate-same gate n)
+
+-- 12 and 13
+pub indexed-open-refused :
+    (gate : List ℕ) (capacity settings : ℕ) (extra keys changes buckets links watch : List ℕ) (answer : ℕ) →
+    answer ≡ (indexedOpened gate capacity settings extra keys changes buckets links watch) .answer → (answer ≡ 7 → ⊥) →
+    indexedOpened gate capacity settings extra keys changes buckets links watch ≡ indexedBegun answer gate buckets watch
+unfolding indexedOpened indexed.openedBy
+indexed-open-refused gate capacity settings extra keys changes buckets links watch answer e h =
+    go (settingsOf capacity settings) _ _ (allPids extra) (indexed.hasRoomFor capacity (length keys) (length changes) (length buckets) (length links) (length watch)) e
+  where
+    go :
+        (s : Settings) (bs ws : List ℕ) (good room : Bool) →
+        answer ≡ (indexedBegunAs gate (cond good (cond room (indexed.begins 7 s bs ws) (indexed.begins 13 s buckets watch)) (indexed.begins 12 s buckets watch))) .answer →
+        indexedBegunAs gate (cond good (cond room (indexed.begins 7 s bs ws) (indexed.begins 13 s buckets watch)) (indexed.begins 12 s buckets watch))
+        ≡ indexedBegun answer gate buckets watch
+    go s bs ws true true e = absurd (h e)
+    go s bs ws true false e = rw e
+    go s bs ws false room e = rw e
+
 -- ---- opening a collector
 
 refused-open :
-    (answer n : ℕ) (ws words : List ℕ) → answer ≡ n → (answer ≡ 7 → ⊥) → collectors.words n (cond (eqb n 7) ws words) ≡ collectors.words answer words
+    (answer n : ℕ) (ws words : List ℕ) → answer ≡ n → (answer ≡ 7 → ⊥) → answers.words n (cond (eqb n 7) ws words) ≡ answers.words answer words
 refused-open answer n ws words e h = rw (← e, ne-eqb answer 7 h)
 
 -- ---- the set collector
@@ -146,7 +219,7 @@ no-row (sets.handed o) row h = absurd (omega arith)
 pub sets-open-refused :
     (words : List ℕ) (limit size count : ℕ) (heads slots cells : List ℕ) (answer : ℕ) →
     answer ≡ (collectors.setsOpened words limit size count heads slots cells) .answer → (answer ≡ 7 → ⊥) →
-    collectors.setsOpened words limit size count heads slots cells ≡ collectors.words answer words
+    collectors.setsOpened words limit size count heads slots cells ≡ answers.words answer words
 unfolding collectors.setsOpened
 sets-open-refused words limit size count heads slots cells answer e h = refused-open answer _ _ words e h
 
@@ -154,7 +227,7 @@ sets-open-refused words limit size count heads slots cells answer e h = refused-
 pub sets-clear-refused :
     (words heads slots cells : List ℕ) (answer : ℕ) → length words ≡ 5 →
     answer ≡ (collectors.setsCleared words heads slots cells) .answer → (answer ≡ 7 → ⊥) →
-    collectors.setsCleared words heads slots cells ≡ collectors.words answer words
+    collectors.setsCleared words heads slots cells ≡ answers.words answer words
 unfolding collectors.setsCleared sets.clearedOf
 sets-clear-refused words heads slots cells answer n e h = go (sets.wholeOf (sets.store (setsOf words) heads slots cells)) _ e
   where
@@ -162,7 +235,7 @@ sets-clear-refused words heads slots cells answer n e h = go (sets.wholeOf (sets
         (whole : Bool) (s : sets.Store) →
         answer ≡ (collectors.clearedAs words (cond whole (sets.left (sets.plain 7) s) (sets.left (sets.plain 10) (sets.store (setsOf words) heads slots cells)))) .answer →
         collectors.clearedAs words (cond whole (sets.left (sets.plain 7) s) (sets.left (sets.plain 10) (sets.store (setsOf words) heads slots cells)))
-        ≡ collectors.words answer words
+        ≡ answers.words answer words
     go true s e = absurd (h e)
     go false s e = rw (e, sets-same words n)
 
@@ -190,7 +263,7 @@ sets-push-refused words heads slots cells pid section row answer n e h k =
 pub eit-open-refused :
     (words : List ℕ) (limit size count : ℕ) (heads slots cells tops units : List ℕ) (answer : ℕ) →
     answer ≡ (eits.eitOpened words limit size count heads slots cells tops units) .answer → (answer ≡ 7 → ⊥) →
-    eits.eitOpened words limit size count heads slots cells tops units ≡ collectors.words answer words
+    eits.eitOpened words limit size count heads slots cells tops units ≡ answers.words answer words
 unfolding eits.eitOpened
 eit-open-refused words limit size count heads slots cells tops units answer e h = refused-open answer _ _ words e h
 
@@ -198,7 +271,7 @@ eit-open-refused words limit size count heads slots cells tops units answer e h 
 pub eit-clear-refused :
     (words heads slots cells tops units : List ℕ) (answer : ℕ) → length words ≡ 7 →
     answer ≡ (eits.eitCleared words heads slots cells tops units) .answer → (answer ≡ 7 → ⊥) →
-    eits.eitCleared words heads slots cells tops units ≡ collectors.words answer words
+    eits.eitCleared words heads slots cells tops units ≡ answers.words answer words
 unfolding eits.eitCleared eit.clearedOf
 eit-clear-refused words heads slots cells tops units answer n e h = go (eit.wholeOf (eit.store (eitOf words) heads slots cells tops units)) _ e
   where
@@ -206,7 +279,7 @@ eit-clear-refused words heads slots cells tops units answer n e h = go (eit.whol
         (whole : Bool) (s : eit.Store) →
         answer ≡ (eits.clearedAs words (cond whole (eit.left (eit.plain 7) s) (eit.left (eit.plain 10) (eit.store (eitOf words) heads slots cells tops units)))) .answer →
         eits.clearedAs words (cond whole (eit.left (eit.plain 7) s) (eit.left (eit.plain 10) (eit.store (eitOf words) heads slots cells tops units)))
-        ≡ collectors.words answer words
+        ≡ answers.words answer words
     go true s e = absurd (h e)
     go false s e = rw (e, eit-same words n)
 

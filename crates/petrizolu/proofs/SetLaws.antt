@@ -1,14 +1,15 @@
 -- What each call of the set collector leaves, from what its parts leave.
 -- Assumes nothing.
 use Prim.Native.Nat.{ℕ}
-use mathlib.Core.Path.{_≡_, refl}
-use mathlib.Core.List.{List, [], _∷_}
+use mathlib.Core.Path.{_≡_, refl, ap}
+use mathlib.Core.List.{List}
 use mathlib.Core.Bool.{cond}
 use lib.Dec.{eqb}
 use Rattle.section.specs.declared.ids.MaybePid.{MaybePid}
+use Rattle.abi.specs.Answers.{Words, words, Pushes, pushes}
 use Rattle.abi.specs.Pids.{maybePid}
-use Rattle.abi.specs.Collectors.{setsOf, wordsOf, wordsAfter, wordsOpened, rowBy, nextWords}
-use Rattle.sets.specs.Store.{openNumber, pushNumber, clearNumber, nextNumber, setIn, answerOf, Store, store, asked, leftOpened, leftPushed, leftCleared, openedOf, pushedOf, clearedOf, questionOf, nextOf}
+use Rattle.abi.specs.Collectors.{setsOf, wordsOf, wordsOpened, rowBy, tellsOpened, tellsPushed, tellsCleared, tellsNext}
+use Rattle.sets.specs.Store.{openNumber, pushNumber, setIn, answerOf, Store, store, asked, leftOpened, leftPushed, leftCleared, openedOf, pushedOf, clearedOf, questionOf, nextOf}
 use Rattle.sets.specs.declared.Sets.{Sets}
 use Rattle.sets.specs.declared.Opened.{Opened}
 use Rattle.sets.specs.declared.Pushed.{Pushed}
@@ -18,7 +19,7 @@ use Rattle.sets.specs.declared.OpenAnswer.{OpenAnswer}
 use Rattle.sets.specs.declared.OpenAnswer.the-variants as open-answer
 use Rattle.sets.specs.declared.PushAnswer.{PushAnswer}
 use Rattle.sets.specs.declared.PushAnswer.the-variants.{Nothing, Set, NotWhole, CounterFull, PidTooLarge, Malformed, ShortForm, BadNumber, BadCrc, TooLong, NoCell, Conflict}
-use Rattle.petrizolu.specs.Collectors.{words, numberOf, setsOpened, setsCleared, setsLeft, rowAfter, setsPushed, setsNext}
+use Rattle.petrizolu.specs.Collectors.{numberOf, setsOpened, setsCleared, setsLeft, rowAfter, setsPushed, setsNext}
 
 opened-words : (a : OpenAnswer) (s : Sets) (w : List ℕ) → wordsOpened a s w ≡ cond (eqb (openNumber a) 7) (wordsOf s) w
 opened-words open-answer.Opened s w = refl
@@ -57,41 +58,36 @@ module _ (sets heads slots cells : List ℕ) where
   pub sets-opened :
       (limit size count : ℕ) (o : Opened) (ws : List ℕ) (r : ℕ) →
       leftOpened o heads slots cells ≡ openedOf (store (asked limit size count) heads slots cells) →
-      ws ≡ wordsOpened (o .answer) (o .sets) sets →
-      r ≡ openNumber (o .answer) →
+      words r ws ≡ tellsOpened o sets →
       words r ws ≡ setsOpened sets limit size count heads slots cells
   unfolding setsOpened
-  sets-opened limit size count o ws r e w n = rw (← e, n, w, opened-words (o .answer) (o .sets) sets)
+  sets-opened limit size count o ws r e t = rw (← e, ap (λ (x : Words). x .answer) t, ap (λ (x : Words). x .now) t, opened-words (o .answer) (o .sets) sets)
 
   pub sets-cleared :
       (s : Sets) (o : Cleared) (ws : List ℕ) (r : ℕ) →
       s ≡ setsOf sets →
       leftCleared o heads slots cells ≡ clearedOf (store s heads slots cells) →
-      ws ≡ wordsAfter sets (o .sets) →
-      r ≡ clearNumber (o .answer) →
+      words r ws ≡ tellsCleared o sets →
       words r ws ≡ setsCleared sets heads slots cells
   unfolding setsCleared
-  sets-cleared s o ws r h e w n = rw (← h, ← e, n, w)
+  sets-cleared s o ws r h e t = rw (← h, ← e, ap (λ (x : Words). x .answer) t, ap (λ (x : Words). x .now) t)
 
   pub sets-pushed :
       (pid : ℕ) (section row : List ℕ) (s : Sets) (p : MaybePid) (o : Pushed) (hs ss cs ws rs : List ℕ) (r : ℕ) →
       s ≡ setsOf sets → p ≡ maybePid pid →
       leftPushed o hs ss cs ≡ pushedOf (store s heads slots cells) p section →
-      ws ≡ wordsAfter sets (o .sets) →
-      rs ≡ rowBy (o .answer) row →
-      r ≡ pushNumber (o .answer) →
+      pushes r ws rs ≡ tellsPushed o sets row →
       setsLeft r ws hs ss cs rs ≡ setsPushed sets heads slots cells pid section row
   unfolding setsPushed
-  sets-pushed pid section row s p o hs ss cs ws rs r h q e w k n =
-      let t = store (o .sets) hs ss cs in
-      rw (← h, ← q, ← e, n, push-number (o .answer) t, w, k, push-row (o .answer) t row)
+  sets-pushed pid section row s p o hs ss cs ws rs r h q e t =
+      let l = store (o .sets) hs ss cs in
+      rw (← h, ← q, ← e, ap (λ (x : Pushes). x .answer) t, push-number (o .answer) l, ap (λ (x : Pushes). x .now) t, ap (λ (x : Pushes). x .row) t, push-row (o .answer) l row)
 
   pub sets-next :
       (row from : ℕ) (s : Sets) (o : Next) (ns : List ℕ) (r : ℕ) →
       s ≡ setsOf sets →
       questionOf o ≡ nextOf (store s heads slots cells) row from →
-      ns ≡ nextWords o →
-      r ≡ nextNumber (o .answer) →
+      words r ns ≡ tellsNext o →
       words r ns ≡ setsNext sets heads slots cells row from
   unfolding setsNext
-  sets-next row from s o ns r h e w n = rw (← h, ← e, n, w)
+  sets-next row from s o ns r h e t = rw (← h, ← e, ap (λ (x : Words). x .answer) t, ap (λ (x : Words). x .now) t)

@@ -4,17 +4,10 @@ use Prim.Native.Nat.{ℕ}
 use mathlib.Core.List.{List, [], _∷_}
 use mathlib.Core.Bool.{cond}
 use lib.Dec.{eqb}
+use Rattle.abi.specs.Answers.{Words, words}
 use Rattle.abi.specs.Pids.{maybePid}
 use Rattle.abi.specs.Collectors.{setsOf, wordsOf, wordsAfter}
 use Rattle.sets.specs.Store.{Told, plain, handed, Left, store, asked, openedOf, pushedOf, clearedOf, Question, nextOf}
-
--- an answer, and the words of one array
-pub record Words : Type 0 where
-  pub answer : ℕ
-  pub now : List ℕ
-
-abbrev pub words : ℕ → List ℕ → Words
-words answer now = record { answer = answer; now = now }
 
 -- the number of what a call told; a set that goes out is 5
 abbrev pub numberOf : Told → ℕ

@@ -4,7 +4,8 @@
 ghost use mathlib.Core.Path.{_≡_};
 ghost use Rattle.crc.specs.Crc.{crcOf};
 ghost use Rattle.petrizolu.specs.Gates.{begun, gateOpened, left, gateOffered, watchAsked, indexedBegun, indexedOpened, indexedLeft, indexedOffered};
-ghost use Rattle.petrizolu.specs.Collectors.{words, setsLeft, setsOpened, setsPushed, setsCleared, setsNext};
+ghost use Rattle.abi.specs.Answers.{words};
+ghost use Rattle.petrizolu.specs.Collectors.{setsLeft, setsOpened, setsPushed, setsCleared, setsNext};
 ghost use Rattle.petrizolu.specs.Eits.{eitOpened, eitLeft, eitPushed, eitCleared, eitDroppedTo, eitDropped, eitNext, eitNextIn};
 
 // The CRC of ISO/IEC 13818-1, Annex A.
@@ -30,9 +31,7 @@ pub extern "C" fn petrizolu_gate_open(
 {
     let asked = abi::gates::settings(capacity, settings);
     let opened = gate::open(asked, extra, keys, changes, watch);
-    let answer = opened.answer;
-    abi::gates::write_opened(gate, answer, opened.gate, opened.counters);
-    answer.number()
+    abi::gates::write_opened(gate, opened)
 }
 
 // Offers a section that came on a PID, watched or not: 1, 2, 3, 10, 11 or 12.
@@ -47,13 +46,18 @@ pub extern "C" fn petrizolu_gate_offer(
 ) -> u8
     ensures { λ r. ⌜ left r (now (gate .exit)) (now (keys .exit)) (now (changes .exit)) (now (watch .exit)) ≡ gateOffered (now (gate .entry)) (now (keys .entry)) (now (changes .entry)) (now (watch .entry)) pid (now (section .entry)) ⌝ }
 {
-    let before = abi::gates::gate(gate);
-    let counters = abi::gates::counters(gate);
+    let held = abi::gates::read(gate);
     let number = abi::pids::number(pid);
-    let offered = gate::offer(before, counters, keys, changes, watch, number, section);
-    let answer = offered.answer;
-    abi::gates::write_offered(gate, offered.gate, offered.counters);
-    answer.number()
+    let offered = gate::offer(
+        held.gate,
+        held.counters,
+        keys,
+        changes,
+        watch,
+        number,
+        section,
+    );
+    abi::gates::write_offered(gate, offered)
 }
 
 // Whether a PID is watched: 8, 9, 10 or 12.
@@ -81,9 +85,7 @@ pub extern "C" fn petrizolu_indexed_open(
 {
     let asked = abi::gates::settings(capacity, settings);
     let opened = indexed::open(asked, extra, keys, changes, buckets, links, watch);
-    let answer = opened.answer;
-    abi::gates::write_opened(gate, answer, opened.gate, opened.counters);
-    answer.number()
+    abi::gates::write_opened(gate, opened)
 }
 
 // `petrizolu_gate_offer` through the index.
@@ -100,12 +102,11 @@ pub extern "C" fn petrizolu_indexed_offer(
 ) -> u8
     ensures { λ r. ⌜ indexedLeft r (now (gate .exit)) (now (keys .exit)) (now (changes .exit)) (now (buckets .exit)) (now (links .exit)) (now (watch .exit)) ≡ indexedOffered (now (gate .entry)) (now (keys .entry)) (now (changes .entry)) (now (buckets .entry)) (now (links .entry)) (now (watch .entry)) pid (now (section .entry)) ⌝ }
 {
-    let before = abi::gates::gate(gate);
-    let counters = abi::gates::counters(gate);
+    let held = abi::gates::read(gate);
     let number = abi::pids::number(pid);
     let offered = indexed::offer(
-        before,
-        counters,
+        held.gate,
+        held.counters,
         keys,
         changes,
         buckets,
@@ -114,9 +115,7 @@ pub extern "C" fn petrizolu_indexed_offer(
         number,
         section,
     );
-    let answer = offered.answer;
-    abi::gates::write_offered(gate, offered.gate, offered.counters);
-    answer.number()
+    abi::gates::write_offered(gate, offered)
 }
 
 // Opens a set collector: 7 or 13. A refusal leaves the words as they were; nothing else lent is written.
@@ -140,9 +139,7 @@ pub extern "C" fn petrizolu_sets_open(
         slots,
         cells,
     );
-    let answer = opened.answer;
-    abi::collectors::write_opened(sets, answer, opened.sets);
-    answer.number()
+    abi::collectors::write_opened(sets, opened)
 }
 
 // Offers a section, with the PID that it came on or, for 0xFFFFFFFF, without. 5 writes the set's row into `row`.
@@ -161,10 +158,7 @@ pub extern "C" fn petrizolu_sets_push(
     let before = abi::collectors::sets(sets);
     let from = abi::pids::maybe(pid);
     let pushed = sets::push(before, heads, slots, cells, from, section);
-    let answer = pushed.answer;
-    abi::collectors::write_counts(sets, pushed.sets);
-    abi::collectors::write_row(row, answer);
-    answer.number()
+    abi::collectors::write_pushed(sets, row, pushed)
 }
 
 // No row is in use then: 7, or 10.
@@ -179,9 +173,7 @@ pub extern "C" fn petrizolu_sets_clear(
 {
     let before = abi::collectors::sets(sets);
     let cleared = sets::clear(before, heads, slots, cells);
-    let answer = cleared.answer;
-    abi::collectors::write_counts(sets, cleared.sets);
-    answer.number()
+    abi::collectors::write_cleared(sets, cleared)
 }
 
 // Has the set in a row another section, from a slot on? 8, 9 or 10; `next` gets its number, and where its bytes are in the cells.
@@ -199,9 +191,7 @@ pub extern "C" fn petrizolu_sets_next(
 {
     let collector = abi::collectors::sets(sets);
     let told = sets::next_section(collector, heads, slots, cells, row as usize, from as usize);
-    let answer = told.answer;
-    abi::collectors::write_next(next, told);
-    answer.number()
+    abi::collectors::write_next(next, told)
 }
 
 // Opens an EIT collector: 7 or 13. A refusal leaves the words as they were; nothing else lent is written.
@@ -229,9 +219,7 @@ pub extern "C" fn petrizolu_eit_open(
         schedule_heads,
         units,
     );
-    let answer = opened.answer;
-    abi::eits::write_opened(eit, answer, opened.eit);
-    answer.number()
+    abi::eits::write_opened(eit, opened)
 }
 
 // Offers a section, with the PID that it came on or, for 0xFFFFFFFF, without. 5 writes the set's row into `row`, 6 the schedule's.
@@ -261,10 +249,7 @@ pub extern "C" fn petrizolu_eit_push(
         from,
         section,
     );
-    let answer = pushed.answer;
-    abi::eits::write_counts(eit, pushed.eit);
-    abi::eits::write_row(row, answer);
-    answer.number()
+    abi::eits::write_pushed(eit, row, pushed)
 }
 
 // No set and no schedule is in use then: 7, or 10.
@@ -281,9 +266,7 @@ pub extern "C" fn petrizolu_eit_clear(
 {
     let before = abi::eits::eit(eit);
     let cleared = eit::clear(before, heads, slots, cells, schedule_heads, units);
-    let answer = cleared.answer;
-    abi::eits::write_counts(eit, cleared.eit);
-    answer.number()
+    abi::eits::write_cleared(eit, cleared)
 }
 
 // Sets and schedules that match the filter go: 7, 10, or 12 for a PID of the filter that is none. A word with all 64 bits set is free, the PID 0xFFFFFFFF
@@ -303,9 +286,7 @@ pub extern "C" fn petrizolu_eit_drop(
     let before = abi::eits::eit(eit);
     let wanted = abi::eits::filter(filter);
     let dropped = eit::drop(before, heads, slots, cells, schedule_heads, units, wanted);
-    let answer = dropped.answer;
-    abi::eits::write_counts(eit, dropped.eit);
-    answer.number()
+    abi::eits::write_dropped(eit, dropped)
 }
 
 // Has the set in a row another section, from a slot on? 8, 9 or 10; `next` gets its number, and where its bytes are in the cells.
@@ -334,9 +315,7 @@ pub extern "C" fn petrizolu_eit_next(
         row as usize,
         from as usize,
     );
-    let answer = told.answer;
-    abi::collectors::write_next(next, told);
-    answer.number()
+    abi::collectors::write_next(next, told)
 }
 
 // Has that table of the schedule in a row another section, from a slot on? Tables count from the first of the kind, 0x50 or 0x60, on.
@@ -367,7 +346,5 @@ pub extern "C" fn petrizolu_eit_next_in_schedule(
         table as usize,
         from as usize,
     );
-    let answer = told.answer;
-    abi::collectors::write_next(next, told);
-    answer.number()
+    abi::collectors::write_next(next, told)
 }

@@ -6,47 +6,42 @@ use Rattle.petrizolu.proofs.petrizolu_eit_drop.Reads as reads
 use Rattle.petrizolu.proofs.petrizolu_eit_drop.Lts as lts
 use Rattle.abi.proofs.eits.eit.Reads as eit-reads
 use Rattle.abi.proofs.eits.filter.Reads as filter-reads
-use Rattle.abi.proofs.eits.write_counts.Reads as write-counts-reads
-use Rattle.eit.proofs.DropAnswer.number.Reads as number-reads
+use Rattle.abi.proofs.eits.write_dropped.Reads as write-dropped-reads
 use Rattle.eit.proofs.drop.Reads as drop-reads
 
--- src/lib.rt:294:9
+-- src/lib.rt:277:9
 eit-requires : tie.Need-eit-requires
 eit-requires c κs = search needs
 
--- src/lib.rt:295:9
+-- src/lib.rt:278:9
 filter-requires : tie.Need-filter-requires
 filter-requires c κs = search needs
 
--- src/lib.rt:296:9
+-- src/lib.rt:279:9
 drop-requires : tie.Need-drop-requires
 drop-requires c κs = search needs
 
--- src/lib.rt:298:5
-write-counts-requires : tie.Need-write-counts-requires
-write-counts-requires c κs = search needs
+-- src/lib.rt:280:5
+write-dropped-requires : tie.Need-write-dropped-requires
+write-dropped-requires c κs = search needs
 
--- src/lib.rt:299:5
-number-requires : tie.Need-number-requires
-number-requires c κs = search needs
-
--- src/lib.rt:282:1
+-- src/lib.rt:265:1
 same-length : tie.Need-same-length
 same-length c = search needs
 
--- src/lib.rt:282:1
+-- src/lib.rt:265:1
 same-length-2 : tie.Need-same-length-2
 same-length-2 c = search needs
 
--- src/lib.rt:282:1
+-- src/lib.rt:265:1
 same-length-3 : tie.Need-same-length-3
 same-length-3 c = search needs
 
--- src/lib.rt:282:1
+-- src/lib.rt:265:1
 same-length-4 : tie.Need-same-length-4
 same-length-4 c = search needs
 
--- src/lib.rt:282:1
+-- src/lib.rt:265:1
 returns : tie.Need-returns
 returns c = search eit-dropped
 
@@ -57,8 +52,7 @@ petrizolu-eit-drop-spec =
     eit-requires
     filter-requires
     drop-requires
-    write-counts-requires
-    number-requires
+    write-dropped-requires
     same-length
     same-length-2
     same-length-3

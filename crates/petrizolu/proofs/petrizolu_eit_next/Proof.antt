@@ -7,29 +7,23 @@ use Rattle.petrizolu.proofs.petrizolu_eit_next.Lts as lts
 use Rattle.abi.proofs.collectors.write_next.Reads as write-next-reads
 use Rattle.abi.proofs.eits.eit.Reads as eit-reads
 use Rattle.eit.proofs.next_section.Reads as next-section-reads
-use Rattle.sets.proofs.NextAnswer.number.Reads as number-reads
 
--- src/lib.rt:286:9
+-- src/lib.rt:298:9
 eit-requires : tie.Need-eit-requires
 eit-requires c κs = search needs
 
--- src/lib.rt:287:9
+-- src/lib.rt:299:9
 next-section-requires : tie.Need-next-section-requires
 next-section-requires c κs = search needs
 
--- src/lib.rt:298:5
+-- src/lib.rt:309:5
 write-next-requires : tie.Need-write-next-requires
 write-next-requires c κs = search needs
 
--- src/lib.rt:299:5
-number-requires : tie.Need-number-requires
-number-requires c κs = search needs
-
--- src/lib.rt:272:1
+-- src/lib.rt:284:1
 returns : tie.Need-returns
 returns c = search eit-next
 
 pub petrizolu-eit-next-spec : {M : Type 1} → statement M
 petrizolu-eit-next-spec =
-    tie.close
-    (tie.spec eit-requires next-section-requires write-next-requires number-requires returns)
+    tie.close (tie.spec eit-requires next-section-requires write-next-requires returns)

@@ -7,29 +7,23 @@ use Rattle.petrizolu.proofs.petrizolu_eit_next_in_schedule.Lts as lts
 use Rattle.abi.proofs.collectors.write_next.Reads as write-next-reads
 use Rattle.abi.proofs.eits.eit.Reads as eit-reads
 use Rattle.eit.proofs.next_in_schedule.Reads as next-in-schedule-reads
-use Rattle.sets.proofs.NextAnswer.number.Reads as number-reads
 
--- src/lib.rt:318:9
+-- src/lib.rt:328:9
 eit-requires : tie.Need-eit-requires
 eit-requires c κs = search needs
 
--- src/lib.rt:319:9
+-- src/lib.rt:329:9
 next-in-schedule-requires : tie.Need-next-in-schedule-requires
 next-in-schedule-requires c κs = search needs
 
--- src/lib.rt:331:5
+-- src/lib.rt:340:5
 write-next-requires : tie.Need-write-next-requires
 write-next-requires c κs = search needs
 
--- src/lib.rt:332:5
-number-requires : tie.Need-number-requires
-number-requires c κs = search needs
-
--- src/lib.rt:303:1
+-- src/lib.rt:313:1
 returns : tie.Need-returns
 returns c = search eit-next-in
 
 pub petrizolu-eit-next-in-schedule-spec : {M : Type 1} → statement M
 petrizolu-eit-next-in-schedule-spec =
-    tie.close
-    (tie.spec eit-requires next-in-schedule-requires write-next-requires number-requires returns)
+    tie.close (tie.spec eit-requires next-in-schedule-requires write-next-requires returns)

@@ -5,57 +5,47 @@ use Rattle.petrizolu.proofs.petrizolu_eit_push.Tie as tie
 use Rattle.petrizolu.proofs.petrizolu_eit_push.Reads as reads
 use Rattle.petrizolu.proofs.petrizolu_eit_push.Lts as lts
 use Rattle.abi.proofs.eits.eit.Reads as eit-reads
-use Rattle.abi.proofs.eits.write_counts.Reads as write-counts-reads
-use Rattle.abi.proofs.eits.write_row.Reads as write-row-reads
+use Rattle.abi.proofs.eits.write_pushed.Reads as write-pushed-reads
 use Rattle.abi.proofs.pids.maybe.Reads as maybe-reads
-use Rattle.eit.proofs.PushAnswer.number.Reads as number-reads
 use Rattle.eit.proofs.push.Reads as push-reads
 
--- src/lib.rt:243:9
+-- src/lib.rt:231:9
 eit-requires : tie.Need-eit-requires
 eit-requires c κs = search needs
 
--- src/lib.rt:244:9
+-- src/lib.rt:232:9
 maybe-requires : tie.Need-maybe-requires
 maybe-requires c κs = search needs
 
--- src/lib.rt:245:9
+-- src/lib.rt:233:9
 push-requires : tie.Need-push-requires
 push-requires c κs = search needs
 
--- src/lib.rt:247:5
-write-counts-requires : tie.Need-write-counts-requires
-write-counts-requires c κs = search needs
+-- src/lib.rt:243:5
+write-pushed-requires : tie.Need-write-pushed-requires
+write-pushed-requires c κs = search needs
 
--- src/lib.rt:248:5
-write-row-requires : tie.Need-write-row-requires
-write-row-requires c κs = search needs
-
--- src/lib.rt:249:5
-number-requires : tie.Need-number-requires
-number-requires c κs = search needs
-
--- src/lib.rt:229:1
+-- src/lib.rt:217:1
 same-length : tie.Need-same-length
 same-length c = search needs
 
--- src/lib.rt:229:1
+-- src/lib.rt:217:1
 same-length-2 : tie.Need-same-length-2
 same-length-2 c = search needs
 
--- src/lib.rt:229:1
+-- src/lib.rt:217:1
 same-length-3 : tie.Need-same-length-3
 same-length-3 c = search needs
 
--- src/lib.rt:229:1
+-- src/lib.rt:217:1
 same-length-4 : tie.Need-same-length-4
 same-length-4 c = search needs
 
--- src/lib.rt:229:1
+-- src/lib.rt:217:1
 same-length-5 : tie.Need-same-length-5
 same-length-5 c = search needs
 
--- src/lib.rt:229:1
+-- src/lib.rt:217:1
 returns : tie.Need-returns
 returns c = search eit-pushed
 
@@ -66,9 +56,7 @@ petrizolu-eit-push-spec =
     eit-requires
     maybe-requires
     push-requires
-    write-counts-requires
-    write-row-requires
-    number-requires
+    write-pushed-requires
     same-length
     same-length-2
     same-length-3

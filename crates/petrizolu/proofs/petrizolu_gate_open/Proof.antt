@@ -7,39 +7,27 @@ use Rattle.petrizolu.proofs.petrizolu_gate_open.Lts as lts
 use Rattle.abi.proofs.gates.settings.Reads as settings-reads
 use Rattle.abi.proofs.gates.write_opened.Reads as write-opened-reads
 use Rattle.gate.proofs.open.Reads as open-reads
-use Rattle.watched.proofs.Opening.number.Reads as number-reads
 
--- src/lib.rt:20:9
+-- src/lib.rt:23:9
 settings-requires : tie.Need-settings-requires
 settings-requires c κs = search needs
 
--- src/lib.rt:21:9
+-- src/lib.rt:24:9
 open-requires : tie.Need-open-requires
 open-requires c κs = search needs
 
--- src/lib.rt:23:5
+-- src/lib.rt:25:5
 write-opened-requires : tie.Need-write-opened-requires
 write-opened-requires c κs = search needs
 
--- src/lib.rt:24:5
-number-requires : tie.Need-number-requires
-number-requires c κs = search needs
-
--- src/lib.rt:8:1
+-- src/lib.rt:11:1
 same-length : tie.Need-same-length
 same-length c = search needs
 
--- src/lib.rt:8:1
+-- src/lib.rt:11:1
 returns : tie.Need-returns
 returns c = search gate-opened
 
 pub petrizolu-gate-open-spec : {M : Type 1} → statement M
 petrizolu-gate-open-spec =
-    tie.close
-    (tie.spec
-    settings-requires
-    open-requires
-    write-opened-requires
-    number-requires
-    same-length
-    returns)
+    tie.close (tie.spec settings-requires open-requires write-opened-requires same-length returns)

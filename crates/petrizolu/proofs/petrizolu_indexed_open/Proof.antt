@@ -7,33 +7,28 @@ use Rattle.petrizolu.proofs.petrizolu_indexed_open.Lts as lts
 use Rattle.abi.proofs.gates.settings.Reads as settings-reads
 use Rattle.abi.proofs.gates.write_opened.Reads as write-opened-reads
 use Rattle.indexed.proofs.open.Reads as open-reads
-use Rattle.watched.proofs.Opening.number.Reads as number-reads
 
--- src/lib.rt:72:9
+-- src/lib.rt:77:9
 settings-requires : tie.Need-settings-requires
 settings-requires c κs = search needs
 
--- src/lib.rt:73:9
+-- src/lib.rt:78:9
 open-requires : tie.Need-open-requires
 open-requires c κs = search needs
 
--- src/lib.rt:75:5
+-- src/lib.rt:79:5
 write-opened-requires : tie.Need-write-opened-requires
 write-opened-requires c κs = search needs
 
--- src/lib.rt:76:5
-number-requires : tie.Need-number-requires
-number-requires c κs = search needs
-
--- src/lib.rt:58:1
+-- src/lib.rt:63:1
 same-length : tie.Need-same-length
 same-length c = search needs
 
--- src/lib.rt:58:1
+-- src/lib.rt:63:1
 same-length-2 : tie.Need-same-length-2
 same-length-2 c = search needs
 
--- src/lib.rt:58:1
+-- src/lib.rt:63:1
 returns : tie.Need-returns
 returns c = search indexed-opened
 
@@ -44,7 +39,6 @@ petrizolu-indexed-open-spec =
     settings-requires
     open-requires
     write-opened-requires
-    number-requires
     same-length
     same-length-2
     returns)

@@ -1,29 +1,23 @@
-use Rattle.abi.proofs.Laws.{eit-written}
+use Rattle.abi.proofs.Laws.{words-are}
 use borrow.Author.Needs.{needs}
 use Rattle.abi.proofs.eits.write_opened.Statement.{statement}
 use Rattle.abi.proofs.eits.write_opened.Tie as tie
 use Rattle.abi.proofs.eits.write_opened.Reads as reads
 use Rattle.abi.proofs.eits.write_opened.Lts as lts
-use Rattle.abi.proofs.eits.write.Reads as write-reads
+use Rattle.abi.proofs.eits.write_where.Reads as write-where-reads
+use Rattle.sets.proofs.OpenAnswer.number.Reads as number-reads
 
--- src/eits.rt:43:37
-enum-told : tie.Need-enum-told
-enum-told c = search needs
+-- src/eits.rt:104:5
+write-where-requires : tie.Need-write-where-requires
+write-where-requires c κs = search needs
 
--- src/eits.rt:43:31
-write-requires : tie.Need-write-requires
-write-requires c κs = search needs
+-- src/eits.rt:105:5
+number-requires : tie.Need-number-requires
+number-requires c κs = search needs
 
-enum-told-2 : tie.Need-enum-told-2
-enum-told-2 c = search needs
-
--- src/eits.rt:39:1
+-- src/eits.rt:100:1
 returns : tie.Need-returns
-returns c = search eit-written
-
--- src/eits.rt:39:1
-returns-2 : tie.Need-returns-2
-returns-2 c = search needs
+returns c = search words-are
 
 pub write-opened-spec : {M : Type 1} → statement M
-write-opened-spec = tie.close (tie.spec enum-told write-requires enum-told-2 returns returns-2)
+write-opened-spec = tie.close (tie.spec write-where-requires number-requires returns)

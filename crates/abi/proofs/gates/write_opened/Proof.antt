@@ -1,38 +1,23 @@
-use Rattle.abi.proofs.Laws.{all-written}
+use Rattle.abi.proofs.Laws.{words-are}
 use borrow.Author.Needs.{needs}
 use Rattle.abi.proofs.gates.write_opened.Statement.{statement}
 use Rattle.abi.proofs.gates.write_opened.Tie as tie
 use Rattle.abi.proofs.gates.write_opened.Reads as reads
 use Rattle.abi.proofs.gates.write_opened.Lts as lts
-use Rattle.abi.proofs.gates.write.Reads as write-reads
+use Rattle.abi.proofs.gates.write_where.Reads as write-where-reads
+use Rattle.watched.proofs.Opening.number.Reads as number-reads
 
--- src/gates.rt:80:34
-enum-told : tie.Need-enum-told
-enum-told c = search needs
+-- src/gates.rt:128:5
+write-where-requires : tie.Need-write-where-requires
+write-where-requires c κs = search needs
 
--- src/gates.rt:80:28
-write-requires : tie.Need-write-requires
-write-requires c κs = search needs
+-- src/gates.rt:129:5
+number-requires : tie.Need-number-requires
+number-requires c κs = search needs
 
-enum-told-2 : tie.Need-enum-told-2
-enum-told-2 c = search needs
-
-enum-told-3 : tie.Need-enum-told-3
-enum-told-3 c = search needs
-
--- src/gates.rt:76:1
+-- src/gates.rt:124:1
 returns : tie.Need-returns
-returns c = search all-written
-
--- src/gates.rt:76:1
-returns-2 : tie.Need-returns-2
-returns-2 c = search needs
-
--- src/gates.rt:76:1
-returns-3 : tie.Need-returns-3
-returns-3 c = search needs
+returns c = search words-are
 
 pub write-opened-spec : {M : Type 1} → statement M
-write-opened-spec =
-    tie.close
-    (tie.spec enum-told write-requires enum-told-2 enum-told-3 returns returns-2 returns-3)
+write-opened-spec = tie.close (tie.spec write-where-requires number-requires returns)
