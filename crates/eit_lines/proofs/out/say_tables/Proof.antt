@@ -1,10 +1,10 @@
--- `eit_tape::out::say_tables` ends: a kind has 16 tables.
+-- `eit_lines::out::say_tables` ends: a kind has 16 tables.
 use borrow.Author.Needs.{needs}
 use mathlib.Core.Path.{_≡_}
 use Prim.Native.Nat.{_≤_, _<_, _-_}
 use lib.ListN.{length}
-use Rattle.eit_tape.proofs.out.say_tables.Statement.{statement}
-use Rattle.eit_tape.proofs.out.say_tables.Tie as tie
+use Rattle.eit_lines.proofs.out.say_tables.Statement.{statement}
+use Rattle.eit_lines.proofs.out.say_tables.Tie as tie
 
 abbrev Inv-loop : tie.InvT-loop
 Inv-loop eit heads slots cells schedule-heads units row first last table₀ id₀ table id = (table ≤ 16) × (row < 64) × (length schedule-heads ≡ 768) × (length units ≡ 294912)

@@ -1,8 +1,8 @@
--- `eit_tape::out::sections` ends: a set has at most 256 sections, and each turn passes one.
+-- `eit_lines::out::sections` ends: a set has at most 256 sections, and each turn passes one.
 use borrow.Author.Needs.{needs}
 use Prim.Native.Nat.{_≤_}
-use Rattle.eit_tape.proofs.out.sections.Statement.{statement}
-use Rattle.eit_tape.proofs.out.sections.Tie as tie
+use Rattle.eit_lines.proofs.out.sections.Statement.{statement}
+use Rattle.eit_lines.proofs.out.sections.Tie as tie
 
 abbrev Inv-loop : tie.InvT-loop
 Inv-loop eit heads slots cells «schedule_heads» units whose say from₀ left₀ from left = left ≤ 256
