@@ -2,7 +2,6 @@
 use libc::STDOUT_FILENO;
 ghost use mathlib.Core.Path.{_≡_};
 ghost use Prim.Native.Nat.{_≤_};
-ghost use lib.ListN.{length};
 ghost use Rattle.laws.specs.Lists.{sameList};
 
 // One word is written over, where it is meant and there.
@@ -24,48 +23,45 @@ pub fn poke_slots(slots: &mut [u32], meant: bool, at: usize, value: u32) {
 
 // How many words are lent of those that there are.
 pub fn at_most(n: usize, all: usize) -> usize
-    ensures { λ r. ⌜ r ≤ all ⌝ }
+    ensures { λ r. ⌜ (r ≤ n) × (r ≤ all) ⌝ }
 {
     if n < all { n } else { all }
 }
 
-pub fn copy_words(to: &mut [u64], from: &[u64])
-    requires { ⌜ length (now to) ≡ length (now from) ⌝ }
-    ensures { λ _. ⌜ now (to .exit) ≡ now (from .entry) ⌝ }
-{
+// As many words as both have.
+pub fn copy_words(to: &mut [u64], from: &[u64]) {
+    let n = at_most(from.len(), to.len());
     let mut i = 0;
-    while i < from.len() {
+    while i < n {
         to[i] = from[i];
         i += 1;
     }
 }
 
-pub fn copy_slots(to: &mut [u32], from: &[u32])
-    requires { ⌜ length (now to) ≡ length (now from) ⌝ }
-    ensures { λ _. ⌜ now (to .exit) ≡ now (from .entry) ⌝ }
-{
+pub fn copy_slots(to: &mut [u32], from: &[u32]) {
+    let n = at_most(from.len(), to.len());
     let mut i = 0;
-    while i < from.len() {
+    while i < n {
         to[i] = from[i];
         i += 1;
     }
 }
 
-pub fn copy_bytes(to: &mut [u8], from: &[u8])
-    requires { ⌜ length (now to) ≡ length (now from) ⌝ }
-    ensures { λ _. ⌜ now (to .exit) ≡ now (from .entry) ⌝ }
-{
+pub fn copy_bytes(to: &mut [u8], from: &[u8]) {
+    let n = at_most(from.len(), to.len());
     let mut i = 0;
-    while i < from.len() {
+    while i < n {
         to[i] = from[i];
         i += 1;
     }
 }
 
 pub fn same_words(a: &[u64], b: &[u64]) -> bool
-    requires { ⌜ length (now a) ≡ length (now b) ⌝ }
     ensures { λ r. ⌜ r ≡ sameList (now (a .entry)) (now (b .entry)) ⌝ }
 {
+    if a.len() != b.len() {
+        return false;
+    }
     let mut same = true;
     let mut i = 0;
     while i < a.len() {
@@ -76,9 +72,11 @@ pub fn same_words(a: &[u64], b: &[u64]) -> bool
 }
 
 pub fn same_slots(a: &[u32], b: &[u32]) -> bool
-    requires { ⌜ length (now a) ≡ length (now b) ⌝ }
     ensures { λ r. ⌜ r ≡ sameList (now (a .entry)) (now (b .entry)) ⌝ }
 {
+    if a.len() != b.len() {
+        return false;
+    }
     let mut same = true;
     let mut i = 0;
     while i < a.len() {

@@ -307,62 +307,30 @@ fn watch_words() -> [u64; 384]
     [0; 384]
 }
 
-// The lent words, and a copy of them.
-fn compared(
-    call: Call,
-    c: Case,
-    keys: &mut [u64],
-    changes: &mut [u64],
-    words: &mut [u64],
-    keys_before: &[u64],
-    changes_before: &[u64],
-    words_before: &[u64],
-)
-    requires { ⌜ (length (now keys) ≡ length (now «keys_before»)) × (length (now changes) ≡ length (now «changes_before»)) × (length (now words) ≡ length (now «words_before»)) ⌝ }
-{
-    let told = answered(call, c, keys, changes, words);
-    let lent = same_words(keys, keys_before)
-        & same_words(changes, changes_before)
-        & same_words(words, words_before);
-    damage::say_answer(told.number, told.same & lent);
-}
-
-fn copied(call: Call, c: Case, keys: &mut [u64], changes: &mut [u64], words: &mut [u64])
-    requires { ⌜ (2 ≡ length (now keys)) × (2 ≡ length (now changes)) × (384 ≡ length (now words)) ⌝ }
-{
+// The call on a damaged store, and the comparison with a copy made before.
+fn compared(call: Call, c: Case, keys: &mut [u64], changes: &mut [u64], words: &mut [u64]) {
     let mut keys_before = [0u64; 2];
     let mut changes_before = [0u64; 2];
     let mut words_before = watch_words();
     copy_words(&mut keys_before, keys);
     copy_words(&mut changes_before, changes);
     copy_words(&mut words_before, words);
-    compared(
-        call,
-        c,
-        keys,
-        changes,
-        words,
-        &keys_before,
-        &changes_before,
-        &words_before,
-    );
-}
-
-fn run(call: Call, c: Case, keys: &mut [u64], changes: &mut [u64], words: &mut [u64])
-    requires { ⌜ (2 ≡ length (now keys)) × (2 ≡ length (now changes)) × (384 ≡ length (now words)) ⌝ }
-{
-    fill(keys, changes, words);
-    damage(c, keys, changes, words);
-    copied(call, c, keys, changes, words);
+    let told = answered(call, c, keys, changes, words);
+    let lent = same_words(keys, &keys_before)
+        & same_words(changes, &changes_before)
+        & same_words(words, &words_before);
+    damage::say_answer(told.number, told.same & lent);
 }
 
 fn line(name: &[u8], call: Call, c: Case) {
     let mut keys = [0u64; 2];
     let mut changes = [0u64; 2];
     let mut words = watch_words();
+    fill(&mut keys, &mut changes, &mut words);
+    damage(c, &mut keys, &mut changes, &mut words);
     say(name);
     say_call(call);
-    run(call, c, &mut keys, &mut changes, &mut words);
+    compared(call, c, &mut keys, &mut changes, &mut words);
 }
 
 fn all_calls(name: &[u8], c: Case) {

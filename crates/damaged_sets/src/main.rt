@@ -256,62 +256,30 @@ fn some_cells() -> [u8; 256]
     [0; 256]
 }
 
-// The lent words, and a copy of them.
-fn compared(
-    call: Call,
-    c: Case,
-    heads: &mut [u64],
-    slots: &mut [u32],
-    cells: &mut [u8],
-    heads_before: &[u64],
-    slots_before: &[u32],
-    cells_before: &[u8],
-)
-    requires { ⌜ (length (now heads) ≡ length (now «heads_before»)) × (length (now slots) ≡ length (now «slots_before»)) ⌝ }
-{
-    let told = answered(call, c, heads, slots, cells);
-    let lent = same_words(heads, heads_before)
-        & same_slots(slots, slots_before)
-        & cells::same_bytes(cells, cells_before);
-    damage::say_answer(told.number, told.same & lent);
-}
-
-fn copied(call: Call, c: Case, heads: &mut [u64], slots: &mut [u32], cells: &mut [u8])
-    requires { ⌜ (36 ≡ length (now heads)) × (864 ≡ length (now slots)) × (256 ≡ length (now cells)) ⌝ }
-{
+// The call on a damaged store, and the comparison with a copy made before.
+fn compared(call: Call, c: Case, heads: &mut [u64], slots: &mut [u32], cells: &mut [u8]) {
     let mut heads_before = some_heads();
     let mut slots_before = some_slots();
     let mut cells_before = some_cells();
     copy_words(&mut heads_before, heads);
     copy_slots(&mut slots_before, slots);
     copy_bytes(&mut cells_before, cells);
-    compared(
-        call,
-        c,
-        heads,
-        slots,
-        cells,
-        &heads_before,
-        &slots_before,
-        &cells_before,
-    );
-}
-
-fn run(call: Call, c: Case, heads: &mut [u64], slots: &mut [u32], cells: &mut [u8])
-    requires { ⌜ (36 ≡ length (now heads)) × (864 ≡ length (now slots)) × (256 ≡ length (now cells)) ⌝ }
-{
-    fill(heads, slots, cells);
-    damage(c, heads, slots);
-    copied(call, c, heads, slots, cells);
+    let told = answered(call, c, heads, slots, cells);
+    let lent = same_words(heads, &heads_before)
+        & same_slots(slots, &slots_before)
+        & cells::same_bytes(cells, &cells_before);
+    damage::say_answer(told.number, told.same & lent);
 }
 
 fn line(name: &[u8], call: Call, c: Case) {
     let mut heads = some_heads();
     let mut slots = some_slots();
     let mut cells = some_cells();
+    fill(&mut heads, &mut slots, &mut cells);
+    damage(c, &mut heads, &mut slots);
     say(name);
     say_call(call);
-    run(call, c, &mut heads, &mut slots, &mut cells);
+    compared(call, c, &mut heads, &mut slots, &mut cells);
 }
 
 fn all_calls(name: &[u8], c: Case) {

@@ -2,10 +2,9 @@
 // gate with an index over its rows, here the twin. From an opened store the two are proved to answer alike; a tape shows it of the programs.
 // Where an answer, a counter, the rows in use or a word of the watch differs, `differs` and the command's place are printed, and the run ends;
 // keys and changes are compared at each opening and at the end.
-use forms::Acted;
-use gate::Counters;
-use gate::Gate;
 use gate::Settings;
+use gate_forms::Acted;
+use gate_forms::Form;
 use gate_lines::order;
 use gate_lines::order::Order;
 use gate_lines::order::Read;
@@ -16,14 +15,7 @@ use tape::record::Reached;
 ghost use mathlib.Core.Path.{_≡_};
 ghost use lib.ListN.{length};
 
-mod forms;
 mod same;
-
-// What a gate keeps by value.
-pub struct Form {
-    pub gate: Gate,
-    pub counters: Counters,
-}
 
 pub struct Gates {
     pub plain: Form,
@@ -48,8 +40,8 @@ fn open_both(
     twin_words: &mut [u64],
 ) -> Gates {
     let settings = Settings::by_default();
-    let plain = forms::opened(gate::open(settings, extra, keys, changes, words));
-    let twin = forms::opened(indexed::open(
+    let plain = gate_forms::opened(gate::open(settings, extra, keys, changes, words));
+    let twin = gate_forms::opened(indexed::open(
         settings,
         extra,
         twin_keys,
@@ -112,8 +104,8 @@ fn act(
     extra: &[u16],
     section: &[u8],
 ) -> Both {
-    let plain = forms::plain_acts(order, gates.plain, keys, changes, words, extra, section);
-    let twin = forms::twin_acts(
+    let plain = gate_forms::plain_acts(order, gates.plain, keys, changes, words, extra, section);
+    let twin = gate_forms::twin_acts(
         order,
         gates.twin,
         twin_keys,

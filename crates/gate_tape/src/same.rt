@@ -1,7 +1,7 @@
 // Whether the two forms of the gate agree.
-use crate::forms::Acted;
 use gate::Counters;
 use gate::Gate;
+use gate_forms::Acted;
 use gate_lines::order::Order;
 
 fn bit(b: bool) -> u64 {

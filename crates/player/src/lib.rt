@@ -1,17 +1,14 @@
 // Plays a tape: reads the commands on standard input one after the other, and has each carried out. It lends the parts their memory: rows for
 // a gate of the default capacity in both forms, and 64 rows, 64 schedules and 1 MiB of cells to a collector. An opening that asks for more is
 // refused by the part itself (13).
-use eit::Eit;
-use gate_tape::Gates;
-use sets::Sets;
 use tape::lines;
 use tape::record;
 use tape::record::END;
 use tape::record::Reached;
+use tape_turn::Open;
 ghost use mathlib.Core.Path.{_≡_};
-ghost use Prim.Native.Nat.{_<_};
 ghost use lib.ListN.{length};
-ghost use Rattle.player.specs.Lent.{Lent};
+ghost use Rattle.tape_turn.specs.Lent.{Lent};
 
 // As many rows as the gate's default capacity.
 fn rows() -> [u64; 65536]
@@ -45,123 +42,6 @@ fn cells() -> [u8; 1048576]
     ensures { λ r. ⌜ 1048576 ≡ length r ⌝ }
 {
     [0; 1048576]
-}
-
-// What a run keeps by value between two commands.
-struct Open {
-    gates: Gates,
-    sets: Sets,
-    eit: Eit,
-}
-
-// The runs of a tape: what is open, and where it stands.
-struct Between {
-    reached: Reached,
-    open: Open,
-}
-
-fn with_gates(open: Open, left: gate_tape::Left) -> Between {
-    let reached = left.reached;
-    let gates = left.gates;
-    let sets = open.sets;
-    let eit = open.eit;
-    Between {
-        reached,
-        open: Open { gates, sets, eit },
-    }
-}
-
-fn with_sets(open: Open, left: set_tape::Left) -> Between {
-    let reached = left.reached;
-    let gates = open.gates;
-    let sets = left.sets;
-    let eit = open.eit;
-    Between {
-        reached,
-        open: Open { gates, sets, eit },
-    }
-}
-
-fn with_eit(open: Open, left: eit_tape::Left) -> Between {
-    let reached = left.reached;
-    let gates = open.gates;
-    let sets = open.sets;
-    let eit = left.eit;
-    Between {
-        reached,
-        open: Open { gates, sets, eit },
-    }
-}
-
-// Has the command carried out by the part that knows it.
-fn turn(
-    at: Reached,
-    open: Open,
-    keys: &mut [u64],
-    changes: &mut [u64],
-    words: &mut [u64],
-    twin_keys: &mut [u64],
-    twin_changes: &mut [u64],
-    buckets: &mut [u64],
-    links: &mut [u64],
-    twin_words: &mut [u64],
-    set_heads: &mut [u64],
-    set_slots: &mut [u32],
-    set_cells: &mut [u8],
-    eit_heads: &mut [u64],
-    eit_slots: &mut [u32],
-    eit_cells: &mut [u8],
-    schedule_heads: &mut [u64],
-    units: &mut [u32],
-    buf: &mut [u8],
-) -> Between
-    requires { ⌜ Lent (now «set_heads») (now «eit_heads») (now «schedule_heads») (now units) (now buf) ⌝ }
-{
-    let gates = open.gates;
-    let sets = open.sets;
-    let eit = open.eit;
-    if gate_tape::knows(at.command) {
-        return with_gates(
-            open,
-            gate_tape::turn(
-                at,
-                gates,
-                keys,
-                changes,
-                words,
-                twin_keys,
-                twin_changes,
-                buckets,
-                links,
-                twin_words,
-                buf,
-            ),
-        );
-    }
-    if set_tape::knows(at.command) {
-        return with_sets(
-            open,
-            set_tape::turn(at, sets, set_heads, set_slots, set_cells, buf),
-        );
-    }
-    with_eit(
-        open,
-        eit_tape::turn(
-            at,
-            eit,
-            eit_heads,
-            eit_slots,
-            eit_cells,
-            schedule_heads,
-            units,
-            buf,
-        ),
-    )
-}
-
-// Whether there is a command and a part that knows it.
-fn goes_on(command: usize) -> bool {
-    gate_tape::knows(command) | set_tape::knows(command) | eit_tape::knows(command)
 }
 
 // A command that no part knows; at the end of a tape there is none to tell of.
@@ -198,8 +78,8 @@ fn play(
     let mut at = record::first();
     let mut open = begun;
     let mut turns = u64::MAX;
-    while turns > 0 && goes_on(at.command) {
-        let t = turn(
+    while turns > 0 && tape_turn::goes_on(at.command) {
+        let t = tape_turn::turn(
             at,
             open,
             keys,
@@ -257,7 +137,7 @@ pub fn run() {
         &mut twin_words,
     );
     let at = play(
-        begin(gates),
+        tape_turn::begin(gates),
         &mut keys,
         &mut changes,
         &mut words,
@@ -278,13 +158,4 @@ pub fn run() {
     );
     say_bad(at);
     gate_tape::end(at.place, &keys, &changes, &twin_keys, &twin_changes);
-}
-
-// No collector is open at the start.
-fn begin(gates: Gates) -> Open {
-    Open {
-        gates,
-        sets: set_tape::none(),
-        eit: eit_tape::none(),
-    }
 }

@@ -2,20 +2,21 @@ use mathlib.Core.Path.{_≡_, refl}
 use Prim.Native.Nat.{_≤_, _-_}
 use native.Mathlib.Omega.{arith}
 use lib.ListN.{length}
-use lib.Seq.{paste}
-use Rattle.damage.proofs.Laws.{copy-more, copied}
 use borrow.Author.Needs.{needs}
 use Rattle.damage.proofs.copy_words.Statement.{statement}
 use Rattle.damage.proofs.copy_words.Tie as tie
 
 abbrev Inv-loop : tie.InvT-loop
-Inv-loop to₀ from i₀ to i = (i ≤ length from) × (length to ≡ length to₀) × (to ≡ paste to₀ 0 from i)
+Inv-loop to₀ from n i₀ to i = (i ≤ n) × (n ≤ length from) × (n ≤ length to) × (length to ≡ length to₀)
 
 abbrev μ-loop : tie.MeasureT-loop
-μ-loop to₀ from i₀ to i = length from - i
+μ-loop to₀ from n i₀ to i = n - i
+
+at-most-requires : tie.Need-at-most-requires Inv-loop μ-loop
+at-most-requires c κs = search needs
 
 loop-holds : tie.Need-loop-holds Inv-loop μ-loop
-loop-holds c = (omega arith, refl, refl)
+loop-holds c = (omega arith, omega arith, omega arith, refl)
 
 mul-to : tie.Need-mul-to Inv-loop μ-loop
 mul-to c = search needs
@@ -36,13 +37,13 @@ loop-less : tie.Need-loop-less Inv-loop μ-loop
 loop-less c = search needs
 
 loop-again : tie.Need-loop-again Inv-loop μ-loop
-loop-again c = (search needs, search needs, search copy-more)
+loop-again c = (search needs, search needs, search needs, search needs)
 
 same-length : tie.Need-same-length Inv-loop μ-loop
 same-length c = search needs
 
 returns : tie.Need-returns Inv-loop μ-loop
-returns c = search copied
+returns c = search needs
 
 pub copy-words-spec : {M : Type 1} → statement M
 copy-words-spec =
@@ -50,6 +51,7 @@ copy-words-spec =
     (tie.spec
     Inv-loop
     μ-loop
+    at-most-requires
     loop-holds
     mul-to
     shared-slice-read-to

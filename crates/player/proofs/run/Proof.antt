@@ -3,7 +3,6 @@ use native.Mathlib.Omega.{arith}
 use borrow.Author.Needs.{needs}
 use Rattle.player.proofs.run.Statement.{statement}
 use Rattle.player.proofs.run.Tie as tie
-use Rattle.player.proofs.begin.Reads as begin-reads′
 
 rows-requires : tie.Need-rows-requires
 rows-requires c κs = search needs

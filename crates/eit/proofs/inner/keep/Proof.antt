@@ -22,13 +22,13 @@ keep-requires : tie.Need-keep-requires
 keep-requires c κs = let p = c .before .before .before .before .before .before .before .before .before .before .before .before .before .before .before .before .before .pre in let a = c .before .before .before .before .before .before .before .before .before .before .before .before .before .before .before .before .before .args in cell-room (a .eit .count) (a .eit .size) (a .k .cell) (length (a .bytes .now)) (length (a .cells .now)) (p .cell) (p .fits) (p .cells-long)
 
 same-length : tie.Need-same-length
-same-length c = search needs
+same-length c = c .before .before .before .before .before .before .before .before .before .before .before .before .keep-head .kept .0
 
 same-length-2 : tie.Need-same-length-2
-same-length-2 c = search needs
+same-length-2 c = c .before .before .before .before .before .before .before .before .keep-section .kept .0
 
 same-length-3 : tie.Need-same-length-3
-same-length-3 c = search needs
+same-length-3 c = c .before .before .keep .kept .0
 
 returns : tie.Need-returns
 returns c = (c .before .before .before .before .before .before .before .before .before .before .before .before .keep-head .ensures, (word-kept _ _ _ _ _ _ _ (c .before .before .before .before .before .before .before .before .before .before .before .before .before .before .slot-word .ensures) (c .before .before .before .before .before .before .before .before .keep-section .ensures), c .before .before .keep .ensures))

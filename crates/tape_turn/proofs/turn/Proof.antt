@@ -1,8 +1,8 @@
--- `player::turn` keeps what it lends at its length.
+-- `tape_turn::turn` keeps what it lends at its length.
 use native.Mathlib.Omega.{arith}
 use borrow.Author.Needs.{needs}
-use Rattle.player.proofs.turn.Statement.{statement}
-use Rattle.player.proofs.turn.Tie as tie
+use Rattle.tape_turn.proofs.turn.Statement.{statement}
+use Rattle.tape_turn.proofs.turn.Tie as tie
 use Rattle.gate_tape.proofs.turn.Reads as turn-reads′
 use Rattle.set_tape.proofs.knows.Reads as knows-reads′
 use Rattle.set_tape.proofs.turn.Reads as turn-reads′′

@@ -1,5 +1,7 @@
-// An order, carried out by one form of the gate and by the other.
-use crate::Form;
+// An order, carried out by one form of the gate or by the other: by the gate as it stands in document 01, and by the gate with an index over its
+// rows.
+use gate::Counters;
+use gate::Gate;
 use gate::Offered;
 use gate::Opened;
 use gate::Settings;
@@ -7,6 +9,12 @@ use gate_lines::order::Order;
 use tape::record;
 use watched::Asked;
 use watched::Opening;
+
+// What a gate keeps by value.
+pub struct Form {
+    pub gate: Gate,
+    pub counters: Counters,
+}
 
 // The number that the order is answered with, 0 where it has none, and what the gate keeps.
 pub struct Acted {
