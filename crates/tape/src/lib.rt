@@ -16,7 +16,8 @@
 //                      transport_stream_id u16, original_network_id u16, current_next u8
 //
 // A gate with the default settings is open from the start, a collector only once it is opened: until then it answers 10. An opening that is
-// refused leaves what was open. A tape that ends inside a command prints `cut`, a command that there is not `bad` and its place, counted
-// from 0; both end the run.
+// refused leaves what was open. Every command of the gate runs through both of its forms. A tape that ends inside a command prints `cut`, a
+// command that there is not `bad` and its place, counted from 0, and one on which the gate's forms differ `differs` and its place; each ends
+// the run.
 pub mod lines;
 pub mod record;
