@@ -6,11 +6,11 @@ use mathlib.Core.Option.{none}
 use mathlib.Core.List.{List, [], _∷_, map}
 use Prim.Native.Nat.{ℕ}
 use lib.ListN.{replicate}
-use Rattle.touch.specs.Slots.{someHeld, everyHeld, onSlots}
-use Rattle.touch.specs.Touch.{count, someRow, everyRow, seenAs, untouched, onOrder}
-use Rattle.touch.specs.Row.{onRow}
-use Rattle.touch.specs.Cells.{bytesOf, names, lowest, write, placeNew, placeHeld, place, roomWhole, heldWhole, atEnd}
-use Rattle.touch.specs.Runs.{answers}
+use Rattle.rules_shared.specs.Slots.{someHeld, everyHeld, onSlots}
+use Rattle.rules_shared.specs.Touch.{count, someRow, everyRow, seenAs, untouched, onOrder}
+use Rattle.rules_shared.specs.Row.{onRow}
+use Rattle.rules_shared.specs.Cells.{bytesOf, names, lowest, write, placeNew, placeHeld, place, roomWhole, heldWhole, atEnd}
+use Rattle.rules_shared.specs.Runs.{answers}
 use Rattle.eitrules.specs.Keys.{presentActual, scheduleActual}
 use Rattle.eitrules.specs.Rules.{Call, drop, offer, Answer, nothing, handout, conflict, noCell, numberOf}
 use Rattle.eitrules.specs.Cells.{Store, onCopy, onSchedule, onEit, onWhole, onGuide, onAnswer, setTakes, copyTakes, scheduleTakes, taken, storeWhole, anyAtEnd, ended, shows, rest, roomFor, placeOf, carry, pushIn, admitIn, offerIn, dropIn, good, guarded, call, callTells, callActs}

@@ -9,12 +9,12 @@ use Prim.Native.Nat.{ℕ, zero, suc}
 use native.Mathlib.Omega.{arith}
 use lib.Dec.{leb}
 use lib.ListN.{length}
-use Rattle.touch.specs.Same.{Bytes}
-use Rattle.touch.specs.Touch.{seenAs, emptied, onOrder}
-use Rattle.touch.specs.Row.{keep, onRow, put}
-use Rattle.touch.specs.Cells.{Held, Cells, bytesOf, write, heldIn}
-use Rattle.touch.specs.Runs.{Obeys, bars, does}
-use Rattle.touch.proofs.Cells.{kept-shown, rules-keep, rules-ignore, rules-refuse}
+use Rattle.rules_shared.specs.Same.{Bytes}
+use Rattle.rules_shared.specs.Touch.{seenAs, emptied, onOrder}
+use Rattle.rules_shared.specs.Row.{keep, onRow, put}
+use Rattle.rules_shared.specs.Cells.{Held, Cells, bytesOf, write, heldIn}
+use Rattle.rules_shared.specs.Runs.{Obeys, bars, does}
+use Rattle.rules_shared.proofs.Cells.{kept-shown, rules-keep, rules-ignore, rules-refuse}
 use Rattle.eitrules.specs.Keys.{Kind, kindOf, SetKey}
 use Rattle.eitrules.specs.Rules.{Section, keyOf, partOf, Call, offer, refused, nothing, conflict, barred, StepOf, Eit, Step, gives, judge, cleared, finish, push, admit, offered, dropping, step, tells, acts}
 use Rattle.eitrules.specs.Cells.{Store, Turn, onEit, onAnswer, view, setTakes, shows, rest, roomFor, call, callTells, callActs}

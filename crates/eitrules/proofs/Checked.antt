@@ -9,13 +9,13 @@ use native.Mathlib.Nat.{le-trans}
 use lib.Dec.{leb, eqb}
 use lib.ListN.{length}
 use Rattle.laws.proofs.Tests.{true-and}
-use Rattle.touch.specs.Slots.{everyHeld}
-use Rattle.touch.specs.Touch.{Rows, find, retained}
-use Rattle.touch.specs.Row.{fresh, keep, marked}
-use Rattle.touch.specs.Cells.{Held}
-use Rattle.touch.proofs.Slots.{every-free, every-set}
-use Rattle.touch.proofs.All.{All, all-aside, all-newest, all-touch, all-retain, all-find, length-aside, length-newest, length-touch, length-retain}
-use Rattle.touch.proofs.Row.{start-has}
+use Rattle.rules_shared.specs.Slots.{everyHeld}
+use Rattle.rules_shared.specs.Touch.{Rows, find, retained}
+use Rattle.rules_shared.specs.Row.{fresh, keep, marked}
+use Rattle.rules_shared.specs.Cells.{Held}
+use Rattle.rules_shared.proofs.Slots.{every-free, every-set}
+use Rattle.rules_shared.proofs.All.{All, all-aside, all-newest, all-touch, all-retain, all-find, length-aside, length-newest, length-touch, length-retain}
+use Rattle.rules_shared.proofs.Row.{start-has}
 use Rattle.eitrules.specs.Keys.{firstOf, ScheduleKey, SetKey, sameSchedule, sameSet, Filter}
 use Rattle.eitrules.specs.Segments.{SetOf, complete}
 use Rattle.eitrules.specs.Schedules.{CopyOf, ScheduleOf, tableOf, copyOf, copied, refill, begin, enter}

@@ -10,12 +10,12 @@ use Prim.Native.Nat.{ℕ, _<_}
 use native.Mathlib.Omega.{arith}
 use lib.ListN.{length}
 use Rattle.laws.proofs.Tests.{none≢some}
-use Rattle.touch.specs.Touch.{under, find, remove, aside, newest}
-use Rattle.touch.specs.Row.{slotOf}
-use Rattle.touch.specs.Cells.{Held, bytesOf}
-use Rattle.touch.proofs.All.{held-stays}
-use Rattle.touch.proofs.Row.{slot-on, start-held}
-use Rattle.touch.proofs.Cells.{LowestFree, AllTaken, Kept, kept-parts, parts-kept}
+use Rattle.rules_shared.specs.Touch.{under, find, remove, aside, newest}
+use Rattle.rules_shared.specs.Row.{slotOf}
+use Rattle.rules_shared.specs.Cells.{Held, bytesOf}
+use Rattle.rules_shared.proofs.All.{held-stays}
+use Rattle.rules_shared.proofs.Row.{slot-on, start-held}
+use Rattle.rules_shared.proofs.Cells.{LowestFree, AllTaken, Kept, kept-parts, parts-kept}
 use Rattle.eitrules.specs.Keys.{Kind, kindOf, SetKey, sameSet}
 use Rattle.eitrules.specs.Rules.{EitOf, Section, keyOf, partOf, Call, offer, Answer, done, refused, nothing, handout, schedule, conflict, range, notWhole, counterFull, noCell, asBefore, metRow, setAside, setNewest, isKept}
 use Rattle.eitrules.specs.Cells.{Store, Turn, onAnswer, view, taken, storeWhole, ended, shows, rest, roomFor, callTells, callActs}

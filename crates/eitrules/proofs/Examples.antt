@@ -6,11 +6,11 @@ use mathlib.Core.Option.{none, some}
 use mathlib.Core.List.{List, [], _∷_, map}
 use Prim.Native.Nat.{ℕ}
 use lib.ListN.{getElem?, replicate}
-use Rattle.touch.specs.Same.{Bytes, sameBytes, samePid}
-use Rattle.touch.specs.Slots.{isHeld, present}
-use Rattle.touch.specs.Touch.{Entry, oldestGone, room, leaves, count, retain, find, remove, others, evicts, untouched, aside, newest, touch, emptied, retained}
-use Rattle.touch.specs.Row.{fresh, fits, start, slotOf, keep, marked, putOver, put}
-use Rattle.touch.specs.Runs.{answers, storeAfter}
+use Rattle.rules_shared.specs.Same.{Bytes, sameBytes, samePid}
+use Rattle.rules_shared.specs.Slots.{isHeld, present}
+use Rattle.rules_shared.specs.Touch.{Entry, oldestGone, room, leaves, count, retain, find, remove, others, evicts, untouched, aside, newest, touch, emptied, retained}
+use Rattle.rules_shared.specs.Row.{fresh, fits, start, slotOf, keep, marked, putOver, put}
+use Rattle.rules_shared.specs.Runs.{answers, storeAfter}
 use Rattle.eitrules.specs.Keys.{Kind, presentActual, presentOther, scheduleActual, scheduleOther, between, kindOf, firstOf, kindNumber, sameKind, ScheduleKey, SetKey, sameSchedule, sameSet, Filter, anyPid, exactly, badPid, pidPasses, passes, matches}
 use Rattle.eitrules.specs.Segments.{segmentEnd, SetOf, heldFrom, segmentFull, segmentsFull, complete}
 use Rattle.eitrules.specs.Schedules.{ScheduleOf, copyOf, whole, copied, refill, begin, enter, allTables, wholes, guide}

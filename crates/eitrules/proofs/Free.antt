@@ -9,11 +9,11 @@ use mathlib.Core.List.{[], _++_}
 use Prim.Native.Nat.{ℕ}
 use lib.ListN.{length, getD, drop}
 use Rattle.laws.proofs.Tests.{or-false}
-use Rattle.touch.specs.Touch.{someRow}
-use Rattle.touch.specs.Cells.{Held, names}
-use Rattle.touch.proofs.Slots.{none-passes, passes-none}
-use Rattle.touch.proofs.All.{All, all-map, none-all, all-none}
-use Rattle.touch.proofs.Cells.{LowestFree, write-other, write-front}
+use Rattle.rules_shared.specs.Touch.{someRow}
+use Rattle.rules_shared.specs.Cells.{Held, names}
+use Rattle.rules_shared.proofs.Slots.{none-passes, passes-none}
+use Rattle.rules_shared.proofs.All.{All, all-map, none-all, all-none}
+use Rattle.rules_shared.proofs.Cells.{LowestFree, write-other, write-front}
 use Rattle.eitrules.specs.Keys.{ScheduleKey, SetKey}
 use Rattle.eitrules.specs.Segments.{SetOf}
 use Rattle.eitrules.specs.Schedules.{CopyOf, ScheduleOf}

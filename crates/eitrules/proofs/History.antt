@@ -10,15 +10,15 @@ use native.Mathlib.Nat.{le-trans}
 use native.Mathlib.Omega.{arith}
 use lib.Dec.{leb, eqb}
 use lib.ListN.{length, length-replicate, length-set}
-use Rattle.touch.specs.Touch.{Rows, find, untouched, emptied, retained}
-use Rattle.touch.specs.Row.{fresh, keep, marked, put}
-use Rattle.touch.specs.Cells.{Settings}
-use Rattle.touch.specs.Runs.{storeAfter}
-use Rattle.touch.proofs.All.{All, all-aside, all-newest, all-touch, all-retain, all-find, length-aside, length-newest, length-touch, length-retain}
-use Rattle.touch.proofs.Distinct.{Distinct, distinct-aside, distinct-newest, distinct-touch, distinct-retain}
-use Rattle.touch.proofs.Row.{start-has, put-has}
-use Rattle.touch.proofs.Runs.{after-all}
-use Rattle.touch.specs.Same.{Bytes}
+use Rattle.rules_shared.specs.Touch.{Rows, find, untouched, emptied, retained}
+use Rattle.rules_shared.specs.Row.{fresh, keep, marked, put}
+use Rattle.rules_shared.specs.Cells.{Settings}
+use Rattle.rules_shared.specs.Runs.{storeAfter}
+use Rattle.rules_shared.proofs.All.{All, all-aside, all-newest, all-touch, all-retain, all-find, length-aside, length-newest, length-touch, length-retain}
+use Rattle.rules_shared.proofs.Distinct.{Distinct, distinct-aside, distinct-newest, distinct-touch, distinct-retain}
+use Rattle.rules_shared.proofs.Row.{start-has, put-has}
+use Rattle.rules_shared.proofs.Runs.{after-all}
+use Rattle.rules_shared.specs.Same.{Bytes}
 use Rattle.eitrules.specs.Keys.{Kind, kindOf, firstOf, ScheduleKey, SetKey, sameSchedule, sameSet, Filter, badPid}
 use Rattle.eitrules.specs.Segments.{complete}
 use Rattle.eitrules.specs.Schedules.{CopyOf, ScheduleOf, copyOf, refill, begin, enter}

@@ -8,9 +8,9 @@ use mathlib.Core.Option.{Option, none, some}
 use Prim.Native.Nat.{ℕ, _-_, _≤_, _<_}
 use native.Mathlib.Omega.{arith}
 use lib.Dec.{leb}
-use Rattle.touch.specs.Touch.{find}
-use Rattle.touch.specs.Row.{marked}
-use Rattle.touch.specs.Same.{Bytes}
+use Rattle.rules_shared.specs.Touch.{find}
+use Rattle.rules_shared.specs.Row.{marked}
+use Rattle.rules_shared.specs.Same.{Bytes}
 use Rattle.eitrules.specs.Keys.{firstOf, SetKey, sameSchedule}
 use Rattle.eitrules.specs.Segments.{complete}
 use Rattle.eitrules.specs.Schedules.{ScheduleOf, copyOf, whole, begin, enter, allTables, guide}

@@ -9,10 +9,10 @@ use Prim.Native.Nat.{ℕ, zero, suc, _≤_, _<_}
 use native.Mathlib.Omega.{arith}
 use lib.Dec.{leb}
 use lib.ListN.{length}
-use Rattle.touch.specs.Same.{Bytes}
-use Rattle.touch.specs.Row.{slotOf, keep}
-use Rattle.touch.specs.Cells.{Held, bytesOf, write, Place, heldIn}
-use Rattle.touch.proofs.Cells.{LowestFree, AllTaken, Placed, laid, lacking, alike, unlike, placed}
+use Rattle.rules_shared.specs.Same.{Bytes}
+use Rattle.rules_shared.specs.Row.{slotOf, keep}
+use Rattle.rules_shared.specs.Cells.{Held, bytesOf, write, Place, heldIn}
+use Rattle.rules_shared.proofs.Cells.{LowestFree, AllTaken, Placed, laid, lacking, alike, unlike, placed}
 use Rattle.eitrules.specs.Keys.{Kind, kindOf, firstOf, SetKey, Filter, badPid}
 use Rattle.eitrules.specs.Segments.{SetOf, complete}
 use Rattle.eitrules.specs.Schedules.{ScheduleOf, allTables}

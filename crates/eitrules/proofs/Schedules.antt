@@ -8,8 +8,8 @@ use mathlib.Core.List.{List, [], _∷_}
 use Prim.Native.Nat.{ℕ, zero, suc, _+_, _-_, _≤_, _<_}
 use native.Mathlib.Omega.{arith}
 use lib.ListN.{length, getD, take}
-use Rattle.touch.specs.Slots.{isHeld}
-use Rattle.touch.specs.Touch.{Rows, find}
+use Rattle.rules_shared.specs.Slots.{isHeld}
+use Rattle.rules_shared.specs.Touch.{Rows, find}
 use Rattle.eitrules.specs.Keys.{ScheduleKey, SetKey, sameSet}
 use Rattle.eitrules.specs.Segments.{SetOf, heldFrom}
 use Rattle.eitrules.specs.Schedules.{CopyOf, ScheduleOf, tableOf, copied, refill, allTables, wholes, guide}

@@ -10,7 +10,7 @@ use native.Mathlib.Omega.{arith}
 use native.Mathlib.Nat.{eq-or-lt-of-le}
 use lib.ListN.{getD}
 use Rattle.laws.proofs.Tests.{and-true, true-and, none≢some}
-use Rattle.touch.specs.Slots.{isHeld}
+use Rattle.rules_shared.specs.Slots.{isHeld}
 use Rattle.eitrules.specs.Segments.{segmentOf, segmentEnd, SegmentLasts, SetOf, heldFrom, segmentFull, segmentsFull, complete}
 
 module _ {A : Type 0} where

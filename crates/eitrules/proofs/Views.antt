@@ -9,15 +9,15 @@ use Prim.Native.Nat.{ℕ, zero, suc, _*_, _-_}
 use lib.Dec.{leb, eqb}
 use lib.ListN.{getD, take}
 use Rattle.laws.proofs.Tests.{or-false}
-use Rattle.touch.specs.Same.{Bytes}
-use Rattle.touch.specs.Slots.{onSlots}
-use Rattle.touch.specs.Touch.{Rows, someRow, seenAs, find, newest, onOrder}
-use Rattle.touch.specs.Row.{marked, onRow}
-use Rattle.touch.specs.Cells.{Held, Cells, bytesOf, names, write}
-use Rattle.touch.proofs.Slots.{on-empty, on-getD, on-set, on-take, on-present, on-held, on-alike}
-use Rattle.touch.proofs.Views.{seen-find, aside-on, newest-on, touch-on, retained-on, order-alike, some-newest}
-use Rattle.touch.proofs.Row.{start-on}
-use Rattle.touch.proofs.Cells.{row-unseen, elsewhere}
+use Rattle.rules_shared.specs.Same.{Bytes}
+use Rattle.rules_shared.specs.Slots.{onSlots}
+use Rattle.rules_shared.specs.Touch.{Rows, someRow, seenAs, find, newest, onOrder}
+use Rattle.rules_shared.specs.Row.{marked, onRow}
+use Rattle.rules_shared.specs.Cells.{Held, Cells, bytesOf, names, write}
+use Rattle.rules_shared.proofs.Slots.{on-empty, on-getD, on-set, on-take, on-present, on-held, on-alike}
+use Rattle.rules_shared.proofs.Views.{seen-find, aside-on, newest-on, touch-on, retained-on, order-alike, some-newest}
+use Rattle.rules_shared.proofs.Row.{start-on}
+use Rattle.rules_shared.proofs.Cells.{row-unseen, elsewhere}
 use Rattle.eitrules.specs.Keys.{firstOf, ScheduleKey, SetKey, sameSchedule, sameSet, Filter, matches}
 use Rattle.eitrules.specs.Segments.{segmentOf, segmentEnd, SegmentLasts, SetOf, heldFrom, segmentFull, segmentsFull, complete}
 use Rattle.eitrules.specs.Schedules.{CopyOf, ScheduleOf, tableOf, copyOf, whole, copied, refill, begin, enter, allTables, wholes, guide}

@@ -9,14 +9,14 @@ use Prim.Native.Nat.{ℕ, zero, suc, _-_, _≤_}
 use native.Mathlib.Omega.{arith}
 use lib.ListN.{length}
 use Rattle.laws.proofs.Tests.{and-true, true-and}
-use Rattle.touch.specs.Slots.{everyHeld}
-use Rattle.touch.specs.Touch.{untouched, emptied}
-use Rattle.touch.specs.Row.{keep}
-use Rattle.touch.specs.Cells.{Settings, Held, Cells, write, heldIn, roomWhole, heldWhole}
-use Rattle.touch.specs.Runs.{answers, storeAfter, At, Never}
-use Rattle.touch.proofs.All.{every-all, all-every}
-use Rattle.touch.proofs.Cells.{length-write, held-whole, whole-held, room-whole}
-use Rattle.touch.proofs.Runs.{after-all, never-after}
+use Rattle.rules_shared.specs.Slots.{everyHeld}
+use Rattle.rules_shared.specs.Touch.{untouched, emptied}
+use Rattle.rules_shared.specs.Row.{keep}
+use Rattle.rules_shared.specs.Cells.{Settings, Held, Cells, write, heldIn, roomWhole, heldWhole}
+use Rattle.rules_shared.specs.Runs.{answers, storeAfter, At, Never}
+use Rattle.rules_shared.proofs.All.{every-all, all-every}
+use Rattle.rules_shared.proofs.Cells.{length-write, held-whole, whole-held, room-whole}
+use Rattle.rules_shared.proofs.Runs.{after-all, never-after}
 use Rattle.eitrules.specs.Keys.{SetKey}
 use Rattle.eitrules.specs.Segments.{SetOf}
 use Rattle.eitrules.specs.Schedules.{ScheduleOf}

@@ -7,10 +7,10 @@ use mathlib.Core.List.{map}
 use Prim.Native.Nat.{ℕ, zero, suc}
 use lib.Dec.{leb}
 use lib.ListN.{length}
-use Rattle.touch.specs.Slots.{someHeld, everyHeld, onSlots}
-use Rattle.touch.specs.Touch.{someRow, everyRow, onOrder}
-use Rattle.touch.specs.Row.{slotOf, keep, onRow}
-use Rattle.touch.specs.Cells.{Settings, Held, Cells, bytesOf, names, write, Place, into, noneFree, ignored, conflicting, place, heldIn, roomWhole, heldWhole, atEnd}
+use Rattle.rules_shared.specs.Slots.{someHeld, everyHeld, onSlots}
+use Rattle.rules_shared.specs.Touch.{someRow, everyRow, onOrder}
+use Rattle.rules_shared.specs.Row.{slotOf, keep, onRow}
+use Rattle.rules_shared.specs.Cells.{Settings, Held, Cells, bytesOf, names, write, Place, into, noneFree, ignored, conflicting, place, heldIn, roomWhole, heldWhole, atEnd}
 use Rattle.eitrules.specs.Keys.{Kind, kindOf, SetKey, Filter, badPid}
 use Rattle.eitrules.specs.Segments.{SetOf}
 use Rattle.eitrules.specs.Schedules.{CopyOf, ScheduleOf, WholeOf, GuideOf}

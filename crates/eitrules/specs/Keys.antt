@@ -4,7 +4,7 @@ use mathlib.Core.Bool.{Bool, true, false, cond, _&&_, Bool·beq}
 use mathlib.Core.Option.{Option, none, some}
 use Prim.Native.Nat.{ℕ}
 use lib.Dec.{leb, eqb}
-use Rattle.touch.specs.Same.{samePid}
+use Rattle.rules_shared.specs.Same.{samePid}
 
 -- ---- kinds
 

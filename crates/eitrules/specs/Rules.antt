@@ -6,10 +6,10 @@ use mathlib.Core.Option.{Option, none, some}
 use Prim.Native.Nat.{ℕ, zero, suc, _-_}
 use lib.Dec.{leb}
 use lib.ListN.{length, set}
-use Rattle.touch.specs.Same.{Bytes}
-use Rattle.touch.specs.Touch.{TouchOrder, find, untouched, aside, newest, touch, emptied, retained}
-use Rattle.touch.specs.Row.{Part, start, slotOf, marked, put}
-use Rattle.touch.specs.Cells.{Settings, wouldKeep}
+use Rattle.rules_shared.specs.Same.{Bytes}
+use Rattle.rules_shared.specs.Touch.{TouchOrder, find, untouched, aside, newest, touch, emptied, retained}
+use Rattle.rules_shared.specs.Row.{Part, start, slotOf, marked, put}
+use Rattle.rules_shared.specs.Cells.{Settings, wouldKeep}
 use Rattle.eitrules.specs.Keys.{Kind, kindOf, firstOf, ScheduleKey, SetKey, sameSchedule, sameSet, Filter, badPid, matches}
 use Rattle.eitrules.specs.Segments.{segmentOf, SegmentLasts, noLasts, SetOf, complete}
 use Rattle.eitrules.specs.Schedules.{ScheduleOf, WholeOf, GuideOf, copyOf, whole, begin, enter, allTables, guide}

@@ -6,8 +6,8 @@ use mathlib.Core.List.{List, [], _∷_}
 use Prim.Native.Nat.{ℕ, zero, suc, _-_}
 use lib.Dec.{leb, eqb}
 use lib.ListN.{set, take, replicate}
-use Rattle.touch.specs.Slots.{present}
-use Rattle.touch.specs.Touch.{Rows, find}
+use Rattle.rules_shared.specs.Slots.{present}
+use Rattle.rules_shared.specs.Touch.{Rows, find}
 use Rattle.eitrules.specs.Keys.{ScheduleKey, SetKey, sameSet}
 use Rattle.eitrules.specs.Segments.{SetOf, heldFrom, complete}
 

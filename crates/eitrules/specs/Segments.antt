@@ -5,8 +5,8 @@ use mathlib.Core.Option.{Option, none, some}
 use mathlib.Core.List.{List}
 use Prim.Native.Nat.{ℕ, zero, suc, _+_, _*_, _-_, _/_, _%_, min}
 use lib.ListN.{getD, replicate}
-use Rattle.touch.specs.Slots.{isHeld}
-use Rattle.touch.specs.Row.{RowOf}
+use Rattle.rules_shared.specs.Slots.{isHeld}
+use Rattle.rules_shared.specs.Row.{RowOf}
 
 -- the last section number of a segment: "min(start + number mod 8, last_section_number)", where number is its segment_last_section_number
 unfoldable pub segmentEnd : (segmentStart segmentLastSectionNumber lastSectionNumber : ℕ) → ℕ

@@ -8,7 +8,7 @@ use Prim.Native.Nat.{ℕ, _+_, _-_, _<_}
 use native.Mathlib.Omega.{arith}
 use lib.Dec.{eqb}
 use lib.ListN.{getD}
-use Rattle.touch.specs.Same.{Bytes}
+use Rattle.rules_shared.specs.Same.{Bytes}
 use Rattle.eitrules.specs.Keys.{Kind, presentActual, presentOther, scheduleActual, scheduleOther, between, kindOf, kindNumber}
 use Rattle.section.specs.Judged.{collectedOf}
 use Rattle.section.specs.Header.{byteAt, headerOf}

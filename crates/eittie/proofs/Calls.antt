@@ -12,11 +12,11 @@ use borrow.Author.Tests.{eq-eqb, ne-eqb, eqb-true, ltb-true, ltb-false, leb-true
 use lib.Dec.{eqb, ltb, leb}
 use lib.ListN.{length}
 use Rattle.laws.proofs.Tests.{and-true, same-test}
-use Rattle.touch.specs.Same.{Bytes}
-use Rattle.touch.specs.Slots.{everyHeld}
-use Rattle.touch.specs.Touch.{emptied, everyRow}
-use Rattle.touch.specs.Row.{fits}
-use Rattle.touch.specs.Cells.{Held, heldWhole, roomWhole, atEnd}
+use Rattle.rules_shared.specs.Same.{Bytes}
+use Rattle.rules_shared.specs.Slots.{everyHeld}
+use Rattle.rules_shared.specs.Touch.{emptied, everyRow}
+use Rattle.rules_shared.specs.Row.{fits}
+use Rattle.rules_shared.specs.Cells.{Held, heldWhole, roomWhole, atEnd}
 use Rattle.eitrules.specs.Keys.{Kind, kindOf, SetKey, sameSet, sameSchedule}
 use Rattle.eitrules.specs.Segments.{SetOf}
 use Rattle.eitrules.specs.Schedules.{ScheduleOf}

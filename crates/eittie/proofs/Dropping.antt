@@ -9,7 +9,7 @@ use native.Mathlib.Omega.{arith}
 use borrow.Author.Tests.{lt-leb, le-leb, ltb-true, ltb-false}
 use lib.Dec.{ltb, leb}
 use lib.ListN.{length, take, drop, getD}
-use Rattle.touch.specs.Touch.{retained}
+use Rattle.rules_shared.specs.Touch.{retained}
 use Rattle.eitrules.specs.Keys.{kindNumber, ScheduleKey, SetKey, badPid, pidPasses}
 use Rattle.eitrules.specs.Keys.{matches as keyMatches}
 use Rattle.eitrules.specs.Rules.{done, gives, dropped}

@@ -8,7 +8,7 @@ use native.Mathlib.Omega.{arith}
 use borrow.Author.Tests.{eqb-true, ne-eqb}
 use lib.Dec.{eqb}
 use Rattle.laws.proofs.Tests.{eqb-sym}
-use Rattle.touch.specs.Same.{samePid}
+use Rattle.rules_shared.specs.Same.{samePid}
 use Rattle.eitrules.specs.Keys.{Kind, presentActual, presentOther, scheduleActual, scheduleOther, between, kindOf, kindNumber, sameKind, anyPid, exactly, pidPasses, passes}
 use Rattle.eitrules.specs.Keys.{matches as keyMatches}
 use Rattle.section.specs.Eit.{within}

@@ -10,12 +10,12 @@ use Prim.Native.Nat.{ℕ, suc}
 use native.Mathlib.Omega.{arith}
 use lib.Dec.{ltb}
 use lib.ListN.{length}
-use Rattle.touch.specs.Same.{Bytes}
-use Rattle.touch.specs.Touch.{untouched, onOrder, seenAs}
-use Rattle.touch.specs.Cells.{Settings}
-use Rattle.touch.specs.Runs.{answers, storeAfter, At, Never, Obeys, bars, does}
-use Rattle.touch.proofs.Runs.{each-read, answers-read}
-use Rattle.touch.proofs.Runs.{same-answers as run-same}
+use Rattle.rules_shared.specs.Same.{Bytes}
+use Rattle.rules_shared.specs.Touch.{untouched, onOrder, seenAs}
+use Rattle.rules_shared.specs.Cells.{Settings}
+use Rattle.rules_shared.specs.Runs.{answers, storeAfter, At, Never, Obeys, bars, does}
+use Rattle.rules_shared.proofs.Runs.{each-read, answers-read}
+use Rattle.rules_shared.proofs.Runs.{same-answers as run-same}
 use Rattle.eitrules.specs.Keys.{Kind, sameSet, sameSchedule}
 use Rattle.eitrules.specs.Rules.{Eit, Section, offer, refuse, Answer, done, refused, nothing, handout, schedule, conflict, range, notWhole, counterFull, noCell, barred, asBefore}
 use Rattle.eitrules.specs.Rules.{tells as rulesTell, acts as rulesAct, opened as rulesOpened}

@@ -13,13 +13,13 @@ use lib.Dec.{ltb, eqb}
 use lib.ListN.{length, set, replicate}
 use lib.Seq.{paste}
 use Rattle.laws.proofs.Tests.{none≢some}
-use Rattle.touch.specs.Same.{Bytes}
-use Rattle.touch.specs.Slots.{everyHeld}
-use Rattle.touch.specs.Touch.{someRow}
-use Rattle.touch.specs.Row.{fresh, keep}
-use Rattle.touch.specs.Cells.{Held, Cells, heldIn, names, heldWhole, lowest, write, placeNew}
-use Rattle.touch.proofs.Slots.{every-free, every-set, passes-none, free-slot}
-use Rattle.touch.proofs.Cells.{held-whole}
+use Rattle.rules_shared.specs.Same.{Bytes}
+use Rattle.rules_shared.specs.Slots.{everyHeld}
+use Rattle.rules_shared.specs.Touch.{someRow}
+use Rattle.rules_shared.specs.Row.{fresh, keep}
+use Rattle.rules_shared.specs.Cells.{Held, Cells, heldIn, names, heldWhole, lowest, write, placeNew}
+use Rattle.rules_shared.proofs.Slots.{every-free, every-set, passes-none, free-slot}
+use Rattle.rules_shared.proofs.Cells.{held-whole}
 use Rattle.eitrules.specs.Keys.{Kind, SetKey, sameSet}
 use Rattle.eitrules.specs.Segments.{SetOf}
 use Rattle.eitrules.specs.Rules.{Section, partOf, metRow, setAside, setNewest, judge}

@@ -9,7 +9,7 @@ use borrow.Author.Tests.{eqb-true, ne-eqb, le-leb, leb-true}
 use lib.Dec.{eqb, leb}
 use Rattle.laws.proofs.Tests.{and-true}
 use Rattle.laws.proofs.Facts.{eq-passes}
-use Rattle.touch.specs.Same.{samePid}
+use Rattle.rules_shared.specs.Same.{samePid}
 use Rattle.eitrules.specs.Keys.{Kind, presentActual, presentOther, scheduleActual, scheduleOther, between, kindOf, firstOf, kindNumber, sameKind, ScheduleKey, SetKey, sameSchedule, sameSet}
 use Rattle.rows.specs.declared.Key.{Key}
 use Rattle.sets.specs.Store.{bitOf}

@@ -9,8 +9,8 @@ use native.Mathlib.Omega.{arith}
 use lib.ListN.{length, getD}
 use Rattle.laws.proofs.Tests.{or-false}
 use Rattle.laws.proofs.Search.{any-not, none-any}
-use Rattle.touch.specs.Same.{Bytes}
-use Rattle.touch.specs.Touch.{someRow}
+use Rattle.rules_shared.specs.Same.{Bytes}
+use Rattle.rules_shared.specs.Touch.{someRow}
 use Rattle.eitrules.specs.Keys.{SetKey}
 use Rattle.eitrules.specs.Rules.{Section, offer, Answer, conflict, numberOf}
 use Rattle.eitrules.specs.Cells.{Store as Shown, setTakes, scheduleTakes, taken}

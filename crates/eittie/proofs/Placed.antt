@@ -11,11 +11,11 @@ use lib.Dec.{eqb, ltb}
 use lib.ListN.{length, getD}
 use Rattle.laws.specs.Lists.{sameList}
 use Rattle.laws.proofs.Search.{every-get}
-use Rattle.touch.specs.Same.{Bytes}
-use Rattle.touch.specs.Row.{fresh, fits, start, slotOf}
-use Rattle.touch.specs.Cells.{Held, lowest, placeNew, placeHeld}
-use Rattle.touch.specs.Cells.{place as placed}
-use Rattle.touch.proofs.Slots.{free-slot}
+use Rattle.rules_shared.specs.Same.{Bytes}
+use Rattle.rules_shared.specs.Row.{fresh, fits, start, slotOf}
+use Rattle.rules_shared.specs.Cells.{Held, lowest, placeNew, placeHeld}
+use Rattle.rules_shared.specs.Cells.{place as placed}
+use Rattle.rules_shared.proofs.Slots.{free-slot}
 use Rattle.eitrules.specs.Keys.{Kind, SetKey, sameSet}
 use Rattle.eitrules.specs.Segments.{SetOf}
 use Rattle.eitrules.specs.Rules.{Section, partOf, metRow}

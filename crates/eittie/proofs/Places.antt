@@ -12,9 +12,9 @@ use borrow.Author.Tests.{lt-ltb, le-ltb}
 use lib.Dec.{ltb}
 use lib.ListN.{length, getD, take}
 use Rattle.laws.proofs.Tests.{and-true, or-false, same-test}
-use Rattle.touch.specs.Slots.{isHeld, someHeld, everyHeld}
-use Rattle.touch.specs.Touch.{someRow, everyRow}
-use Rattle.touch.specs.Cells.{Settings, Held, Cells, bytesOf, heldWhole}
+use Rattle.rules_shared.specs.Slots.{isHeld, someHeld, everyHeld}
+use Rattle.rules_shared.specs.Touch.{someRow, everyRow}
+use Rattle.rules_shared.specs.Cells.{Settings, Held, Cells, bytesOf, heldWhole}
 use Rattle.eitrules.specs.Keys.{ScheduleKey}
 use Rattle.eitrules.specs.Segments.{heldFrom}
 use Rattle.eitrules.specs.Schedules.{CopyOf, ScheduleOf, tableOf, whole, wholes, allTables}

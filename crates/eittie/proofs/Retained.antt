@@ -10,7 +10,7 @@ use native.Mathlib.Omega.{arith}
 use borrow.Author.Tests.{eq-eqb, ne-eqb}
 use lib.Dec.{eqb}
 use lib.ListN.{length}
-use Rattle.touch.specs.Touch.{retain}
+use Rattle.rules_shared.specs.Touch.{retain}
 use Rattle.rows.specs.declared.Key.{Key}
 use Rattle.rows.specs.Rows.{keyAt}
 use Rattle.order.specs.Order.{rowsSeen, Stands, movedFrom}

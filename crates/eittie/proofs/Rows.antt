@@ -14,9 +14,9 @@ use lib.Seq.{drop-cons, take-take, drop-drop}
 use Rattle.laws.specs.Lists.{every}
 use Rattle.laws.proofs.Lists.{drop-take}
 use Rattle.laws.proofs.Tests.{and-true}
-use Rattle.touch.specs.Slots.{isHeld, present}
-use Rattle.touch.specs.Row.{marked}
-use Rattle.touch.specs.Cells.{Held, bytesOf}
+use Rattle.rules_shared.specs.Slots.{isHeld, present}
+use Rattle.rules_shared.specs.Row.{marked}
+use Rattle.rules_shared.specs.Cells.{Held, bytesOf}
 use Rattle.eitrules.specs.Segments.{heldFrom, segmentFull, segmentsFull, complete, SegmentLasts}
 use Rattle.eitrules.specs.Segments.{segmentEnd as rulesEnd}
 use Rattle.eitrules.specs.Cells.{setTakes}

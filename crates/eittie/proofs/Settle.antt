@@ -11,9 +11,9 @@ use native.Mathlib.Omega.{arith}
 use borrow.Author.Tests.{lt-ltb, le-ltb, lt-leb, le-leb, ltb-true, ltb-false}
 use lib.Dec.{eqb, ltb, leb}
 use lib.ListN.{length}
-use Rattle.touch.specs.Touch.{Rows, TouchOrder, under, find, newest}
-use Rattle.touch.specs.Row.{marked}
-use Rattle.touch.specs.Cells.{Held, Cells, bytesOf}
+use Rattle.rules_shared.specs.Touch.{Rows, TouchOrder, under, find, newest}
+use Rattle.rules_shared.specs.Row.{marked}
+use Rattle.rules_shared.specs.Cells.{Held, Cells, bytesOf}
 use Rattle.eitrules.specs.Keys.{Kind, kindOf, firstOf, kindNumber, ScheduleKey, SetKey, sameSchedule, sameSet}
 use Rattle.eitrules.specs.Segments.{SetOf, complete}
 use Rattle.eitrules.specs.Schedules.{CopyOf, ScheduleOf, copyOf, whole, begin, enter, allTables}

@@ -14,8 +14,8 @@ use lib.ListN.{length, getD, take, set, replicate, length-set, length-replicate}
 use lib.Seq.{getD-set-same, getD-set-other, ext-getD}
 use Rattle.laws.proofs.Tests.{and-true, and-none}
 use Rattle.laws.proofs.Lists.{getD-none}
-use Rattle.touch.specs.Touch.{Rows, find, aside, newest, touch}
-use Rattle.touch.specs.Cells.{Held, bytesOf}
+use Rattle.rules_shared.specs.Touch.{Rows, find, aside, newest, touch}
+use Rattle.rules_shared.specs.Cells.{Held, bytesOf}
 use Rattle.eitrules.specs.Keys.{Kind, kindOf, kindNumber, ScheduleKey, SetKey, sameSchedule, sameSet}
 use Rattle.eitrules.specs.Segments.{SetOf, complete}
 use Rattle.eitrules.specs.Schedules.{CopyOf, ScheduleOf, tableOf, copyOf, copied, refill, begin, enter, allTables, wholes, guide}

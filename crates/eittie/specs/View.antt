@@ -7,8 +7,8 @@ use mathlib.Core.Option.{Option, none, some}
 use mathlib.Core.List.{List, [], _∷_}
 use lib.Dec.{eqb, ltb}
 use lib.ListN.{length, getD}
-use Rattle.touch.specs.Same.{Bytes}
-use Rattle.touch.specs.Cells.{Settings, Held}
+use Rattle.rules_shared.specs.Same.{Bytes}
+use Rattle.rules_shared.specs.Cells.{Settings, Held}
 use Rattle.eitrules.specs.Keys.{Kind, presentActual, presentOther, scheduleActual, scheduleOther, kindOf, kindNumber, ScheduleKey, SetKey, PidTest, anyPid, exactly}
 use Rattle.eitrules.specs.Keys.{Filter as KeyFilter}
 use Rattle.eitrules.specs.Segments.{SetOf}

@@ -15,7 +15,7 @@ use lib.Dec.{eqb, ltb}
 use lib.ListN.{length}
 use Rattle.laws.proofs.Search.{first-passes, first-before}
 use Rattle.laws.proofs.Tests.{and-true, or-false}
-use Rattle.touch.specs.Touch.{Entry, find, remove, oldestGone, someRow, everyRow}
+use Rattle.rules_shared.specs.Touch.{Entry, find, remove, oldestGone, someRow, everyRow}
 use Rattle.rows.specs.Rows.{older}
 use Rattle.order.specs.Order.{downFrom, rowOfAge, inOrder, Ages}
 

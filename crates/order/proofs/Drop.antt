@@ -8,7 +8,7 @@ use Prim.Native.Nat.{ℕ, zero, suc, _-_, _≤_, _<_}
 use native.Mathlib.Decide.{ℕ-discrete, decLe}
 use native.Mathlib.Omega.{arith}
 use borrow.Author.Tests.{eq-eqb, ne-eqb, lt-ltb, le-ltb}
-use Rattle.touch.specs.Touch.{Rows, Entry, under, retain}
+use Rattle.rules_shared.specs.Touch.{Rows, Entry, under, retain}
 use Rattle.rows.specs.declared.Key.{Key}
 use Rattle.rows.specs.Rows.{keyAt}
 use Rattle.order.specs.Order.{downFrom, ageOf, rowOfAge, inOrder, rowsSeen, Ages, Stands, movedFrom, younger, Dropped}

@@ -15,9 +15,9 @@ use lib.Seq.{paste, getD-take, getD-drop, ext-getD, take-paste, drop-at, take-al
 use Rattle.laws.specs.Lists.{every, any, firstFrom}
 use Rattle.laws.proofs.Lists.{paste-before, paste-past, drop-take}
 use Rattle.laws.proofs.Tests.{same-test}
-use Rattle.touch.specs.Slots.{someHeld, everyHeld}
-use Rattle.touch.specs.Touch.{everyRow}
-use Rattle.touch.specs.Cells.{Settings, Held, Cells, names, heldWhole, lowest}
+use Rattle.rules_shared.specs.Slots.{someHeld, everyHeld}
+use Rattle.rules_shared.specs.Touch.{everyRow}
+use Rattle.rules_shared.specs.Cells.{Settings, Held, Cells, names, heldWhole, lowest}
 use Rattle.cells.specs.Cells.{slotWord, keptLength, cellNumber, filled, slotWhole, allWhole, someNames, lowestFree}
 use Rattle.rows.specs.declared.Key.{Key}
 use Rattle.rows.specs.declared.Entry.{Entry}

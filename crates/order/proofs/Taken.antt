@@ -6,7 +6,7 @@ use mathlib.Core.List.{List}
 use Prim.Native.Nat.{ℕ, _<_}
 use native.Mathlib.Omega.{arith}
 use native.Mathlib.Decide.{ℕ-discrete}
-use Rattle.touch.specs.Touch.{newest, aside, someRow}
+use Rattle.rules_shared.specs.Touch.{newest, aside, someRow}
 use Rattle.cells.specs.Cells.{someNames}
 use Rattle.rows.specs.declared.Key.{Key}
 use Rattle.rows.specs.declared.Room.{Room}

@@ -15,8 +15,8 @@ use lib.Dec.{eqb, ltb}
 use lib.ListN.{length}
 use Rattle.laws.proofs.Tests.{and-true}
 use Rattle.laws.proofs.Search.{first-passes, first-before}
-use Rattle.touch.specs.Touch.{Rows, TouchOrder, Entry, under, find, someRow, aside, newest}
-use Rattle.touch.proofs.All.{held-stays, new-below, new-at}
+use Rattle.rules_shared.specs.Touch.{Rows, TouchOrder, Entry, under, find, someRow, aside, newest}
+use Rattle.rules_shared.proofs.All.{held-stays, new-below, new-at}
 use Rattle.rows.specs.declared.Key.{Key}
 use Rattle.rows.specs.declared.Room.{Room}
 use Rattle.rows.specs.Rows.{word, keyAt, sameKey, rowOf, elderOf, oldestOf, older, roomRenewed, roomNew}

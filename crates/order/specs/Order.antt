@@ -8,7 +8,7 @@ use mathlib.Core.List.{List, [], _∷_}
 use mathlib.Core.Bool.{cond}
 use lib.Dec.{eqb, ltb}
 use Rattle.laws.specs.Lists.{firstFrom}
-use Rattle.touch.specs.Touch.{Rows, TouchOrder, under}
+use Rattle.rules_shared.specs.Touch.{Rows, TouchOrder, under}
 use Rattle.rows.specs.declared.Key.{Key}
 use Rattle.rows.specs.Rows.{word, keyAt, oldestOf, older}
 

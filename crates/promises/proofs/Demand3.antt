@@ -5,7 +5,7 @@ use mathlib.Core.Option.{some, Option·some-injective}
 use mathlib.Core.List.{List, [], _∷_, map}
 use Prim.Native.Nat.{ℕ, zero, suc}
 use Rattle.laws.proofs.Tests.{none≢some}
-use Rattle.touch.specs.Runs.{At, Never, GivenBy}
+use Rattle.rules_shared.specs.Runs.{At, Never, GivenBy}
 use Rattle.setrules.specs.Rules.{Whole, Answer, clear, handout, counterFull, noCell}
 use Rattle.setrules.specs.Demand.{run, withCells, Smaller, NoConflict, NeverBarred}
 use Rattle.setrules.proofs.Demand.{demand-3-cells}

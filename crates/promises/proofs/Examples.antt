@@ -5,11 +5,11 @@ use mathlib.Core.Bool.{Bool, true, false, cond}
 use mathlib.Core.List.{List, [], _∷_, _++_, map}
 use Prim.Native.Nat.{ℕ, _<_}
 use borrow.Author.Tests.{lt-ltb}
-use Rattle.touch.specs.Same.{sameBytes, samePid}
-use Rattle.touch.specs.Slots.{isHeld, present}
-use Rattle.touch.specs.Touch.{oldestGone, room, leaves, count, find, remove, others, evicts, untouched, aside, newest}
-use Rattle.touch.specs.Row.{fresh, fits, start, slotOf, keep, marked, putOver, put}
-use Rattle.touch.specs.Runs.{storeAfter}
+use Rattle.rules_shared.specs.Same.{sameBytes, samePid}
+use Rattle.rules_shared.specs.Slots.{isHeld, present}
+use Rattle.rules_shared.specs.Touch.{oldestGone, room, leaves, count, find, remove, others, evicts, untouched, aside, newest}
+use Rattle.rules_shared.specs.Row.{fresh, fits, start, slotOf, keep, marked, putOver, put}
+use Rattle.rules_shared.specs.Runs.{storeAfter}
 use Rattle.section.specs.Key.{keyOf}
 use Rattle.section.specs.Judged.{judgedOf}
 use Rattle.section.specs.declared.header.Judged.{Judged}

@@ -9,9 +9,9 @@ use native.Mathlib.Omega.{arith}
 use lib.ListN.{drop, getElem?}
 use Rattle.laws.specs.Lists.{every}
 use Rattle.laws.proofs.Facts.{anyOf}
-use Rattle.touch.specs.Same.{Bytes, sameBytes}
-use Rattle.touch.specs.Touch.{untouched}
-use Rattle.touch.specs.Runs.{answers}
+use Rattle.rules_shared.specs.Same.{Bytes, sameBytes}
+use Rattle.rules_shared.specs.Touch.{untouched}
+use Rattle.rules_shared.specs.Runs.{answers}
 use Rattle.crc.specs.Crc.{crcFrom, bitsIn, bitIn}
 use Rattle.section.specs.Header.{storedCrc, workedCrc, headerOf}
 use Rattle.section.specs.Judged.{malformed, collectedLong, collectedOf}
@@ -21,7 +21,7 @@ use Rattle.setrules.proofs.Examples.{replies}
 use Rattle.order.specs.Order.{downFrom, inOrder, rowsSeen}
 use Rattle.order.specs.Slots.{upFrom, cellsSeen}
 use Rattle.setrules.specs.Cells.{Store as Shown}
-use Rattle.touch.specs.Cells.{Settings}
+use Rattle.rules_shared.specs.Cells.{Settings}
 use native.Mathlib.Nat.{le-of-eq}
 use Rattle.setstie.proofs.History.{opened-reached, acts-seen}
 use Rattle.sets.specs.Store.{openedOf}

@@ -7,8 +7,8 @@ use native.Mathlib.Omega.{arith}
 use lib.ListN.{getElem?}
 use Rattle.laws.specs.Lists.{every}
 use Rattle.laws.proofs.Facts.{anyOf}
-use Rattle.touch.specs.Same.{Bytes}
-use Rattle.touch.specs.Touch.{untouched}
+use Rattle.rules_shared.specs.Same.{Bytes}
+use Rattle.rules_shared.specs.Touch.{untouched}
 use Rattle.crc.specs.Crc.{crcFrom, bitsIn, bitIn}
 use Rattle.section.specs.Header.{storedCrc, workedCrc, headerOf}
 use Rattle.section.specs.Judged.{malformed, collectedLong, collectedOf}

@@ -14,9 +14,9 @@ use Rattle.laws.specs.Lists.{every}
 use Rattle.laws.proofs.Search.{every-get}
 use Rattle.laws.proofs.Tests.{none≢some, and-true}
 use Rattle.laws.proofs.Facts.{anyOf, not-among}
-use Rattle.touch.specs.Same.{Bytes}
-use Rattle.touch.specs.Touch.{untouched}
-use Rattle.touch.specs.Runs.{At, Never}
+use Rattle.rules_shared.specs.Same.{Bytes}
+use Rattle.rules_shared.specs.Touch.{untouched}
+use Rattle.rules_shared.specs.Runs.{At, Never}
 use Rattle.section.specs.Facts.{Bytes as AllBytes}
 use Rattle.section.specs.declared.ids.MaybePid.the-variants as maybe
 use Rattle.setrules.specs.Rules.{Key, Call, offer, Whole, Answer, cleared, refused, nothing, handout, conflict, notWhole, counterFull, noCell}

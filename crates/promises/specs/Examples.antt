@@ -6,9 +6,9 @@ use mathlib.Core.Bool.{true}
 use mathlib.Core.Option.{some}
 use mathlib.Core.List.{List, [], _∷_, map}
 use lib.ListN.{replicate}
-use Rattle.touch.specs.Touch.{Entry}
-use Rattle.touch.specs.Cells.{Settings}
-use Rattle.touch.specs.Runs.{storeAfter}
+use Rattle.rules_shared.specs.Touch.{Entry}
+use Rattle.rules_shared.specs.Cells.{Settings}
+use Rattle.rules_shared.specs.Runs.{storeAfter}
 use Rattle.section.specs.Key.{keyOf}
 use Rattle.section.specs.Segment.{segmentEnd}
 use Rattle.section.specs.Pat.{groupsOf, programPids}

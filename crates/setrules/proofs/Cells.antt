@@ -7,13 +7,13 @@ use mathlib.Core.Bool.{true}
 use Prim.Native.Nat.{ℕ, zero, suc}
 use native.Mathlib.Omega.{arith}
 use lib.ListN.{length}
-use Rattle.touch.specs.Same.{Bytes}
-use Rattle.touch.specs.Touch.{seenAs, untouched, emptied, onOrder}
-use Rattle.touch.specs.Row.{keep, onRow, put}
-use Rattle.touch.specs.Cells.{Held, Cells, bytesOf, write, heldIn}
-use Rattle.touch.specs.Runs.{Obeys, bars, does}
-use Rattle.touch.proofs.Views.{aside-on, newest-on}
-use Rattle.touch.proofs.Cells.{kept-shown, rules-keep, rules-ignore, rules-refuse}
+use Rattle.rules_shared.specs.Same.{Bytes}
+use Rattle.rules_shared.specs.Touch.{seenAs, untouched, emptied, onOrder}
+use Rattle.rules_shared.specs.Row.{keep, onRow, put}
+use Rattle.rules_shared.specs.Cells.{Held, Cells, bytesOf, write, heldIn}
+use Rattle.rules_shared.specs.Runs.{Obeys, bars, does}
+use Rattle.rules_shared.proofs.Views.{aside-on, newest-on}
+use Rattle.rules_shared.proofs.Cells.{kept-shown, rules-keep, rules-ignore, rules-refuse}
 use Rattle.setrules.specs.Rules.{sameKey, SetsOf, Section, partOf, Call, offer, conflict, barred, StepOf, Step, gives, judge, finish, push, admit, step, tells, acts}
 use Rattle.setrules.specs.Cells.{Store, Turn, onSets, onAnswer, view, takes, shows, rest, roomFor, call, callTells, callActs}
 use Rattle.setrules.specs.Demand.{withCells, Keeping}

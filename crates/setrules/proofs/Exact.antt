@@ -11,13 +11,13 @@ use Prim.Native.Nat.{ℕ, _≤_, _<_}
 use native.Mathlib.Omega.{arith}
 use lib.ListN.{length, getD, drop}
 use Rattle.laws.proofs.Tests.{none≢some}
-use Rattle.touch.specs.Touch.{under, find, remove, newest}
-use Rattle.touch.specs.Row.{slotOf}
-use Rattle.touch.specs.Cells.{Held, bytesOf, names}
-use Rattle.touch.proofs.Slots.{none-passes, passes-none}
-use Rattle.touch.proofs.All.{All, all-map, none-all, all-none, held-stays}
-use Rattle.touch.proofs.Row.{slot-on, start-held}
-use Rattle.touch.proofs.Cells.{LowestFree, AllTaken, write-other, write-front, Kept, kept-parts, parts-kept}
+use Rattle.rules_shared.specs.Touch.{under, find, remove, newest}
+use Rattle.rules_shared.specs.Row.{slotOf}
+use Rattle.rules_shared.specs.Cells.{Held, bytesOf, names}
+use Rattle.rules_shared.proofs.Slots.{none-passes, passes-none}
+use Rattle.rules_shared.proofs.All.{All, all-map, none-all, all-none, held-stays}
+use Rattle.rules_shared.proofs.Row.{slot-on, start-held}
+use Rattle.rules_shared.proofs.Cells.{LowestFree, AllTaken, write-other, write-front, Kept, kept-parts, parts-kept}
 use Rattle.setrules.specs.Rules.{Key, sameKey, SetOf, SetsOf, Section, partOf, Call, offer, conflict, noCell, asBefore, metRow, isKept, Answer, cleared, refused, nothing, handout, notWhole, counterFull}
 use Rattle.setrules.specs.Cells.{Store, Turn, onAnswer, view, takes, taken, storeWhole, ended, shows, rest, roomFor, call, callTells, callActs}
 use Rattle.setrules.proofs.Views.{met-on}

@@ -8,12 +8,12 @@ use Prim.Native.Nat.{ℕ}
 use native.Mathlib.Omega.{arith}
 use lib.ListN.{replicate}
 use Rattle.laws.proofs.Facts.{anyOf, not-among}
-use Rattle.touch.specs.Same.{Bytes, sameBytes, samePid}
-use Rattle.touch.specs.Slots.{isHeld, present, someHeld, everyHeld, onSlots}
-use Rattle.touch.specs.Touch.{Entry, oldestGone, room, leaves, count, someRow, everyRow, seenAs, find, remove, others, evicts, untouched, aside, newest, touch, emptied, onOrder}
-use Rattle.touch.specs.Row.{fresh, fits, start, slotOf, keep, marked, onRow, putOver, put}
-use Rattle.touch.specs.Cells.{bytesOf, names, lowest, write, placeNew, placeHeld, place, roomWhole, heldWhole, atEnd}
-use Rattle.touch.specs.Runs.{answers, storeAfter, GivenBy}
+use Rattle.rules_shared.specs.Same.{Bytes, sameBytes, samePid}
+use Rattle.rules_shared.specs.Slots.{isHeld, present, someHeld, everyHeld, onSlots}
+use Rattle.rules_shared.specs.Touch.{Entry, oldestGone, room, leaves, count, someRow, everyRow, seenAs, find, remove, others, evicts, untouched, aside, newest, touch, emptied, onOrder}
+use Rattle.rules_shared.specs.Row.{fresh, fits, start, slotOf, keep, marked, onRow, putOver, put}
+use Rattle.rules_shared.specs.Cells.{bytesOf, names, lowest, write, placeNew, placeHeld, place, roomWhole, heldWhole, atEnd}
+use Rattle.rules_shared.specs.Runs.{answers, storeAfter, GivenBy}
 use Rattle.setrules.specs.Rules.{Key, sameKey, SetRow, Sets, partOf, Call, clear, refuse, offer, Whole, Answer, cleared, nothing, handout, conflict, noCell, numberOf, full, whole, metRow, judged, judge, finish, push, admit, step, tells, acts, opened}
 use Rattle.setrules.specs.Cells.{Store, onSets, onWhole, onAnswer, view, takes, taken, storeWhole, ended, shows, rest, roomFor, placeOf, carry, pushIn, admitIn, good, guarded, call, callTells, callActs}
 

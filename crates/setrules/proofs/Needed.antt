@@ -12,10 +12,10 @@ use lib.Dec.{leb, eqb}
 use lib.ListN.{replicate, length-replicate}
 use Rattle.laws.proofs.Tests.{none≢some}
 use Rattle.laws.proofs.Facts.{eq-passes, anyOf, not-among}
-use Rattle.touch.specs.Same.{Bytes, sameBytes}
-use Rattle.touch.specs.Touch.{untouched}
-use Rattle.touch.specs.Cells.{roomWhole}
-use Rattle.touch.specs.Runs.{answers, At, Never, GivenBy}
+use Rattle.rules_shared.specs.Same.{Bytes, sameBytes}
+use Rattle.rules_shared.specs.Touch.{untouched}
+use Rattle.rules_shared.specs.Cells.{roomWhole}
+use Rattle.rules_shared.specs.Runs.{answers, At, Never, GivenBy}
 use Rattle.setrules.specs.Rules.{Call, clear, refuse, offer, Whole, Answer, cleared, refused, nothing, handout, conflict, notWhole, counterFull, noCell, numberOf, barred}
 use Rattle.setrules.specs.Cells.{Store, storeWhole, ended, guarded, call, callTells}
 use Rattle.setrules.specs.Demand.{run, withCells, Smaller, NoConflict, NeverBarred, EachHandedOut}

@@ -9,11 +9,11 @@ use Prim.Native.Nat.{ℕ, zero, suc, _≤_, _<_}
 use native.Mathlib.Omega.{arith}
 use lib.Dec.{leb}
 use lib.ListN.{length}
-use Rattle.touch.specs.Same.{Bytes}
-use Rattle.touch.specs.Touch.{emptied}
-use Rattle.touch.specs.Row.{slotOf, keep}
-use Rattle.touch.specs.Cells.{Held, bytesOf, write, Place, heldIn}
-use Rattle.touch.proofs.Cells.{LowestFree, AllTaken, Placed, laid, lacking, alike, unlike, placed}
+use Rattle.rules_shared.specs.Same.{Bytes}
+use Rattle.rules_shared.specs.Touch.{emptied}
+use Rattle.rules_shared.specs.Row.{slotOf, keep}
+use Rattle.rules_shared.specs.Cells.{Held, bytesOf, write, Place, heldIn}
+use Rattle.rules_shared.proofs.Cells.{LowestFree, AllTaken, Placed, laid, lacking, alike, unlike, placed}
 use Rattle.setrules.specs.Rules.{Key, SetOf, SetsOf, Section, partOf, Call, clear, refuse, offer, cleared, refused, nothing, handout, conflict, notWhole, counterFull, noCell, metRow, judged, judge, full, Answer}
 use Rattle.setrules.specs.Cells.{Store, Turn, onAnswer, taken, storeWhole, ended, shows, rest, roomFor, placeOf, carry, pushIn, admitIn, good, guarded, call}
 

@@ -13,13 +13,13 @@ use lib.ListN.{length, getD}
 use Rattle.laws.specs.Lists.{sameList}
 use Rattle.laws.proofs.Tests.{same-test}
 use Rattle.laws.proofs.Search.{every-get}
-use Rattle.touch.specs.Same.{Bytes}
-use Rattle.touch.specs.Slots.{everyHeld}
-use Rattle.touch.specs.Touch.{emptied}
-use Rattle.touch.specs.Row.{fresh, fits, start, slotOf}
-use Rattle.touch.specs.Cells.{Held, lowest, placeNew, placeHeld, heldWhole, roomWhole, atEnd}
-use Rattle.touch.specs.Cells.{place as placed}
-use Rattle.touch.proofs.Slots.{free-slot}
+use Rattle.rules_shared.specs.Same.{Bytes}
+use Rattle.rules_shared.specs.Slots.{everyHeld}
+use Rattle.rules_shared.specs.Touch.{emptied}
+use Rattle.rules_shared.specs.Row.{fresh, fits, start, slotOf}
+use Rattle.rules_shared.specs.Cells.{Held, lowest, placeNew, placeHeld, heldWhole, roomWhole, atEnd}
+use Rattle.rules_shared.specs.Cells.{place as placed}
+use Rattle.rules_shared.proofs.Slots.{free-slot}
 use Rattle.setrules.specs.Rules.{sameKey, SetOf, Section, partOf, clear, refuse, offer, metRow, Key as SetKey}
 use Rattle.setrules.specs.Cells.{onAnswer, taken, storeWhole, ended, shows, rest, roomFor, placeOf, carry, pushIn, admitIn, good, guarded, call}
 use Rattle.setrules.proofs.Keys.{sameKey-true}

@@ -11,11 +11,11 @@ use Prim.Native.Nat.{ℕ, suc}
 use native.Mathlib.Omega.{arith}
 use lib.Dec.{ltb}
 use lib.ListN.{length}
-use Rattle.touch.specs.Same.{Bytes}
-use Rattle.touch.specs.Touch.{untouched}
-use Rattle.touch.specs.Cells.{roomWhole}
-use Rattle.touch.specs.Runs.{answers, storeAfter, At, Never, Obeys, bars, does}
-use Rattle.touch.proofs.Runs.{each-read}
+use Rattle.rules_shared.specs.Same.{Bytes}
+use Rattle.rules_shared.specs.Touch.{untouched}
+use Rattle.rules_shared.specs.Cells.{roomWhole}
+use Rattle.rules_shared.specs.Runs.{answers, storeAfter, At, Never, Obeys, bars, does}
+use Rattle.rules_shared.proofs.Runs.{each-read}
 use Rattle.setrules.specs.Rules.{sameKey, Section, offer, refuse, notWhole, noCell, barred, asBefore}
 use Rattle.setrules.specs.Rules.{tells as rulesTell, acts as rulesAct}
 use Rattle.setrules.specs.Cells.{Store as Shown, view, callTells, callActs}

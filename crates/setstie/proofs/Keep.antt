@@ -10,12 +10,12 @@ use native.Mathlib.Omega.{arith}
 use borrow.Author.Tests.{ltb-true}
 use lib.Dec.{ltb}
 use lib.ListN.{length, set, replicate}
-use Rattle.touch.specs.Same.{Bytes}
-use Rattle.touch.specs.Slots.{everyHeld}
-use Rattle.touch.specs.Row.{fresh, keep}
-use Rattle.touch.specs.Cells.{Held, Cells, heldIn, names, heldWhole, lowest, write, placeNew}
-use Rattle.touch.proofs.Slots.{every-free, every-set, passes-none, free-slot}
-use Rattle.touch.proofs.Cells.{held-whole}
+use Rattle.rules_shared.specs.Same.{Bytes}
+use Rattle.rules_shared.specs.Slots.{everyHeld}
+use Rattle.rules_shared.specs.Row.{fresh, keep}
+use Rattle.rules_shared.specs.Cells.{Held, Cells, heldIn, names, heldWhole, lowest, write, placeNew}
+use Rattle.rules_shared.proofs.Slots.{every-free, every-set, passes-none, free-slot}
+use Rattle.rules_shared.proofs.Cells.{held-whole}
 use Rattle.setrules.specs.Rules.{sameKey, SetOf, Section, partOf, metRow, judge}
 use Rattle.setrules.specs.Cells.{takes, taken, shows, rest, roomFor, carry}
 use Rattle.setrules.proofs.Keys.{sameKey-true}

@@ -9,7 +9,7 @@ use native.Mathlib.Omega.{arith}
 use lib.Dec.{eqb}
 use lib.ListN.{length, getD}
 use Rattle.laws.proofs.Search.{any-not, none-any}
-use Rattle.touch.specs.Same.{Bytes}
+use Rattle.rules_shared.specs.Same.{Bytes}
 use Rattle.setrules.specs.Rules.{Section, offer, Answer, cleared, refused, nothing, conflict, notWhole, counterFull, noCell}
 use Rattle.setrules.specs.Cells.{Store as Shown, takes, taken}
 use Rattle.setrules.proofs.Exact.{Conflicting, conflict-touches, KeptIn, cells-change}

@@ -8,9 +8,9 @@ use Prim.Native.Nat.{ℕ, _*_, _≤_, _<_}
 use native.Mathlib.Omega.{arith}
 use lib.Dec.{eqb}
 use lib.ListN.{length}
-use Rattle.touch.specs.Touch.{newest, aside}
-use Rattle.touch.specs.Row.{marked}
-use Rattle.touch.specs.Cells.{Held, Cells, bytesOf}
+use Rattle.rules_shared.specs.Touch.{newest, aside}
+use Rattle.rules_shared.specs.Row.{marked}
+use Rattle.rules_shared.specs.Cells.{Held, Cells, bytesOf}
 use Rattle.setrules.specs.Rules.{sameKey, SetOf, SetsOf, handout, conflict, gives, full, whole, judged, judge}
 use Rattle.setrules.specs.Cells.{Turn, onWhole, onAnswer, shows}
 use Rattle.setrules.proofs.Keys.{sameKey-true}

@@ -7,8 +7,8 @@ use mathlib.Core.Option.{Option, none, some}
 use mathlib.Core.List.{List}
 use lib.Dec.{eqb, ltb}
 use lib.ListN.{length}
-use Rattle.touch.specs.Same.{Bytes}
-use Rattle.touch.specs.Cells.{Settings, Held}
+use Rattle.rules_shared.specs.Same.{Bytes}
+use Rattle.rules_shared.specs.Cells.{Settings, Held}
 use Rattle.setrules.specs.Rules.{Key as SetKey, SetOf, Call, clear, refuse, offer, Answer, cleared, refused, nothing, handout, conflict, notWhole, counterFull, noCell}
 use Rattle.setrules.specs.Cells.{Store as Shown}
 use Rattle.section.specs.Judged.{collectedOf}
