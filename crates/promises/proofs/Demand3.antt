@@ -6,9 +6,9 @@ use mathlib.Core.List.{List, [], _∷_, map}
 use Prim.Native.Nat.{ℕ, zero, suc}
 use Rattle.laws.proofs.Tests.{none≢some}
 use Rattle.rules_shared.specs.Runs.{At, Never, GivenBy}
-use Rattle.setrules.specs.Rules.{Whole, Answer, clear, handout, counterFull, noCell}
-use Rattle.setrules.specs.Demand.{run, withCells, Smaller, NoConflict, NeverBarred}
-use Rattle.setrules.proofs.Demand.{demand-3-cells}
+use Rattle.rules_sets.specs.Rules.{Whole, Answer, clear, handout, counterFull, noCell}
+use Rattle.rules_sets.specs.Demand.{run, withCells, Smaller, NoConflict, NeverBarred}
+use Rattle.rules_sets.proofs.Demand.{demand-3-cells}
 use Rattle.sets.specs.History.{Call as Given, empty as clears}
 use Rattle.setstie.specs.View.{reads, seen}
 use Rattle.setstie.proofs.History.{opened-reached, opened-seen, same-answers, never-not-whole}

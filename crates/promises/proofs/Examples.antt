@@ -18,8 +18,8 @@ use Rattle.section.proofs.eit.Segment.{as-sent, counted-within, past-last, no-w
 use Rattle.section.proofs.pat.Laws.{example-pids}
 use Rattle.ring.specs.Rules.{Row, offeredTo, later, atCapacity}
 use Rattle.gate.specs.Rules.{Manner, Told, admitted, judgedIn, told, tells, acts}
-use Rattle.setrules.specs.Rules.{sameKey, partOf, full, whole, metRow, judged, judge, finish, push, admit, step}
-use Rattle.setrules.specs.Rules.{acts as collects}
+use Rattle.rules_sets.specs.Rules.{sameKey, partOf, full, whole, metRow, judged, judge, finish, push, admit, step}
+use Rattle.rules_sets.specs.Rules.{acts as collects}
 use Rattle.promises.specs.Examples.{freshGate, heldAfter, gateKeys, collectorKeys, tableKey, CheckedExamples}
 
 -- ---- the gate

@@ -15,12 +15,12 @@ use Rattle.rules_shared.specs.Runs.{answers}
 use Rattle.crc.specs.Crc.{crcFrom, bitsIn, bitIn}
 use Rattle.section.specs.Header.{storedCrc, workedCrc, headerOf}
 use Rattle.section.specs.Judged.{malformed, collectedLong, collectedOf}
-use Rattle.setrules.specs.Rules.{Call, Whole, Answer, cleared, refused, nothing, handout, conflict, notWhole, counterFull, noCell}
-use Rattle.setrules.proofs.Cells.{settings-stay as stays}
-use Rattle.setrules.proofs.Examples.{replies}
+use Rattle.rules_sets.specs.Rules.{Call, Whole, Answer, cleared, refused, nothing, handout, conflict, notWhole, counterFull, noCell}
+use Rattle.rules_sets.proofs.Cells.{settings-stay as stays}
+use Rattle.rules_sets.proofs.Examples.{replies}
 use Rattle.order.specs.Order.{downFrom, inOrder, rowsSeen}
 use Rattle.order.specs.Slots.{upFrom, cellsSeen}
-use Rattle.setrules.specs.Cells.{Store as Shown}
+use Rattle.rules_sets.specs.Cells.{Store as Shown}
 use Rattle.rules_shared.specs.Cells.{Settings}
 use native.Mathlib.Nat.{le-of-eq}
 use Rattle.setstie.proofs.History.{opened-reached, acts-seen}

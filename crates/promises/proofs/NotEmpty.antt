@@ -12,8 +12,8 @@ use Rattle.rules_shared.specs.Touch.{untouched}
 use Rattle.crc.specs.Crc.{crcFrom, bitsIn, bitIn}
 use Rattle.section.specs.Header.{storedCrc, workedCrc, headerOf}
 use Rattle.section.specs.Judged.{malformed, collectedLong, collectedOf}
-use Rattle.setrules.specs.Rules.{Call, Whole, Answer, nothing, handout}
-use Rattle.setrules.proofs.Examples.{replies}
+use Rattle.rules_sets.specs.Rules.{Call, Whole, Answer, nothing, handout}
+use Rattle.rules_sets.proofs.Examples.{replies}
 use Rattle.order.specs.Order.{downFrom, inOrder, rowsSeen}
 use Rattle.order.specs.Slots.{upFrom, cellsSeen}
 use Rattle.sets.specs.Store.{openedOf}

@@ -19,10 +19,10 @@ use Rattle.rules_shared.specs.Touch.{untouched}
 use Rattle.rules_shared.specs.Runs.{At, Never}
 use Rattle.section.specs.Facts.{Bytes as AllBytes}
 use Rattle.section.specs.declared.ids.MaybePid.the-variants as maybe
-use Rattle.setrules.specs.Rules.{Key, Call, offer, Whole, Answer, cleared, refused, nothing, handout, conflict, notWhole, counterFull, noCell}
-use Rattle.setrules.specs.Cells.{Store as Shown}
-use Rattle.setrules.specs.Demand.{run, withCells}
-use Rattle.setrules.proofs.Examples.{replies}
+use Rattle.rules_sets.specs.Rules.{Key, Call, offer, Whole, Answer, cleared, refused, nothing, handout, conflict, notWhole, counterFull, noCell}
+use Rattle.rules_sets.specs.Cells.{Store as Shown}
+use Rattle.rules_sets.specs.Demand.{run, withCells}
+use Rattle.rules_sets.proofs.Examples.{replies}
 use Rattle.sets.specs.Store.{store, asked}
 use Rattle.sets.specs.History.{Call as Given, offer as section, Bytes as OfBytes}
 use Rattle.setstie.specs.View.{reads, seen}

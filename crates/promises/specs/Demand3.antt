@@ -12,7 +12,7 @@ use Prim.Native.Nat.{ℕ, _≤_}
 use mathlib.Core.Path.{_≡_}
 use mathlib.Core.List.{List}
 use Rattle.rules_shared.specs.Runs.{answers, At, Never, GivenBy}
-use Rattle.setrules.specs.Rules.{Whole, Answer, handout, conflict, notWhole, counterFull, noCell}
+use Rattle.rules_sets.specs.Rules.{Whole, Answer, handout, conflict, notWhole, counterFull, noCell}
 use Rattle.sets.specs.Store.{Store}
 use Rattle.sets.specs.History.{Call as Given, empty as clears, Bytes as OfBytes}
 use Rattle.setstie.specs.View.{tells, acts, Opened}

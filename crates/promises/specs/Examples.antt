@@ -15,8 +15,8 @@ use Rattle.section.specs.Pat.{groupsOf, programPids}
 use Rattle.ring.specs.Rules.{Row, offeredTo}
 use Rattle.gate.specs.Store.{zeroes}
 use Rattle.gate.specs.Rules.{Manner, Held, tells, acts}
-use Rattle.setrules.specs.Rules.{Key, SetRow, Call, offer, opened}
-use Rattle.setrules.specs.Rules.{acts as collects}
+use Rattle.rules_sets.specs.Rules.{Key, SetRow, Call, offer, opened}
+use Rattle.rules_sets.specs.Rules.{acts as collects}
 
 -- a gate that was offered nothing yet, with any watch
 abbrev pub freshGate : List ℕ → Held

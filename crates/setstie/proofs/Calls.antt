@@ -20,9 +20,9 @@ use Rattle.rules_shared.specs.Row.{fresh, fits, start, slotOf}
 use Rattle.rules_shared.specs.Cells.{Held, lowest, placeNew, placeHeld, heldWhole, roomWhole, atEnd}
 use Rattle.rules_shared.specs.Cells.{place as placed}
 use Rattle.rules_shared.proofs.Slots.{free-slot}
-use Rattle.setrules.specs.Rules.{sameKey, SetOf, Section, partOf, clear, refuse, offer, metRow, Key as SetKey}
-use Rattle.setrules.specs.Cells.{onAnswer, taken, storeWhole, ended, shows, rest, roomFor, placeOf, carry, pushIn, admitIn, good, guarded, call}
-use Rattle.setrules.proofs.Keys.{sameKey-true}
+use Rattle.rules_sets.specs.Rules.{sameKey, SetOf, Section, partOf, clear, refuse, offer, metRow, Key as SetKey}
+use Rattle.rules_sets.specs.Cells.{onAnswer, taken, storeWhole, ended, shows, rest, roomFor, placeOf, carry, pushIn, admitIn, good, guarded, call}
+use Rattle.rules_sets.proofs.Keys.{sameKey-true}
 use Rattle.section.specs.Judged.{collectedOf}
 use Rattle.section.specs.declared.header.Collected.{Collected}
 use Rattle.section.specs.declared.header.Collected.the-variants.{Malformed, ShortForm, BadNumber, BadCrc, Good}

@@ -16,12 +16,12 @@ use Rattle.rules_shared.specs.Touch.{untouched}
 use Rattle.rules_shared.specs.Cells.{roomWhole}
 use Rattle.rules_shared.specs.Runs.{answers, storeAfter, At, Never, Obeys, bars, does}
 use Rattle.rules_shared.proofs.Runs.{each-read}
-use Rattle.setrules.specs.Rules.{sameKey, Section, offer, refuse, notWhole, noCell, barred, asBefore}
-use Rattle.setrules.specs.Rules.{tells as rulesTell, acts as rulesAct}
-use Rattle.setrules.specs.Cells.{Store as Shown, view, callTells, callActs}
-use Rattle.setrules.proofs.Cells.{obeys-rules}
-use Rattle.setrules.proofs.Whole.{LongEnough, never-10}
-use Rattle.setrules.proofs.Exact.{NeedsCell, only-then-21, then-21}
+use Rattle.rules_sets.specs.Rules.{sameKey, Section, offer, refuse, notWhole, noCell, barred, asBefore}
+use Rattle.rules_sets.specs.Rules.{tells as rulesTell, acts as rulesAct}
+use Rattle.rules_sets.specs.Cells.{Store as Shown, view, callTells, callActs}
+use Rattle.rules_sets.proofs.Cells.{obeys-rules}
+use Rattle.rules_sets.proofs.Whole.{LongEnough, never-10}
+use Rattle.rules_sets.proofs.Exact.{NeedsCell, only-then-21, then-21}
 use Rattle.section.specs.Judged.{collectedOf}
 use Rattle.section.specs.declared.header.Collected.{Collected}
 use Rattle.section.specs.declared.header.Collected.the-variants.{Malformed, ShortForm, BadNumber, BadCrc, Good}
@@ -29,7 +29,7 @@ use Rattle.section.specs.declared.ids.MaybePid.the-variants as maybe
 use Rattle.order.specs.Order.{downFrom, inOrder, rowsSeen}
 use Rattle.order.proofs.Touch.{stands-none}
 use Rattle.order.proofs.Cells.{cells-length}
-use Rattle.setrules.proofs.Keys.{sameKey-true}
+use Rattle.rules_sets.proofs.Keys.{sameKey-true}
 use Rattle.sets.specs.Store.{Store, Told, plain, handed, settingsFit, wholeOf, openedOf, clearedOf, pushedOf}
 use Rattle.sets.proofs.Refusals.{refusal-keeps}
 use Rattle.sets.specs.Store as sets

@@ -16,9 +16,9 @@ use Rattle.rules_shared.specs.Row.{fresh, keep}
 use Rattle.rules_shared.specs.Cells.{Held, Cells, heldIn, names, heldWhole, lowest, write, placeNew}
 use Rattle.rules_shared.proofs.Slots.{every-free, every-set, passes-none, free-slot}
 use Rattle.rules_shared.proofs.Cells.{held-whole}
-use Rattle.setrules.specs.Rules.{sameKey, SetOf, Section, partOf, metRow, judge}
-use Rattle.setrules.specs.Cells.{takes, taken, shows, rest, roomFor, carry}
-use Rattle.setrules.proofs.Keys.{sameKey-true}
+use Rattle.rules_sets.specs.Rules.{sameKey, SetOf, Section, partOf, metRow, judge}
+use Rattle.rules_sets.specs.Cells.{takes, taken, shows, rest, roomFor, carry}
+use Rattle.rules_sets.proofs.Keys.{sameKey-true}
 use Rattle.cells.specs.Cells.{slotWord, allWhole, lowestFree}
 use Rattle.rows.specs.declared.Key.{Key}
 use Rattle.rows.specs.declared.Entry.{Entry}

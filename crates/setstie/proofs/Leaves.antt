@@ -10,9 +10,9 @@ use lib.Dec.{eqb}
 use lib.ListN.{length, getD}
 use Rattle.laws.proofs.Search.{any-not, none-any}
 use Rattle.rules_shared.specs.Same.{Bytes}
-use Rattle.setrules.specs.Rules.{Section, offer, Answer, cleared, refused, nothing, conflict, notWhole, counterFull, noCell}
-use Rattle.setrules.specs.Cells.{Store as Shown, takes, taken}
-use Rattle.setrules.proofs.Exact.{Conflicting, conflict-touches, KeptIn, cells-change}
+use Rattle.rules_sets.specs.Rules.{Section, offer, Answer, cleared, refused, nothing, conflict, notWhole, counterFull, noCell}
+use Rattle.rules_sets.specs.Cells.{Store as Shown, takes, taken}
+use Rattle.rules_sets.proofs.Exact.{Conflicting, conflict-touches, KeptIn, cells-change}
 use Rattle.cells.specs.Cells.{names}
 use Rattle.rows.specs.Rows.{word, slotsAt, slotCount, rowSlots}
 use Rattle.order.specs.Order.{ageOf, rowsSeen}

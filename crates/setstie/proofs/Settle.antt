@@ -11,9 +11,9 @@ use lib.ListN.{length}
 use Rattle.rules_shared.specs.Touch.{newest, aside}
 use Rattle.rules_shared.specs.Row.{marked}
 use Rattle.rules_shared.specs.Cells.{Held, Cells, bytesOf}
-use Rattle.setrules.specs.Rules.{sameKey, SetOf, SetsOf, handout, conflict, gives, full, whole, judged, judge}
-use Rattle.setrules.specs.Cells.{Turn, onWhole, onAnswer, shows}
-use Rattle.setrules.proofs.Keys.{sameKey-true}
+use Rattle.rules_sets.specs.Rules.{sameKey, SetOf, SetsOf, handout, conflict, gives, full, whole, judged, judge}
+use Rattle.rules_sets.specs.Cells.{Turn, onWhole, onAnswer, shows}
+use Rattle.rules_sets.proofs.Keys.{sameKey-true}
 use Rattle.cells.specs.Cells.{allFilled, allWhole, kept}
 use Rattle.rows.specs.declared.Key.{Key}
 use Rattle.rows.specs.Rows.{word, put, keyAt, touched, rowSlots}

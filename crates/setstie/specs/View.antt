@@ -9,8 +9,8 @@ use lib.Dec.{eqb, ltb}
 use lib.ListN.{length}
 use Rattle.rules_shared.specs.Same.{Bytes}
 use Rattle.rules_shared.specs.Cells.{Settings, Held}
-use Rattle.setrules.specs.Rules.{Key as SetKey, SetOf, Call, clear, refuse, offer, Answer, cleared, refused, nothing, handout, conflict, notWhole, counterFull, noCell}
-use Rattle.setrules.specs.Cells.{Store as Shown}
+use Rattle.rules_sets.specs.Rules.{Key as SetKey, SetOf, Call, clear, refuse, offer, Answer, cleared, refused, nothing, handout, conflict, notWhole, counterFull, noCell}
+use Rattle.rules_sets.specs.Cells.{Store as Shown}
 use Rattle.section.specs.Judged.{collectedOf}
 use Rattle.section.specs.declared.header.Collected.{Collected}
 use Rattle.section.specs.declared.header.Collected.the-variants.{Malformed, ShortForm, BadNumber, BadCrc, Good}

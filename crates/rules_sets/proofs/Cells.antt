@@ -14,11 +14,11 @@ use Rattle.rules_shared.specs.Cells.{Held, Cells, bytesOf, write, heldIn}
 use Rattle.rules_shared.specs.Runs.{Obeys, bars, does}
 use Rattle.rules_shared.proofs.Views.{aside-on, newest-on}
 use Rattle.rules_shared.proofs.Cells.{kept-shown, rules-keep, rules-ignore, rules-refuse}
-use Rattle.setrules.specs.Rules.{sameKey, SetsOf, Section, partOf, Call, offer, conflict, barred, StepOf, Step, gives, judge, finish, push, admit, step, tells, acts}
-use Rattle.setrules.specs.Cells.{Store, Turn, onSets, onAnswer, view, takes, shows, rest, roomFor, call, callTells, callActs}
-use Rattle.setrules.specs.Demand.{withCells, Keeping}
-use Rattle.setrules.proofs.Views.{met-on, onStep, judge-on, free-cell-unseen, free-parts}
-use Rattle.setrules.proofs.Outcome.{row, Asks, Outcome, broken, stopped, clears, refuses, long, keyless, lacks, keeps, ignores, conflicts, outcome}
+use Rattle.rules_sets.specs.Rules.{sameKey, SetsOf, Section, partOf, Call, offer, conflict, barred, StepOf, Step, gives, judge, finish, push, admit, step, tells, acts}
+use Rattle.rules_sets.specs.Cells.{Store, Turn, onSets, onAnswer, view, takes, shows, rest, roomFor, call, callTells, callActs}
+use Rattle.rules_sets.specs.Demand.{withCells, Keeping}
+use Rattle.rules_sets.proofs.Views.{met-on, onStep, judge-on, free-cell-unseen, free-parts}
+use Rattle.rules_sets.proofs.Outcome.{row, Asks, Outcome, broken, stopped, clears, refuses, long, keyless, lacks, keeps, ignores, conflicts, outcome}
 
 -- a turn is barred, or is the rules' step on what the store shows
 data Fits (t : Turn) (d : Step) : Type 0 where

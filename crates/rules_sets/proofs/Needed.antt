@@ -16,10 +16,10 @@ use Rattle.rules_shared.specs.Same.{Bytes, sameBytes}
 use Rattle.rules_shared.specs.Touch.{untouched}
 use Rattle.rules_shared.specs.Cells.{roomWhole}
 use Rattle.rules_shared.specs.Runs.{answers, At, Never, GivenBy}
-use Rattle.setrules.specs.Rules.{Call, clear, refuse, offer, Whole, Answer, cleared, refused, nothing, handout, conflict, notWhole, counterFull, noCell, numberOf, barred}
-use Rattle.setrules.specs.Cells.{Store, storeWhole, ended, guarded, call, callTells}
-use Rattle.setrules.specs.Demand.{run, withCells, Smaller, NoConflict, NeverBarred, EachHandedOut}
-use Rattle.setrules.proofs.Examples.{twelve, key, sect, set-of, store, replies}
+use Rattle.rules_sets.specs.Rules.{Call, clear, refuse, offer, Whole, Answer, cleared, refused, nothing, handout, conflict, notWhole, counterFull, noCell, numberOf, barred}
+use Rattle.rules_sets.specs.Cells.{Store, storeWhole, ended, guarded, call, callTells}
+use Rattle.rules_sets.specs.Demand.{run, withCells, Smaller, NoConflict, NeverBarred, EachHandedOut}
+use Rattle.rules_sets.proofs.Examples.{twelve, key, sect, set-of, store, replies}
 
 -- ---- tests of a run
 

@@ -9,7 +9,7 @@ use Rattle.rules_shared.specs.Slots.{someHeld, everyHeld}
 use Rattle.rules_shared.specs.Touch.{someRow, everyRow, aside, newest, emptied, onOrder}
 use Rattle.rules_shared.specs.Row.{slotOf, keep, onRow}
 use Rattle.rules_shared.specs.Cells.{Settings, Held, Cells, bytesOf, names, write, Place, into, noneFree, ignored, conflicting, place, heldIn, roomWhole, heldWhole, atEnd}
-use Rattle.setrules.specs.Rules.{sameKey, SetOf, SetsOf, Section, partOf, Call, clear, refuse, offer, WholeOf, AnswerOf, cleared, refused, nothing, handout, conflict, notWhole, counterFull, noCell, StepOf, gives, metRow, judge, Sets, Answer}
+use Rattle.rules_sets.specs.Rules.{sameKey, SetOf, SetsOf, Section, partOf, Call, clear, refuse, offer, WholeOf, AnswerOf, cleared, refused, nothing, handout, conflict, notWhole, counterFull, noCell, StepOf, gives, metRow, judge, Sets, Answer}
 
 pub record Store : Type 0 where
   pub settings : Settings

@@ -14,8 +14,8 @@ use Rattle.rules_shared.specs.Touch.{emptied}
 use Rattle.rules_shared.specs.Row.{slotOf, keep}
 use Rattle.rules_shared.specs.Cells.{Held, bytesOf, write, Place, heldIn}
 use Rattle.rules_shared.proofs.Cells.{LowestFree, AllTaken, Placed, laid, lacking, alike, unlike, placed}
-use Rattle.setrules.specs.Rules.{Key, SetOf, SetsOf, Section, partOf, Call, clear, refuse, offer, cleared, refused, nothing, handout, conflict, notWhole, counterFull, noCell, metRow, judged, judge, full, Answer}
-use Rattle.setrules.specs.Cells.{Store, Turn, onAnswer, taken, storeWhole, ended, shows, rest, roomFor, placeOf, carry, pushIn, admitIn, good, guarded, call}
+use Rattle.rules_sets.specs.Rules.{Key, SetOf, SetsOf, Section, partOf, Call, clear, refuse, offer, cleared, refused, nothing, handout, conflict, notWhole, counterFull, noCell, metRow, judged, judge, full, Answer}
+use Rattle.rules_sets.specs.Cells.{Store, Turn, onAnswer, taken, storeWhole, ended, shows, rest, roomFor, placeOf, carry, pushIn, admitIn, good, guarded, call}
 
 -- the row that a section meets
 abbrev pub row : Store → Section → SetOf Held

@@ -18,10 +18,10 @@ use Rattle.rules_shared.proofs.Slots.{none-passes, passes-none}
 use Rattle.rules_shared.proofs.All.{All, all-map, none-all, all-none, held-stays}
 use Rattle.rules_shared.proofs.Row.{slot-on, start-held}
 use Rattle.rules_shared.proofs.Cells.{LowestFree, AllTaken, write-other, write-front, Kept, kept-parts, parts-kept}
-use Rattle.setrules.specs.Rules.{Key, sameKey, SetOf, SetsOf, Section, partOf, Call, offer, conflict, noCell, asBefore, metRow, isKept, Answer, cleared, refused, nothing, handout, notWhole, counterFull}
-use Rattle.setrules.specs.Cells.{Store, Turn, onAnswer, view, takes, taken, storeWhole, ended, shows, rest, roomFor, call, callTells, callActs}
-use Rattle.setrules.proofs.Views.{met-on}
-use Rattle.setrules.proofs.Outcome.{row, slot, Asks, Outcome, broken, stopped, clears, refuses, long, keyless, lacks, keeps, ignores, conflicts, outcome, accepting, judge-accepts, accepts-not}
+use Rattle.rules_sets.specs.Rules.{Key, sameKey, SetOf, SetsOf, Section, partOf, Call, offer, conflict, noCell, asBefore, metRow, isKept, Answer, cleared, refused, nothing, handout, notWhole, counterFull}
+use Rattle.rules_sets.specs.Cells.{Store, Turn, onAnswer, view, takes, taken, storeWhole, ended, shows, rest, roomFor, call, callTells, callActs}
+use Rattle.rules_sets.proofs.Views.{met-on}
+use Rattle.rules_sets.proofs.Outcome.{row, slot, Asks, Outcome, broken, stopped, clears, refuses, long, keyless, lacks, keeps, ignores, conflicts, outcome, accepting, judge-accepts, accepts-not}
 
 -- ---- whether the rules keep a section, read off the store
 
