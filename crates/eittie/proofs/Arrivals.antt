@@ -9,7 +9,7 @@ use native.Mathlib.Omega.{arith}
 use lib.Dec.{eqb}
 use lib.ListN.{getD}
 use Rattle.rules_shared.specs.Same.{Bytes}
-use Rattle.eitrules.specs.Keys.{Kind, presentActual, presentOther, scheduleActual, scheduleOther, between, kindOf, kindNumber}
+use Rattle.rules_eit.specs.Keys.{Kind, presentActual, presentOther, scheduleActual, scheduleOther, between, kindOf, kindNumber}
 use Rattle.section.specs.Judged.{collectedOf}
 use Rattle.section.specs.Header.{byteAt, headerOf}
 use Rattle.section.specs.Eit.{within, isEit, fieldsOf, layoutGood, eitOf}

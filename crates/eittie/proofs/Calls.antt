@@ -17,12 +17,12 @@ use Rattle.rules_shared.specs.Slots.{everyHeld}
 use Rattle.rules_shared.specs.Touch.{emptied, everyRow}
 use Rattle.rules_shared.specs.Row.{fits}
 use Rattle.rules_shared.specs.Cells.{Held, heldWhole, roomWhole, atEnd}
-use Rattle.eitrules.specs.Keys.{Kind, kindOf, SetKey, sameSet, sameSchedule}
-use Rattle.eitrules.specs.Segments.{SetOf}
-use Rattle.eitrules.specs.Schedules.{ScheduleOf}
-use Rattle.eitrules.specs.Rules.{Section, scheduleOf, keyOf, clear, drop, refuse, offer, cleared}
-use Rattle.eitrules.specs.Cells.{onAnswer, storeWhole, anyAtEnd, ended, shows, pushIn, admitIn, offerIn, good, guarded, call}
-use Rattle.eitrules.proofs.Keys.{sameSet-true, sameSchedule-true}
+use Rattle.rules_eit.specs.Keys.{Kind, kindOf, SetKey, sameSet, sameSchedule}
+use Rattle.rules_eit.specs.Segments.{SetOf}
+use Rattle.rules_eit.specs.Schedules.{ScheduleOf}
+use Rattle.rules_eit.specs.Rules.{Section, scheduleOf, keyOf, clear, drop, refuse, offer, cleared}
+use Rattle.rules_eit.specs.Cells.{onAnswer, storeWhole, anyAtEnd, ended, shows, pushIn, admitIn, offerIn, good, guarded, call}
+use Rattle.rules_eit.proofs.Keys.{sameSet-true, sameSchedule-true}
 use Rattle.section.specs.Judged.{collectedOf}
 use Rattle.section.specs.Header.{byteAt}
 use Rattle.section.specs.Eit.{eitOf, fieldsOf}

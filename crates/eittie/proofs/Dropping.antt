@@ -10,10 +10,10 @@ use borrow.Author.Tests.{lt-leb, le-leb, ltb-true, ltb-false}
 use lib.Dec.{ltb, leb}
 use lib.ListN.{length, take, drop, getD}
 use Rattle.rules_shared.specs.Touch.{retained}
-use Rattle.eitrules.specs.Keys.{kindNumber, ScheduleKey, SetKey, badPid, pidPasses}
-use Rattle.eitrules.specs.Keys.{matches as keyMatches}
-use Rattle.eitrules.specs.Rules.{done, gives, dropped}
-use Rattle.eitrules.specs.Cells.{onAnswer, shows, dropIn}
+use Rattle.rules_eit.specs.Keys.{kindNumber, ScheduleKey, SetKey, badPid, pidPasses}
+use Rattle.rules_eit.specs.Keys.{matches as keyMatches}
+use Rattle.rules_eit.specs.Rules.{done, gives, dropped}
+use Rattle.rules_eit.specs.Cells.{onAnswer, shows, dropIn}
 use Rattle.section.specs.declared.ids.Made.the-variants as made
 use Rattle.rows.specs.declared.Key.{Key}
 use Rattle.rows.specs.Rows.{word, keyAt, slotCount, slotsAt}

@@ -9,8 +9,8 @@ use borrow.Author.Tests.{eqb-true, ne-eqb}
 use lib.Dec.{eqb}
 use Rattle.laws.proofs.Tests.{eqb-sym}
 use Rattle.rules_shared.specs.Same.{samePid}
-use Rattle.eitrules.specs.Keys.{Kind, presentActual, presentOther, scheduleActual, scheduleOther, between, kindOf, kindNumber, sameKind, anyPid, exactly, pidPasses, passes}
-use Rattle.eitrules.specs.Keys.{matches as keyMatches}
+use Rattle.rules_eit.specs.Keys.{Kind, presentActual, presentOther, scheduleActual, scheduleOther, between, kindOf, kindNumber, sameKind, anyPid, exactly, pidPasses, passes}
+use Rattle.rules_eit.specs.Keys.{matches as keyMatches}
 use Rattle.section.specs.Eit.{within}
 use Rattle.rows.specs.declared.Key.{Key}
 use Rattle.sets.specs.Store.{bitOf}

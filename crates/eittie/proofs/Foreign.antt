@@ -9,7 +9,7 @@ use native.Mathlib.Omega.{arith}
 use borrow.Author.Tests.{ne-eqb}
 use lib.Dec.{eqb}
 use Rattle.laws.proofs.Tests.{and-none}
-use Rattle.eitrules.specs.Keys.{Kind, presentActual, presentOther, scheduleActual, scheduleOther, kindOf, kindNumber}
+use Rattle.rules_eit.specs.Keys.{Kind, presentActual, presentOther, scheduleActual, scheduleOther, kindOf, kindNumber}
 use Rattle.rows.specs.declared.Key.{Key}
 use Rattle.rows.specs.Rows.{word, keyAt}
 use Rattle.sets.specs.Store.{bitOf}

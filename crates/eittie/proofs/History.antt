@@ -16,14 +16,14 @@ use Rattle.rules_shared.specs.Cells.{Settings}
 use Rattle.rules_shared.specs.Runs.{answers, storeAfter, At, Never, Obeys, bars, does}
 use Rattle.rules_shared.proofs.Runs.{each-read, answers-read}
 use Rattle.rules_shared.proofs.Runs.{same-answers as run-same}
-use Rattle.eitrules.specs.Keys.{Kind, sameSet, sameSchedule}
-use Rattle.eitrules.specs.Rules.{Eit, Section, offer, refuse, Answer, done, refused, nothing, handout, schedule, conflict, range, notWhole, counterFull, noCell, barred, asBefore}
-use Rattle.eitrules.specs.Rules.{tells as rulesTell, acts as rulesAct, opened as rulesOpened}
-use Rattle.eitrules.specs.Cells.{Store as Shown, onEit, view, callTells, callActs}
-use Rattle.eitrules.proofs.Keys.{sameSet-true, sameSchedule-true}
-use Rattle.eitrules.proofs.Cells.{obeys-rules, settings-stay}
-use Rattle.eitrules.proofs.Whole.{LongEnough, never-10}
-use Rattle.eitrules.proofs.Exact.{NeedsCell, only-then-21, then-21}
+use Rattle.rules_eit.specs.Keys.{Kind, sameSet, sameSchedule}
+use Rattle.rules_eit.specs.Rules.{Eit, Section, offer, refuse, Answer, done, refused, nothing, handout, schedule, conflict, range, notWhole, counterFull, noCell, barred, asBefore}
+use Rattle.rules_eit.specs.Rules.{tells as rulesTell, acts as rulesAct, opened as rulesOpened}
+use Rattle.rules_eit.specs.Cells.{Store as Shown, onEit, view, callTells, callActs}
+use Rattle.rules_eit.proofs.Keys.{sameSet-true, sameSchedule-true}
+use Rattle.rules_eit.proofs.Cells.{obeys-rules, settings-stay}
+use Rattle.rules_eit.proofs.Whole.{LongEnough, never-10}
+use Rattle.rules_eit.proofs.Exact.{NeedsCell, only-then-21, then-21}
 use Rattle.section.specs.Judged.{collectedOf}
 use Rattle.section.specs.Eit.{eitOf}
 use Rattle.section.specs.declared.header.Header.{Header}

@@ -20,11 +20,11 @@ use Rattle.rules_shared.specs.Row.{fresh, keep}
 use Rattle.rules_shared.specs.Cells.{Held, Cells, heldIn, names, heldWhole, lowest, write, placeNew}
 use Rattle.rules_shared.proofs.Slots.{every-free, every-set, passes-none, free-slot}
 use Rattle.rules_shared.proofs.Cells.{held-whole}
-use Rattle.eitrules.specs.Keys.{Kind, SetKey, sameSet}
-use Rattle.eitrules.specs.Segments.{SetOf}
-use Rattle.eitrules.specs.Rules.{Section, partOf, metRow, setAside, setNewest, judge}
-use Rattle.eitrules.specs.Cells.{setTakes, scheduleTakes, taken, shows, rest, roomFor, carry}
-use Rattle.eitrules.proofs.Keys.{sameSet-true}
+use Rattle.rules_eit.specs.Keys.{Kind, SetKey, sameSet}
+use Rattle.rules_eit.specs.Segments.{SetOf}
+use Rattle.rules_eit.specs.Rules.{Section, partOf, metRow, setAside, setNewest, judge}
+use Rattle.rules_eit.specs.Cells.{setTakes, scheduleTakes, taken, shows, rest, roomFor, carry}
+use Rattle.rules_eit.proofs.Keys.{sameSet-true}
 use Rattle.cells.specs.Cells.{slotWord, allWhole, lowestFree}
 use Rattle.rows.specs.declared.Entry.{Entry}
 use Rattle.rows.specs.declared.Room.{Room}

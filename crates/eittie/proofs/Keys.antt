@@ -10,7 +10,7 @@ use lib.Dec.{eqb, leb}
 use Rattle.laws.proofs.Tests.{and-true}
 use Rattle.laws.proofs.Facts.{eq-passes}
 use Rattle.rules_shared.specs.Same.{samePid}
-use Rattle.eitrules.specs.Keys.{Kind, presentActual, presentOther, scheduleActual, scheduleOther, between, kindOf, firstOf, kindNumber, sameKind, ScheduleKey, SetKey, sameSchedule, sameSet}
+use Rattle.rules_eit.specs.Keys.{Kind, presentActual, presentOther, scheduleActual, scheduleOther, between, kindOf, firstOf, kindNumber, sameKind, ScheduleKey, SetKey, sameSchedule, sameSet}
 use Rattle.rows.specs.declared.Key.{Key}
 use Rattle.sets.specs.Store.{bitOf}
 use Rattle.schedules.specs.Units.{firstBy, firstTable, withTable}

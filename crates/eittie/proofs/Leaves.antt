@@ -11,11 +11,11 @@ use Rattle.laws.proofs.Tests.{or-false}
 use Rattle.laws.proofs.Search.{any-not, none-any}
 use Rattle.rules_shared.specs.Same.{Bytes}
 use Rattle.rules_shared.specs.Touch.{someRow}
-use Rattle.eitrules.specs.Keys.{SetKey}
-use Rattle.eitrules.specs.Rules.{Section, offer, Answer, conflict, numberOf}
-use Rattle.eitrules.specs.Cells.{Store as Shown, setTakes, scheduleTakes, taken}
-use Rattle.eitrules.proofs.Exact.{Conflicting, conflict-touches}
-use Rattle.eitrules.proofs.Free.{KeptIn, cells-change}
+use Rattle.rules_eit.specs.Keys.{SetKey}
+use Rattle.rules_eit.specs.Rules.{Section, offer, Answer, conflict, numberOf}
+use Rattle.rules_eit.specs.Cells.{Store as Shown, setTakes, scheduleTakes, taken}
+use Rattle.rules_eit.proofs.Exact.{Conflicting, conflict-touches}
+use Rattle.rules_eit.proofs.Free.{KeptIn, cells-change}
 use Rattle.cells.specs.Cells.{slotWord, names, someNames}
 use Rattle.rows.specs.declared.Entry.{Entry}
 use Rattle.rows.specs.Rows.{word, put, touched, keptHeads, slotsAt, slotCount, rowSlots}

@@ -16,11 +16,11 @@ use Rattle.rules_shared.specs.Row.{fresh, fits, start, slotOf}
 use Rattle.rules_shared.specs.Cells.{Held, lowest, placeNew, placeHeld}
 use Rattle.rules_shared.specs.Cells.{place as placed}
 use Rattle.rules_shared.proofs.Slots.{free-slot}
-use Rattle.eitrules.specs.Keys.{Kind, SetKey, sameSet}
-use Rattle.eitrules.specs.Segments.{SetOf}
-use Rattle.eitrules.specs.Rules.{Section, partOf, metRow}
-use Rattle.eitrules.specs.Cells.{taken, roomFor, placeOf, carry}
-use Rattle.eitrules.proofs.Keys.{sameSet-true}
+use Rattle.rules_eit.specs.Keys.{Kind, SetKey, sameSet}
+use Rattle.rules_eit.specs.Segments.{SetOf}
+use Rattle.rules_eit.specs.Rules.{Section, partOf, metRow}
+use Rattle.rules_eit.specs.Cells.{taken, roomFor, placeOf, carry}
+use Rattle.rules_eit.proofs.Keys.{sameSet-true}
 use Rattle.cells.specs.Cells.{keptLength, slotWhole, allWhole, kept}
 use Rattle.rows.specs.declared.Entry.{Entry}
 use Rattle.rows.specs.declared.Room.{Room}

@@ -15,10 +15,10 @@ use Rattle.laws.proofs.Tests.{and-true, or-false, same-test}
 use Rattle.rules_shared.specs.Slots.{isHeld, someHeld, everyHeld}
 use Rattle.rules_shared.specs.Touch.{someRow, everyRow}
 use Rattle.rules_shared.specs.Cells.{Settings, Held, Cells, bytesOf, heldWhole}
-use Rattle.eitrules.specs.Keys.{ScheduleKey}
-use Rattle.eitrules.specs.Segments.{heldFrom}
-use Rattle.eitrules.specs.Schedules.{CopyOf, ScheduleOf, tableOf, whole, wholes, allTables}
-use Rattle.eitrules.specs.Cells.{copyTakes, scheduleTakes, onWhole}
+use Rattle.rules_eit.specs.Keys.{ScheduleKey}
+use Rattle.rules_eit.specs.Segments.{heldFrom}
+use Rattle.rules_eit.specs.Schedules.{CopyOf, ScheduleOf, tableOf, whole, wholes, allTables}
+use Rattle.rules_eit.specs.Cells.{copyTakes, scheduleTakes, onWhole}
 use Rattle.cells.specs.Cells.{allWhole, someNames}
 use Rattle.rows.specs.Rows.{word}
 use Rattle.order.specs.Order.{ageOf, rowsSeen, Ages}

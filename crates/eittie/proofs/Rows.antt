@@ -17,9 +17,9 @@ use Rattle.laws.proofs.Tests.{and-true}
 use Rattle.rules_shared.specs.Slots.{isHeld, present}
 use Rattle.rules_shared.specs.Row.{marked}
 use Rattle.rules_shared.specs.Cells.{Held, bytesOf}
-use Rattle.eitrules.specs.Segments.{heldFrom, segmentFull, segmentsFull, complete, SegmentLasts}
-use Rattle.eitrules.specs.Segments.{segmentEnd as rulesEnd}
-use Rattle.eitrules.specs.Cells.{setTakes}
+use Rattle.rules_eit.specs.Segments.{heldFrom, segmentFull, segmentsFull, complete, SegmentLasts}
+use Rattle.rules_eit.specs.Segments.{segmentEnd as rulesEnd}
+use Rattle.rules_eit.specs.Cells.{setTakes}
 use Rattle.cells.specs.Cells.{filled, slotWhole, allFilled, allWhole, kept, someNames}
 use Rattle.section.specs.Segment.{segmentEnd}
 use Rattle.rows.specs.Rows.{word, rowSlots, slotsAt, slotCount}

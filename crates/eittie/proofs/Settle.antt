@@ -14,12 +14,12 @@ use lib.ListN.{length}
 use Rattle.rules_shared.specs.Touch.{Rows, TouchOrder, under, find, newest}
 use Rattle.rules_shared.specs.Row.{marked}
 use Rattle.rules_shared.specs.Cells.{Held, Cells, bytesOf}
-use Rattle.eitrules.specs.Keys.{Kind, kindOf, firstOf, kindNumber, ScheduleKey, SetKey, sameSchedule, sameSet}
-use Rattle.eitrules.specs.Segments.{SetOf, complete}
-use Rattle.eitrules.specs.Schedules.{CopyOf, ScheduleOf, copyOf, whole, begin, enter, allTables}
-use Rattle.eitrules.specs.Rules.{EitOf, handout, conflict, range, gives, setAside, setNewest, scheduleTouched, told, ranged, ready, judged, judge}
-use Rattle.eitrules.specs.Cells.{Store as Shown, Turn, onWhole, onAnswer, shows, rest}
-use Rattle.eitrules.proofs.Keys.{sameSet-true}
+use Rattle.rules_eit.specs.Keys.{Kind, kindOf, firstOf, kindNumber, ScheduleKey, SetKey, sameSchedule, sameSet}
+use Rattle.rules_eit.specs.Segments.{SetOf, complete}
+use Rattle.rules_eit.specs.Schedules.{CopyOf, ScheduleOf, copyOf, whole, begin, enter, allTables}
+use Rattle.rules_eit.specs.Rules.{EitOf, handout, conflict, range, gives, setAside, setNewest, scheduleTouched, told, ranged, ready, judged, judge}
+use Rattle.rules_eit.specs.Cells.{Store as Shown, Turn, onWhole, onAnswer, shows, rest}
+use Rattle.rules_eit.proofs.Keys.{sameSet-true}
 use Rattle.cells.specs.Cells.{allWhole, kept}
 use Rattle.rows.specs.declared.Key.{Key}
 use Rattle.rows.specs.Rows.{word, put, keyAt, touched, rowSlots, rowsWhole}

@@ -16,13 +16,13 @@ use Rattle.laws.proofs.Tests.{and-true, and-none}
 use Rattle.laws.proofs.Lists.{getD-none}
 use Rattle.rules_shared.specs.Touch.{Rows, find, aside, newest, touch}
 use Rattle.rules_shared.specs.Cells.{Held, bytesOf}
-use Rattle.eitrules.specs.Keys.{Kind, kindOf, kindNumber, ScheduleKey, SetKey, sameSchedule, sameSet}
-use Rattle.eitrules.specs.Segments.{SetOf, complete}
-use Rattle.eitrules.specs.Schedules.{CopyOf, ScheduleOf, tableOf, copyOf, copied, refill, begin, enter, allTables, wholes, guide}
-use Rattle.eitrules.specs.Rules.{nothing, schedule, gives, told, scheduleTouched}
-use Rattle.eitrules.specs.Cells.{Turn, onWhole, onGuide, onAnswer, shows}
-use Rattle.eitrules.proofs.Keys.{sameSchedule-true, sameSet-true}
-use Rattle.eitrules.proofs.Schedules.{refill-inside, refill-past}
+use Rattle.rules_eit.specs.Keys.{Kind, kindOf, kindNumber, ScheduleKey, SetKey, sameSchedule, sameSet}
+use Rattle.rules_eit.specs.Segments.{SetOf, complete}
+use Rattle.rules_eit.specs.Schedules.{CopyOf, ScheduleOf, tableOf, copyOf, copied, refill, begin, enter, allTables, wholes, guide}
+use Rattle.rules_eit.specs.Rules.{nothing, schedule, gives, told, scheduleTouched}
+use Rattle.rules_eit.specs.Cells.{Turn, onWhole, onGuide, onAnswer, shows}
+use Rattle.rules_eit.proofs.Keys.{sameSchedule-true, sameSet-true}
+use Rattle.rules_eit.proofs.Schedules.{refill-inside, refill-past}
 use Rattle.cells.specs.Cells.{allWhole}
 use Rattle.rows.specs.declared.Key.{Key}
 use Rattle.rows.specs.declared.Entry.{Entry}

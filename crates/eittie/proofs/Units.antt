@@ -15,7 +15,7 @@ use lib.ListN.{length, getD, take, drop, set, length-set}
 use lib.Seq.{getD-set-same, getD-set-other, paste, length-paste, take-all}
 use Rattle.laws.proofs.Lists.{paste-past, paste-before}
 use Rattle.rules_shared.specs.Cells.{Held}
-use Rattle.eitrules.specs.Schedules.{CopyOf, copyOf}
+use Rattle.rules_eit.specs.Schedules.{CopyOf, copyOf}
 use Rattle.rows.specs.declared.Key.{Key}
 use Rattle.rows.specs.Rows.{word, rowOf, rowSlots, slotsAt, slotCount}
 use Rattle.rows.proofs.Words.{length-slots}

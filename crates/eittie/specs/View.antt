@@ -9,12 +9,12 @@ use lib.Dec.{eqb, ltb}
 use lib.ListN.{length, getD}
 use Rattle.rules_shared.specs.Same.{Bytes}
 use Rattle.rules_shared.specs.Cells.{Settings, Held}
-use Rattle.eitrules.specs.Keys.{Kind, presentActual, presentOther, scheduleActual, scheduleOther, kindOf, kindNumber, ScheduleKey, SetKey, PidTest, anyPid, exactly}
-use Rattle.eitrules.specs.Keys.{Filter as KeyFilter}
-use Rattle.eitrules.specs.Segments.{SetOf}
-use Rattle.eitrules.specs.Schedules.{CopyOf, ScheduleOf, WholeOf, tableOf}
-use Rattle.eitrules.specs.Rules.{Section, Call, clear, drop, refuse, offer, Answer, done, refused, nothing, handout, schedule, conflict, range, notWhole, counterFull, noCell}
-use Rattle.eitrules.specs.Cells.{Store as Shown}
+use Rattle.rules_eit.specs.Keys.{Kind, presentActual, presentOther, scheduleActual, scheduleOther, kindOf, kindNumber, ScheduleKey, SetKey, PidTest, anyPid, exactly}
+use Rattle.rules_eit.specs.Keys.{Filter as KeyFilter}
+use Rattle.rules_eit.specs.Segments.{SetOf}
+use Rattle.rules_eit.specs.Schedules.{CopyOf, ScheduleOf, WholeOf, tableOf}
+use Rattle.rules_eit.specs.Rules.{Section, Call, clear, drop, refuse, offer, Answer, done, refused, nothing, handout, schedule, conflict, range, notWhole, counterFull, noCell}
+use Rattle.rules_eit.specs.Cells.{Store as Shown}
 use Rattle.section.specs.Judged.{collectedOf}
 use Rattle.section.specs.Eit.{eitOf, fieldsOf}
 use Rattle.section.specs.declared.header.Header.{Header}

@@ -6,7 +6,7 @@ use mathlib.Core.Bool.{true}
 use Prim.Native.Nat.{ℕ, zero, suc}
 use Rattle.laws.proofs.Tests.{and-true, beq-true}
 use Rattle.rules_shared.proofs.Same.{samePid-true}
-use Rattle.eitrules.specs.Keys.{Kind, presentActual, presentOther, scheduleActual, scheduleOther, kindNumber, sameKind, ScheduleKey, SetKey, sameSchedule, sameSet}
+use Rattle.rules_eit.specs.Keys.{Kind, presentActual, presentOther, scheduleActual, scheduleOther, kindNumber, sameKind, ScheduleKey, SetKey, sameSchedule, sameSet}
 
 kindAt : ℕ → Kind
 kindAt zero = presentActual

@@ -16,11 +16,11 @@ use Rattle.rules_shared.specs.Cells.{Held}
 use Rattle.rules_shared.proofs.Slots.{every-free, every-set}
 use Rattle.rules_shared.proofs.All.{All, all-aside, all-newest, all-touch, all-retain, all-find, length-aside, length-newest, length-touch, length-retain}
 use Rattle.rules_shared.proofs.Row.{start-has}
-use Rattle.eitrules.specs.Keys.{firstOf, ScheduleKey, SetKey, sameSchedule, sameSet, Filter}
-use Rattle.eitrules.specs.Segments.{SetOf, complete}
-use Rattle.eitrules.specs.Schedules.{CopyOf, ScheduleOf, tableOf, copyOf, copied, refill, begin, enter}
-use Rattle.eitrules.specs.Rules.{EitOf, Section, partOf, metRow, setAside, setNewest, scheduleTouched, ranged, ready, judged, judge, dropped}
-use Rattle.eitrules.proofs.Keys.{sameSchedule-true, sameSet-true}
+use Rattle.rules_eit.specs.Keys.{firstOf, ScheduleKey, SetKey, sameSchedule, sameSet, Filter}
+use Rattle.rules_eit.specs.Segments.{SetOf, complete}
+use Rattle.rules_eit.specs.Schedules.{CopyOf, ScheduleOf, tableOf, copyOf, copied, refill, begin, enter}
+use Rattle.rules_eit.specs.Rules.{EitOf, Section, partOf, metRow, setAside, setNewest, scheduleTouched, ranged, ready, judged, judge, dropped}
+use Rattle.rules_eit.proofs.Keys.{sameSchedule-true, sameSet-true}
 
 module _ (ok : Held → Bool) where
   abbrev pub SetOk : SetKey → SetOf Held → Type 0

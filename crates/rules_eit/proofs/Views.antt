@@ -18,11 +18,11 @@ use Rattle.rules_shared.proofs.Slots.{on-empty, on-getD, on-set, on-take, on-pr
 use Rattle.rules_shared.proofs.Views.{seen-find, aside-on, newest-on, touch-on, retained-on, order-alike, some-newest}
 use Rattle.rules_shared.proofs.Row.{start-on}
 use Rattle.rules_shared.proofs.Cells.{row-unseen, elsewhere}
-use Rattle.eitrules.specs.Keys.{firstOf, ScheduleKey, SetKey, sameSchedule, sameSet, Filter, matches}
-use Rattle.eitrules.specs.Segments.{segmentOf, segmentEnd, SegmentLasts, SetOf, heldFrom, segmentFull, segmentsFull, complete}
-use Rattle.eitrules.specs.Schedules.{CopyOf, ScheduleOf, tableOf, copyOf, whole, copied, refill, begin, enter, allTables, wholes, guide}
-use Rattle.eitrules.specs.Rules.{EitOf, Section, partOf, AnswerOf, handout, schedule, StepOf, gives, metRow, setAside, setNewest, scheduleTouched, told, ranged, ready, judged, judge, dropped}
-use Rattle.eitrules.specs.Cells.{onCopy, onSchedule, onEit, onWhole, onGuide, onAnswer, setTakes, copyTakes, scheduleTakes, taken}
+use Rattle.rules_eit.specs.Keys.{firstOf, ScheduleKey, SetKey, sameSchedule, sameSet, Filter, matches}
+use Rattle.rules_eit.specs.Segments.{segmentOf, segmentEnd, SegmentLasts, SetOf, heldFrom, segmentFull, segmentsFull, complete}
+use Rattle.rules_eit.specs.Schedules.{CopyOf, ScheduleOf, tableOf, copyOf, whole, copied, refill, begin, enter, allTables, wholes, guide}
+use Rattle.rules_eit.specs.Rules.{EitOf, Section, partOf, AnswerOf, handout, schedule, StepOf, gives, metRow, setAside, setNewest, scheduleTouched, told, ranged, ready, judged, judge, dropped}
+use Rattle.rules_eit.specs.Cells.{onCopy, onSchedule, onEit, onWhole, onGuide, onAnswer, setTakes, copyTakes, scheduleTakes, taken}
 
 -- ---- completeness
 

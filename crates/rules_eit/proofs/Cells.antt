@@ -15,11 +15,11 @@ use Rattle.rules_shared.specs.Row.{keep, onRow, put}
 use Rattle.rules_shared.specs.Cells.{Held, Cells, bytesOf, write, heldIn}
 use Rattle.rules_shared.specs.Runs.{Obeys, bars, does}
 use Rattle.rules_shared.proofs.Cells.{kept-shown, rules-keep, rules-ignore, rules-refuse}
-use Rattle.eitrules.specs.Keys.{Kind, kindOf, SetKey}
-use Rattle.eitrules.specs.Rules.{Section, keyOf, partOf, Call, offer, refused, nothing, conflict, barred, StepOf, Eit, Step, gives, judge, cleared, finish, push, admit, offered, dropping, step, tells, acts}
-use Rattle.eitrules.specs.Cells.{Store, Turn, onEit, onAnswer, view, setTakes, shows, rest, roomFor, call, callTells, callActs}
-use Rattle.eitrules.proofs.Views.{met-on, setAside-on, setNewest-on, dropped-on, onStep, judge-on, free-cell-unseen, free-parts}
-use Rattle.eitrules.proofs.Outcome.{row, Asks, Outcome, broken, stopped, clears, drops, keepsAll, refuses, foreign, long, keyless, lacks, keeps, ignores, conflicts, outcome}
+use Rattle.rules_eit.specs.Keys.{Kind, kindOf, SetKey}
+use Rattle.rules_eit.specs.Rules.{Section, keyOf, partOf, Call, offer, refused, nothing, conflict, barred, StepOf, Eit, Step, gives, judge, cleared, finish, push, admit, offered, dropping, step, tells, acts}
+use Rattle.rules_eit.specs.Cells.{Store, Turn, onEit, onAnswer, view, setTakes, shows, rest, roomFor, call, callTells, callActs}
+use Rattle.rules_eit.proofs.Views.{met-on, setAside-on, setNewest-on, dropped-on, onStep, judge-on, free-cell-unseen, free-parts}
+use Rattle.rules_eit.proofs.Outcome.{row, Asks, Outcome, broken, stopped, clears, drops, keepsAll, refuses, foreign, long, keyless, lacks, keeps, ignores, conflicts, outcome}
 
 -- a turn is barred, or is the rules' step on what the store shows
 data Fits (t : Turn) (d : Step) : Type 0 where

@@ -13,11 +13,11 @@ use Rattle.rules_shared.specs.Same.{Bytes}
 use Rattle.rules_shared.specs.Row.{slotOf, keep}
 use Rattle.rules_shared.specs.Cells.{Held, bytesOf, write, Place, heldIn}
 use Rattle.rules_shared.proofs.Cells.{LowestFree, AllTaken, Placed, laid, lacking, alike, unlike, placed}
-use Rattle.eitrules.specs.Keys.{Kind, kindOf, firstOf, SetKey, Filter, badPid}
-use Rattle.eitrules.specs.Segments.{SetOf, complete}
-use Rattle.eitrules.specs.Schedules.{ScheduleOf, allTables}
-use Rattle.eitrules.specs.Rules.{EitOf, Section, keyOf, partOf, Call, clear, drop, refuse, offer, done, refused, nothing, handout, schedule, conflict, range, notWhole, counterFull, noCell, metRow, told, ranged, ready, judged, judge, cleared, dropped, Answer}
-use Rattle.eitrules.specs.Cells.{Store, Turn, onAnswer, taken, storeWhole, ended, shows, rest, roomFor, placeOf, carry, pushIn, admitIn, offerIn, dropIn, good, guarded, call}
+use Rattle.rules_eit.specs.Keys.{Kind, kindOf, firstOf, SetKey, Filter, badPid}
+use Rattle.rules_eit.specs.Segments.{SetOf, complete}
+use Rattle.rules_eit.specs.Schedules.{ScheduleOf, allTables}
+use Rattle.rules_eit.specs.Rules.{EitOf, Section, keyOf, partOf, Call, clear, drop, refuse, offer, done, refused, nothing, handout, schedule, conflict, range, notWhole, counterFull, noCell, metRow, told, ranged, ready, judged, judge, cleared, dropped, Answer}
+use Rattle.rules_eit.specs.Cells.{Store, Turn, onAnswer, taken, storeWhole, ended, shows, rest, roomFor, placeOf, carry, pushIn, admitIn, offerIn, dropIn, good, guarded, call}
 
 -- the row that a section meets
 abbrev pub row : Store → Section → SetKey → SetOf Held

@@ -10,9 +10,9 @@ use Rattle.rules_shared.specs.Same.{Bytes}
 use Rattle.rules_shared.specs.Touch.{TouchOrder, find, untouched, aside, newest, touch, emptied, retained}
 use Rattle.rules_shared.specs.Row.{Part, start, slotOf, marked, put}
 use Rattle.rules_shared.specs.Cells.{Settings, wouldKeep}
-use Rattle.eitrules.specs.Keys.{Kind, kindOf, firstOf, ScheduleKey, SetKey, sameSchedule, sameSet, Filter, badPid, matches}
-use Rattle.eitrules.specs.Segments.{segmentOf, SegmentLasts, noLasts, SetOf, complete}
-use Rattle.eitrules.specs.Schedules.{ScheduleOf, WholeOf, GuideOf, copyOf, whole, begin, enter, allTables, guide}
+use Rattle.rules_eit.specs.Keys.{Kind, kindOf, firstOf, ScheduleKey, SetKey, sameSchedule, sameSet, Filter, badPid, matches}
+use Rattle.rules_eit.specs.Segments.{segmentOf, SegmentLasts, noLasts, SetOf, complete}
+use Rattle.rules_eit.specs.Schedules.{ScheduleOf, WholeOf, GuideOf, copyOf, whole, begin, enter, allTables, guide}
 
 -- the collector: sets and schedules, each with "its own touch order and eviction count"
 pub record EitOf (A : Type 0) : Type 0 where

@@ -11,10 +11,10 @@ use Rattle.rules_shared.specs.Slots.{isHeld, present}
 use Rattle.rules_shared.specs.Touch.{Entry, oldestGone, room, leaves, count, retain, find, remove, others, evicts, untouched, aside, newest, touch, emptied, retained}
 use Rattle.rules_shared.specs.Row.{fresh, fits, start, slotOf, keep, marked, putOver, put}
 use Rattle.rules_shared.specs.Runs.{answers, storeAfter}
-use Rattle.eitrules.specs.Keys.{Kind, presentActual, presentOther, scheduleActual, scheduleOther, between, kindOf, firstOf, kindNumber, sameKind, ScheduleKey, SetKey, sameSchedule, sameSet, Filter, anyPid, exactly, badPid, pidPasses, passes, matches}
-use Rattle.eitrules.specs.Segments.{segmentEnd, SetOf, heldFrom, segmentFull, segmentsFull, complete}
-use Rattle.eitrules.specs.Schedules.{ScheduleOf, copyOf, whole, copied, refill, begin, enter, allTables, wholes, guide}
-use Rattle.eitrules.specs.Rules.{scheduleOf, keyOf, partOf, Call, clear, drop, refuse, offer, Whole, Answer, nothing, handout, schedule, conflict, numberOf, metRow, setAside, setNewest, scheduleTouched, told, ranged, ready, judged, judge, cleared, dropped, Eit, finish, push, admit, offered, dropping, step, tells, acts, opened}
+use Rattle.rules_eit.specs.Keys.{Kind, presentActual, presentOther, scheduleActual, scheduleOther, between, kindOf, firstOf, kindNumber, sameKind, ScheduleKey, SetKey, sameSchedule, sameSet, Filter, anyPid, exactly, badPid, pidPasses, passes, matches}
+use Rattle.rules_eit.specs.Segments.{segmentEnd, SetOf, heldFrom, segmentFull, segmentsFull, complete}
+use Rattle.rules_eit.specs.Schedules.{ScheduleOf, copyOf, whole, copied, refill, begin, enter, allTables, wholes, guide}
+use Rattle.rules_eit.specs.Rules.{scheduleOf, keyOf, partOf, Call, clear, drop, refuse, offer, Whole, Answer, nothing, handout, schedule, conflict, numberOf, metRow, setAside, setNewest, scheduleTouched, told, ranged, ready, judged, judge, cleared, dropped, Eit, finish, push, admit, offered, dropping, step, tells, acts, opened}
 
 -- ---- 01, "Checked examples": segment ends; and the kinds at their borders
 

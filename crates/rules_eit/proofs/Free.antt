@@ -14,13 +14,13 @@ use Rattle.rules_shared.specs.Cells.{Held, names}
 use Rattle.rules_shared.proofs.Slots.{none-passes, passes-none}
 use Rattle.rules_shared.proofs.All.{All, all-map, none-all, all-none}
 use Rattle.rules_shared.proofs.Cells.{LowestFree, write-other, write-front}
-use Rattle.eitrules.specs.Keys.{ScheduleKey, SetKey}
-use Rattle.eitrules.specs.Segments.{SetOf}
-use Rattle.eitrules.specs.Schedules.{CopyOf, ScheduleOf}
-use Rattle.eitrules.specs.Rules.{EitOf, Section, Call, offer, isKept}
-use Rattle.eitrules.specs.Cells.{Store, Turn, view, setTakes, copyTakes, scheduleTakes, taken, shows, roomFor, callActs}
-use Rattle.eitrules.proofs.Outcome.{Outcome, broken, stopped, clears, drops, keepsAll, refuses, foreign, long, keyless, lacks, keeps, ignores, conflicts, outcome}
-use Rattle.eitrules.proofs.Exact.{asked-kept}
+use Rattle.rules_eit.specs.Keys.{ScheduleKey, SetKey}
+use Rattle.rules_eit.specs.Segments.{SetOf}
+use Rattle.rules_eit.specs.Schedules.{CopyOf, ScheduleOf}
+use Rattle.rules_eit.specs.Rules.{EitOf, Section, Call, offer, isKept}
+use Rattle.rules_eit.specs.Cells.{Store, Turn, view, setTakes, copyTakes, scheduleTakes, taken, shows, roomFor, callActs}
+use Rattle.rules_eit.proofs.Outcome.{Outcome, broken, stopped, clears, drops, keepsAll, refuses, foreign, long, keyless, lacks, keeps, ignores, conflicts, outcome}
+use Rattle.rules_eit.proofs.Exact.{asked-kept}
 
 -- "A cell is free exactly when no slot or schedule copy of a row in use names it"
 

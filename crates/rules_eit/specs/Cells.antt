@@ -11,10 +11,10 @@ use Rattle.rules_shared.specs.Slots.{someHeld, everyHeld, onSlots}
 use Rattle.rules_shared.specs.Touch.{someRow, everyRow, onOrder}
 use Rattle.rules_shared.specs.Row.{slotOf, keep, onRow}
 use Rattle.rules_shared.specs.Cells.{Settings, Held, Cells, bytesOf, names, write, Place, into, noneFree, ignored, conflicting, place, heldIn, roomWhole, heldWhole, atEnd}
-use Rattle.eitrules.specs.Keys.{Kind, kindOf, SetKey, Filter, badPid}
-use Rattle.eitrules.specs.Segments.{SetOf}
-use Rattle.eitrules.specs.Schedules.{CopyOf, ScheduleOf, WholeOf, GuideOf}
-use Rattle.eitrules.specs.Rules.{EitOf, Section, keyOf, partOf, Call, clear, drop, refuse, offer, AnswerOf, done, refused, nothing, handout, schedule, conflict, range, notWhole, counterFull, noCell, StepOf, gives, metRow, setAside, setNewest, judge, cleared, dropped, Eit, Answer}
+use Rattle.rules_eit.specs.Keys.{Kind, kindOf, SetKey, Filter, badPid}
+use Rattle.rules_eit.specs.Segments.{SetOf}
+use Rattle.rules_eit.specs.Schedules.{CopyOf, ScheduleOf, WholeOf, GuideOf}
+use Rattle.rules_eit.specs.Rules.{EitOf, Section, keyOf, partOf, Call, clear, drop, refuse, offer, AnswerOf, done, refused, nothing, handout, schedule, conflict, range, notWhole, counterFull, noCell, StepOf, gives, metRow, setAside, setNewest, judge, cleared, dropped, Eit, Answer}
 
 pub record Store : Type 0 where
   pub settings : Settings

@@ -8,8 +8,8 @@ use lib.Dec.{leb, eqb}
 use lib.ListN.{set, take, replicate}
 use Rattle.rules_shared.specs.Slots.{present}
 use Rattle.rules_shared.specs.Touch.{Rows, find}
-use Rattle.eitrules.specs.Keys.{ScheduleKey, SetKey, sameSet}
-use Rattle.eitrules.specs.Segments.{SetOf, heldFrom, complete}
+use Rattle.rules_eit.specs.Keys.{ScheduleKey, SetKey, sameSet}
+use Rattle.rules_eit.specs.Segments.{SetOf, heldFrom, complete}
 
 -- a set as it was when it went into a schedule
 pub record CopyOf (A : Type 0) : Type 0 where

@@ -19,11 +19,11 @@ use Rattle.rules_shared.proofs.Distinct.{Distinct, distinct-aside, distinct-new
 use Rattle.rules_shared.proofs.Row.{start-has, put-has}
 use Rattle.rules_shared.proofs.Runs.{after-all}
 use Rattle.rules_shared.specs.Same.{Bytes}
-use Rattle.eitrules.specs.Keys.{Kind, kindOf, firstOf, ScheduleKey, SetKey, sameSchedule, sameSet, Filter, badPid}
-use Rattle.eitrules.specs.Segments.{complete}
-use Rattle.eitrules.specs.Schedules.{CopyOf, ScheduleOf, copyOf, refill, begin, enter}
-use Rattle.eitrules.specs.Rules.{SetRow, Eit, Section, keyOf, partOf, Call, clear, drop, refuse, offer, metRow, setAside, setNewest, scheduleTouched, ranged, ready, judged, judge, cleared, dropped, finish, push, admit, offered, dropping, step, acts, opened}
-use Rattle.eitrules.proofs.Keys.{sameSchedule-true, sameSet-true}
+use Rattle.rules_eit.specs.Keys.{Kind, kindOf, firstOf, ScheduleKey, SetKey, sameSchedule, sameSet, Filter, badPid}
+use Rattle.rules_eit.specs.Segments.{complete}
+use Rattle.rules_eit.specs.Schedules.{CopyOf, ScheduleOf, copyOf, refill, begin, enter}
+use Rattle.rules_eit.specs.Rules.{SetRow, Eit, Section, keyOf, partOf, Call, clear, drop, refuse, offer, metRow, setAside, setNewest, scheduleTouched, ranged, ready, judged, judge, cleared, dropped, finish, push, admit, offered, dropping, step, acts, opened}
+use Rattle.rules_eit.proofs.Keys.{sameSchedule-true, sameSet-true}
 
 abbrev pub MarkedComplete : SetKey → SetRow → Type 0
 MarkedComplete k r = r .mark ≡ true → complete r ≡ true

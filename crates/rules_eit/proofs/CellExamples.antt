@@ -11,10 +11,10 @@ use Rattle.rules_shared.specs.Touch.{count, someRow, everyRow, seenAs, untouche
 use Rattle.rules_shared.specs.Row.{onRow}
 use Rattle.rules_shared.specs.Cells.{bytesOf, names, lowest, write, placeNew, placeHeld, place, roomWhole, heldWhole, atEnd}
 use Rattle.rules_shared.specs.Runs.{answers}
-use Rattle.eitrules.specs.Keys.{presentActual, scheduleActual}
-use Rattle.eitrules.specs.Rules.{Call, drop, offer, Answer, nothing, handout, conflict, noCell, numberOf}
-use Rattle.eitrules.specs.Cells.{Store, onCopy, onSchedule, onEit, onWhole, onGuide, onAnswer, setTakes, copyTakes, scheduleTakes, taken, storeWhole, anyAtEnd, ended, shows, rest, roomFor, placeOf, carry, pushIn, admitIn, offerIn, dropIn, good, guarded, call, callTells, callActs}
-use Rattle.eitrules.proofs.Examples.{one, set-of, guide-of, gives, free}
+use Rattle.rules_eit.specs.Keys.{presentActual, scheduleActual}
+use Rattle.rules_eit.specs.Rules.{Call, drop, offer, Answer, nothing, handout, conflict, noCell, numberOf}
+use Rattle.rules_eit.specs.Cells.{Store, onCopy, onSchedule, onEit, onWhole, onGuide, onAnswer, setTakes, copyTakes, scheduleTakes, taken, storeWhole, anyAtEnd, ended, shows, rest, roomFor, placeOf, carry, pushIn, admitIn, offerIn, dropIn, good, guarded, call, callTells, callActs}
+use Rattle.rules_eit.proofs.Examples.{one, set-of, guide-of, gives, free}
 
 -- a store as it is opened: so many keys, so many cells of 20 bytes
 store : (limit count : ℕ) → Store

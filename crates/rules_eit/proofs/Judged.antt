@@ -11,10 +11,10 @@ use lib.Dec.{leb}
 use Rattle.rules_shared.specs.Touch.{find}
 use Rattle.rules_shared.specs.Row.{marked}
 use Rattle.rules_shared.specs.Same.{Bytes}
-use Rattle.eitrules.specs.Keys.{firstOf, SetKey, sameSchedule}
-use Rattle.eitrules.specs.Segments.{complete}
-use Rattle.eitrules.specs.Schedules.{ScheduleOf, copyOf, whole, begin, enter, allTables, guide}
-use Rattle.eitrules.specs.Rules.{SetRow, Eit, Guide, nothing, handout, schedule, range, Step, setNewest, scheduleTouched, told, ranged, ready, judged, judge}
+use Rattle.rules_eit.specs.Keys.{firstOf, SetKey, sameSchedule}
+use Rattle.rules_eit.specs.Segments.{complete}
+use Rattle.rules_eit.specs.Schedules.{ScheduleOf, copyOf, whole, begin, enter, allTables, guide}
+use Rattle.rules_eit.specs.Rules.{SetRow, Eit, Guide, nothing, handout, schedule, range, Step, setNewest, scheduleTouched, told, ranged, ready, judged, judge}
 
 module _ (limit : ℕ) (e : Eit) (k : SetKey) (last : ℕ) (r : SetRow) where
   -- the schedule with the set's copy

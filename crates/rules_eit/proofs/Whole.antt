@@ -17,13 +17,13 @@ use Rattle.rules_shared.specs.Runs.{answers, storeAfter, At, Never}
 use Rattle.rules_shared.proofs.All.{every-all, all-every}
 use Rattle.rules_shared.proofs.Cells.{length-write, held-whole, whole-held, room-whole}
 use Rattle.rules_shared.proofs.Runs.{after-all, never-after}
-use Rattle.eitrules.specs.Keys.{SetKey}
-use Rattle.eitrules.specs.Segments.{SetOf}
-use Rattle.eitrules.specs.Schedules.{ScheduleOf}
-use Rattle.eitrules.specs.Rules.{EitOf, Section, partOf, Call, clear, drop, refuse, offer, notWhole, setNewest, judge, cleared}
-use Rattle.eitrules.specs.Cells.{Store, Turn, onAnswer, storeWhole, shows, rest, roomFor, callTells, callActs}
-use Rattle.eitrules.proofs.Outcome.{row, Asks, Outcome, broken, stopped, clears, drops, keepsAll, refuses, foreign, long, keyless, lacks, keeps, ignores, conflicts, outcome, accepting, judge-accepts, accepts-not}
-use Rattle.eitrules.proofs.Checked.{SetOk, copyOk, Ok, met-ok, keep-ok, aside-ok, newest-ok, judge-ok, dropped-ok}
+use Rattle.rules_eit.specs.Keys.{SetKey}
+use Rattle.rules_eit.specs.Segments.{SetOf}
+use Rattle.rules_eit.specs.Schedules.{ScheduleOf}
+use Rattle.rules_eit.specs.Rules.{EitOf, Section, partOf, Call, clear, drop, refuse, offer, notWhole, setNewest, judge, cleared}
+use Rattle.rules_eit.specs.Cells.{Store, Turn, onAnswer, storeWhole, shows, rest, roomFor, callTells, callActs}
+use Rattle.rules_eit.proofs.Outcome.{row, Asks, Outcome, broken, stopped, clears, drops, keepsAll, refuses, foreign, long, keyless, lacks, keeps, ignores, conflicts, outcome, accepting, judge-accepts, accepts-not}
+use Rattle.rules_eit.proofs.Checked.{SetOk, copyOk, Ok, met-ok, keep-ok, aside-ok, newest-ok, judge-ok, dropped-ok}
 
 abbrev okIn : Settings → Cells → Held → Bool
 okIn o cells = heldWhole o cells

@@ -16,11 +16,11 @@ use Rattle.rules_shared.specs.Cells.{Held, bytesOf}
 use Rattle.rules_shared.proofs.All.{held-stays}
 use Rattle.rules_shared.proofs.Row.{slot-on, start-held}
 use Rattle.rules_shared.proofs.Cells.{LowestFree, AllTaken, Kept, kept-parts, parts-kept}
-use Rattle.eitrules.specs.Keys.{Kind, kindOf, SetKey, sameSet}
-use Rattle.eitrules.specs.Rules.{EitOf, Section, keyOf, partOf, Call, offer, Answer, done, refused, nothing, handout, schedule, conflict, range, notWhole, counterFull, noCell, asBefore, metRow, setAside, setNewest, isKept}
-use Rattle.eitrules.specs.Cells.{Store, Turn, onAnswer, view, taken, storeWhole, ended, shows, rest, roomFor, callTells, callActs}
-use Rattle.eitrules.proofs.Views.{met-on}
-use Rattle.eitrules.proofs.Outcome.{row, slot, Asks, Outcome, broken, stopped, clears, drops, keepsAll, refuses, foreign, long, keyless, lacks, keeps, ignores, conflicts, outcome, accepting, judge-accepts, accepts-not}
+use Rattle.rules_eit.specs.Keys.{Kind, kindOf, SetKey, sameSet}
+use Rattle.rules_eit.specs.Rules.{EitOf, Section, keyOf, partOf, Call, offer, Answer, done, refused, nothing, handout, schedule, conflict, range, notWhole, counterFull, noCell, asBefore, metRow, setAside, setNewest, isKept}
+use Rattle.rules_eit.specs.Cells.{Store, Turn, onAnswer, view, taken, storeWhole, ended, shows, rest, roomFor, callTells, callActs}
+use Rattle.rules_eit.proofs.Views.{met-on}
+use Rattle.rules_eit.proofs.Outcome.{row, slot, Asks, Outcome, broken, stopped, clears, drops, keepsAll, refuses, foreign, long, keyless, lacks, keeps, ignores, conflicts, outcome, accepting, judge-accepts, accepts-not}
 
 -- ---- whether the rules keep a section, read off the store
 

@@ -10,9 +10,9 @@ use native.Mathlib.Omega.{arith}
 use lib.ListN.{length, getD, take}
 use Rattle.rules_shared.specs.Slots.{isHeld}
 use Rattle.rules_shared.specs.Touch.{Rows, find}
-use Rattle.eitrules.specs.Keys.{ScheduleKey, SetKey, sameSet}
-use Rattle.eitrules.specs.Segments.{SetOf, heldFrom}
-use Rattle.eitrules.specs.Schedules.{CopyOf, ScheduleOf, tableOf, copied, refill, allTables, wholes, guide}
+use Rattle.rules_eit.specs.Keys.{ScheduleKey, SetKey, sameSet}
+use Rattle.rules_eit.specs.Segments.{SetOf, heldFrom}
+use Rattle.rules_eit.specs.Schedules.{CopyOf, ScheduleOf, tableOf, copied, refill, allTables, wholes, guide}
 
 -- the refill, place by place: table_id t + n has place n
 module _ {A : Type 0} (others : Rows SetKey (SetOf A)) (l : ScheduleKey) (last : ℕ) where
