@@ -13,7 +13,7 @@ use lib.Seq.{paste, getD-take, getD-drop, length-take-le}
 use Rattle.laws.proofs.Lists.{paste-past, paste-turn, paste-end}
 use Rattle.rows.specs.declared.Key.{Key}
 use Rattle.rows.specs.Rows.{word, put, keyAt}
-use Rattle.order.specs.Order.{younger}
+use Rattle.ages.specs.Order.{younger}
 use Rattle.drops.specs.declared.Wanted.{Wanted}
 use Rattle.drops.specs.declared.Wanted.the-variants as wanted
 use Rattle.drops.specs.declared.Fields.{Fields}

@@ -17,7 +17,7 @@ use Rattle.laws.proofs.Lists.{paste-past, paste-before, paste-in}
 use Rattle.rows.specs.declared.Key.{Key}
 use Rattle.rows.specs.Rows.{word, put, keyAt, slotCount, rowSlots}
 use Rattle.rows.proofs.Words.{put-same, put-row, put-not, length-put}
-use Rattle.order.specs.Order.{ageOf, movedFrom, younger, Dropped}
+use Rattle.ages.specs.Order.{ageOf, movedFrom, younger, Dropped}
 use Rattle.drops.specs.declared.Of.{Of}
 use Rattle.drops.specs.declared.Of.the-variants as of
 use Rattle.drops.specs.Drops.{widthOf, movedTo, youngered, removedHeads, removedWords}

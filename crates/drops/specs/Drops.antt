@@ -9,7 +9,7 @@ use lib.Dec.{eqb}
 use Rattle.section.specs.Eit.{within}
 use Rattle.rows.specs.declared.Key.{Key}
 use Rattle.rows.specs.Rows.{word, put, keyAt}
-use Rattle.order.specs.Order.{younger}
+use Rattle.ages.specs.Order.{younger}
 use Rattle.drops.specs.declared.Wanted.{Wanted}
 use Rattle.drops.specs.declared.Wanted.the-variants as wanted
 use Rattle.drops.specs.declared.Fields.{Fields}

@@ -6,7 +6,7 @@ ghost use mathlib.Core.Path.{_≡_};
 ghost use mathlib.Core.Bool.{Bool, true, false};
 ghost use Prim.Native.Nat.{ℕ, _+_, _-_, _*_, _<_, _≤_};
 ghost use lib.ListN.{length};
-ghost use Rattle.order.specs.Order.{younger};
+ghost use Rattle.ages.specs.Order.{younger};
 ghost use Rattle.drops.specs.Drops.{wants, kindWord, kindIn, matches, widthOf, movedTo, youngered, removedHeads, removedWords};
 ghost use Rattle.drops.specs.Drops.{Fits, rest, droppedRow, droppedRows};
 

@@ -39,12 +39,12 @@ use Rattle.section.specs.declared.ids.Made.the-variants as made
 use Rattle.cells.specs.Cells.{allWhole}
 use Rattle.rows.specs.declared.Key.{Key}
 use Rattle.rows.specs.Rows.{rowSlots, rowsWhole}
-use Rattle.order.specs.Order.{downFrom, inOrder, ageOf, rowsSeen}
-use Rattle.order.specs.Slots.{cellsSeen}
-use Rattle.order.proofs.Ages.{length-order}
-use Rattle.order.proofs.Touch.{stands-none}
-use Rattle.order.proofs.Slots.{held-whole, rows-whole}
-use Rattle.order.proofs.Cells.{cells-length}
+use Rattle.ages.specs.Order.{downFrom, inOrder, ageOf, rowsSeen}
+use Rattle.ages.specs.Slots.{cellsSeen}
+use Rattle.ages.proofs.Ages.{length-order}
+use Rattle.ages.proofs.Touch.{stands-none}
+use Rattle.ages.proofs.Slots.{held-whole, rows-whole}
+use Rattle.ages.proofs.Cells.{cells-length}
 use Rattle.sets.specs.Store as sets
 use Rattle.sets.specs.Store.{pidOf, pidWord}
 use Rattle.sets.proofs.Whole.{long}

@@ -17,8 +17,8 @@ use Rattle.rules_eit.specs.Cells.{onAnswer, shows, dropIn}
 use Rattle.section.specs.declared.ids.Made.the-variants as made
 use Rattle.rows.specs.declared.Key.{Key}
 use Rattle.rows.specs.Rows.{word, keyAt, slotCount, slotsAt}
-use Rattle.order.specs.Order.{movedFrom}
-use Rattle.order.proofs.Cells.{up-cong}
+use Rattle.ages.specs.Order.{movedFrom}
+use Rattle.ages.proofs.Cells.{up-cong}
 use Rattle.schedules.specs.Segments.{wordOf}
 use Rattle.schedules.specs.Units.{tablesOf}
 use Rattle.drops.specs.declared.Of.the-variants as of

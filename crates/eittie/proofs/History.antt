@@ -32,8 +32,8 @@ use Rattle.section.specs.declared.header.Collected.the-variants as collected
 use Rattle.section.specs.declared.eit.Reading.{Reading}
 use Rattle.section.specs.declared.eit.Reading.the-variants as reading
 use Rattle.section.specs.declared.ids.MaybePid.the-variants as maybe
-use Rattle.order.specs.Order.{downFrom, inOrder, rowsSeen}
-use Rattle.order.proofs.Touch.{stands-none}
+use Rattle.ages.specs.Order.{downFrom, inOrder, rowsSeen}
+use Rattle.ages.proofs.Touch.{stands-none}
 use Rattle.sets.proofs.Judged.{good-length}
 use Rattle.cells.specs.Cells.{slotWord}
 use Rattle.rows.specs.declared.Entry.{Entry}

@@ -31,14 +31,14 @@ use Rattle.rows.specs.declared.Room.{Room}
 use Rattle.rows.specs.Rows.{word, keyAt, touched, keptHeads, goneRow, rowSlots, takenIn, rowsWhole}
 use Rattle.rows.proofs.Words.{length-kept, kept-row, kept-fresh, kept-known}
 use Rattle.rows.proofs.Whole.{rows-get, rows-all}
-use Rattle.order.specs.Order.{ageOf, Goes, Touched}
-use Rattle.order.specs.Slots.{heldOf, heldSlots, cellsSeen}
-use Rattle.order.proofs.Words.{key-same, ready-touched, kept-fresh-key, kept-unmarked}
-use Rattle.order.proofs.Slots.{held-new, held-set, held-none, lowest-is}
-use Rattle.order.proofs.Slots.{held-whole as words-whole}
-use Rattle.order.proofs.Cells.{cells-length, cells-written, written-length}
-use Rattle.order.proofs.Touch.{goes-row, goes-out}
-use Rattle.order.proofs.Taken.{taken-fresh, taken-known}
+use Rattle.ages.specs.Order.{ageOf, Goes, Touched}
+use Rattle.ages.specs.Slots.{heldOf, heldSlots, cellsSeen}
+use Rattle.ages.proofs.Words.{key-same, ready-touched, kept-fresh-key, kept-unmarked}
+use Rattle.ages.proofs.Slots.{held-new, held-set, held-none, lowest-is}
+use Rattle.ages.proofs.Slots.{held-whole as words-whole}
+use Rattle.ages.proofs.Cells.{cells-length, cells-written, written-length}
+use Rattle.ages.proofs.Touch.{goes-row, goes-out}
+use Rattle.ages.proofs.Taken.{taken-fresh, taken-known}
 use Rattle.schedules.specs.Segments.{keptSection}
 use Rattle.schedules.specs.Units.{schedulesWhole, takenInSchedules, takenAnywhere}
 use Rattle.eit.specs.declared.inner.Arrival.{Arrival}

@@ -15,9 +15,9 @@ use Rattle.rows.specs.declared.Entry.{Entry}
 use Rattle.rows.specs.declared.Room.{Room}
 use Rattle.rows.specs.Rows.{word, slotsAt, slotCount, rowSlots, emptied, keptSlots}
 use Rattle.rows.proofs.Words.{length-kept-slots, length-emptied, emptied-in, emptied-out}
-use Rattle.order.specs.Slots.{upFrom}
-use Rattle.order.proofs.Slots.{part-alike, other-slots, own-slots, fresh-slots}
-use Rattle.order.proofs.Cells.{up-set}
+use Rattle.ages.specs.Slots.{upFrom}
+use Rattle.ages.proofs.Slots.{part-alike, other-slots, own-slots, fresh-slots}
+use Rattle.ages.proofs.Cells.{up-set}
 use Rattle.schedules.specs.Segments.{wordOf, keptSection}
 use Rattle.eittie.specs.View.{lastOf}
 

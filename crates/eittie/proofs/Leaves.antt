@@ -20,8 +20,8 @@ use Rattle.cells.specs.Cells.{slotWord, names, someNames}
 use Rattle.rows.specs.declared.Entry.{Entry}
 use Rattle.rows.specs.Rows.{word, put, touched, keptHeads, slotsAt, slotCount, rowSlots}
 use Rattle.rows.proofs.Words.{slot-at, length-slots, touched-not}
-use Rattle.order.specs.Order.{ageOf, rowsSeen}
-use Rattle.order.proofs.Ages.{order-none, none-order}
+use Rattle.ages.specs.Order.{ageOf, rowsSeen}
+use Rattle.ages.proofs.Ages.{order-none, none-order}
 use Rattle.section.specs.declared.ids.MaybePid.{MaybePid}
 use Rattle.schedules.specs.Segments.{wordOf, keptSection}
 use Rattle.schedules.specs.Units.{tablesOf, isPresent, unitSlots, takenInSchedules}

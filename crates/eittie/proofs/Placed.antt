@@ -27,11 +27,11 @@ use Rattle.rows.specs.declared.Room.{Room}
 use Rattle.rows.specs.Rows.{word, rowOf, roomIn, roomRenewed, roomNew, slotsAt, slotCount, rowSlots}
 use Rattle.rows.proofs.Words.{slot-at, length-slots}
 use Rattle.rows.proofs.Whole.{rows-get}
-use Rattle.order.specs.Order.{ageOf, Goes}
-use Rattle.order.specs.Slots.{heldOf}
-use Rattle.order.proofs.Touch.{row-has-key, no-row-has-key, goes-known, goes-new, finds-known, finds-none}
-use Rattle.order.proofs.Slots.{held-filled, held-empty, held-get}
-use Rattle.order.proofs.Cells.{bytes-kept, same-bytes}
+use Rattle.ages.specs.Order.{ageOf, Goes}
+use Rattle.ages.specs.Slots.{heldOf}
+use Rattle.ages.proofs.Touch.{row-has-key, no-row-has-key, goes-known, goes-new, finds-known, finds-none}
+use Rattle.ages.proofs.Slots.{held-filled, held-empty, held-get}
+use Rattle.ages.proofs.Cells.{bytes-kept, same-bytes}
 use Rattle.sets.proofs.Plans.{slot-bounds, same-last}
 use Rattle.places.specs.Places.{placeSlot, placeKnown}
 use Rattle.places.specs.Places.{placeOf as placeIn}

@@ -21,11 +21,11 @@ use Rattle.rules_eit.specs.Schedules.{CopyOf, ScheduleOf, tableOf, whole, whole
 use Rattle.rules_eit.specs.Cells.{copyTakes, scheduleTakes, onWhole}
 use Rattle.cells.specs.Cells.{allWhole, someNames}
 use Rattle.rows.specs.Rows.{word}
-use Rattle.order.specs.Order.{ageOf, rowsSeen, Ages}
-use Rattle.order.specs.Slots.{heldSlots, upFrom, cellsSeen}
-use Rattle.order.proofs.Ages.{order-every, every-order, order-none, none-order}
-use Rattle.order.proofs.Slots.{held-whole, held-names}
-use Rattle.order.proofs.Cells.{length-up, up-get}
+use Rattle.ages.specs.Order.{ageOf, rowsSeen, Ages}
+use Rattle.ages.specs.Slots.{heldSlots, upFrom, cellsSeen}
+use Rattle.ages.proofs.Ages.{order-every, every-order, order-none, none-order}
+use Rattle.ages.proofs.Slots.{held-whole, held-names}
+use Rattle.ages.proofs.Cells.{length-up, up-get}
 use Rattle.schedules.specs.Segments.{wordOf}
 use Rattle.schedules.specs.Units.{firstBy, tablesOf, isPresent, unitSlots, unitWhole, unitsWhole, schedulesWhole, takenInUnits, takenInSchedules, allPresent, firstTable}
 use Rattle.berths.specs.Berths.{tablesThere}

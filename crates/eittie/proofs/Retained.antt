@@ -13,8 +13,8 @@ use lib.ListN.{length}
 use Rattle.rules_shared.specs.Touch.{retain}
 use Rattle.rows.specs.declared.Key.{Key}
 use Rattle.rows.specs.Rows.{keyAt}
-use Rattle.order.specs.Order.{rowsSeen, Stands, movedFrom}
-use Rattle.order.proofs.Drop.{dropped-stands, dropped-seen, retained-seen}
+use Rattle.ages.specs.Order.{rowsSeen, Stands, movedFrom}
+use Rattle.ages.proofs.Drop.{dropped-stands, dropped-seen, retained-seen}
 use Rattle.drops.specs.declared.Of.{Of}
 use Rattle.drops.specs.declared.Of.the-variants as of
 use Rattle.drops.specs.declared.Fields.{Fields}

@@ -24,9 +24,9 @@ use Rattle.cells.specs.Cells.{filled, slotWhole, allFilled, allWhole, kept, som
 use Rattle.section.specs.Segment.{segmentEnd}
 use Rattle.rows.specs.Rows.{word, rowSlots, slotsAt, slotCount}
 use Rattle.rows.proofs.Words.{length-slots}
-use Rattle.order.specs.Slots.{heldOf, heldSlots, cellsSeen, upFrom}
-use Rattle.order.proofs.Slots.{place, held-get, slots-same, held-names}
-use Rattle.order.proofs.Cells.{bytes-kept, up-get, up-cong}
+use Rattle.ages.specs.Slots.{heldOf, heldSlots, cellsSeen, upFrom}
+use Rattle.ages.proofs.Slots.{place, held-get, slots-same, held-names}
+use Rattle.ages.proofs.Cells.{bytes-kept, up-get, up-cong}
 use Rattle.sets.proofs.Plans.{slot-bounds}
 use Rattle.schedules.specs.Segments.{wordOf, filledTo, segmentComplete, segmentsComplete, setComplete}
 use Rattle.eit.specs.Store.{filledSlots}

@@ -25,11 +25,11 @@ use Rattle.rows.specs.declared.Key.{Key}
 use Rattle.rows.specs.Rows.{word, put, keyAt, touched, rowSlots, rowsWhole}
 use Rattle.rows.proofs.Words.{put-same, put-not, put-row, length-put, length-touched, touched-not}
 use Rattle.rows.proofs.Whole.{rows-get, rows-all}
-use Rattle.order.specs.Order.{ageOf, orderSeen, Goes, Touched}
-use Rattle.order.specs.Slots.{cellsSeen}
-use Rattle.order.proofs.Words.{ready-touched, put-touched, key-same}
-use Rattle.order.proofs.Slots.{slots-same}
-use Rattle.order.proofs.Touch.{goes-row, goes-in, goes-out, touched-seen, touched-stands}
+use Rattle.ages.specs.Order.{ageOf, orderSeen, Goes, Touched}
+use Rattle.ages.specs.Slots.{cellsSeen}
+use Rattle.ages.proofs.Words.{ready-touched, put-touched, key-same}
+use Rattle.ages.proofs.Slots.{slots-same}
+use Rattle.ages.proofs.Touch.{goes-row, goes-in, goes-out, touched-seen, touched-stands}
 use Rattle.sets.specs.Store.{Numbered}
 use Rattle.schedules.specs.Segments.{wordOf, setComplete}
 use Rattle.schedules.specs.Units.{schedulesWhole}

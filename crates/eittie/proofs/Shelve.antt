@@ -30,12 +30,12 @@ use Rattle.rows.specs.declared.Room.{Room}
 use Rattle.rows.specs.Rows.{word, keyAt, rowOf, touched, keptHeads, roomIn, roomRenewed, roomNew, rowSlots, rowsWhole, oldestOf}
 use Rattle.rows.proofs.Words.{length-kept, kept-row, kept-fresh, kept-known, length-touched, touched-not}
 use Rattle.rows.proofs.Whole.{rows-get}
-use Rattle.order.specs.Order.{ageOf, orderSeen, Goes, Touched}
-use Rattle.order.specs.Slots.{upFrom}
-use Rattle.order.proofs.Words.{key-same, ready-touched, kept-fresh-key}
-use Rattle.order.proofs.Touch.{row-has-key, no-row-has-key, goes-known, goes-new, goes-row, finds-known, finds-none, touched-seen, touched-stands}
-use Rattle.order.proofs.Slots.{held-whole}
-use Rattle.order.proofs.Cells.{cells-length, length-up, up-get, up-cong}
+use Rattle.ages.specs.Order.{ageOf, orderSeen, Goes, Touched}
+use Rattle.ages.specs.Slots.{upFrom}
+use Rattle.ages.proofs.Words.{key-same, ready-touched, kept-fresh-key}
+use Rattle.ages.proofs.Touch.{row-has-key, no-row-has-key, goes-known, goes-new, goes-row, finds-known, finds-none, touched-seen, touched-stands}
+use Rattle.ages.proofs.Slots.{held-whole}
+use Rattle.ages.proofs.Cells.{cells-length, length-up, up-get, up-cong}
 use Rattle.schedules.specs.Segments.{setComplete}
 use Rattle.schedules.specs.Units.{firstBy, tablesOf, schedulesWhole, isPresent, unitSlots, unitWhole, unitsWhole, withoutUnits, withSet, firstTable, withTable, refilled, allPresent}
 use Rattle.berths.specs.Berths.{knownBerth, berthOf, berthedHeads, tableCount, readyUnits, berthedUnits, tablesThere}
@@ -59,14 +59,14 @@ pub record Tied (l : Left) (t : Turn) : Type 0 where
 
 -- no more rows than the limit, and at most one eviction more
 pub goes-room : {heads : List ℕ} {limit used evictions : ℕ} {key : Key} {i a used′ evictions′ : ℕ} → Goes heads limit used evictions key i a used′ evictions′ → used ≤ limit → used′ ≤ limit
-goes-room (Rattle.order.specs.Order.known i h e) l = l
-goes-room (Rattle.order.specs.Order.added f h) l = omega arith
-goes-room (Rattle.order.specs.Order.evicted f p h) l = l
+goes-room (Rattle.ages.specs.Order.known i h e) l = l
+goes-room (Rattle.ages.specs.Order.added f h) l = omega arith
+goes-room (Rattle.ages.specs.Order.evicted f p h) l = l
 
 pub goes-count : {heads : List ℕ} {limit used evictions : ℕ} {key : Key} {i a used′ evictions′ : ℕ} → Goes heads limit used evictions key i a used′ evictions′ → evictions′ ≤ evictions + 1
-goes-count (Rattle.order.specs.Order.known i h e) = omega arith
-goes-count (Rattle.order.specs.Order.added f h) = omega arith
-goes-count (Rattle.order.specs.Order.evicted f p h) = omega arith
+goes-count (Rattle.ages.specs.Order.known i h e) = omega arith
+goes-count (Rattle.ages.specs.Order.added f h) = omega arith
+goes-count (Rattle.ages.specs.Order.evicted f p h) = omega arith
 
 -- the settings fit whatever number of schedules within the limit is in use
 pub fits-schedules : (e : Eit) (h l c t u n v : ℕ) → settingsFit e h l c t u ≡ true → n ≤ e .limit → settingsFit (withSchedules e n v) h l c t u ≡ true

@@ -19,7 +19,7 @@ use Rattle.rules_eit.specs.Schedules.{CopyOf, copyOf}
 use Rattle.rows.specs.declared.Key.{Key}
 use Rattle.rows.specs.Rows.{word, rowOf, rowSlots, slotsAt, slotCount}
 use Rattle.rows.proofs.Words.{length-slots}
-use Rattle.order.proofs.Slots.{part-alike, part-pasted}
+use Rattle.ages.proofs.Slots.{part-alike, part-pasted}
 use Rattle.schedules.specs.Segments.{wordOf, withWord, setComplete}
 use Rattle.schedules.specs.Units.{unitSlots, withoutUnits, withWords, withSet, firstTable, withTable, withComplete, withTableSet, refilled}
 use Rattle.eittie.specs.View.{rowSeen, copySeen, HeadFits}

@@ -28,8 +28,8 @@ use Rattle.section.specs.declared.ids.MaybePid.{MaybePid}
 use Rattle.section.specs.declared.ids.MaybePid.the-variants as maybe
 use Rattle.rows.specs.declared.Key.{Key}
 use Rattle.rows.specs.Rows.{word, rowSlots}
-use Rattle.order.specs.Order.{orderSeen, Stands}
-use Rattle.order.specs.Slots.{heldSlots, upFrom, cellsSeen}
+use Rattle.ages.specs.Order.{orderSeen, Stands}
+use Rattle.ages.specs.Slots.{heldSlots, upFrom, cellsSeen}
 use Rattle.sets.specs.Store.{bitOf}
 use Rattle.schedules.specs.Segments.{wordOf}
 use Rattle.schedules.specs.Units.{tablesOf, isPresent, unitSlots}

@@ -18,8 +18,8 @@ use Rattle.section.specs.Judged.{malformed, collectedLong, collectedOf}
 use Rattle.rules_sets.specs.Rules.{Call, Whole, Answer, cleared, refused, nothing, handout, conflict, notWhole, counterFull, noCell}
 use Rattle.rules_sets.proofs.Cells.{settings-stay as stays}
 use Rattle.rules_sets.proofs.Examples.{replies}
-use Rattle.order.specs.Order.{downFrom, inOrder, rowsSeen}
-use Rattle.order.specs.Slots.{upFrom, cellsSeen}
+use Rattle.ages.specs.Order.{downFrom, inOrder, rowsSeen}
+use Rattle.ages.specs.Slots.{upFrom, cellsSeen}
 use Rattle.rules_sets.specs.Cells.{Store as Shown}
 use Rattle.rules_shared.specs.Cells.{Settings}
 use native.Mathlib.Nat.{le-of-eq}

@@ -14,8 +14,8 @@ use Rattle.section.specs.Header.{storedCrc, workedCrc, headerOf}
 use Rattle.section.specs.Judged.{malformed, collectedLong, collectedOf}
 use Rattle.rules_sets.specs.Rules.{Call, Whole, Answer, nothing, handout}
 use Rattle.rules_sets.proofs.Examples.{replies}
-use Rattle.order.specs.Order.{downFrom, inOrder, rowsSeen}
-use Rattle.order.specs.Slots.{upFrom, cellsSeen}
+use Rattle.ages.specs.Order.{downFrom, inOrder, rowsSeen}
+use Rattle.ages.specs.Slots.{upFrom, cellsSeen}
 use Rattle.sets.specs.Store.{openedOf}
 use Rattle.setstie.specs.View.{readsAs, readSection, reads, seen}
 use Rattle.promises.specs.Demand3.{Collector, StartsEmpty, EqualCellSize, LimitNoLarger, Calls, SectionsOfBytes, answersOf, RefusesNoneAsConflicting, RefusesNoneForItsStore, HandsOut}

@@ -35,14 +35,14 @@ use Rattle.rows.specs.declared.Entry.{Entry}
 use Rattle.rows.specs.declared.Room.{Room}
 use Rattle.rows.specs.Rows.{word, rowOf, roomIn, roomRenewed, roomNew, slotsAt, slotCount, rowSlots, oldestOf}
 use Rattle.rows.specs.declared.Key.{Key}
-use Rattle.order.specs.Order.{downFrom, inOrder, ageOf, rowsSeen, Goes, known}
-use Rattle.order.specs.Slots.{heldOf, cellsSeen}
-use Rattle.order.proofs.Ages.{length-order}
-use Rattle.order.proofs.Touch.{row-has-key, no-row-has-key, goes-known, goes-new, stands-none, finds-known, finds-none}
-use Rattle.order.proofs.Slots.{place, held-filled, held-empty, held-get, held-whole, rows-whole}
+use Rattle.ages.specs.Order.{downFrom, inOrder, ageOf, rowsSeen, Goes, known}
+use Rattle.ages.specs.Slots.{heldOf, cellsSeen}
+use Rattle.ages.proofs.Ages.{length-order}
+use Rattle.ages.proofs.Touch.{row-has-key, no-row-has-key, goes-known, goes-new, stands-none, finds-known, finds-none}
+use Rattle.ages.proofs.Slots.{place, held-filled, held-empty, held-get, held-whole, rows-whole}
 use Rattle.rows.proofs.Words.{slot-at, length-slots}
 use Rattle.rows.proofs.Whole.{rows-get}
-use Rattle.order.proofs.Cells.{cells-length, bytes-kept, same-bytes}
+use Rattle.ages.proofs.Cells.{cells-length, bytes-kept, same-bytes}
 use Rattle.sets.specs.declared.inner.Plan.the-variants as plan
 use Rattle.sets.specs.declared.PushAnswer.the-variants.{Nothing, NotWhole, CounterFull, TooLong}
 use Rattle.sets.specs.Store.{Store, store, wholeOf, Whole, Numbered, emptySets, clearedOf, pidOf, pidWord, entryOf, planKeep, planSlot, planKnown, planGood, planHeader, planJudged, planPid, planOf, carried, pushedOf, left, plain}

@@ -26,9 +26,9 @@ use Rattle.section.specs.Judged.{collectedOf}
 use Rattle.section.specs.declared.header.Collected.{Collected}
 use Rattle.section.specs.declared.header.Collected.the-variants.{Malformed, ShortForm, BadNumber, BadCrc, Good}
 use Rattle.section.specs.declared.ids.MaybePid.the-variants as maybe
-use Rattle.order.specs.Order.{downFrom, inOrder, rowsSeen}
-use Rattle.order.proofs.Touch.{stands-none}
-use Rattle.order.proofs.Cells.{cells-length}
+use Rattle.ages.specs.Order.{downFrom, inOrder, rowsSeen}
+use Rattle.ages.proofs.Touch.{stands-none}
+use Rattle.ages.proofs.Cells.{cells-length}
 use Rattle.rules_sets.proofs.Keys.{sameKey-true}
 use Rattle.sets.specs.Store.{Store, Told, plain, handed, settingsFit, wholeOf, openedOf, clearedOf, pushedOf}
 use Rattle.sets.proofs.Refusals.{refusal-keeps}

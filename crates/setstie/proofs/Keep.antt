@@ -24,16 +24,16 @@ use Rattle.rows.specs.declared.Key.{Key}
 use Rattle.rows.specs.declared.Entry.{Entry}
 use Rattle.rows.specs.declared.Room.{Room}
 use Rattle.rows.specs.Rows.{word, keyAt, touched, keptHeads, goneRow, rowSlots, keptSlots, takenIn}
-use Rattle.order.specs.Order.{ageOf, Goes, known, added, evicted, Touched}
-use Rattle.order.specs.Slots.{heldOf, heldSlots, cellsSeen}
+use Rattle.ages.specs.Order.{ageOf, Goes, known, added, evicted, Touched}
+use Rattle.ages.specs.Slots.{heldOf, heldSlots, cellsSeen}
 use Rattle.rows.proofs.Words.{length-kept, kept-row, kept-fresh, kept-known, length-kept-slots}
 use Rattle.rows.proofs.Whole.{rows-get}
-use Rattle.order.proofs.Words.{key-same, ready-touched, kept-fresh-key, kept-unmarked}
-use Rattle.order.proofs.Slots.{held-new, held-set, held-none, other-slots, own-slots, fresh-slots, lowest-is}
-use Rattle.order.proofs.Slots.{held-whole as words-whole}
-use Rattle.order.proofs.Cells.{cells-length, cells-written, written-length}
-use Rattle.order.proofs.Touch.{goes-row}
-use Rattle.order.proofs.Taken.{taken-fresh, taken-known}
+use Rattle.ages.proofs.Words.{key-same, ready-touched, kept-fresh-key, kept-unmarked}
+use Rattle.ages.proofs.Slots.{held-new, held-set, held-none, other-slots, own-slots, fresh-slots, lowest-is}
+use Rattle.ages.proofs.Slots.{held-whole as words-whole}
+use Rattle.ages.proofs.Cells.{cells-length, cells-written, written-length}
+use Rattle.ages.proofs.Touch.{goes-row}
+use Rattle.ages.proofs.Taken.{taken-fresh, taken-known}
 use Rattle.sets.specs.declared.inner.Keeping.{Keeping}
 use Rattle.sets.specs.declared.inner.Plan.the-variants as plan
 use Rattle.sets.specs.declared.PushAnswer.the-variants.{NoCell}

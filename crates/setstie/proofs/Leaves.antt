@@ -15,8 +15,8 @@ use Rattle.rules_sets.specs.Cells.{Store as Shown, takes, taken}
 use Rattle.rules_sets.proofs.Exact.{Conflicting, conflict-touches, KeptIn, cells-change}
 use Rattle.cells.specs.Cells.{names}
 use Rattle.rows.specs.Rows.{word, slotsAt, slotCount, rowSlots}
-use Rattle.order.specs.Order.{ageOf, rowsSeen}
-use Rattle.order.proofs.Ages.{order-none, none-order}
+use Rattle.ages.specs.Order.{ageOf, rowsSeen}
+use Rattle.ages.proofs.Ages.{order-none, none-order}
 use Rattle.rows.proofs.Words.{slot-at, length-slots}
 use Rattle.section.specs.declared.ids.MaybePid.{MaybePid}
 use Rattle.sets.specs.Store.{Store, Told, plain, handed, pushedOf}

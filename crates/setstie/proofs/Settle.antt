@@ -17,12 +17,12 @@ use Rattle.rules_sets.proofs.Keys.{sameKey-true}
 use Rattle.cells.specs.Cells.{allFilled, allWhole, kept}
 use Rattle.rows.specs.declared.Key.{Key}
 use Rattle.rows.specs.Rows.{word, put, keyAt, touched, rowSlots}
-use Rattle.order.specs.Order.{ageOf, Goes, Touched}
-use Rattle.order.specs.Slots.{cellsSeen}
+use Rattle.ages.specs.Order.{ageOf, Goes, Touched}
+use Rattle.ages.specs.Slots.{cellsSeen}
 use Rattle.rows.proofs.Words.{put-same, put-not, put-row, length-put, length-touched, touched-not}
-use Rattle.order.proofs.Words.{ready-touched, put-touched, key-same}
-use Rattle.order.proofs.Slots.{slots-same}
-use Rattle.order.proofs.Touch.{goes-row, touched-seen, touched-stands, goes-in}
+use Rattle.ages.proofs.Words.{ready-touched, put-touched, key-same}
+use Rattle.ages.proofs.Slots.{slots-same}
+use Rattle.ages.proofs.Touch.{goes-row, touched-seen, touched-stands, goes-in}
 use Rattle.sets.specs.declared.PushAnswer.the-variants.{Nothing, Set, Conflict}
 use Rattle.sets.specs.Store.{Store, store, Left, settingsFit, setIn, answered, goesOut, settledAnswer, settledHeads, settled, handed}
 use Rattle.setstie.specs.View.{keyShown, keyWords, rowSeen, seen, answerTold, Reached}

@@ -18,8 +18,8 @@ use Rattle.section.specs.declared.ids.MaybePid.{MaybePid}
 use Rattle.section.specs.declared.ids.MaybePid.the-variants as maybe
 use Rattle.rows.specs.declared.Key.{Key}
 use Rattle.rows.specs.Rows.{word, rowSlots}
-use Rattle.order.specs.Order.{orderSeen, Stands}
-use Rattle.order.specs.Slots.{heldSlots, cellsSeen}
+use Rattle.ages.specs.Order.{orderSeen, Stands}
+use Rattle.ages.specs.Slots.{heldSlots, cellsSeen}
 use Rattle.sets.specs.History.{Call as Given, offer as section, empty as clears, called, OpenedStore}
 use Rattle.sets.specs.Store.{Store, Told, plain, handed, settingsFit, bitOf}
 

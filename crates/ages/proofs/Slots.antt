@@ -24,9 +24,9 @@ use Rattle.rows.specs.declared.Entry.{Entry}
 use Rattle.rows.specs.declared.Room.{Room}
 use Rattle.rows.specs.Rows.{word, slotsAt, slotCount, rowSlots, emptied, keptSlots, rowsWhole}
 use Rattle.rows.proofs.Whole.{rows-get, rows-all}
-use Rattle.order.specs.Order.{ageOf, rowsSeen, Ages}
-use Rattle.order.specs.Slots.{heldOf, heldSlots}
-use Rattle.order.proofs.Ages.{order-every, every-order}
+use Rattle.ages.specs.Order.{ageOf, rowsSeen, Ages}
+use Rattle.ages.specs.Slots.{heldOf, heldSlots}
+use Rattle.ages.proofs.Ages.{order-every, every-order}
 
 -- ---- parts of a list
 

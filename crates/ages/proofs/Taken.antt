@@ -12,8 +12,8 @@ use Rattle.rows.specs.declared.Key.{Key}
 use Rattle.rows.specs.declared.Room.{Room}
 use Rattle.rows.specs.Rows.{goneRow, rowSlots, takenIn}
 use Rattle.rows.proofs.Taken.{taken-row, row-free}
-use Rattle.order.specs.Order.{orderSeen, Stands, Goes, Touched}
-use Rattle.order.proofs.Touch.{none-after, after-none}
+use Rattle.ages.specs.Order.{orderSeen, Stands, Goes, Touched}
+use Rattle.ages.proofs.Touch.{none-after, after-none}
 
 -- two tests that fail together are one
 same-fails : (p q : Bool) → (p ≡ false → q ≡ false) → (q ≡ false → p ≡ false) → p ≡ q

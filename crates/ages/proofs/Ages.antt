@@ -17,7 +17,7 @@ use Rattle.laws.proofs.Search.{first-passes, first-before}
 use Rattle.laws.proofs.Tests.{and-true, or-false}
 use Rattle.rules_shared.specs.Touch.{Entry, find, remove, oldestGone, someRow, everyRow}
 use Rattle.rows.specs.Rows.{older}
-use Rattle.order.specs.Order.{downFrom, rowOfAge, inOrder, Ages}
+use Rattle.ages.specs.Order.{downFrom, rowOfAge, inOrder, Ages}
 
 -- ---- lists by a function
 

@@ -20,8 +20,8 @@ use Rattle.rules_shared.proofs.All.{held-stays, new-below, new-at}
 use Rattle.rows.specs.declared.Key.{Key}
 use Rattle.rows.specs.declared.Room.{Room}
 use Rattle.rows.specs.Rows.{word, keyAt, sameKey, rowOf, elderOf, oldestOf, older, roomRenewed, roomNew}
-use Rattle.order.specs.Order.{ageOf, inOrder, rowsSeen, orderSeen, Ages, Stands, Goes, known, added, evicted, Touched}
-use Rattle.order.proofs.Ages.{length-order, Aged, ages-none, ages-touched, without, touched-order, ages-more, more-without, known-found, known-removed, new-found, oldest-gone, order-none, none-order}
+use Rattle.ages.specs.Order.{ageOf, inOrder, rowsSeen, orderSeen, Ages, Stands, Goes, known, added, evicted, Touched}
+use Rattle.ages.proofs.Ages.{length-order, Aged, ages-none, ages-touched, without, touched-order, ages-more, more-without, known-found, known-removed, new-found, oldest-gone, order-none, none-order}
 
 -- ---- six words are a key
 

@@ -12,7 +12,7 @@ use Rattle.rows.specs.declared.Entry.{Entry}
 use Rattle.rows.specs.declared.Room.{Room}
 use Rattle.rows.specs.Rows.{word, put, keyAt, touched, freshHead, keptHeads}
 use Rattle.rows.proofs.Words.{put-same, put-not, touched-not, touched-newest, touched-other, fresh-word, kept-fresh}
-use Rattle.order.specs.Order.{ageOf, Touched}
+use Rattle.ages.specs.Order.{ageOf, Touched}
 
 -- six words that are the same are the same key
 pub key-same : (h h′ : List ℕ) (i : ℕ) → ((m : ℕ) → m < 6 → word h′ i m ≡ word h i m) → keyAt h′ i ≡ keyAt h i
