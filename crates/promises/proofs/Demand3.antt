@@ -10,8 +10,8 @@ use Rattle.rules_sets.specs.Rules.{Whole, Answer, clear, handout, counterFull, 
 use Rattle.rules_sets.specs.Demand.{run, withCells, Smaller, NoConflict, NeverBarred}
 use Rattle.rules_sets.proofs.Demand.{demand-3-cells}
 use Rattle.sets.specs.History.{Call as Given, empty as clears}
-use Rattle.setstie.specs.View.{reads, seen}
-use Rattle.setstie.proofs.History.{opened-reached, opened-seen, same-answers, never-not-whole}
+use Rattle.ties_sets.specs.View.{reads, seen}
+use Rattle.ties_sets.proofs.History.{opened-reached, opened-seen, same-answers, never-not-whole}
 use Rattle.promises.specs.Demand3.{Collector, StartsEmpty, EqualCellSize, LimitNoLarger, Calls, SectionsOfBytes, answersOf, RefusesNoneAsConflicting, RefusesNoneForItsStore, HandsOut, HandedOutSinceTheLastClear, Demand3}
 
 -- the answers are those of the rules with cells

@@ -23,9 +23,9 @@ use Rattle.ages.specs.Slots.{upFrom, cellsSeen}
 use Rattle.rules_sets.specs.Cells.{Store as Shown}
 use Rattle.rules_shared.specs.Cells.{Settings}
 use native.Mathlib.Nat.{le-of-eq}
-use Rattle.setstie.proofs.History.{opened-reached, acts-seen}
+use Rattle.ties_sets.proofs.History.{opened-reached, acts-seen}
 use Rattle.sets.specs.Store.{openedOf}
-use Rattle.setstie.specs.View.{readsAs, readSection, reads, seen, acts}
+use Rattle.ties_sets.specs.View.{readsAs, readSection, reads, seen, acts}
 use Rattle.promises.specs.Demand3.{Collector, StartsEmpty, EqualCellSize, LimitNoLarger, Calls, SectionsOfBytes, answersOf, RefusesNoneAsConflicting, RefusesNoneForItsStore, HandsOut, HandedOutSinceTheLastClear}
 use Rattle.promises.proofs.Runs.{on, said, set-of, bytesIn, of-bytes, collector, shown, runs, never, no-conflict, unrefused}
 

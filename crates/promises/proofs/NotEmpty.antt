@@ -17,7 +17,7 @@ use Rattle.rules_sets.proofs.Examples.{replies}
 use Rattle.ages.specs.Order.{downFrom, inOrder, rowsSeen}
 use Rattle.ages.specs.Slots.{upFrom, cellsSeen}
 use Rattle.sets.specs.Store.{openedOf}
-use Rattle.setstie.specs.View.{readsAs, readSection, reads, seen}
+use Rattle.ties_sets.specs.View.{readsAs, readSection, reads, seen}
 use Rattle.promises.specs.Demand3.{Collector, StartsEmpty, EqualCellSize, LimitNoLarger, Calls, SectionsOfBytes, answersOf, RefusesNoneAsConflicting, RefusesNoneForItsStore, HandsOut}
 use Rattle.promises.proofs.Runs.{on, said, set-of, bytesIn, of-bytes, collector, shown, runs, no-conflict, unrefused}
 

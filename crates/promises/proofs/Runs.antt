@@ -25,7 +25,7 @@ use Rattle.rules_sets.specs.Demand.{run, withCells}
 use Rattle.rules_sets.proofs.Examples.{replies}
 use Rattle.sets.specs.Store.{store, asked}
 use Rattle.sets.specs.History.{Call as Given, offer as section, Bytes as OfBytes}
-use Rattle.setstie.specs.View.{reads, seen}
+use Rattle.ties_sets.specs.View.{reads, seen}
 use Rattle.promises.specs.Demand3.{Collector, StartsEmpty, Calls, SectionsOfBytes, answersOf, RefusesNoneAsConflicting, RefusesNoneForItsStore}
 use Rattle.promises.proofs.Demand3.{as-rules}
 

@@ -15,7 +15,7 @@ use Rattle.rules_shared.specs.Runs.{answers, At, Never, GivenBy}
 use Rattle.rules_sets.specs.Rules.{Whole, Answer, handout, conflict, notWhole, counterFull, noCell}
 use Rattle.sets.specs.Store.{Store}
 use Rattle.sets.specs.History.{Call as Given, empty as clears, Bytes as OfBytes}
-use Rattle.setstie.specs.View.{tells, acts, Opened}
+use Rattle.ties_sets.specs.View.{tells, acts, Opened}
 
 -- "Two set collectors": the settings and counts of a collector, with the content of the memory that is lent to it
 abbrev pub Collector : Type 0

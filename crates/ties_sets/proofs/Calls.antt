@@ -50,10 +50,10 @@ use Rattle.sets.proofs.Whole.{whole-means, long}
 use Rattle.sets.proofs.Plans.{slot-bounds, same-last}
 use Rattle.sets.proofs.Judged.{good-numbers, good-length}
 use Rattle.sets.specs.History.{Call as Given, empty as clears, offer as section, Bytes as OfBytes, called}
-use Rattle.setstie.specs.View.{pidShown, keyShown, keyWords, rowSeen, seen, readsAs, readSection, reads, answerTold, Reached}
-use Rattle.setstie.proofs.Rows.{same-self, written-shown, written-reads}
-use Rattle.setstie.proofs.Settle.{Tied, Ready, settle-tied, conflict-tied}
-use Rattle.setstie.proofs.Keep.{sectionFor, anew, goesOn, keep-tied}
+use Rattle.ties_sets.specs.View.{pidShown, keyShown, keyWords, rowSeen, seen, readsAs, readSection, reads, answerTold, Reached}
+use Rattle.ties_sets.proofs.Rows.{same-self, written-shown, written-reads}
+use Rattle.ties_sets.proofs.Settle.{Tied, Ready, settle-tied, conflict-tied}
+use Rattle.ties_sets.proofs.Keep.{sectionFor, anew, goesOn, keep-tied}
 
 -- ---- lists of rows
 

@@ -22,9 +22,9 @@ use Rattle.section.specs.declared.ids.MaybePid.{MaybePid}
 use Rattle.sets.specs.Store.{Store, Told, plain, handed, pushedOf}
 use Rattle.sets.proofs.Refusals.{AsBefore, conflict-keeps}
 use Rattle.sets.specs.History.{Call as Given, offer as section, Bytes as OfBytes}
-use Rattle.setstie.specs.View.{seen, reads, answerTold, tells, acts, Reached}
-use Rattle.setstie.proofs.Rows.{row-takes}
-use Rattle.setstie.proofs.History.{tells-seen, acts-seen}
+use Rattle.ties_sets.specs.View.{seen, reads, answerTold, tells, acts, Reached}
+use Rattle.ties_sets.proofs.Rows.{row-takes}
+use Rattle.ties_sets.proofs.History.{tells-seen, acts-seen}
 
 -- ---- 22: "key becomes newest, else as before"
 

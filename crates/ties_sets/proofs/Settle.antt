@@ -25,8 +25,8 @@ use Rattle.ages.proofs.Slots.{slots-same}
 use Rattle.ages.proofs.Touch.{goes-row, touched-seen, touched-stands, goes-in}
 use Rattle.sets.specs.declared.PushAnswer.the-variants.{Nothing, Set, Conflict}
 use Rattle.sets.specs.Store.{Store, store, Left, settingsFit, setIn, answered, goesOut, settledAnswer, settledHeads, settled, handed}
-use Rattle.setstie.specs.View.{keyShown, keyWords, rowSeen, seen, answerTold, Reached}
-use Rattle.setstie.proofs.Rows.{same-self, row-same, row-marked, full-filled, sections-kept}
+use Rattle.ties_sets.specs.View.{keyShown, keyWords, rowSeen, seen, answerTold, Reached}
+use Rattle.ties_sets.proofs.Rows.{same-self, row-same, row-marked, full-filled, sections-kept}
 
 -- what a call left is what the rules' call left, and the store is one that a history reaches
 pub record Tied (l : Left) (t : Turn) : Type 0 where

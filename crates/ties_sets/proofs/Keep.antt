@@ -38,9 +38,9 @@ use Rattle.sets.specs.declared.inner.Keeping.{Keeping}
 use Rattle.sets.specs.declared.inner.Plan.the-variants as plan
 use Rattle.sets.specs.declared.PushAnswer.the-variants.{NoCell}
 use Rattle.sets.specs.Store.{Store, Whole, Numbered, planKeep, keptIn, carried}
-use Rattle.setstie.specs.View.{keyShown, keyWords, rowSeen, seen, answerTold, Reached}
-use Rattle.setstie.proofs.Rows.{same-self, row-takes}
-use Rattle.setstie.proofs.Settle.{Tied, Ready, settle-tied}
+use Rattle.ties_sets.specs.View.{keyShown, keyWords, rowSeen, seen, answerTold, Reached}
+use Rattle.ties_sets.proofs.Rows.{same-self, row-takes}
+use Rattle.ties_sets.proofs.Settle.{Tied, Ready, settle-tied}
 use Rattle.laws.proofs.Tests.{none≢some}
 
 -- the section of an entry, as the rules have it

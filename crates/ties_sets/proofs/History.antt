@@ -36,9 +36,9 @@ use Rattle.sets.specs.Store as sets
 use Rattle.sets.proofs.Whole.{long}
 use Rattle.sets.proofs.Judged.{good-length}
 use Rattle.sets.specs.History.{Call as Given, empty as clears, offer as section, Bytes as OfBytes}
-use Rattle.setstie.specs.View.{keyShown, keyWords, seen, settingsOf, readsAs, readSection, reads, answerTold, tells, acts, Opened, Reached}
-use Rattle.setstie.proofs.Rows.{same-self}
-use Rattle.setstie.proofs.Calls.{tied}
+use Rattle.ties_sets.specs.View.{keyShown, keyWords, seen, settingsOf, readsAs, readSection, reads, answerTold, tells, acts, Opened, Reached}
+use Rattle.ties_sets.proofs.Rows.{same-self}
+use Rattle.ties_sets.proofs.Calls.{tied}
 
 -- ---- opening
 
