@@ -39,11 +39,11 @@ use Rattle.places.specs.declared.Place.the-variants as place
 use Rattle.schedules.specs.Units.{schedulesWhole}
 use Rattle.eit.specs.declared.inner.Arrival.{Arrival}
 use Rattle.eit.specs.Store.{Store, setStore, Whole, planPlaced, carried}
-use Rattle.eittie.specs.View.{keyShown, keyWords, rowSeen, seen, Reached}
-use Rattle.eittie.proofs.Keys.{set-self, key-reads}
-use Rattle.eittie.proofs.Shelve.{Tied, new-fresh}
-use Rattle.eittie.proofs.Settle.{Arrives, Ready, settle-tied, conflict-tied}
-use Rattle.eittie.proofs.Keep.{sectionFor, anew, goesOn, keep-tied}
+use Rattle.ties_eit.specs.View.{keyShown, keyWords, rowSeen, seen, Reached}
+use Rattle.ties_eit.proofs.Keys.{set-self, key-reads}
+use Rattle.ties_eit.proofs.Shelve.{Tied, new-fresh}
+use Rattle.ties_eit.proofs.Settle.{Arrives, Ready, settle-tied, conflict-tied}
+use Rattle.ties_eit.proofs.Keep.{sectionFor, anew, goesOn, keep-tied}
 
 module _ (s : Store) (z : Reached s) (f : Whole (s .eit) (s .heads) (s .slots) (s .cells) (s .schedule-heads) (s .units))
     (units-ok : schedulesWhole (s .schedule-heads) (s .units) (s .eit .count) (s .eit .size) (s .eit .schedules) ≡ true)

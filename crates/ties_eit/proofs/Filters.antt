@@ -20,8 +20,8 @@ use Rattle.drops.specs.declared.Of.the-variants as of
 use Rattle.drops.specs.Drops.{wants, kindWord, matches}
 use Rattle.eit.specs.declared.Filter.{Filter}
 use Rattle.eit.specs.Store.{fieldsOf}
-use Rattle.eittie.specs.View.{pidShown, theKind, kindBy, keyShown, scheduleShown, Below, FilterFits, wantedAs, pidTest, filterShown}
-use Rattle.eittie.proofs.Keys.{Bit}
+use Rattle.ties_eit.specs.View.{pidShown, theKind, kindBy, keyShown, scheduleShown, Below, FilterFits, wantedAs, pidTest, filterShown}
+use Rattle.ties_eit.proofs.Keys.{Bit}
 
 -- ---- field by field
 

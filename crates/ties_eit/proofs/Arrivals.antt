@@ -26,10 +26,10 @@ use Rattle.section.specs.declared.eit.Reading.the-variants as reading
 use Rattle.sets.proofs.Judged.{header-numbers}
 use Rattle.eit.specs.Store.{arrivalOf}
 use Rattle.eit.specs.Store.{kindNumber as numberRead}
-use Rattle.eittie.specs.View.{pidShown, sectionOf}
-use Rattle.eittie.proofs.Keys.{bit-bit, bit-reads}
-use Rattle.eittie.proofs.Settle.{Arrives}
-use Rattle.eittie.proofs.Keep.{sectionFor}
+use Rattle.ties_eit.specs.View.{pidShown, sectionOf}
+use Rattle.ties_eit.proofs.Keys.{bit-bit, bit-reads}
+use Rattle.ties_eit.proofs.Settle.{Arrives}
+use Rattle.ties_eit.proofs.Keep.{sectionFor}
 
 -- ---- the kind by table_id, as the reader has it and as the rules have it
 

@@ -22,7 +22,7 @@ use Rattle.rows.proofs.Words.{length-slots}
 use Rattle.ages.proofs.Slots.{part-alike, part-pasted}
 use Rattle.schedules.specs.Segments.{wordOf, withWord, setComplete}
 use Rattle.schedules.specs.Units.{unitSlots, withoutUnits, withWords, withSet, firstTable, withTable, withComplete, withTableSet, refilled}
-use Rattle.eittie.specs.View.{rowSeen, copySeen, HeadFits}
+use Rattle.ties_eit.specs.View.{rowSeen, copySeen, HeadFits}
 
 -- ---- words of units
 

@@ -45,11 +45,11 @@ use Rattle.eit.specs.declared.Eit.{Eit}
 use Rattle.eit.specs.declared.PushAnswer.the-variants.{Nothing, Schedule}
 use Rattle.eit.specs.declared.inner.Arrival.{Arrival}
 use Rattle.eit.specs.Store.{Store, store, Left, answerOf, settingsFit, shelvesFit, setsOf, withSchedules, scheduleEntry, leftShelf, shelved, shelvedIn, scheduleOut, firstOfKind, tablesOut, a-schedule}
-use Rattle.eittie.specs.View.{keyShown, scheduleShown, keyWords, scheduleWords, rowSeen, copySeen, placeSeen, scheduleSeen, seen, answerTold, tablesShown, HeadFits, Reached}
-use Rattle.eittie.proofs.Keys.{schedule-self, set-self, Bit, key-reads, schedule-reads, schedule-of, number-kind, InKind}
-use Rattle.eittie.proofs.Rows.{complete-is}
-use Rattle.eittie.proofs.Units.{set-length, set-other, set-own, without-length, without-other, without-own, copyFor, refill-length, refill-other, refill-own}
-use Rattle.eittie.proofs.Places.{heldPasses, copyWhole, copy-whole, place-in, place-past, place-whole, schedules-get, tables-there, present-get, copy-there, tables-out}
+use Rattle.ties_eit.specs.View.{keyShown, scheduleShown, keyWords, scheduleWords, rowSeen, copySeen, placeSeen, scheduleSeen, seen, answerTold, tablesShown, HeadFits, Reached}
+use Rattle.ties_eit.proofs.Keys.{schedule-self, set-self, Bit, key-reads, schedule-reads, schedule-of, number-kind, InKind}
+use Rattle.ties_eit.proofs.Rows.{complete-is}
+use Rattle.ties_eit.proofs.Units.{set-length, set-other, set-own, without-length, without-other, without-own, copyFor, refill-length, refill-other, refill-own}
+use Rattle.ties_eit.proofs.Places.{heldPasses, copyWhole, copy-whole, place-in, place-past, place-whole, schedules-get, tables-there, present-get, copy-there, tables-out}
 
 -- what a call left is what the rules' call left, and the store is one that a history reaches
 pub record Tied (l : Left) (t : Turn) : Type 0 where

@@ -32,13 +32,13 @@ use Rattle.eit.specs.declared.WantedPid.the-variants as wanted-pid
 use Rattle.eit.specs.declared.inner.Drop.{Drop}
 use Rattle.eit.specs.declared.inner.Drop.the-variants as drop
 use Rattle.eit.specs.Store.{Store, store, Whole, Left, withRows, withSchedules, madeWanted, wantedPid, fieldsOf, dropPid, matchingGone, carriedDrop, leftRemains}
-use Rattle.eittie.specs.View.{pidShown, kindBy, keyShown, scheduleShown, keyWords, scheduleWords, rowSeen, copySeen, placeSeen, scheduleSeen, seen, pidTest, filterShown, answerTold, FilterFits, HeadFits, Reached}
-use Rattle.eittie.proofs.Keys.{Bit}
-use Rattle.eittie.proofs.Rows.{row-as}
-use Rattle.eittie.proofs.Units.{copy-as}
-use Rattle.eittie.proofs.Shelve.{Tied, fits-schedules}
-use Rattle.eittie.proofs.Retained.{Stays, stays}
-use Rattle.eittie.proofs.Filters.{pid-any, pid-without, pid-exactly, sets-match, schedules-match, kind-word}
+use Rattle.ties_eit.specs.View.{pidShown, kindBy, keyShown, scheduleShown, keyWords, scheduleWords, rowSeen, copySeen, placeSeen, scheduleSeen, seen, pidTest, filterShown, answerTold, FilterFits, HeadFits, Reached}
+use Rattle.ties_eit.proofs.Keys.{Bit}
+use Rattle.ties_eit.proofs.Rows.{row-as}
+use Rattle.ties_eit.proofs.Units.{copy-as}
+use Rattle.ties_eit.proofs.Shelve.{Tied, fits-schedules}
+use Rattle.ties_eit.proofs.Retained.{Stays, stays}
+use Rattle.ties_eit.proofs.Filters.{pid-any, pid-without, pid-exactly, sets-match, schedules-match, kind-word}
 
 -- ---- what the row shows that takes another's place
 

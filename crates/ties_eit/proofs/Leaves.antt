@@ -35,10 +35,10 @@ use Rattle.eit.specs.declared.inner.Course.the-variants as course
 use Rattle.eit.specs.declared.inner.Plan.{Plan}
 use Rattle.eit.specs.declared.inner.Plan.the-variants as plan
 use Rattle.eit.specs.Store.{Store, answerOf, withRows, scheduleEntry, courseOf, shelvedIn, shelved, settledBy, settled, keptAndSettled, carried, planOf, pushedOf}
-use Rattle.eittie.specs.View.{seen, reads, answerTold, tells, acts, Given, section, Fitting, Reached}
-use Rattle.eittie.proofs.Rows.{row-takes}
-use Rattle.eittie.proofs.Places.{schedules-taken, named-units, units-named}
-use Rattle.eittie.proofs.History.{tells-seen, acts-seen}
+use Rattle.ties_eit.specs.View.{seen, reads, answerTold, tells, acts, Given, section, Fitting, Reached}
+use Rattle.ties_eit.proofs.Rows.{row-takes}
+use Rattle.ties_eit.proofs.Places.{schedules-taken, named-units, units-named}
+use Rattle.ties_eit.proofs.History.{tells-seen, acts-seen}
 
 -- ---- 22: "key becomes newest, else as before"
 

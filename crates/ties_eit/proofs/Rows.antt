@@ -30,7 +30,7 @@ use Rattle.ages.proofs.Cells.{bytes-kept, up-get, up-cong}
 use Rattle.sets.proofs.Plans.{slot-bounds}
 use Rattle.schedules.specs.Segments.{wordOf, filledTo, segmentComplete, segmentsComplete, setComplete}
 use Rattle.eit.specs.Store.{filledSlots}
-use Rattle.eittie.specs.View.{lastOf, rowSeen}
+use Rattle.ties_eit.specs.View.{lastOf, rowSeen}
 
 -- ---- a row
 

@@ -38,10 +38,10 @@ use Rattle.eit.specs.declared.inner.Arrival.{Arrival}
 use Rattle.eit.specs.declared.inner.Course.{Course}
 use Rattle.eit.specs.declared.inner.Course.the-variants as course
 use Rattle.eit.specs.Store.{Store, store, Whole, Left, answered, a-set, settingsFit, withRows, setOut, filledSlots, courseOf, settled, settledBy, leftShelf}
-use Rattle.eittie.specs.View.{theKind, keyShown, keyWords, rowSeen, seen, answerTold, HeadFits, Reached}
-use Rattle.eittie.proofs.Keys.{set-self, Bit, key-reads, Kinds, present, scheduled, kinds, InKind}
-use Rattle.eittie.proofs.Rows.{row-same, row-marked, complete-is, sections-kept}
-use Rattle.eittie.proofs.Shelve.{Tied, Shelving, shelve-tied}
+use Rattle.ties_eit.specs.View.{theKind, keyShown, keyWords, rowSeen, seen, answerTold, HeadFits, Reached}
+use Rattle.ties_eit.proofs.Keys.{set-self, Bit, key-reads, Kinds, present, scheduled, kinds, InKind}
+use Rattle.ties_eit.proofs.Rows.{row-same, row-marked, complete-is, sections-kept}
+use Rattle.ties_eit.proofs.Shelve.{Tied, Shelving, shelve-tied}
 
 -- what a section that is taken has
 pub record Arrives (a : Arrival) (kind : Kind) : Type 0 where

@@ -46,13 +46,13 @@ use Rattle.eit.specs.declared.inner.Keeping.{Keeping}
 use Rattle.eit.specs.declared.inner.Plan.the-variants as plan
 use Rattle.eit.specs.declared.PushAnswer.the-variants.{NoCell}
 use Rattle.eit.specs.Store.{Store, Whole, planKeep, carried, keptAndSettled}
-use Rattle.eittie.specs.View.{pidShown, keyShown, keyWords, rowSeen, seen, answerTold, HeadFits, Reached}
-use Rattle.eittie.proofs.Keys.{set-self, key-reads}
-use Rattle.eittie.proofs.Rows.{row-takes}
-use Rattle.eittie.proofs.Places.{schedules-taken}
-use Rattle.eittie.proofs.Shelve.{Tied, goes-room, goes-count}
-use Rattle.eittie.proofs.Settle.{Arrives, Ready, settle-tied, head-same}
-use Rattle.eittie.proofs.Kept.{after-length, after-other, after-own, after-fresh, word-other, lasts-own, lasts-fresh}
+use Rattle.ties_eit.specs.View.{pidShown, keyShown, keyWords, rowSeen, seen, answerTold, HeadFits, Reached}
+use Rattle.ties_eit.proofs.Keys.{set-self, key-reads}
+use Rattle.ties_eit.proofs.Rows.{row-takes}
+use Rattle.ties_eit.proofs.Places.{schedules-taken}
+use Rattle.ties_eit.proofs.Shelve.{Tied, goes-room, goes-count}
+use Rattle.ties_eit.proofs.Settle.{Arrives, Ready, settle-tied, head-same}
+use Rattle.ties_eit.proofs.Kept.{after-length, after-other, after-own, after-fresh, word-other, lasts-own, lasts-fresh}
 
 -- the section of an arrival, as the rules have it
 abbrev pub sectionFor : Arrival → Bytes → Section

@@ -51,9 +51,9 @@ use Rattle.eit.specs.declared.inner.Course.the-variants as course
 use Rattle.eit.specs.declared.inner.Plan.{Plan}
 use Rattle.eit.specs.declared.inner.Plan.the-variants as plan
 use Rattle.eit.specs.Store.{Store, store, asked, plain, Left, left, settingsFit, wholeOf, openedOf, emptyEit, clearedOf, dropOf, matchingGone, carriedDrop, leftRemains, droppedOf, answerOf, withRows, scheduleEntry, courseOf, shelvedIn, shelved, settledBy, settled, keptAndSettled, carried, planOf, pushedOf}
-use Rattle.eittie.specs.View.{keyShown, scheduleShown, keyWords, scheduleWords, seen, settingsOf, sectionOf, readsEit, readsAs, readSection, reads, answerTold, tells, acts, Given, clears, drops, section, Fitting, Opened, Reached}
-use Rattle.eittie.proofs.Keys.{set-self, schedule-self}
-use Rattle.eittie.proofs.Calls.{tied, room-there}
+use Rattle.ties_eit.specs.View.{keyShown, scheduleShown, keyWords, scheduleWords, seen, settingsOf, sectionOf, readsEit, readsAs, readSection, reads, answerTold, tells, acts, Given, clears, drops, section, Fitting, Opened, Reached}
+use Rattle.ties_eit.proofs.Keys.{set-self, schedule-self}
+use Rattle.ties_eit.proofs.Calls.{tied, room-there}
 
 -- ---- opening
 

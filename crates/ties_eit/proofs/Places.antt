@@ -30,8 +30,8 @@ use Rattle.schedules.specs.Segments.{wordOf}
 use Rattle.schedules.specs.Units.{firstBy, tablesOf, isPresent, unitSlots, unitWhole, unitsWhole, schedulesWhole, takenInUnits, takenInSchedules, allPresent, firstTable}
 use Rattle.berths.specs.Berths.{tablesThere}
 use Rattle.eit.specs.Store.{Store, tableOut, tablesOut}
-use Rattle.eittie.specs.View.{scheduleShown, copySeen, placeSeen, scheduleSeen, tablesShown}
-use Rattle.eittie.proofs.Rows.{sections-kept}
+use Rattle.ties_eit.specs.View.{scheduleShown, copySeen, placeSeen, scheduleSeen, tablesShown}
+use Rattle.ties_eit.proofs.Rows.{sections-kept}
 
 -- ---- lists of places
 

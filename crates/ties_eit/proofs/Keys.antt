@@ -15,7 +15,7 @@ use Rattle.rows.specs.declared.Key.{Key}
 use Rattle.sets.specs.Store.{bitOf}
 use Rattle.schedules.specs.Units.{firstBy, firstTable, withTable}
 use Rattle.eit.specs.Store.{firstOfKind}
-use Rattle.eittie.specs.View.{pidShown, pidWords, kindBy, keyShown, scheduleShown, keyWords, scheduleWords}
+use Rattle.ties_eit.specs.View.{pidShown, pidWords, kindBy, keyShown, scheduleShown, keyWords, scheduleWords}
 
 -- ---- a key is the same as itself
 

@@ -26,10 +26,10 @@ use Rattle.eit.specs.declared.inner.Drop.the-variants as drop
 use Rattle.eit.specs.declared.inner.PidWanted.{PidWanted}
 use Rattle.eit.specs.declared.inner.PidWanted.the-variants as pid-wanted
 use Rattle.eit.specs.Store.{Store, wholeOf, wantedPid, fieldsOf, dropPid, dropOf, matchingGone, carriedDrop, leftRemains, droppedOf}
-use Rattle.eittie.specs.View.{theKind, kindBy, acts, drops, Reached}
-use Rattle.eittie.proofs.Keys.{Bit}
-use Rattle.eittie.proofs.Filters.{kind-word}
-use Rattle.eittie.proofs.Dropping.{set-bit, schedule-bit}
+use Rattle.ties_eit.specs.View.{theKind, kindBy, acts, drops, Reached}
+use Rattle.ties_eit.proofs.Keys.{Bit}
+use Rattle.ties_eit.proofs.Filters.{kind-word}
+use Rattle.ties_eit.proofs.Dropping.{set-bit, schedule-bit}
 
 -- kinds are 0 to 3, current_next is 0 or 1
 pub data Foreign (f : Filter) : Type 0 where

@@ -60,15 +60,15 @@ use Rattle.eit.specs.declared.PushAnswer.the-variants.{Nothing, NotWhole, Count
 use Rattle.eit.specs.Store.{Store, store, setsOf, setStore, shelvesFit, wholeOf, Whole, left, plain, emptyEit, clearedOf, wantedPid, dropPid, dropOf, carriedDrop, leftRemains, droppedOf, arrivalOf, planPlaced, planGood, planRead, planJudged, planPid, countersFull, planOf, carried, pushedOf}
 use Rattle.eit.proofs.Plans.{counts}
 use Rattle.eit.proofs.Whole.{whole-store, units-whole, shelves-mean}
-use Rattle.eittie.specs.View.{pidShown, keyShown, scheduleShown, keyWords, scheduleWords, rowSeen, scheduleSeen, seen, sectionOf, readsEit, readsAs, readSection, reads, answerTold, Given, clears, drops, section, FilterFits, filterShown, Fitting, called, Reached}
-use Rattle.eittie.proofs.Keys.{set-self, schedule-self}
-use Rattle.eittie.proofs.Places.{copyWhole, schedules-whole}
-use Rattle.eittie.proofs.Shelve.{Tied, fits-schedules}
-use Rattle.eittie.proofs.Settle.{Arrives}
-use Rattle.eittie.proofs.Keep.{sectionFor}
-use Rattle.eittie.proofs.Placed.{placed-tied}
-use Rattle.eittie.proofs.Dropping.{drop-tied}
-use Rattle.eittie.proofs.Arrivals.{Read-as, not-eit, broken, good as read-good, read-as, not-kind, arrives, section-same}
+use Rattle.ties_eit.specs.View.{pidShown, keyShown, scheduleShown, keyWords, scheduleWords, rowSeen, scheduleSeen, seen, sectionOf, readsEit, readsAs, readSection, reads, answerTold, Given, clears, drops, section, FilterFits, filterShown, Fitting, called, Reached}
+use Rattle.ties_eit.proofs.Keys.{set-self, schedule-self}
+use Rattle.ties_eit.proofs.Places.{copyWhole, schedules-whole}
+use Rattle.ties_eit.proofs.Shelve.{Tied, fits-schedules}
+use Rattle.ties_eit.proofs.Settle.{Arrives}
+use Rattle.ties_eit.proofs.Keep.{sectionFor}
+use Rattle.ties_eit.proofs.Placed.{placed-tied}
+use Rattle.ties_eit.proofs.Dropping.{drop-tied}
+use Rattle.ties_eit.proofs.Arrivals.{Read-as, not-eit, broken, good as read-good, read-as, not-kind, arrives, section-same}
 
 -- ---- lists of rows
 

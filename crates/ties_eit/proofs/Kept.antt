@@ -19,7 +19,7 @@ use Rattle.ages.specs.Slots.{upFrom}
 use Rattle.ages.proofs.Slots.{part-alike, other-slots, own-slots, fresh-slots}
 use Rattle.ages.proofs.Cells.{up-set}
 use Rattle.schedules.specs.Segments.{wordOf, keptSection}
-use Rattle.eittie.specs.View.{lastOf}
+use Rattle.ties_eit.specs.View.{lastOf}
 
 -- slots that differ only in words of segments
 slots-alike : (heads slots slots′ : List ℕ) (j : ℕ) → length slots′ ≡ length slots → ((k : ℕ) → slotsAt j ≤ k → k < slotsAt j + 256 → getD slots′ k 0 ≡ getD slots k 0)
