@@ -10,7 +10,7 @@ use borrow.Author.Tests.{leb-true, lt-ltb, le-ltb, not-true, not-false}
 use Rattle.laws.proofs.Tests.{and-true}
 use Rattle.ring.specs.Store.{roomOf, stampOf}
 use Rattle.ring.specs.declared.Seen.{Seen}
-use Rattle.index.specs.Store.{Index, clearedBy, seenBy, keysBy, changesBy, indexBy}
+use Rattle.ring_index.specs.Store.{Index, clearedBy, seenBy, keysBy, changesBy, indexBy}
 use Rattle.section.specs.Header.{tableId}
 use Rattle.section.specs.Key.{keyOf}
 use Rattle.section.specs.Judged.{judgedOf}

@@ -15,9 +15,9 @@ use Rattle.ring.specs.Store.{roomOf, stampOf}
 use Rattle.ring.specs.Rules.{memoryAfter}
 use Rattle.ring.proofs.Laws.{whole-test}
 use Rattle.ring.proofs.Order.{opened-reached}
-use Rattle.index.specs.Store.{Index, indexOf, indexBy, clearedBy}
-use Rattle.index.specs.Runs.{openedIndex}
-use Rattle.index.proofs.Same.{Sound as Kept, seen-same, keys-same, changes-same, sound-after, opened-sound}
+use Rattle.ring_index.specs.Store.{Index, indexOf, indexBy, clearedBy}
+use Rattle.ring_index.specs.Runs.{openedIndex}
+use Rattle.ring_index.proofs.Same.{Sound as Kept, seen-same, keys-same, changes-same, sound-after, opened-sound}
 use Rattle.section.specs.Judged.{judgedOf}
 use Rattle.section.specs.Facts.{Bytes}
 use Rattle.section.specs.declared.header.Parts.{Parts}

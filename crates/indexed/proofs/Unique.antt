@@ -6,7 +6,7 @@ use mathlib.Core.Path.{_≡_, ap}
 use mathlib.Core.List.{List}
 use Rattle.laws.proofs.Unique.{one-result}
 use Rattle.watched.proofs.Unique.{opening-one}
-use Rattle.index.specs.Store.{Index}
+use Rattle.ring_index.specs.Store.{Index}
 use Rattle.gate.specs.declared.Settings.{Settings}
 use Rattle.gate.specs.declared.Opened.{Opened}
 use Rattle.gate.specs.declared.Offered.{Offered}

@@ -1,6 +1,6 @@
 -- Offers one after another to a gate with an index.
 use Prim.Native.Nat.{ℕ}
-use Rattle.index.specs.Store.{Index}
+use Rattle.ring_index.specs.Store.{Index}
 use Rattle.gate.specs.Rules.{Offer}
 use Rattle.indexed.specs.Store.{Indexed, offeredBy}
 

@@ -7,7 +7,7 @@ use lib.ListN.{length}
 use lib.Dec.{ltb, leb}
 use Rattle.ring.specs.Store.{roomOf, stampOf}
 use Rattle.ring.specs.declared.Seen.{Seen}
-use Rattle.index.specs.Store.{Covers, Index, indexOf, clearedBy, seenBy, keysBy, changesBy, indexBy}
+use Rattle.ring_index.specs.Store.{Covers, Index, indexOf, clearedBy, seenBy, keysBy, changesBy, indexBy}
 use Rattle.section.specs.Key.{keyOf}
 use Rattle.section.specs.Judged.{judgedOf}
 use Rattle.section.specs.declared.header.Parts.{Parts}

@@ -8,7 +8,7 @@ use section::ids::Pid;
 ghost use mathlib.Core.Path.{_≡_};
 ghost use lib.ListN.{length};
 ghost use Rattle.section.specs.Header.{tableId};
-ghost use Rattle.index.specs.Store.{indexOf};
+ghost use Rattle.ring_index.specs.Store.{indexOf};
 ghost use Rattle.gate.specs.Store.{CanCount};
 ghost use Rattle.indexed.specs.Store.{hasRoomFor, wholeBy, FitsBy, indexedOf, leftBy, soundBy, consideredBy};
 
@@ -63,7 +63,7 @@ fn admit(
 {
     let ring = gate.ring;
     let key = section::header::key(pid, parts.table_id, parts.extension, parts.number);
-    let seen = index::admit(
+    let seen = ring_index::admit(
         ring,
         keys,
         changes,

@@ -11,7 +11,7 @@ use section::ids::Pid;
 use watched::Opening;
 ghost use mathlib.Core.Path.{_≡_};
 ghost use lib.ListN.{length};
-ghost use Rattle.index.specs.Store.{indexOf};
+ghost use Rattle.ring_index.specs.Store.{indexOf};
 ghost use Rattle.indexed.specs.Store.{begunBy, openedBy, indexedOf, leftBy, offeredBy};
 
 pub mod inner;
@@ -42,7 +42,7 @@ pub fn open(
     ) {
         return gate::inner::begin(Opening::TooLittle, settings);
     }
-    index::clear(buckets, ring::room(settings.capacity));
+    ring_index::clear(buckets, ring::room(settings.capacity));
     watched::inner::fill(words, settings.well_known, extra);
     gate::inner::begin(Opening::Opened, settings)
 }

@@ -9,7 +9,7 @@ use Rattle.abi.specs.Pids.{pidNumber}
 use Rattle.abi.specs.Gates.{settingsOf, gateOf, countersOf, wordsOf, wordsAfter}
 use Rattle.watched.specs.Store.{asked}
 use Rattle.gate.specs.Store.{Begun, opened, Left, storeOf, offered}
-use Rattle.index.specs.Store.{indexOf}
+use Rattle.ring_index.specs.Store.{indexOf}
 use Rattle.indexed.specs.Store as indexed
 
 -- ---- opening

@@ -1,4 +1,4 @@
-use Rattle.index.specs.Store.{indexOf}
+use Rattle.ring_index.specs.Store.{indexOf}
 use Rattle.gate.proofs.Laws.{can-count}
 use Rattle.indexed.proofs.Laws.{fits-by, offered-broken, offered-full, offered-pid, offered-considered}
 use borrow.Author.Needs.{needs}

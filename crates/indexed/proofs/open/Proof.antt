@@ -6,7 +6,7 @@ use Rattle.indexed.proofs.open.Tie as tie
 use Rattle.indexed.proofs.open.Reads as reads
 use Rattle.indexed.proofs.open.Lts as lts
 use Rattle.gate.proofs.inner.begin.Reads as begin-reads
-use Rattle.index.proofs.clear.Reads as clear-reads
+use Rattle.ring_index.proofs.clear.Reads as clear-reads
 use Rattle.indexed.proofs.inner.has_room.Reads as has-room-reads
 use Rattle.ring.proofs.room.Reads as room-reads
 use Rattle.watched.proofs.inner.fill.Reads as fill-reads

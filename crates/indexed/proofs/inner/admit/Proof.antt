@@ -1,4 +1,4 @@
-use Rattle.index.specs.Store.{indexOf}
+use Rattle.ring_index.specs.Store.{indexOf}
 use Rattle.indexed.proofs.Laws.{sound-told}
 use borrow.Author.Needs.{needs}
 use Rattle.indexed.proofs.inner.admit.Statement.{statement}
@@ -7,7 +7,7 @@ use Rattle.indexed.proofs.inner.admit.Reads as reads
 use Rattle.indexed.proofs.inner.admit.Lts as lts
 use Rattle.gate.proofs.inner.follow_where.Reads as follow-where-reads
 use Rattle.gate.proofs.inner.tell.Reads as tell-reads
-use Rattle.index.proofs.admit.Reads as admit-reads
+use Rattle.ring_index.proofs.admit.Reads as admit-reads
 use Rattle.section.proofs.header.key.Reads as key-reads
 
 -- src/inner.rt:51:9

@@ -1,12 +1,12 @@
-use Rattle.index.proofs.Laws.{enter-free, enter-full}
+use Rattle.ring_index.proofs.Laws.{enter-free, enter-full}
 use borrow.Author.Needs.{needs}
-use Rattle.index.proofs.enter.Statement.{statement}
-use Rattle.index.proofs.enter.Tie as tie
-use Rattle.index.proofs.enter.Reads as reads
-use Rattle.index.proofs.enter.Lts as lts
-use Rattle.index.proofs.bucket.Reads as bucket-reads
-use Rattle.index.proofs.link.Reads as link-reads
-use Rattle.index.proofs.unlink.Reads as unlink-reads
+use Rattle.ring_index.proofs.enter.Statement.{statement}
+use Rattle.ring_index.proofs.enter.Tie as tie
+use Rattle.ring_index.proofs.enter.Reads as reads
+use Rattle.ring_index.proofs.enter.Lts as lts
+use Rattle.ring_index.proofs.bucket.Reads as bucket-reads
+use Rattle.ring_index.proofs.link.Reads as link-reads
+use Rattle.ring_index.proofs.unlink.Reads as unlink-reads
 use Rattle.ring.proofs.room.Reads as room-reads
 
 -- src/lib.rt:100:9

@@ -3,12 +3,12 @@ use mathlib.Core.Path.{_≡_, refl}
 use lib.ListN.{length}
 use native.Mathlib.Omega.{arith}
 use borrow.Author.Needs.{needs}
-use Rattle.index.specs.Store.{clearedBy}
-use Rattle.index.proofs.Laws.{clear-turn, clear-end}
-use Rattle.index.proofs.clear.Statement.{statement}
-use Rattle.index.proofs.clear.Tie as tie
-use Rattle.index.proofs.clear.Reads as reads
-use Rattle.index.proofs.clear.Lts as lts
+use Rattle.ring_index.specs.Store.{clearedBy}
+use Rattle.ring_index.proofs.Laws.{clear-turn, clear-end}
+use Rattle.ring_index.proofs.clear.Statement.{statement}
+use Rattle.ring_index.proofs.clear.Tie as tie
+use Rattle.ring_index.proofs.clear.Reads as reads
+use Rattle.ring_index.proofs.clear.Lts as lts
 
 abbrev Inv-loop : tie.InvT-loop
 Inv-loop buckets₀ room n₀ buckets n = (n ≤ room) × ((length buckets ≡ length buckets₀) × (clearedBy room buckets₀ ≡ clearedBy n buckets))

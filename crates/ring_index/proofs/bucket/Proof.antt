@@ -1,12 +1,12 @@
 use mathlib.Core.Path.{refl}
 use native.Mathlib.Nat.{mod-lt}
 use native.Mathlib.Omega.{arith}
-use Rattle.index.specs.Store.{bucketOf}
+use Rattle.ring_index.specs.Store.{bucketOf}
 use borrow.Author.Needs.{needs}
-use Rattle.index.proofs.bucket.Statement.{statement}
-use Rattle.index.proofs.bucket.Tie as tie
-use Rattle.index.proofs.bucket.Reads as reads
-use Rattle.index.proofs.bucket.Lts as lts
+use Rattle.ring_index.proofs.bucket.Statement.{statement}
+use Rattle.ring_index.proofs.bucket.Tie as tie
+use Rattle.ring_index.proofs.bucket.Reads as reads
+use Rattle.ring_index.proofs.bucket.Lts as lts
 
 -- src/lib.rt:22:8
 mul-result : tie.Need-mul-result

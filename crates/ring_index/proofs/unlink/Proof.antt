@@ -1,10 +1,10 @@
-use Rattle.index.proofs.Laws.{unlink-head, unlink-next, unlink-none}
+use Rattle.ring_index.proofs.Laws.{unlink-head, unlink-next, unlink-none}
 use borrow.Author.Needs.{needs}
-use Rattle.index.proofs.unlink.Statement.{statement}
-use Rattle.index.proofs.unlink.Tie as tie
-use Rattle.index.proofs.unlink.Reads as reads
-use Rattle.index.proofs.unlink.Lts as lts
-use Rattle.index.proofs.walk.Reads as walk-reads
+use Rattle.ring_index.proofs.unlink.Statement.{statement}
+use Rattle.ring_index.proofs.unlink.Tie as tie
+use Rattle.ring_index.proofs.unlink.Reads as reads
+use Rattle.ring_index.proofs.unlink.Lts as lts
+use Rattle.ring_index.proofs.walk.Reads as walk-reads
 
 -- src/lib.rt:77:16
 add-name : tie.Need-add-name

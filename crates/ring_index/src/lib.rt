@@ -9,7 +9,7 @@ ghost use mathlib.Core.Path.{_≡_};
 ghost use Prim.Native.Nat.{_<_, _≤_};
 ghost use lib.ListN.{length, set, getD};
 ghost use Rattle.ring.specs.Store.{roomOf, Whole, stampOf};
-ghost use Rattle.index.specs.Store.{bucketOf, Covers, indexOf, walkOf, clearedBy, linked, unlinked, entered, seenBy, keysBy, changesBy, indexBy};
+ghost use Rattle.ring_index.specs.Store.{bucketOf, Covers, indexOf, walkOf, clearedBy, linked, unlinked, entered, seenBy, keysBy, changesBy, indexBy};
 
 // The bucket of a key among so many.
 pub fn bucket(key: u64, room: usize) -> usize

@@ -1,12 +1,12 @@
 use mathlib.Core.Path.{_≡_, refl}
 use native.Mathlib.Omega.{arith}
 use borrow.Author.Needs.{needs}
-use Rattle.index.specs.Store.{walkOf}
-use Rattle.index.proofs.Laws.{names, walk-end, walk-found, walk-more, walk-none}
-use Rattle.index.proofs.walk.Statement.{statement}
-use Rattle.index.proofs.walk.Tie as tie
-use Rattle.index.proofs.walk.Reads as reads
-use Rattle.index.proofs.walk.Lts as lts
+use Rattle.ring_index.specs.Store.{walkOf}
+use Rattle.ring_index.proofs.Laws.{names, walk-end, walk-found, walk-more, walk-none}
+use Rattle.ring_index.proofs.walk.Statement.{statement}
+use Rattle.ring_index.proofs.walk.Tie as tie
+use Rattle.ring_index.proofs.walk.Reads as reads
+use Rattle.ring_index.proofs.walk.Lts as lts
 
 abbrev Inv-loop : tie.InvT-loop
 Inv-loop words links used room head value at₀ left₀ at left = walkOf words links used value room head ≡ walkOf words links used value left at

@@ -1,10 +1,10 @@
 use mathlib.Core.Path.{refl}
-use Rattle.index.specs.Store.{linked}
+use Rattle.ring_index.specs.Store.{linked}
 use borrow.Author.Needs.{needs}
-use Rattle.index.proofs.link.Statement.{statement}
-use Rattle.index.proofs.link.Tie as tie
-use Rattle.index.proofs.link.Reads as reads
-use Rattle.index.proofs.link.Lts as lts
+use Rattle.ring_index.proofs.link.Statement.{statement}
+use Rattle.ring_index.proofs.link.Tie as tie
+use Rattle.ring_index.proofs.link.Reads as reads
+use Rattle.ring_index.proofs.link.Lts as lts
 
 -- src/lib.rt:66:18
 mul-links : tie.Need-mul-links

@@ -15,8 +15,8 @@ use native.Mathlib.Omega.{arith}
 use borrow.Author.Tests.{eqb-true, eqb-false, eq-eqb, ne-eqb}
 use Rattle.ring.specs.Store.{rowOf}
 use Rattle.ring.specs.Rules.{rowsOf, countKey}
-use Rattle.index.specs.Store.{bucketOf}
-use Rattle.index.proofs.Chains.{All, none, more, Lacks, all-append, all-left, all-right, chain, pickOf}
+use Rattle.ring_index.specs.Store.{bucketOf}
+use Rattle.ring_index.proofs.Chains.{All, none, more, Lacks, all-append, all-left, all-right, chain, pickOf}
 
 -- n rows from a on, the last first
 abbrev pub span : ℕ → ℕ → List ℕ

@@ -4,7 +4,7 @@ use mathlib.Core.List.{List, [], _∷_}
 use Rattle.ring.specs.Store.{roomOf, stampOf, seenOf}
 use Rattle.ring.specs.Rules.{Row, Memory, memoryAfter, emptyRing}
 use Rattle.ring.specs.declared.Seen.{Seen}
-use Rattle.index.specs.Store.{Index, indexOf, clearedBy, seenBy, keysBy, changesBy, indexBy}
+use Rattle.ring_index.specs.Store.{Index, indexOf, clearedBy, seenBy, keysBy, changesBy, indexBy}
 
 -- a ring over its two slices, with the two of its index
 pub record Indexed : Type 0 where

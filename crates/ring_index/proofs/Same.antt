@@ -15,10 +15,10 @@ use Rattle.ring.specs.Rules.{Row, Memory, memoryAfter, rowsOf, countKey, Reache
 use Rattle.ring.specs.declared.Ring.{Ring}
 use Rattle.ring.proofs.Rows.{count-turned}
 use Rattle.ring.proofs.Order.{step, known-memory, more-memory, full-memory, opened-reached}
-use Rattle.index.specs.Store.{bucketOf, Covers, Index, indexOf, clearedBy, linked, unlinked, entered, foundBy, isFound, seenBy, keysBy, changesBy, indexBy}
-use Rattle.index.specs.Runs.{Indexed, Short, none, more, toldBy, toldOf, indexedAfter, allToldBy, allToldOf, allLeftBy, allLeftOf, openedMemory, openedIndex}
-use Rattle.index.proofs.Chains.{All, Holds, chain, all-map, all-chain, chain-length, walk-reads, link-holds, unlink-holds, linked-buckets, linked-links, unlinked-buckets, unlinked-links}
-use Rattle.index.proofs.Newest.{newest, newer, newest-used, newest-length, newest-free, newest-full, newer-lacks, newest-turned, pick-chain, pick-newest, row-within, row-key, row-once}
+use Rattle.ring_index.specs.Store.{bucketOf, Covers, Index, indexOf, clearedBy, linked, unlinked, entered, foundBy, isFound, seenBy, keysBy, changesBy, indexBy}
+use Rattle.ring_index.specs.Runs.{Indexed, Short, none, more, toldBy, toldOf, indexedAfter, allToldBy, allToldOf, allLeftBy, allLeftOf, openedMemory, openedIndex}
+use Rattle.ring_index.proofs.Chains.{All, Holds, chain, all-map, all-chain, chain-length, walk-reads, link-holds, unlink-holds, linked-buckets, linked-links, unlinked-buckets, unlinked-links}
+use Rattle.ring_index.proofs.Newest.{newest, newer, newest-used, newest-length, newest-free, newest-full, newer-lacks, newest-turned, pick-chain, pick-newest, row-within, row-key, row-once}
 
 -- the bucket of each row
 abbrev pub homeIn : List ℕ → ℕ → ℕ → ℕ

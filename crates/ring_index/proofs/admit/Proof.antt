@@ -1,12 +1,12 @@
-use Rattle.index.proofs.Laws.{seen-found, keys-found, changes-found, index-found, seen-arrived, keys-arrived, changes-arrived, index-arrived}
+use Rattle.ring_index.proofs.Laws.{seen-found, keys-found, changes-found, index-found, seen-arrived, keys-arrived, changes-arrived, index-arrived}
 use borrow.Author.Needs.{needs}
-use Rattle.index.proofs.admit.Statement.{statement}
-use Rattle.index.proofs.admit.Tie as tie
-use Rattle.index.proofs.admit.Reads as reads
-use Rattle.index.proofs.admit.Lts as lts
-use Rattle.index.proofs.bucket.Reads as bucket-reads
-use Rattle.index.proofs.enter.Reads as enter-reads
-use Rattle.index.proofs.walk.Reads as walk-reads
+use Rattle.ring_index.proofs.admit.Statement.{statement}
+use Rattle.ring_index.proofs.admit.Tie as tie
+use Rattle.ring_index.proofs.admit.Reads as reads
+use Rattle.ring_index.proofs.admit.Lts as lts
+use Rattle.ring_index.proofs.bucket.Reads as bucket-reads
+use Rattle.ring_index.proofs.enter.Reads as enter-reads
+use Rattle.ring_index.proofs.walk.Reads as walk-reads
 use Rattle.ring.proofs.arrive.Reads as arrive-reads
 use Rattle.ring.proofs.renew.Reads as renew-reads
 use Rattle.ring.proofs.room.Reads as room-reads

@@ -11,7 +11,7 @@ use lib.Seq.{getD-set-same, getD-set-other}
 use lib.Dec.{ltb, eqb}
 use native.Mathlib.Omega.{arith}
 use borrow.Author.Tests.{eqb-true, eqb-false, eq-eqb, ne-eqb, lt-ltb, le-ltb}
-use Rattle.index.specs.Store.{Index, indexOf, ends, walkOf, linked, unlinked, priorOf}
+use Rattle.ring_index.specs.Store.{Index, indexOf, ends, walkOf, linked, unlinked, priorOf}
 
 -- every row of a list
 pub data All (P : ℕ → Type 0) : List ℕ → Type 0 where

@@ -12,7 +12,7 @@ use Rattle.laws.proofs.Tests.{or-false}
 use Rattle.ring.specs.Store.{roomOf, freeRow, renewed, arrived}
 use Rattle.ring.specs.declared.Ring.{Ring}
 use Rattle.ring.specs.declared.Seen.{Seen}
-use Rattle.index.specs.Store.{bucketOf, Index, indexOf, ends, walkOf, clearedBy, linked, unlinked, entered, foundBy, seenBy, keysBy, changesBy, indexBy}
+use Rattle.ring_index.specs.Store.{bucketOf, Index, indexOf, ends, walkOf, clearedBy, linked, unlinked, entered, foundBy, seenBy, keysBy, changesBy, indexBy}
 
 pub record Names (used at : ℕ) : Type 0 where
   pub some : 1 ≤ at
