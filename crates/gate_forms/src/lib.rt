@@ -137,12 +137,12 @@ pub fn twin_acts(
     match course_of(order, words, section) {
         Course::Open(settings) => begun(
             form,
-            indexed::open(settings, extra, keys, changes, buckets, links, words),
+            gate_indexed::open(settings, extra, keys, changes, buckets, links, words),
         ),
         Course::Offer(pid) => {
             let gate = form.gate;
             let counters = form.counters;
-            judged(indexed::offer(
+            judged(gate_indexed::offer(
                 gate,
                 counters,
                 keys,

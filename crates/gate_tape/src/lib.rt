@@ -41,7 +41,7 @@ fn open_both(
 ) -> Gates {
     let settings = Settings::by_default();
     let plain = gate_forms::opened(gate::open(settings, extra, keys, changes, words));
-    let twin = gate_forms::opened(indexed::open(
+    let twin = gate_forms::opened(gate_indexed::open(
         settings,
         extra,
         twin_keys,

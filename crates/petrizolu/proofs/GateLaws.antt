@@ -21,7 +21,7 @@ use Rattle.gate.specs.declared.Counters.{Counters}
 use Rattle.gate.specs.declared.Opened.{Opened}
 use Rattle.gate.specs.declared.Offered.{Offered}
 use Rattle.ring_index.specs.Store.{indexOf}
-use Rattle.indexed.specs.Store as indexed
+use Rattle.gate_indexed.specs.Store as indexed
 use Rattle.petrizolu.specs.Gates.{begun, gateOpened, left, gateOffered, watchAsked, indexedBegun, indexedOpened, indexedLeft, indexedOffered}
 
 -- ---- the gate

@@ -23,7 +23,7 @@ use Rattle.watched.specs.Store.{allPids}
 use Rattle.gate.specs.Store.{answerNo, answerOf, emitsOf, hasRoom, begins, opened, wholeOf, anyFull, Store, storeOf, Left, seenBy, soundOf, judgedAs, consideredOf, offered}
 use Rattle.ring_index.specs.Store.{indexOf}
 use Rattle.ring_index.specs.Store.{seenBy as foundBy}
-use Rattle.indexed.specs.Store as indexed
+use Rattle.gate_indexed.specs.Store as indexed
 use Rattle.rows.specs.Rows.{put, touched}
 use Rattle.berths.specs.Berths.{berthOf, tableCount, berthedUnits, tablesThere}
 use Rattle.berths.specs.declared.Berth.{Berth}

@@ -10,7 +10,7 @@ use Rattle.abi.specs.Gates.{settingsOf, gateOf, countersOf, wordsOf, wordsAfter
 use Rattle.watched.specs.Store.{asked}
 use Rattle.gate.specs.Store.{Begun, opened, Left, storeOf, offered}
 use Rattle.ring_index.specs.Store.{indexOf}
-use Rattle.indexed.specs.Store as indexed
+use Rattle.gate_indexed.specs.Store as indexed
 
 -- ---- opening
 

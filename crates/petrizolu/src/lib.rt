@@ -84,7 +84,7 @@ pub extern "C" fn petrizolu_indexed_open(
     ensures { λ r. ⌜ indexedBegun r (now (gate .exit)) (now (buckets .exit)) (now (watch .exit)) ≡ indexedOpened (now (gate .entry)) capacity settings (now (extra .entry)) (now (keys .entry)) (now (changes .entry)) (now (buckets .entry)) (now (links .entry)) (now (watch .entry)) ⌝ }
 {
     let asked = abi::gates::settings(capacity, settings);
-    let opened = indexed::open(asked, extra, keys, changes, buckets, links, watch);
+    let opened = gate_indexed::open(asked, extra, keys, changes, buckets, links, watch);
     abi::gates::write_opened(gate, opened)
 }
 
@@ -104,7 +104,7 @@ pub extern "C" fn petrizolu_indexed_offer(
 {
     let held = abi::gates::read(gate);
     let number = abi::pids::number(pid);
-    let offered = indexed::offer(
+    let offered = gate_indexed::offer(
         held.gate,
         held.counters,
         keys,

@@ -7,7 +7,7 @@ use Rattle.petrizolu.proofs.petrizolu_indexed_offer.Lts as lts
 use Rattle.abi.proofs.gates.read.Reads as read-reads
 use Rattle.abi.proofs.gates.write_offered.Reads as write-offered-reads
 use Rattle.abi.proofs.pids.number.Reads as number-reads
-use Rattle.indexed.proofs.offer.Reads as offer-reads
+use Rattle.gate_indexed.proofs.offer.Reads as offer-reads
 
 -- src/lib.rt:96:9
 read-requires : tie.Need-read-requires

@@ -6,7 +6,7 @@ use Rattle.petrizolu.proofs.petrizolu_indexed_open.Reads as reads
 use Rattle.petrizolu.proofs.petrizolu_indexed_open.Lts as lts
 use Rattle.abi.proofs.gates.settings.Reads as settings-reads
 use Rattle.abi.proofs.gates.write_opened.Reads as write-opened-reads
-use Rattle.indexed.proofs.open.Reads as open-reads
+use Rattle.gate_indexed.proofs.open.Reads as open-reads
 
 -- src/lib.rt:77:9
 settings-requires : tie.Need-settings-requires

@@ -1,8 +1,8 @@
 use borrow.Author.Needs.{needs}
-use Rattle.indexed.proofs.inner.is_whole.Statement.{statement}
-use Rattle.indexed.proofs.inner.is_whole.Tie as tie
-use Rattle.indexed.proofs.inner.is_whole.Reads as reads
-use Rattle.indexed.proofs.inner.is_whole.Lts as lts
+use Rattle.gate_indexed.proofs.inner.is_whole.Statement.{statement}
+use Rattle.gate_indexed.proofs.inner.is_whole.Tie as tie
+use Rattle.gate_indexed.proofs.inner.is_whole.Reads as reads
+use Rattle.gate_indexed.proofs.inner.is_whole.Lts as lts
 use Rattle.gate.proofs.inner.is_whole.Reads as is-whole-reads
 use Rattle.ring.proofs.room.Reads as room-reads
 

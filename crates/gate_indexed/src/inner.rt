@@ -10,7 +10,7 @@ ghost use lib.ListN.{length};
 ghost use Rattle.section.specs.Header.{tableId};
 ghost use Rattle.ring_index.specs.Store.{indexOf};
 ghost use Rattle.gate.specs.Store.{CanCount};
-ghost use Rattle.indexed.specs.Store.{hasRoomFor, wholeBy, FitsBy, indexedOf, leftBy, soundBy, consideredBy};
+ghost use Rattle.gate_indexed.specs.Store.{hasRoomFor, wholeBy, FitsBy, indexedOf, leftBy, soundBy, consideredBy};
 
 // Not 10: the ring fits its slices, a bucket and a link for each row, and the watch has its 384 words.
 pub fn is_whole(

@@ -12,7 +12,7 @@ use watched::Opening;
 ghost use mathlib.Core.Path.{_≡_};
 ghost use lib.ListN.{length};
 ghost use Rattle.ring_index.specs.Store.{indexOf};
-ghost use Rattle.indexed.specs.Store.{begunBy, openedBy, indexedOf, leftBy, offeredBy};
+ghost use Rattle.gate_indexed.specs.Store.{begunBy, openedBy, indexedOf, leftBy, offeredBy};
 
 pub mod inner;
 

@@ -1,15 +1,15 @@
 use Rattle.ring_index.specs.Store.{indexOf}
 use Rattle.gate.proofs.Laws.{can-count}
-use Rattle.indexed.proofs.Laws.{fits-by, offered-broken, offered-full, offered-pid, offered-considered}
+use Rattle.gate_indexed.proofs.Laws.{fits-by, offered-broken, offered-full, offered-pid, offered-considered}
 use borrow.Author.Needs.{needs}
-use Rattle.indexed.proofs.offer.Statement.{statement}
-use Rattle.indexed.proofs.offer.Tie as tie
-use Rattle.indexed.proofs.offer.Reads as reads
-use Rattle.indexed.proofs.offer.Lts as lts
+use Rattle.gate_indexed.proofs.offer.Statement.{statement}
+use Rattle.gate_indexed.proofs.offer.Tie as tie
+use Rattle.gate_indexed.proofs.offer.Reads as reads
+use Rattle.gate_indexed.proofs.offer.Lts as lts
 use Rattle.gate.proofs.inner.any_full.Reads as any-full-reads
 use Rattle.gate.proofs.inner.unchanged.Reads as unchanged-reads
-use Rattle.indexed.proofs.inner.consider.Reads as consider-reads
-use Rattle.indexed.proofs.inner.is_whole.Reads as is-whole-reads
+use Rattle.gate_indexed.proofs.inner.consider.Reads as consider-reads
+use Rattle.gate_indexed.proofs.inner.is_whole.Reads as is-whole-reads
 use Rattle.section.proofs.ids.Pid.make.Reads as make-reads
 
 -- src/lib.rt:57:9

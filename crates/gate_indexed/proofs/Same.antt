@@ -31,8 +31,8 @@ use Rattle.gate.specs.declared.Settings.{Settings}
 use Rattle.watched.specs.Store.{allPids, filled}
 use Rattle.watched.proofs.Meaning.{length-filled}
 use Rattle.gate.proofs.Order.{follows}
-use Rattle.indexed.specs.Store.{hasRoomFor, Begun, begins, openedBy, wholeBy, Indexed, indexedOf, Left, soundBy, judgedBy, consideredBy, offeredBy}
-use Rattle.indexed.specs.Runs.{tellsBy, actsBy}
+use Rattle.gate_indexed.specs.Store.{hasRoomFor, Begun, begins, openedBy, wholeBy, Indexed, indexedOf, Left, soundBy, judgedBy, consideredBy, offeredBy}
+use Rattle.gate_indexed.specs.Runs.{tellsBy, actsBy}
 
 -- what every store has that came from an opened one
 pub record OpenedBy (s : Indexed) : Type 0 where

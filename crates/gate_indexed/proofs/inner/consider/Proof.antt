@@ -1,11 +1,11 @@
-use Rattle.indexed.proofs.Laws.{considered-short, considered-mismatch, considered-sound, sound-table}
+use Rattle.gate_indexed.proofs.Laws.{considered-short, considered-mismatch, considered-sound, sound-table}
 use borrow.Author.Needs.{needs}
-use Rattle.indexed.proofs.inner.consider.Statement.{statement}
-use Rattle.indexed.proofs.inner.consider.Tie as tie
-use Rattle.indexed.proofs.inner.consider.Reads as reads
-use Rattle.indexed.proofs.inner.consider.Lts as lts
+use Rattle.gate_indexed.proofs.inner.consider.Statement.{statement}
+use Rattle.gate_indexed.proofs.inner.consider.Tie as tie
+use Rattle.gate_indexed.proofs.inner.consider.Reads as reads
+use Rattle.gate_indexed.proofs.inner.consider.Lts as lts
 use Rattle.gate.proofs.inner.fail.Reads as fail-reads
-use Rattle.indexed.proofs.inner.admit.Reads as admit-reads
+use Rattle.gate_indexed.proofs.inner.admit.Reads as admit-reads
 use Rattle.section.proofs.header.judge.Reads as judge-reads
 
 -- src/inner.rt:77:11

@@ -1,13 +1,13 @@
 use lib.ListN.{length}
-use Rattle.indexed.proofs.Laws.{opened-pid, opened-little, opened-yes, pids-good, buckets-room, words-room}
+use Rattle.gate_indexed.proofs.Laws.{opened-pid, opened-little, opened-yes, pids-good, buckets-room, words-room}
 use borrow.Author.Needs.{needs}
-use Rattle.indexed.proofs.open.Statement.{statement}
-use Rattle.indexed.proofs.open.Tie as tie
-use Rattle.indexed.proofs.open.Reads as reads
-use Rattle.indexed.proofs.open.Lts as lts
+use Rattle.gate_indexed.proofs.open.Statement.{statement}
+use Rattle.gate_indexed.proofs.open.Tie as tie
+use Rattle.gate_indexed.proofs.open.Reads as reads
+use Rattle.gate_indexed.proofs.open.Lts as lts
 use Rattle.gate.proofs.inner.begin.Reads as begin-reads
 use Rattle.ring_index.proofs.clear.Reads as clear-reads
-use Rattle.indexed.proofs.inner.has_room.Reads as has-room-reads
+use Rattle.gate_indexed.proofs.inner.has_room.Reads as has-room-reads
 use Rattle.ring.proofs.room.Reads as room-reads
 use Rattle.watched.proofs.inner.fill.Reads as fill-reads
 use Rattle.watched.proofs.inner.pids_good.Reads as pids-good-reads

@@ -2,7 +2,7 @@
 use Prim.Native.Nat.{ℕ}
 use Rattle.ring_index.specs.Store.{Index}
 use Rattle.gate.specs.Rules.{Offer}
-use Rattle.indexed.specs.Store.{Indexed, offeredBy}
+use Rattle.gate_indexed.specs.Store.{Indexed, offeredBy}
 
 unfoldable pub tellsBy : Indexed → Offer → ℕ
 tellsBy s o = (offeredBy s (o .pid) (o .section)) .answer

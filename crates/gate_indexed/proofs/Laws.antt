@@ -33,7 +33,7 @@ use Rattle.gate.specs.declared.Settings.{Settings}
 use Rattle.gate.specs.declared.Opened.{Opened}
 use Rattle.gate.specs.declared.Answer.the-variants.{NotWhole, CounterFull, BadPid}
 use Rattle.gate.proofs.Laws.{fits, watch-sound}
-use Rattle.indexed.specs.Store.{hasRoomFor, begunBy, openedBy, wholeBy, FitsBy, indexedOf, Left, leftBy, soundBy, judgedBy, consideredBy, offeredBy}
+use Rattle.gate_indexed.specs.Store.{hasRoomFor, begunBy, openedBy, wholeBy, FitsBy, indexedOf, Left, leftBy, soundBy, judgedBy, consideredBy, offeredBy}
 
 -- not 10
 pub fits-by :

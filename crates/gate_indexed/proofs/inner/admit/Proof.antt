@@ -1,10 +1,10 @@
 use Rattle.ring_index.specs.Store.{indexOf}
-use Rattle.indexed.proofs.Laws.{sound-told}
+use Rattle.gate_indexed.proofs.Laws.{sound-told}
 use borrow.Author.Needs.{needs}
-use Rattle.indexed.proofs.inner.admit.Statement.{statement}
-use Rattle.indexed.proofs.inner.admit.Tie as tie
-use Rattle.indexed.proofs.inner.admit.Reads as reads
-use Rattle.indexed.proofs.inner.admit.Lts as lts
+use Rattle.gate_indexed.proofs.inner.admit.Statement.{statement}
+use Rattle.gate_indexed.proofs.inner.admit.Tie as tie
+use Rattle.gate_indexed.proofs.inner.admit.Reads as reads
+use Rattle.gate_indexed.proofs.inner.admit.Lts as lts
 use Rattle.gate.proofs.inner.follow_where.Reads as follow-where-reads
 use Rattle.gate.proofs.inner.tell.Reads as tell-reads
 use Rattle.ring_index.proofs.admit.Reads as admit-reads

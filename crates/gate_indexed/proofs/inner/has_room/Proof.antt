@@ -1,8 +1,8 @@
 use borrow.Author.Needs.{needs}
-use Rattle.indexed.proofs.inner.has_room.Statement.{statement}
-use Rattle.indexed.proofs.inner.has_room.Tie as tie
-use Rattle.indexed.proofs.inner.has_room.Reads as reads
-use Rattle.indexed.proofs.inner.has_room.Lts as lts
+use Rattle.gate_indexed.proofs.inner.has_room.Statement.{statement}
+use Rattle.gate_indexed.proofs.inner.has_room.Tie as tie
+use Rattle.gate_indexed.proofs.inner.has_room.Reads as reads
+use Rattle.gate_indexed.proofs.inner.has_room.Lts as lts
 use Rattle.gate.proofs.inner.has_room.Reads as has-room-reads
 use Rattle.ring.proofs.room.Reads as room-reads
 

@@ -11,7 +11,7 @@ use Rattle.gate.specs.declared.Settings.{Settings}
 use Rattle.gate.specs.declared.Opened.{Opened}
 use Rattle.gate.specs.declared.Offered.{Offered}
 use Rattle.gate.proofs.Unique.{answer-one}
-use Rattle.indexed.specs.Store.{Begun, begunBy, openedBy, Indexed, Left, leftBy, offeredBy}
+use Rattle.gate_indexed.specs.Store.{Begun, begunBy, openedBy, Indexed, Left, leftBy, offeredBy}
 
 pub open-unique :
     (s : Settings) (extra : List ℕ) (keys changes links : ℕ) (buckets words : List ℕ) (o p : Opened) (bs ds ws xs : List ℕ) →
