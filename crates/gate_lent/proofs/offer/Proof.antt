@@ -57,13 +57,13 @@ use Rattle.gate.proofs.offer as by-value
 use Rattle.gate.proofs.offer.Symbol as by-value-def
 use Rattle.gate.proofs.offer.Symbol.{name as #gate·offer}
 use Rattle.gate.proofs.offer.Met as by-value-thm
-use Rattle.lent.specs.declared.Told.{Told}
-use Rattle.lent.proofs.Told as T
-use Rattle.lent.proofs.Told.Laws as T′
-use Rattle.lent.proofs.offer.Key.{name as #lent·offer}
-use Rattle.lent.proofs.offer as offer
-use Rattle.lent.proofs.offer.Statement as stated
-use Rattle.lent.proofs.offer.Code as code
+use Rattle.gate_lent.specs.declared.Told.{Told}
+use Rattle.gate_lent.proofs.Told as T
+use Rattle.gate_lent.proofs.Told.Laws as T′
+use Rattle.gate_lent.proofs.offer.Key.{name as #lent·offer}
+use Rattle.gate_lent.proofs.offer as offer
+use Rattle.gate_lent.proofs.offer.Statement as stated
+use Rattle.gate_lent.proofs.offer.Code as code
 
 -- at exit the counters are still owned; of the three slices there is what says their last contents; of the gate, the PID and the section nothing is needed
 abbrev stayed : Stays (offer.ended .signature .params) (offer.ended .kept)

@@ -3,7 +3,7 @@ use mathlib.Core.List.{List}
 use Prim.Native.Nat.{ℕ}
 use Rattle.gate.specs.Store.{answerNo, storeOf, Left}
 use Rattle.gate.specs.declared.Counters.{Counters}
-use Rattle.lent.specs.declared.Told.{Told}
+use Rattle.gate_lent.specs.declared.Told.{Told}
 
 -- what a call handed back, with the counters and the slices as it left them
 abbrev pub toldBy : Told → Counters → List ℕ → List ℕ → List ℕ → Left

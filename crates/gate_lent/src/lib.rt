@@ -4,7 +4,7 @@ use gate::Counters;
 use gate::Gate;
 ghost use mathlib.Core.Path.{_≡_};
 ghost use Rattle.gate.specs.Store.{storeOf, offered};
-ghost use Rattle.lent.specs.Told.{toldBy};
+ghost use Rattle.gate_lent.specs.Told.{toldBy};
 
 // What an offer answers, and the gate after it.
 pub struct Told {

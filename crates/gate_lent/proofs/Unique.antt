@@ -8,8 +8,8 @@ use Rattle.laws.proofs.Unique.{one-result}
 use Rattle.gate.specs.Store.{Store, Left, offered}
 use Rattle.gate.specs.declared.Counters.{Counters}
 use Rattle.gate.proofs.Unique.{answer-one}
-use Rattle.lent.specs.Told.{toldBy}
-use Rattle.lent.specs.declared.Told.{Told}
+use Rattle.gate_lent.specs.Told.{toldBy}
+use Rattle.gate_lent.specs.declared.Told.{Told}
 
 pub offer-unique :
     (s : Store) (pid : ℕ) (section : List ℕ) (t u : Told) (c d : Counters) (ks ls ms ns ws xs : List ℕ) →
