@@ -23,13 +23,13 @@ fn known_berth(heads: &[u64], held: usize, evictions: u64, e: Entry, k: usize) -
     ensures { λ r. ⌜ r ≡ knownBerth (now (heads .entry)) held evictions e k ⌝ }
 {
     if rows::last(heads, k) == e.last {
-        let room = places::room_in(held, evictions, k);
+        let room = placing::room_in(held, evictions, k);
         Berth {
             room,
             refill: false,
         }
     } else {
-        let room = places::room_renewed(held, evictions, k, rows::age(heads, k));
+        let room = placing::room_renewed(held, evictions, k, rows::age(heads, k));
         Berth { room, refill: true }
     }
 }

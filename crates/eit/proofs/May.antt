@@ -22,10 +22,10 @@ use Rattle.rows.specs.declared.Room.{Room}
 use Rattle.sets.specs.Store.{pidWord, Numbered, RoomOk}
 use Rattle.sets.specs.declared.inner.PidWord.{PidWord}
 use Rattle.sets.specs.declared.inner.PidWord.the-variants as pid-word
-use Rattle.places.specs.Places.{placeOf, PlaceOk}
-use Rattle.places.specs.declared.Place.{Place}
-use Rattle.places.specs.declared.Place.the-variants as place
-use Rattle.places.proofs.Laws.{place-ok}
+use Rattle.placing.specs.Places.{placeOf, PlaceOk}
+use Rattle.placing.specs.declared.Place.{Place}
+use Rattle.placing.specs.declared.Place.the-variants as place
+use Rattle.placing.proofs.Laws.{place-ok}
 use Rattle.schedules.specs.Units.{takenAnywhere}
 use Rattle.eit.specs.declared.PushAnswer.the-variants.{Nothing, NotWhole, CounterFull, TooLong, NoCell}
 use Rattle.eit.specs.declared.inner.Arrival.{Arrival}

@@ -32,9 +32,9 @@ use Rattle.sets.specs.declared.Sets.{Sets}
 use Rattle.sets.specs.declared.inner.PidWord.{PidWord}
 use Rattle.sets.specs.declared.inner.PidWord.the-variants as pid-word
 use Rattle.sets.proofs.Judged.{header-numbers}
-use Rattle.places.specs.Places.{placeOf}
-use Rattle.places.specs.declared.Place.{Place}
-use Rattle.places.specs.declared.Place.the-variants as place
+use Rattle.placing.specs.Places.{placeOf}
+use Rattle.placing.specs.declared.Place.{Place}
+use Rattle.placing.specs.declared.Place.the-variants as place
 use Rattle.schedules.specs.Units.{takenAnywhere}
 use Rattle.eit.specs.declared.Eit.{Eit}
 use Rattle.eit.specs.declared.PushAnswer.the-variants.{Nothing, NotWhole, CounterFull, PidTooLarge, Malformed, ShortForm, BadNumber, BadCrc, NotEit, Broken, TooLong, NoCell}

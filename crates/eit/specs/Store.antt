@@ -28,9 +28,9 @@ use Rattle.sets.specs.Store.{Question, noSection, slotTold, openNumber, clearNu
 use Rattle.sets.specs.declared.Sets.{Sets}
 use Rattle.sets.specs.declared.inner.PidWord.{PidWord}
 use Rattle.sets.specs.declared.inner.PidWord.the-variants as pid-word
-use Rattle.places.specs.Places.{placeOf}
-use Rattle.places.specs.declared.Place.{Place}
-use Rattle.places.specs.declared.Place.the-variants as place
+use Rattle.placing.specs.Places.{placeOf}
+use Rattle.placing.specs.declared.Place.{Place}
+use Rattle.placing.specs.declared.Place.the-variants as place
 use Rattle.schedules.specs.Segments.{wordOf, setComplete, keptSection}
 use Rattle.schedules.specs.Units.{tablesOf, isPresent, unitSlots, schedulesWhole, takenAnywhere, withTable}
 use Rattle.berths.specs.Berths.{berthOf, berthedHeads, tableCount, berthedUnits, tablesThere}

@@ -10,7 +10,7 @@ use berths::Berth;
 use drops::Fields;
 use drops::Of;
 use drops::Wanted;
-use places::Place;
+use placing::Place;
 use rows::Entry;
 use rows::Key;
 use rows::Room;
@@ -285,7 +285,7 @@ fn plan_good(
     if eit.limit == 0 {
         return Plan::Refuse(PushAnswer::Nothing);
     }
-    let p = places::place_section(sets_of(eit), heads, slots, cells, a.entry, bytes);
+    let p = placing::place_section(sets_of(eit), heads, slots, cells, a.entry, bytes);
     plan_placed(eit, heads, slots, cells, schedule_heads, units, a, p)
 }
 

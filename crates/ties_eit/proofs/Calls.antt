@@ -49,7 +49,7 @@ use Rattle.sets.specs.Store as sets
 use Rattle.sets.specs.Store.{pidOf, pidWord}
 use Rattle.sets.proofs.Whole.{long}
 use Rattle.sets.proofs.Judged.{good-length}
-use Rattle.places.specs.Places.{placeOf as placeIn}
+use Rattle.placing.specs.Places.{placeOf as placeIn}
 use Rattle.schedules.specs.Units.{schedulesWhole}
 use Rattle.eit.specs.declared.Filter.{Filter}
 use Rattle.eit.specs.declared.DropAnswer.the-variants as drop-answer

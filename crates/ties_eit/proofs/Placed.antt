@@ -33,9 +33,9 @@ use Rattle.ages.proofs.Touch.{row-has-key, no-row-has-key, goes-known, goes-new
 use Rattle.ages.proofs.Slots.{held-filled, held-empty, held-get}
 use Rattle.ages.proofs.Cells.{bytes-kept, same-bytes}
 use Rattle.sets.proofs.Plans.{slot-bounds, same-last}
-use Rattle.places.specs.Places.{placeSlot, placeKnown}
-use Rattle.places.specs.Places.{placeOf as placeIn}
-use Rattle.places.specs.declared.Place.the-variants as place
+use Rattle.placing.specs.Places.{placeSlot, placeKnown}
+use Rattle.placing.specs.Places.{placeOf as placeIn}
+use Rattle.placing.specs.declared.Place.the-variants as place
 use Rattle.schedules.specs.Units.{schedulesWhole}
 use Rattle.eit.specs.declared.inner.Arrival.{Arrival}
 use Rattle.eit.specs.Store.{Store, setStore, Whole, planPlaced, carried}

@@ -1,7 +1,7 @@
-use Rattle.places.proofs.Laws.{place-known, place-new}
+use Rattle.placing.proofs.Laws.{place-known, place-new}
 use borrow.Author.Needs.{needs}
-use Rattle.places.proofs.place_section.Statement.{statement}
-use Rattle.places.proofs.place_section.Tie as tie
+use Rattle.placing.proofs.place_section.Statement.{statement}
+use Rattle.placing.proofs.place_section.Tie as tie
 
 find-requires : tie.Need-find-requires
 find-requires c κs = search needs

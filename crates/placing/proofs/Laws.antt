@@ -15,9 +15,9 @@ use Rattle.rows.specs.declared.Entry.{Entry}
 use Rattle.rows.specs.declared.Room.{Room}
 use Rattle.sets.specs.Store.{Store, Whole, RoomOk}
 use Rattle.sets.proofs.May.{oldest-below}
-use Rattle.places.specs.declared.Place.{Place}
-use Rattle.places.specs.declared.Place.the-variants.{Conflict, Repeat, Goes}
-use Rattle.places.specs.Places.{placeSlot, placeKnown, placeOf, PlaceOk}
+use Rattle.placing.specs.declared.Place.{Place}
+use Rattle.placing.specs.declared.Place.the-variants.{Conflict, Repeat, Goes}
+use Rattle.placing.specs.Places.{placeSlot, placeKnown, placeOf, PlaceOk}
 
 pub slot-empty : (s : Store) (bytes : List ℕ) (i w n : ℕ) (r : Room) → n ≡ keptLength w → n ≡ 0 → r ≡ roomIn (s .sets .used) (s .sets .evictions) i → Goes r ≡ placeSlot s bytes i w
 unfolding placeSlot

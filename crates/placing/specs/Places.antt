@@ -10,8 +10,8 @@ use Rattle.cells.specs.Cells.{keptLength, kept}
 use Rattle.rows.specs.Rows.{word, rowOf, roomIn, roomRenewed, roomNew, slotsAt}
 use Rattle.rows.specs.declared.Entry.{Entry}
 use Rattle.sets.specs.Store.{Store, RoomOk}
-use Rattle.places.specs.declared.Place.{Place}
-use Rattle.places.specs.declared.Place.the-variants.{Conflict, Repeat, Goes}
+use Rattle.placing.specs.declared.Place.{Place}
+use Rattle.placing.specs.declared.Place.the-variants.{Conflict, Repeat, Goes}
 
 -- row i has the section's key, version and last number, and the section's slot the word w: identical bytes are ignored, others conflict
 unfoldable pub placeSlot : Store → List ℕ → ℕ → ℕ → Place

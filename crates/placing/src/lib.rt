@@ -9,7 +9,7 @@ ghost use Prim.Native.Nat.{_<_};
 ghost use Rattle.cells.specs.Cells.{slotWhole};
 ghost use Rattle.rows.specs.Rows.{roomIn, roomRenewed};
 ghost use Rattle.sets.specs.Store.{store, Whole, Numbered};
-ghost use Rattle.places.specs.Places.{placeSlot, placeKnown, placeOf};
+ghost use Rattle.placing.specs.Places.{placeSlot, placeKnown, placeOf};
 
 pub enum Place {
     Conflict(usize),

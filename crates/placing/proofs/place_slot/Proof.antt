@@ -1,10 +1,10 @@
 use Rattle.sets.proofs.Plans.{place-fits, slot-fits}
 use native.Mathlib.Omega.{arith}
 use Rattle.sets.proofs.Whole.{product-fits}
-use Rattle.places.proofs.Laws.{slot-empty, slot-same, slot-other}
+use Rattle.placing.proofs.Laws.{slot-empty, slot-same, slot-other}
 use borrow.Author.Needs.{needs}
-use Rattle.places.proofs.place_slot.Statement.{statement}
-use Rattle.places.proofs.place_slot.Tie as tie
+use Rattle.placing.proofs.place_slot.Statement.{statement}
+use Rattle.placing.proofs.place_slot.Tie as tie
 
 kept-length-requires : tie.Need-kept-length-requires
 kept-length-requires c κs = search needs

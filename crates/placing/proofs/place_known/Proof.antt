@@ -1,8 +1,8 @@
 use Rattle.sets.proofs.Plans.{known-slot}
-use Rattle.places.proofs.Laws.{known-same, known-other}
+use Rattle.placing.proofs.Laws.{known-same, known-other}
 use borrow.Author.Needs.{needs}
-use Rattle.places.proofs.place_known.Statement.{statement}
-use Rattle.places.proofs.place_known.Tie as tie
+use Rattle.placing.proofs.place_known.Statement.{statement}
+use Rattle.placing.proofs.place_known.Tie as tie
 
 version-requires : tie.Need-version-requires
 version-requires c κs = search needs
