@@ -7,8 +7,8 @@ use lib.Dec.{eqb}
 use Rattle.sets.specs.Store.{openNumber, clearNumber}
 use Rattle.sets.specs.declared.OpenAnswer.{OpenAnswer}
 use Rattle.sets.specs.declared.OpenAnswer.the-variants as open-answer
-use Rattle.drops.specs.declared.Wanted.{Wanted}
-use Rattle.drops.specs.declared.Wanted.the-variants as wanted
+use Rattle.filter.specs.declared.Wanted.{Wanted}
+use Rattle.filter.specs.declared.Wanted.the-variants as wanted
 use Rattle.eit.specs.Store.{pushNumber, dropNumber}
 use Rattle.eit.specs.declared.Eit.{Eit}
 use Rattle.eit.specs.declared.Opened.{Opened}

@@ -1,7 +1,6 @@
 // The seven words of an EIT collector: 0 limit, 1 size, 2 count, 3 used, 4 evictions, 5 schedules, 6 schedule_evictions; the word of a row that
 // goes out; and the six words of a filter: 0 pid, 1 kind, 2 service_id, 3 transport_stream_id, 4 original_network_id, 5 current_next.
 use crate::pids;
-use drops::Wanted;
 use eit::Cleared;
 use eit::Dropped;
 use eit::Eit;
@@ -10,6 +9,7 @@ use eit::Opened;
 use eit::PushAnswer;
 use eit::Pushed;
 use eit::WantedPid;
+use filter::Wanted;
 use sets::OpenAnswer;
 ghost use mathlib.Core.Path.{_≡_};
 ghost use Rattle.abi.specs.Answers.{words, pushes};

@@ -38,11 +38,11 @@ use Rattle.berths.specs.declared.Berth.{Berth}
 use Rattle.section.specs.Ids.{pidMade}
 use Rattle.section.specs.declared.ids.Made.{Made}
 use Rattle.section.specs.declared.ids.Made.the-variants as made
-use Rattle.drops.specs.declared.Wanted.{Wanted}
-use Rattle.drops.specs.declared.Wanted.the-variants as wanted
-use Rattle.drops.specs.declared.Fields.{Fields}
-use Rattle.drops.specs.declared.Of.the-variants as of
-use Rattle.drops.specs.Drops.{Rest, rest, droppedRows, Fits}
+use Rattle.filter.specs.declared.Wanted.{Wanted}
+use Rattle.filter.specs.declared.Wanted.the-variants as wanted
+use Rattle.filter.specs.declared.Fields.{Fields}
+use Rattle.filter.specs.declared.Of.the-variants as of
+use Rattle.filter.specs.Drops.{Rest, rest, droppedRows, Fits}
 use Rattle.eit.specs.declared.Eit.{Eit}
 use Rattle.eit.specs.declared.WantedPid.{WantedPid}
 use Rattle.eit.specs.declared.WantedPid.the-variants as wanted-pid

@@ -7,9 +7,9 @@ use crate::PushAnswer;
 use crate::Pushed;
 use crate::WantedPid;
 use berths::Berth;
-use drops::Fields;
-use drops::Of;
-use drops::Wanted;
+use filter::Fields;
+use filter::Of;
+use filter::Wanted;
 use placing::Place;
 use rows::Entry;
 use rows::Key;
@@ -704,8 +704,8 @@ fn drop_matching(
     requires { ⌜ RowsFit eit (now heads) (now slots) (now «schedule_heads») (now units) ⌝ }
     ensures { λ r. ⌜ remains r (now (heads .exit)) (now (slots .exit)) (now («schedule_heads» .exit)) (now (units .exit)) ≡ matchingGone eit (now (heads .entry)) (now (slots .entry)) (now («schedule_heads» .entry)) (now (units .entry)) f ⌝ }
 {
-    let used = drops::drop_rows(Of::Sets, f, heads, slots, eit.used);
-    let schedules = drops::drop_rows(Of::Schedules, f, schedule_heads, units, eit.schedules);
+    let used = filter::drop_rows(Of::Sets, f, heads, slots, eit.used);
+    let schedules = filter::drop_rows(Of::Schedules, f, schedule_heads, units, eit.schedules);
     Dropped {
         answer: DropAnswer::Dropped,
         eit: Eit {

@@ -2,7 +2,7 @@
 // The host keeps an `Eit` by value and lends five slices at every call: heads (12 words a set) and slots (288 words a set), cells,
 // schedule_heads (12 words a schedule) and units (16 * 288 words a schedule). Every call takes any content of them and has one answer; a
 // refusal leaves them as they were, but 22, which touches the key, and 23, which keeps the section.
-use drops::Wanted;
+use filter::Wanted;
 use section::ids::MaybePid;
 use sets::ClearAnswer;
 use sets::Next;

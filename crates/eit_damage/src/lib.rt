@@ -2,12 +2,12 @@
 use damage::poke_slots;
 use damage::poke_words;
 use damage::say;
-use drops::Wanted;
 use eit::Eit;
 use eit::Filter;
 use eit::Opened;
 use eit::Pushed;
 use eit::WantedPid;
+use filter::Wanted;
 use section::ids::MaybePid;
 
 // Which lent slice has the word that is written over; 0 for none.

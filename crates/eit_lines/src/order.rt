@@ -1,7 +1,7 @@
 // What a command of the EIT collector asks, read from the tape.
-use drops::Wanted;
 use eit::Filter;
 use eit::WantedPid;
+use filter::Wanted;
 use section::ids::MaybePid;
 use tape::record;
 ghost use mathlib.Core.Path.{_≡_};

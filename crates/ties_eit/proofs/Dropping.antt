@@ -21,11 +21,11 @@ use Rattle.ages.specs.Order.{movedFrom}
 use Rattle.ages.proofs.Cells.{up-cong}
 use Rattle.schedules.specs.Segments.{wordOf}
 use Rattle.schedules.specs.Units.{tablesOf}
-use Rattle.drops.specs.declared.Of.the-variants as of
-use Rattle.drops.specs.declared.Wanted.{Wanted}
-use Rattle.drops.specs.declared.Wanted.the-variants as wanted
-use Rattle.drops.specs.Drops.{wants, matches, removedHeads, removedWords, Rest, rest, droppedRows}
-use Rattle.drops.proofs.Removed.{removed-word, removed-words, removed-part, removed-slots}
+use Rattle.filter.specs.declared.Of.the-variants as of
+use Rattle.filter.specs.declared.Wanted.{Wanted}
+use Rattle.filter.specs.declared.Wanted.the-variants as wanted
+use Rattle.filter.specs.Drops.{wants, matches, removedHeads, removedWords, Rest, rest, droppedRows}
+use Rattle.filter.proofs.Removed.{removed-word, removed-words, removed-part, removed-slots}
 use Rattle.eit.specs.declared.Filter.{Filter}
 use Rattle.eit.specs.declared.WantedPid.{WantedPid}
 use Rattle.eit.specs.declared.WantedPid.the-variants as wanted-pid

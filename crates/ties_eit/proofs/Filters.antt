@@ -14,10 +14,10 @@ use Rattle.rules_eit.specs.Keys.{matches as keyMatches}
 use Rattle.section.specs.Eit.{within}
 use Rattle.rows.specs.declared.Key.{Key}
 use Rattle.sets.specs.Store.{bitOf}
-use Rattle.drops.specs.declared.Wanted.{Wanted}
-use Rattle.drops.specs.declared.Wanted.the-variants as wanted
-use Rattle.drops.specs.declared.Of.the-variants as of
-use Rattle.drops.specs.Drops.{wants, kindWord, matches}
+use Rattle.filter.specs.declared.Wanted.{Wanted}
+use Rattle.filter.specs.declared.Wanted.the-variants as wanted
+use Rattle.filter.specs.declared.Of.the-variants as of
+use Rattle.filter.specs.Drops.{wants, kindWord, matches}
 use Rattle.eit.specs.declared.Filter.{Filter}
 use Rattle.eit.specs.Store.{fieldsOf}
 use Rattle.ties_eit.specs.View.{pidShown, theKind, kindBy, keyShown, scheduleShown, Below, FilterFits, wantedAs, pidTest, filterShown}

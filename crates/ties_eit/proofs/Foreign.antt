@@ -13,12 +13,12 @@ use Rattle.rules_eit.specs.Keys.{Kind, presentActual, presentOther, scheduleAct
 use Rattle.rows.specs.declared.Key.{Key}
 use Rattle.rows.specs.Rows.{word, keyAt}
 use Rattle.sets.specs.Store.{bitOf}
-use Rattle.drops.specs.declared.Of.{Of}
-use Rattle.drops.specs.declared.Of.the-variants as of
-use Rattle.drops.specs.declared.Wanted.{Wanted}
-use Rattle.drops.specs.declared.Wanted.the-variants as wanted
-use Rattle.drops.specs.declared.Fields.{Fields}
-use Rattle.drops.specs.Drops.{wants, kindIn, matches, Rest, rest, droppedRow, droppedRows}
+use Rattle.filter.specs.declared.Of.{Of}
+use Rattle.filter.specs.declared.Of.the-variants as of
+use Rattle.filter.specs.declared.Wanted.{Wanted}
+use Rattle.filter.specs.declared.Wanted.the-variants as wanted
+use Rattle.filter.specs.declared.Fields.{Fields}
+use Rattle.filter.specs.Drops.{wants, kindIn, matches, Rest, rest, droppedRow, droppedRows}
 use Rattle.eit.specs.declared.Filter.{Filter}
 use Rattle.eit.specs.declared.DropAnswer.the-variants as drop-answer
 use Rattle.eit.specs.declared.inner.Drop.{Drop}

@@ -15,11 +15,11 @@ use Rattle.rows.specs.declared.Key.{Key}
 use Rattle.rows.specs.Rows.{keyAt}
 use Rattle.ages.specs.Order.{rowsSeen, Stands, movedFrom}
 use Rattle.ages.proofs.Drop.{dropped-stands, dropped-seen, retained-seen}
-use Rattle.drops.specs.declared.Of.{Of}
-use Rattle.drops.specs.declared.Of.the-variants as of
-use Rattle.drops.specs.declared.Fields.{Fields}
-use Rattle.drops.specs.Drops.{matches, widthOf, removedHeads, removedWords, Rest, removed, droppedRow, droppedRows}
-use Rattle.drops.proofs.Removed.{length-removed-heads, removed-key, removed-dropped, length-removed-words}
+use Rattle.filter.specs.declared.Of.{Of}
+use Rattle.filter.specs.declared.Of.the-variants as of
+use Rattle.filter.specs.declared.Fields.{Fields}
+use Rattle.filter.specs.Drops.{matches, widthOf, removedHeads, removedWords, Rest, removed, droppedRow, droppedRows}
+use Rattle.filter.proofs.Removed.{length-removed-heads, removed-key, removed-dropped, length-removed-words}
 
 less-width : (o : Of) (n m : ℕ) → n * widthOf o ≤ m → (n - 1) * widthOf o ≤ m
 less-width of.Sets n m h = omega arith

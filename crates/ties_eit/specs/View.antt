@@ -33,8 +33,8 @@ use Rattle.ages.specs.Slots.{heldSlots, upFrom, cellsSeen}
 use Rattle.sets.specs.Store.{bitOf}
 use Rattle.schedules.specs.Segments.{wordOf}
 use Rattle.schedules.specs.Units.{tablesOf, isPresent, unitSlots}
-use Rattle.drops.specs.declared.Wanted.{Wanted}
-use Rattle.drops.specs.declared.Wanted.the-variants as wanted
+use Rattle.filter.specs.declared.Wanted.{Wanted}
+use Rattle.filter.specs.declared.Wanted.the-variants as wanted
 use Rattle.eit.specs.declared.Filter.{Filter}
 use Rattle.eit.specs.declared.WantedPid.{WantedPid}
 use Rattle.eit.specs.declared.WantedPid.the-variants as wanted-pid

@@ -1,0 +1,191 @@
+// What a drop by filter does to the rows of a collector, sets and schedules alike (document 01, "Collectors": "sets and schedules that match
+// go"). The rows in use are the first `used`. From the last down to the first, a row that matches leaves: the last row in use takes its place,
+// and each row that was older is one younger. Words past the rows in use stay as they are, and nothing is counted.
+use rows::Key;
+ghost use mathlib.Core.Path.{_≡_};
+ghost use mathlib.Core.Bool.{Bool, true, false};
+ghost use Prim.Native.Nat.{ℕ, _+_, _-_, _*_, _<_, _≤_};
+ghost use lib.ListN.{length};
+ghost use Rattle.ages.specs.Order.{younger};
+ghost use Rattle.filter.specs.Drops.{wants, kindWord, kindIn, matches, widthOf, movedTo, youngered, removedHeads, removedWords};
+ghost use Rattle.filter.specs.Drops.{Fits, rest, droppedRow, droppedRows};
+
+// A field of a filter: free, or exactly a word.
+pub enum Wanted {
+    Any,
+    Exactly(u64),
+}
+
+// What a filter wants of each field, in the words of a head: PID 8192 is "no PID", the kinds are 0 to 3 as in a schedule's head.
+pub struct Fields {
+    pub pid: Wanted,
+    pub kind: Wanted,
+    pub service_id: Wanted,
+    pub transport_stream_id: Wanted,
+    pub original_network_id: Wanted,
+    pub current_next: Wanted,
+}
+
+// Whose rows: a set's row has 288 words and the table_id in its head, a schedule's 16 units of 288 words and the kind in the table_id's place.
+pub enum Of {
+    Sets,
+    Schedules,
+}
+
+const AGE: usize = 9;
+
+// ---- which rows match
+
+fn fits(w: Wanted, v: u64) -> bool
+    ensures { λ r. ⌜ r ≡ wants w v ⌝ }
+{
+    match w {
+        Wanted::Any => true,
+        Wanted::Exactly(x) => v == x,
+    }
+}
+
+// The kind by the table_id in a set's head; 4 where it is no EIT's.
+fn kind_word(table_id: u64) -> u64
+    ensures { λ r. ⌜ r ≡ kindWord «table_id» ⌝ }
+{
+    match table_id {
+        0x4E => 0,
+        0x4F => 1,
+        0x50..=0x5F => 2,
+        0x60..=0x6F => 3,
+        _ => 4,
+    }
+}
+
+fn kind_in(of: Of, word: u64) -> u64
+    ensures { λ r. ⌜ r ≡ kindIn of word ⌝ }
+{
+    match of {
+        Of::Sets => kind_word(word),
+        Of::Schedules => word,
+    }
+}
+
+// Whether a key has what is wanted of each field.
+pub fn matching(of: Of, f: Fields, k: Key) -> bool
+    ensures { λ r. ⌜ r ≡ matches of f k ⌝ }
+{
+    let pid = f.pid;
+    let kind = f.kind;
+    let service_id = f.service_id;
+    let transport_stream_id = f.transport_stream_id;
+    let original_network_id = f.original_network_id;
+    let current_next = f.current_next;
+    fits(pid, k.pid)
+        & fits(kind, kind_in(of, k.table_id))
+        & fits(service_id, k.extension)
+        & fits(transport_stream_id, k.transport_stream_id)
+        & fits(original_network_id, k.original_network_id)
+        & fits(current_next, k.current_next)
+}
+
+// ---- a row leaves
+
+// The words of a row.
+fn width(of: Of) -> usize
+    ensures { λ r. ⌜ r ≡ widthOf of ⌝ }
+{
+    match of {
+        Of::Sets => 288,
+        Of::Schedules => 4608,
+    }
+}
+
+// The 12 words from `from` on go in at `to`, which is not behind them.
+fn move_head(heads: &mut [u64], to: usize, from: usize)
+    requires { ⌜ (to ≤ from) × (from + 12 ≤ length (now heads)) ⌝ }
+    ensures { λ _. ⌜ now (heads .exit) ≡ movedTo to from 12 (now (heads .entry)) ⌝ }
+{
+    let mut k = 0;
+    while k < rows::HEAD_WORDS {
+        heads[to + k] = heads[from + k];
+        k += 1;
+    }
+}
+
+// The same for the n words of a row.
+fn move_words(words: &mut [u32], to: usize, from: usize, n: usize)
+    requires { ⌜ (to ≤ from) × (from + n ≤ length (now words)) ⌝ }
+    ensures { λ _. ⌜ now (words .exit) ≡ movedTo to from n (now (words .entry)) ⌝ }
+{
+    let mut k = 0;
+    while k < n {
+        words[to + k] = words[from + k];
+        k += 1;
+    }
+}
+
+fn one_younger(age: u64, a: u64) -> u64
+    ensures { λ r. ⌜ r ≡ younger a age ⌝ }
+{
+    if a < age { age - 1 } else { age }
+}
+
+// Each row in use whose age is above a is one younger.
+fn make_younger(heads: &mut [u64], used: usize, a: u64)
+    requires { ⌜ used * 12 ≤ length (now heads) ⌝ }
+    ensures { λ _. ⌜ now (heads .exit) ≡ youngered a used (now (heads .entry)) ⌝ }
+{
+    let mut n = used;
+    while n > 0 {
+        n -= 1;
+        let v = one_younger(rows::age(heads, n), a);
+        heads[n * rows::HEAD_WORDS + AGE] = v;
+    }
+}
+
+// The head of row i leaves: the last row in use takes its place.
+fn remove_head(heads: &mut [u64], used: usize, i: usize)
+    requires { ⌜ (i < used) × (used * 12 ≤ length (now heads)) ⌝ }
+    ensures { λ _. ⌜ now (heads .exit) ≡ removedHeads used i (now (heads .entry)) ⌝ }
+{
+    let a = rows::age(heads, i);
+    let last = used - 1;
+    move_head(heads, i * rows::HEAD_WORDS, last * rows::HEAD_WORDS);
+    make_younger(heads, last, a);
+}
+
+// So the words of row i.
+fn remove_words(of: Of, words: &mut [u32], used: usize, i: usize)
+    requires { ⌜ (i < used) × (used * widthOf of ≤ length (now words)) ⌝ }
+    ensures { λ _. ⌜ now (words .exit) ≡ removedWords of used i (now (words .entry)) ⌝ }
+{
+    let w = width(of);
+    let last = used - 1;
+    move_words(words, i * w, last * w, w);
+}
+
+// ---- all rows in use
+
+// Row i leaves where it matches: the rows in use from then on.
+fn drop_row(of: Of, f: Fields, heads: &mut [u64], words: &mut [u32], used: usize, i: usize) -> usize
+    requires { ⌜ (i < used) × Fits of (now heads) (now words) used ⌝ }
+    ensures { λ r. ⌜ (rest (now (heads .exit)) (now (words .exit)) r ≡ droppedRow of f i (rest (now (heads .entry)) (now (words .entry)) used)) × (i ≤ r) × (r ≤ used) ⌝ }
+{
+    if matching(of, f, rows::key_at(heads, i)) {
+        remove_head(heads, used, i);
+        remove_words(of, words, used, i);
+        return used - 1;
+    }
+    used
+}
+
+// Each row that matches leaves: the rows in use from then on.
+pub fn drop_rows(of: Of, f: Fields, heads: &mut [u64], words: &mut [u32], used: usize) -> usize
+    requires { ⌜ Fits of (now heads) (now words) used ⌝ }
+    ensures { λ r. ⌜ rest (now (heads .exit)) (now (words .exit)) r ≡ droppedRows of f used (rest (now (heads .entry)) (now (words .entry)) used) ⌝ }
+{
+    let mut left = used;
+    let mut i = used;
+    while i > 0 {
+        i -= 1;
+        left = drop_row(of, f, heads, words, left, i);
+    }
+    left
+}
