@@ -22,9 +22,9 @@ use Rattle.cells.specs.Cells.{slotWord, keptLength, cellNumber, filled, slotWho
 use Rattle.rows.specs.declared.Key.{Key}
 use Rattle.rows.specs.declared.Entry.{Entry}
 use Rattle.rows.specs.declared.Room.{Room}
-use Rattle.rows.specs.Rows.{word, slotsAt, slotCount, rowSlots, emptied, keptSlots, rowsWhole}
+use Rattle.rows.specs.Rows.{slotsAt, slotCount, rowSlots, emptied, keptSlots, rowsWhole, lastOf, ageOf}
 use Rattle.rows.proofs.Whole.{rows-get, rows-all}
-use Rattle.ages.specs.Order.{ageOf, rowsSeen, Ages}
+use Rattle.ages.specs.Order.{rowsSeen, Ages}
 use Rattle.ages.specs.Slots.{heldOf, heldSlots}
 use Rattle.ages.proofs.Ages.{order-every, every-order}
 
@@ -133,7 +133,7 @@ abbrev slotsOf : List ℕ → ℕ → ℕ → List ℕ
 slotsOf slots i n = take n (drop (slotsAt i) slots)
 
 -- the row's last_section_number is all that its slots know of its head
-pub slots-same : (heads heads′ slots : List ℕ) (i : ℕ) → word heads′ i 7 ≡ word heads i 7 → rowSlots heads′ slots i ≡ rowSlots heads slots i
+pub slots-same : (heads heads′ slots : List ℕ) (i : ℕ) → lastOf heads′ i ≡ lastOf heads i → rowSlots heads′ slots i ≡ rowSlots heads slots i
 unfolding rowSlots
 slots-same heads heads′ slots i e = rw e
 
@@ -165,23 +165,23 @@ module _ (r : Room) (e : Entry) (w : ℕ) (slots : List ℕ) (long : r .row * 28
       go false = refl
 
   -- the slots of another row
-  pub other-slots : (heads heads′ : List ℕ) (j : ℕ) → j ≢ r .row → word heads′ j 7 ≡ word heads j 7 → rowSlots heads′ (keptSlots r e w slots) j ≡ rowSlots heads slots j
+  pub other-slots : (heads heads′ : List ℕ) (j : ℕ) → j ≢ r .row → lastOf heads′ j ≡ lastOf heads j → rowSlots heads′ (keptSlots r e w slots) j ≡ rowSlots heads slots j
   unfolding rowSlots
-  other-slots heads heads′ j ne q = rw q (slots-beside (slotsAt j) (slotCount (word heads j 7)) (side (decLe (suc j) (r .row))))
+  other-slots heads heads′ j ne q = rw q (slots-beside (slotsAt j) (slotCount (lastOf heads j)) (side (decLe (suc j) (r .row))))
     where
-      side : Dec (suc j ≤ r .row) → (slotsAt j + slotCount (word heads j 7) ≤ slotsAt (r .row)) ⊎ (r .row * 288 + 288 ≤ slotsAt j)
+      side : Dec (suc j ≤ r .row) → (slotsAt j + slotCount (lastOf heads j) ≤ slotsAt (r .row)) ⊎ (r .row * 288 + 288 ≤ slotsAt j)
       side (yes l) = inl (omega arith)
       side (no l) = inr (omega arith)
 
   -- the row's own, where it goes on
-  pub own-slots : (heads heads′ : List ℕ) → r .fresh ≡ false → word heads (r .row) 7 ≡ e .last → word heads′ (r .row) 7 ≡ e .last
+  pub own-slots : (heads heads′ : List ℕ) → r .fresh ≡ false → lastOf heads (r .row) ≡ e .last → lastOf heads′ (r .row) ≡ e .last
       → rowSlots heads′ (keptSlots r e w slots) (r .row) ≡ set (rowSlots heads slots (r .row)) (e .number) w
   unfolding rowSlots keptSlots
   own-slots heads heads′ f p q =
       rw (f, p, q, drop-set-add (slotsAt (r .row)) slots (e .number) w) (take-set-lt (slotCount (e .last)) (drop (slotsAt (r .row)) slots) (e .number) w (omega arith))
 
   -- and where it begins anew
-  pub fresh-slots : (heads′ : List ℕ) → r .fresh ≡ true → word heads′ (r .row) 7 ≡ e .last → rowSlots heads′ (keptSlots r e w slots) (r .row) ≡ set (replicate (suc (e .last)) 0) (e .number) w
+  pub fresh-slots : (heads′ : List ℕ) → r .fresh ≡ true → lastOf heads′ (r .row) ≡ e .last → rowSlots heads′ (keptSlots r e w slots) (r .row) ≡ set (replicate (suc (e .last)) 0) (e .number) w
   unfolding rowSlots keptSlots
   fresh-slots heads′ f q =
       let es : List ℕ = emptied (slotsAt (r .row)) (e .last + 1) slots in

@@ -19,8 +19,8 @@ use Rattle.rules_shared.specs.Touch.{Rows, TouchOrder, Entry, under, find, some
 use Rattle.rules_shared.proofs.All.{held-stays, new-below, new-at}
 use Rattle.rows.specs.declared.Key.{Key}
 use Rattle.rows.specs.declared.Room.{Room}
-use Rattle.rows.specs.Rows.{word, keyAt, sameKey, rowOf, elderOf, oldestOf, older, roomRenewed, roomNew}
-use Rattle.ages.specs.Order.{ageOf, inOrder, rowsSeen, orderSeen, Ages, Stands, Goes, known, added, evicted, Touched}
+use Rattle.rows.specs.Rows.{keyAt, sameKey, rowOf, elderOf, oldestOf, older, roomRenewed, roomNew, ageOf}
+use Rattle.ages.specs.Order.{inOrder, rowsSeen, orderSeen, Ages, Stands, Goes, known, added, evicted, Touched}
 use Rattle.ages.proofs.Ages.{length-order, Aged, ages-none, ages-touched, without, touched-order, ages-more, more-without, known-found, known-removed, new-found, oldest-gone, order-none, none-order}
 
 -- ---- six words are a key
@@ -68,35 +68,35 @@ module _ (heads : List ℕ) (key : Key) (used : ℕ) where
 
 -- ---- the oldest row
 
-elder-at : (heads : List ℕ) (b n j : ℕ) → word heads j 9 ≤ word heads b 9 → word heads j 9 ≤ word heads (elderOf heads b n) 9
+elder-at : (heads : List ℕ) (b n j : ℕ) → ageOf heads j ≤ ageOf heads b → ageOf heads j ≤ ageOf heads (elderOf heads b n)
 unfolding elderOf
-elder-at heads b n j h = go (ltb (word heads b 9) (word heads n 9)) refl
+elder-at heads b n j h = go (ltb (ageOf heads b) (ageOf heads n)) refl
   where
-    go : (t : Bool) → ltb (word heads b 9) (word heads n 9) ≡ t → word heads j 9 ≤ word heads (cond t n b) 9
-    go true e = let l : word heads b 9 < word heads n 9 = ltb-true _ _ e in omega arith
+    go : (t : Bool) → ltb (ageOf heads b) (ageOf heads n) ≡ t → ageOf heads j ≤ ageOf heads (cond t n b)
+    go true e = let l : ageOf heads b < ageOf heads n = ltb-true _ _ e in omega arith
     go false e = h
 
-elder-last : (heads : List ℕ) (b n : ℕ) → word heads n 9 ≤ word heads (elderOf heads b n) 9
+elder-last : (heads : List ℕ) (b n : ℕ) → ageOf heads n ≤ ageOf heads (elderOf heads b n)
 unfolding elderOf
-elder-last heads b n = go (ltb (word heads b 9) (word heads n 9)) refl
+elder-last heads b n = go (ltb (ageOf heads b) (ageOf heads n)) refl
   where
-    go : (t : Bool) → ltb (word heads b 9) (word heads n 9) ≡ t → word heads n 9 ≤ word heads (cond t n b) 9
+    go : (t : Bool) → ltb (ageOf heads b) (ageOf heads n) ≡ t → ageOf heads n ≤ ageOf heads (cond t n b)
     go true e = omega arith
     go false e = ltb-false _ _ e
 
-oldest-most : (heads : List ℕ) (n j : ℕ) → j < n → word heads j 9 ≤ word heads (oldestOf heads n) 9
+oldest-most : (heads : List ℕ) (n j : ℕ) → j < n → ageOf heads j ≤ ageOf heads (oldestOf heads n)
 unfolding oldestOf
 oldest-most heads zero j h = absurd (not-suc-le-zero h)
 oldest-most heads (suc n) j h = go (ℕ-discrete j n) (λ q. oldest-most heads n j q)
   where
-    go : Dec (j ≡ n) → (j < n → word heads j 9 ≤ word heads (oldestOf heads n) 9) → word heads j 9 ≤ word heads (elderOf heads (oldestOf heads n) n) 9
+    go : Dec (j ≡ n) → (j < n → ageOf heads j ≤ ageOf heads (oldestOf heads n)) → ageOf heads j ≤ ageOf heads (elderOf heads (oldestOf heads n) n)
     go (yes q) ih = rw q (elder-last heads (oldestOf heads n) n)
     go (no d) ih = elder-at heads (oldestOf heads n) n j (ih (omega arith))
 
 pub oldest-below : (heads : List ℕ) (n : ℕ) → 0 < n → oldestOf heads n < n
 unfolding oldestOf elderOf
 oldest-below heads zero h = h
-oldest-below heads (suc n) h = go (ltb (word heads (oldestOf heads n) 9) (word heads n 9)) (ℕ-discrete n 0) (λ l. oldest-below heads n l)
+oldest-below heads (suc n) h = go (ltb (ageOf heads (oldestOf heads n)) (ageOf heads n)) (ℕ-discrete n 0) (λ l. oldest-below heads n l)
   where
     go : (b : Bool) → Dec (n ≡ 0) → (0 < n → oldestOf heads n < n) → cond b n (oldestOf heads n) < suc n
     go true d ih = omega arith
@@ -107,10 +107,10 @@ oldest-below heads (suc n) h = go (ltb (word heads (oldestOf heads n) 9) (word h
 pub oldest-age : (heads : List ℕ) (used : ℕ) → Ages (ageOf heads) used → 0 < used → ageOf heads (oldestOf heads used) ≡ used - 1
 oldest-age heads used w h =
     let o : ℕ = oldestOf heads used in
-    let l : word heads o 9 < used = w .below o (oldest-below heads used h) in
+    let l : ageOf heads o < used = w .below o (oldest-below heads used h) in
     let r = w .row (used - 1) (omega arith) in
-    let m : word heads (r .0) 9 ≤ word heads o 9 = oldest-most heads used (r .0) (r .1) in
-    let e : word heads (r .0) 9 ≡ used - 1 = r .2 in
+    let m : ageOf heads (r .0) ≤ ageOf heads o = oldest-most heads used (r .0) (r .1) in
+    let e : ageOf heads (r .0) ≡ used - 1 = r .2 in
     omega arith
 
 -- ---- where a key goes, as the code finds it
@@ -126,7 +126,7 @@ unfolding roomNew
 goes-new heads limit used evictions key h l = go (ltb used limit) refl
   where
     room : Bool → Room
-    room b = cond b (roomRenewed (used + 1) evictions used used) (roomRenewed used (evictions + 1) (oldestOf heads used) (word heads (oldestOf heads used) 9))
+    room b = cond b (roomRenewed (used + 1) evictions used used) (roomRenewed used (evictions + 1) (oldestOf heads used) (ageOf heads (oldestOf heads used)))
 
     go : (b : Bool) → ltb used limit ≡ b → Goes heads limit used evictions key ((room b) .row) ((room b) .age) ((room b) .used) ((room b) .evictions)
     go true e = added (no-row-has-key heads key used h) (ltb-true used limit e)

@@ -10,9 +10,9 @@ use lib.ListN.{length}
 use Rattle.rows.specs.declared.Key.{Key}
 use Rattle.rows.specs.declared.Entry.{Entry}
 use Rattle.rows.specs.declared.Room.{Room}
-use Rattle.rows.specs.Rows.{word, put, keyAt, touched, freshHead, keptHeads}
+use Rattle.rows.specs.Rows.{word, put, keyAt, touched, freshHead, keptHeads, markOf, withMark, ageOf}
 use Rattle.rows.proofs.Words.{put-same, put-not, touched-not, touched-newest, touched-other, fresh-word, kept-fresh}
-use Rattle.ages.specs.Order.{ageOf, Touched}
+use Rattle.ages.specs.Order.{Touched}
 
 -- six words that are the same are the same key
 pub key-same : (h h′ : List ℕ) (i : ℕ) → ((m : ℕ) → m < 6 → word h′ i m ≡ word h i m) → keyAt h′ i ≡ keyAt h i
@@ -59,10 +59,10 @@ module _ (r : Room) (e : Entry) (h : List ℕ) (l : r .row * 12 + 12 ≤ length 
       )
 
   -- "A new section clears the mark"
-  pub kept-unmarked : word (keptHeads r e h) (r .row) 8 ≡ 0
+  pub kept-unmarked : markOf (keptHeads r e h) (r .row) ≡ 0
   unfolding keptHeads
   kept-unmarked = go (r .fresh)
     where
-      go : (b : Bool) → word (cond b (freshHead (r .row) e (r .age) h) (put (r .row) 8 0 h)) (r .row) 8 ≡ 0
+      go : (b : Bool) → markOf (cond b (freshHead (r .row) e (r .age) h) (withMark (r .row) 0 h)) (r .row) ≡ 0
       go true = fresh-word (r .row) e (r .age) h l 8 (omega arith)
       go false = put-same h (r .row) 8 0 (omega arith)

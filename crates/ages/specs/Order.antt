@@ -10,16 +10,12 @@ use lib.Dec.{eqb, ltb}
 use Rattle.laws.specs.Lists.{firstFrom}
 use Rattle.rules_shared.specs.Touch.{Rows, TouchOrder, under}
 use Rattle.rows.specs.declared.Key.{Key}
-use Rattle.rows.specs.Rows.{word, keyAt, oldestOf, older}
+use Rattle.rows.specs.Rows.{keyAt, oldestOf, older, ageOf}
 
 -- f (n - 1), and so on down to f 0
 unfoldable pub downFrom : {A : Type 0} → (ℕ → A) → ℕ → List A
 downFrom f zero = []
 downFrom f (suc n) = f n ∷ downFrom f n
-
--- the age of row i
-abbrev pub ageOf : List ℕ → ℕ → ℕ
-ageOf heads i = word heads i 9
 
 -- of the first n rows the first whose age is a, `age` giving each row's
 abbrev pub rowOfAge : (age : ℕ → ℕ) → (n a : ℕ) → ℕ

@@ -8,7 +8,7 @@ use native.Mathlib.Omega.{arith}
 use borrow.Author.Tests.{eq-eqb, ne-eqb, lt-ltb, le-ltb, ltb-true, ltb-false}
 use lib.Dec.{eqb, ltb}
 use lib.ListN.{length}
-use Rattle.rows.specs.Rows.{word, oldestOf, rowOf, touched, roomIn, roomRenewed, roomNew, keptHeads}
+use Rattle.rows.specs.Rows.{oldestOf, rowOf, touched, roomIn, roomRenewed, roomNew, keptHeads, ageOf, lastOf}
 use Rattle.rows.specs.declared.Key.{Key}
 use Rattle.rows.specs.declared.Entry.{Entry}
 use Rattle.rows.specs.declared.Room.{Room}
@@ -19,12 +19,12 @@ use Rattle.berths.specs.Berths.{BerthOk, knownBerth, berthOf, berthedHea
 
 -- ---- which schedule
 
-module _ (heads : List ℕ) (held evictions : ℕ) (e : Entry) (k l : ℕ) (r : Room) (p : l ≡ word heads k 7) where
+module _ (heads : List ℕ) (held evictions : ℕ) (e : Entry) (k l : ℕ) (r : Room) (p : l ≡ lastOf heads k) where
   pub known-same : l ≡ e .last → r ≡ roomIn held evictions k → _≡_ {A = Berth} (record { room = r; refill = false }) (knownBerth heads held evictions e k)
   unfolding knownBerth
   known-same h q = rw (← p, eq-eqb l (e .last) h, q)
 
-  pub known-other : (a : ℕ) → (l ≡ e .last → ⊥) → a ≡ word heads k 9 → r ≡ roomRenewed held evictions k a → _≡_ {A = Berth} (record { room = r; refill = true }) (knownBerth heads held evictions e k)
+  pub known-other : (a : ℕ) → (l ≡ e .last → ⊥) → a ≡ ageOf heads k → r ≡ roomRenewed held evictions k a → _≡_ {A = Berth} (record { room = r; refill = true }) (knownBerth heads held evictions e k)
   unfolding knownBerth
   known-other a h f q = rw (← p, ne-eqb l (e .last) h, q, f)
 
@@ -40,9 +40,9 @@ module _ (heads : List ℕ) (limit held evictions : ℕ) (e : Entry) (k : ℕ) (
 module _ (heads : List ℕ) (limit held evictions : ℕ) (e : Entry) (z : 0 < limit) (f : held ≤ limit) where
   known-ok : (k : ℕ) → k < held → BerthOk limit (knownBerth heads held evictions e k)
   unfolding knownBerth
-  known-ok k h = go (eqb (word heads k 7) (e .last))
+  known-ok k h = go (eqb (lastOf heads k) (e .last))
     where
-      go : (b : Bool) → BerthOk limit (cond b (record { room = roomIn held evictions k; refill = false }) (record { room = roomRenewed held evictions k (word heads k 9); refill = true }))
+      go : (b : Bool) → BerthOk limit (cond b (record { room = roomIn held evictions k; refill = false }) (record { room = roomRenewed held evictions k (ageOf heads k); refill = true }))
       go true = record { row = h; room = f }
       go false = record { row = h; room = f }
 
@@ -53,7 +53,7 @@ module _ (heads : List ℕ) (limit held evictions : ℕ) (e : Entry) (z : 0 < li
       o : ℕ
       o = oldestOf heads held
 
-      go : (b : Bool) → ltb held limit ≡ b → BerthOk limit (record { room = cond b (roomRenewed (held + 1) evictions held held) (roomRenewed held (evictions + 1) o (word heads o 9)); refill = false })
+      go : (b : Bool) → ltb held limit ≡ b → BerthOk limit (record { room = cond b (roomRenewed (held + 1) evictions held held) (roomRenewed held (evictions + 1) o (ageOf heads o)); refill = false })
       go true q = let h : held < limit = ltb-true held limit q in record { row = omega arith; room = omega arith }
       go false q =
           let h : limit ≤ held = ltb-false held limit q in

@@ -5,7 +5,7 @@ use Prim.Native.Nat.{ℕ, _+_, _-_, _*_, _%_, _≤_, _<_, min}
 use mathlib.Core.List.{List}
 use mathlib.Core.Bool.{Bool, true, false, cond, _&&_}
 use lib.Dec.{ltb, eqb}
-use Rattle.rows.specs.Rows.{word, rowOf, touched, roomIn, roomRenewed, roomNew, keptHeads}
+use Rattle.rows.specs.Rows.{rowOf, touched, roomIn, roomRenewed, roomNew, keptHeads, ageOf, lastOf}
 use Rattle.rows.specs.declared.Key.{Key}
 use Rattle.rows.specs.declared.Entry.{Entry}
 use Rattle.rows.specs.declared.Room.{Room}
@@ -15,9 +15,9 @@ use Rattle.berths.specs.declared.Berth.{Berth}
 -- the schedule of row k has the key: "If last_table_id differs .., that row is emptied first and refilled"
 unfoldable pub knownBerth : List ℕ → ℕ → ℕ → Entry → ℕ → Berth
 knownBerth heads held evictions e k =
-    cond (eqb (word heads k 7) (e .last))
+    cond (eqb (lastOf heads k) (e .last))
     (record { room = roomIn held evictions k; refill = false })
-    (record { room = roomRenewed held evictions k (word heads k 9); refill = true })
+    (record { room = roomRenewed held evictions k (ageOf heads k); refill = true })
 
 -- of the first `held` schedules the one of that key, or a new one, which is not refilled
 unfoldable pub berthOf : List ℕ → ℕ → ℕ → ℕ → Entry → Berth

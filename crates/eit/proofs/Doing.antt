@@ -11,7 +11,7 @@ use lib.Dec.{eqb, ltb}
 use lib.ListN.{length, set, length-set}
 use lib.Seq.{paste}
 use Rattle.cells.specs.Cells.{slotWord}
-use Rattle.rows.specs.Rows.{word, put, older, aged, touched, keptHeads}
+use Rattle.rows.specs.Rows.{older, aged, touched, keptHeads, ageOf, markOf, withAge, withMark}
 use Rattle.rows.specs.declared.Key.{Key}
 use Rattle.rows.specs.declared.Entry.{Entry}
 use Rattle.rows.specs.declared.Room.{Room}
@@ -38,7 +38,7 @@ entry-made a k e = rw e
 
 -- ---- the course of a set
 
-module _ (heads slots : List ℕ) (a : Arrival) (i m : ℕ) (p : m ≡ word heads i 8) where
+module _ (heads slots : List ℕ) (a : Arrival) (i m : ℕ) (p : m ≡ markOf heads i) where
   pub course-marked : (m ≡ 0 → ⊥) → course.Stay ≡ courseOf heads slots a i
   unfolding courseOf
   course-marked h = rw (← p, ne-eqb m 0 h)
@@ -63,7 +63,7 @@ module _ (heads slots : List ℕ) (a : Arrival) (i m : ℕ) (p : m ≡ word head
 -- a set goes into a schedule only where its table_id is in range
 pub in-range : (heads slots : List ℕ) (a : Arrival) (i : ℕ) → courseOf heads slots a i ≡ course.Shelve → a .entry .key .«table_id» ≤ a .tables
 unfolding courseOf
-in-range heads slots a i e = go (eqb (word heads i 8) 0 && setComplete heads slots i) (ltb (a .kind) 2) (ltb (a .tables) (a .entry .key .«table_id»)) refl e
+in-range heads slots a i e = go (eqb (markOf heads i) 0 && setComplete heads slots i) (ltb (a .kind) 2) (ltb (a .tables) (a .entry .key .«table_id»)) refl e
   where
     go : (x y w : Bool) → ltb (a .tables) (a .entry .key .«table_id») ≡ w → cond x (cond y course.Out (cond w course.Range course.Shelve)) course.Stay ≡ course.Shelve → a .entry .key .«table_id» ≤ a .tables
     go true true w q f = let z : _≡_ {A = ℕ} 0 1 = cc in omega arith
@@ -111,7 +111,7 @@ module _ (e : Eit) (heads slots tops units : List ℕ) (a : Arrival) (i : ℕ) (
   unfolding settled
   settle-stay t = rw (← p, ← q, t)
 
-  pub settle-out : (h' : List ℕ) → c ≡ course.Out → h' ≡ put i 8 1 h → _≡_ {A = Shelf} (record { answer = Set i; eit = e; heads = h'; schedule-heads = tops; units = units }) (settled e heads slots tops units a i)
+  pub settle-out : (h' : List ℕ) → c ≡ course.Out → h' ≡ withMark i 1 h → _≡_ {A = Shelf} (record { answer = Set i; eit = e; heads = h'; schedule-heads = tops; units = units }) (settled e heads slots tops units a i)
   unfolding settled
   settle-out h' t f = rw (← p, ← q, t, f)
 
@@ -119,21 +119,21 @@ module _ (e : Eit) (heads slots tops units : List ℕ) (a : Arrival) (i : ℕ) (
   unfolding settled
   settle-range t = rw (← p, ← q, t)
 
-  pub settle-shelve : (h' : List ℕ) (l : Shelf) → c ≡ course.Shelve → h' ≡ put i 8 1 h → l ≡ shelved e h' slots tops units a i → l ≡ settled e heads slots tops units a i
+  pub settle-shelve : (h' : List ℕ) (l : Shelf) → c ≡ course.Shelve → h' ≡ withMark i 1 h → l ≡ shelved e h' slots tops units a i → l ≡ settled e heads slots tops units a i
   unfolding settled
   settle-shelve h' l t f g = rw (← p, ← q, t, ← f) g
 
 length-aged : (a n : ℕ) (heads : List ℕ) → length (aged a n heads) ≡ length heads
 unfolding aged
 length-aged a zero heads = refl
-length-aged a (suc n) heads = length-aged a n (put n 9 (older a (word heads n 9)) heads) ∙ length-set heads (n * 12 + 9) (older a (word heads n 9))
+length-aged a (suc n) heads = length-aged a n (withAge n (older a (ageOf heads n)) heads) ∙ length-set heads (n * 12 + 9) (older a (ageOf heads n))
 
 length-touched : (used i : ℕ) (heads : List ℕ) → length (touched used i heads) ≡ length heads
 unfolding touched
-length-touched used i heads = length-set (aged (word heads i 9) used heads) (i * 12 + 9) 0 ∙ length-aged (word heads i 9) used heads
+length-touched used i heads = length-set (aged (ageOf heads i) used heads) (i * 12 + 9) 0 ∙ length-aged (ageOf heads i) used heads
 
 pub shelve-may : (e : Eit) (heads slots tops units : List ℕ) (a : Arrival) (i : ℕ) (h h' : List ℕ) (c : Course) → SettleOk e heads slots tops units i → h ≡ touched (e .used) i heads → c ≡ courseOf h slots a i
-    → c ≡ course.Shelve → h' ≡ put i 8 1 h → ShelveOk e h' slots tops units a i
+    → c ≡ course.Shelve → h' ≡ withMark i 1 h → ShelveOk e h' slots tops units a i
 shelve-may e heads slots tops units a i h h' c o p q t f =
     let l : length h' ≡ length heads = ap length f ∙ length-set h (i * 12 + 8) 1 ∙ ap length p ∙ length-touched (e .used) i heads in
     record {

@@ -19,7 +19,7 @@ use Rattle.section.specs.declared.eit.Reading.{Reading}
 use Rattle.section.specs.declared.eit.Reading.the-variants as reading
 use Rattle.section.specs.declared.ids.MaybePid.{MaybePid}
 use Rattle.cells.specs.Cells.{slotWord, filled, nextFilled, lowestFree, kept}
-use Rattle.rows.specs.Rows.{word, put, keyAt, touched, goneRow, keptHeads, rowSlots}
+use Rattle.rows.specs.Rows.{word, keyAt, touched, goneRow, keptHeads, rowSlots, lastOf, markOf, versionOf, withMark}
 use Rattle.rows.specs.declared.Key.{Key}
 use Rattle.rows.specs.declared.Entry.{Entry}
 use Rattle.rows.specs.declared.Room.{Room}
@@ -126,8 +126,8 @@ unfoldable pub setOut : Store → ℕ → SetOut
 setOut s i = record {
   row = i;
   key = keyAt (s .heads) i;
-  version = word (s .heads) i 6;
-  last = word (s .heads) i 7;
+  version = versionOf (s .heads) i;
+  last = lastOf (s .heads) i;
   sections = map (kept (s .cells) (s .eit .size)) (filledSlots (rowSlots (s .heads) (s .slots) i));
 }
 
@@ -152,8 +152,8 @@ unfoldable pub scheduleOut : Store → ℕ → ScheduleOut
 scheduleOut s k = record {
   row = k;
   key = keyAt (s .schedule-heads) k;
-  last = word (s .schedule-heads) k 7;
-  tables = tablesOut s (k * 16) (min (word (s .schedule-heads) k 7 - firstOfKind (word (s .schedule-heads) k 1)) 15 + 1);
+  last = lastOf (s .schedule-heads) k;
+  tables = tablesOut s (k * 16) (min (lastOf (s .schedule-heads) k - firstOfKind (word (s .schedule-heads) k 1)) 15 + 1);
 }
 
 abbrev pub pushNumber : PushAnswer → ℕ
@@ -434,7 +434,7 @@ planOf s pid bytes = cond (wholeOf s) (cond (countersFull (s .eit)) (plan.Refuse
 -- table_id exceeds the arriving section's last_table_id is refused (23)", and any other goes into its schedule
 unfoldable pub courseOf : List ℕ → List ℕ → Arrival → ℕ → Course
 courseOf heads slots a i =
-    cond (eqb (word heads i 8) 0 && setComplete heads slots i)
+    cond (eqb (markOf heads i) 0 && setComplete heads slots i)
     (cond (ltb (a .kind) 2) course.Out
     (cond (ltb (a .tables) (a .entry .key .«table_id»)) course.Range course.Shelve))
     course.Stay
@@ -468,9 +468,9 @@ shelved e heads slots tops units a i =
 
 abbrev pub settledBy : Course → Eit → List ℕ → List ℕ → List ℕ → List ℕ → Arrival → ℕ → Shelf
 settledBy course.Stay e heads slots tops units a i = record { answer = Nothing; eit = e; heads = heads; schedule-heads = tops; units = units }
-settledBy course.Out e heads slots tops units a i = record { answer = Set i; eit = e; heads = put i 8 1 heads; schedule-heads = tops; units = units }
+settledBy course.Out e heads slots tops units a i = record { answer = Set i; eit = e; heads = withMark i 1 heads; schedule-heads = tops; units = units }
 settledBy course.Range e heads slots tops units a i = record { answer = Range; eit = e; heads = heads; schedule-heads = tops; units = units }
-settledBy course.Shelve e heads slots tops units a i = shelved e (put i 8 1 heads) slots tops units a i
+settledBy course.Shelve e heads slots tops units a i = shelved e (withMark i 1 heads) slots tops units a i
 
 -- row i becomes the newest, and takes its course
 unfoldable pub settled : Eit → List ℕ → List ℕ → List ℕ → List ℕ → Arrival → ℕ → Shelf

@@ -12,7 +12,7 @@ use lib.ListN.{length, getD, take, drop, set, length-drop}
 use lib.Seq.{paste, getD-take, getD-drop, length-take-le}
 use Rattle.laws.proofs.Lists.{paste-past, paste-turn, paste-end}
 use Rattle.rows.specs.declared.Key.{Key}
-use Rattle.rows.specs.Rows.{word, put, keyAt}
+use Rattle.rows.specs.Rows.{keyAt, ageOf, withAge}
 use Rattle.ages.specs.Order.{younger}
 use Rattle.filter.specs.declared.Wanted.{Wanted}
 use Rattle.filter.specs.declared.Wanted.the-variants as wanted
@@ -96,7 +96,7 @@ one-less age a h = rw (lt-ltb a age h)
 pub none-less : (age a : ℕ) → age ≤ a → age ≡ younger a age
 none-less age a h = rw (le-ltb a age h)
 
-pub younger-turn : (a used n : ℕ) (h₀ h h′ : List ℕ) (w v : ℕ) → 0 < n → w ≡ word h (n - 1) 9 → v ≡ younger a w → h′ ≡ put (n - 1) 9 v h → youngered a used h₀ ≡ youngered a n h
+pub younger-turn : (a used n : ℕ) (h₀ h h′ : List ℕ) (w v : ℕ) → 0 < n → w ≡ ageOf h (n - 1) → v ≡ younger a w → h′ ≡ withAge (n - 1) v h → youngered a used h₀ ≡ youngered a n h
     → youngered a used h₀ ≡ youngered a (n - 1) h′
 unfolding youngered
 younger-turn a used n h₀ h h′ w v p e f g q = q ∙ ap (λ (k : ℕ). youngered a k h) (before n p) ∙ rw (g, f, e)
@@ -107,7 +107,7 @@ younger-end a used n h₀ h p q = let s : n ≡ 0 = omega arith in sym (q ∙ rw
 
 -- ---- a row leaves
 
-pub head-removed : (used i a : ℕ) (h h′ h″ : List ℕ) → a ≡ word h i 9 → h′ ≡ movedTo (i * 12) ((used - 1) * 12) 12 h → h″ ≡ youngered a (used - 1) h′ → h″ ≡ removedHeads used i h
+pub head-removed : (used i a : ℕ) (h h′ h″ : List ℕ) → a ≡ ageOf h i → h′ ≡ movedTo (i * 12) ((used - 1) * 12) 12 h → h″ ≡ youngered a (used - 1) h′ → h″ ≡ removedHeads used i h
 unfolding removedHeads
 head-removed used i a h h′ h″ e p q = rw (← e, ← p) q
 

@@ -15,9 +15,9 @@ use lib.ListN.{length, getD, take, drop, length-drop}
 use lib.Seq.{paste, getD-take, getD-drop, length-take-le, length-paste, ext-getD}
 use Rattle.laws.proofs.Lists.{paste-past, paste-before, paste-in}
 use Rattle.rows.specs.declared.Key.{Key}
-use Rattle.rows.specs.Rows.{word, put, keyAt, slotCount, rowSlots}
+use Rattle.rows.specs.Rows.{word, keyAt, slotCount, rowSlots, ageOf, lastOf, withAge}
 use Rattle.rows.proofs.Words.{put-same, put-row, put-not, length-put}
-use Rattle.ages.specs.Order.{ageOf, movedFrom, younger, Dropped}
+use Rattle.ages.specs.Order.{movedFrom, younger, Dropped}
 use Rattle.filter.specs.declared.Of.{Of}
 use Rattle.filter.specs.declared.Of.the-variants as of
 use Rattle.filter.specs.Drops.{widthOf, movedTo, youngered, removedHeads, removedWords}
@@ -101,51 +101,51 @@ module _ (w used i : ℕ) (xs : List ℕ) (hi : i < used) (l : used * w ≤ leng
 pub length-youngered : (a n : ℕ) (h : List ℕ) → length (youngered a n h) ≡ length h
 unfolding youngered
 length-youngered a zero h = refl
-length-youngered a (suc n) h = length-youngered a n (put n 9 (younger a (word h n 9)) h) ∙ length-put n 9 (younger a (word h n 9)) h
+length-youngered a (suc n) h = length-youngered a n (withAge n (younger a (ageOf h n)) h) ∙ length-put n 9 (younger a (ageOf h n)) h
 
 youngered-not : (a n : ℕ) (h : List ℕ) (j m : ℕ) → m ≢ 9 → m < 12 → word (youngered a n h) j m ≡ word h j m
 unfolding youngered
 youngered-not a zero h j m ne l = refl
-youngered-not a (suc n) h j m ne l = youngered-not a n (put n 9 (younger a (word h n 9)) h) j m ne l ∙ put-not h n 9 (younger a (word h n 9)) j m ne (omega arith) l
+youngered-not a (suc n) h j m ne l = youngered-not a n (withAge n (younger a (ageOf h n)) h) j m ne l ∙ put-not h n 9 (younger a (ageOf h n)) j m ne (omega arith) l
 
-youngered-past : (a n : ℕ) (h : List ℕ) (j : ℕ) → n ≤ j → word (youngered a n h) j 9 ≡ word h j 9
+youngered-past : (a n : ℕ) (h : List ℕ) (j : ℕ) → n ≤ j → ageOf (youngered a n h) j ≡ ageOf h j
 unfolding youngered
 youngered-past a zero h j l = refl
 youngered-past a (suc n) h j l =
-    youngered-past a n (put n 9 (younger a (word h n 9)) h) j (omega arith) ∙ put-row h n 9 (younger a (word h n 9)) j 9 (omega arith) (omega arith) (omega arith)
+    youngered-past a n (withAge n (younger a (ageOf h n)) h) j (omega arith) ∙ put-row h n 9 (younger a (ageOf h n)) j 9 (omega arith) (omega arith) (omega arith)
 
-youngered-age : (a n : ℕ) (h : List ℕ) (j : ℕ) → n * 12 ≤ length h → j < n → word (youngered a n h) j 9 ≡ younger a (word h j 9)
+youngered-age : (a n : ℕ) (h : List ℕ) (j : ℕ) → n * 12 ≤ length h → j < n → ageOf (youngered a n h) j ≡ younger a (ageOf h j)
 unfolding youngered
 youngered-age a zero h j l k = absurd (not-suc-le-zero k)
 youngered-age a (suc n) h j l k =
-    let v : ℕ = younger a (word h n 9) in
-    let e : length (put n 9 v h) ≡ length h = length-put n 9 v h in
-    go (ℕ-discrete j n) (λ q. youngered-age a n (put n 9 v h) j (omega arith) q)
+    let v : ℕ = younger a (ageOf h n) in
+    let e : length (withAge n v h) ≡ length h = length-put n 9 v h in
+    go (ℕ-discrete j n) (λ q. youngered-age a n (withAge n v h) j (omega arith) q)
   where
-    go : Dec (j ≡ n) → (j < n → word (youngered a n (put n 9 (younger a (word h n 9)) h)) j 9 ≡ younger a (word (put n 9 (younger a (word h n 9)) h) j 9))
-        → word (youngered a n (put n 9 (younger a (word h n 9)) h)) j 9 ≡ younger a (word h j 9)
+    go : Dec (j ≡ n) → (j < n → ageOf (youngered a n (withAge n (younger a (ageOf h n)) h)) j ≡ younger a (ageOf (withAge n (younger a (ageOf h n)) h) j))
+        → ageOf (youngered a n (withAge n (younger a (ageOf h n)) h)) j ≡ younger a (ageOf h j)
     go (yes q) ih =
-        let v : ℕ = younger a (word h n 9) in
-        youngered-past a n (put n 9 v h) j (omega arith) ∙ ap (λ (z : ℕ). word (put n 9 v h) z 9) q ∙ put-same h n 9 v (omega arith) ∙ ap (λ (z : ℕ). younger a (word h z 9)) (sym q)
-    go (no d) ih = ih (omega arith) ∙ ap (younger a) (put-row h n 9 (younger a (word h n 9)) j 9 d (omega arith) (omega arith))
+        let v : ℕ = younger a (ageOf h n) in
+        youngered-past a n (withAge n v h) j (omega arith) ∙ ap (λ (z : ℕ). ageOf (withAge n v h) z) q ∙ put-same h n 9 v (omega arith) ∙ ap (λ (z : ℕ). younger a (ageOf h z)) (sym q)
+    go (no d) ih = ih (omega arith) ∙ ap (younger a) (put-row h n 9 (younger a (ageOf h n)) j 9 d (omega arith) (omega arith))
 
 -- ---- heads
 
 module _ (used i : ℕ) (h : List ℕ) (hi : i < used) (l : used * 12 ≤ length h) where
   pub length-removed-heads : length (removedHeads used i h) ≡ length h
   unfolding removedHeads
-  length-removed-heads = length-youngered (word h i 9) (used - 1) (movedTo (i * 12) ((used - 1) * 12) 12 h) ∙ length-shifted 12 used i h hi l
+  length-removed-heads = length-youngered (ageOf h i) (used - 1) (movedTo (i * 12) ((used - 1) * 12) 12 h) ∙ length-shifted 12 used i h hi l
 
   -- each word of a head but its age
   pub removed-word : (j k : ℕ) → k ≢ 9 → k < 12 → word (removedHeads used i h) j k ≡ word h (movedFrom used i j) k
   unfolding removedHeads
-  removed-word j k ne hk = youngered-not (word h i 9) (used - 1) (movedTo (i * 12) ((used - 1) * 12) 12 h) j k ne hk ∙ shifted-row 12 used i h hi l j k hk
+  removed-word j k ne hk = youngered-not (ageOf h i) (used - 1) (movedTo (i * 12) ((used - 1) * 12) 12 h) j k ne hk ∙ shifted-row 12 used i h hi l j k hk
 
-  pub removed-age : (j : ℕ) → j < used - 1 → word (removedHeads used i h) j 9 ≡ younger (word h i 9) (word h (movedFrom used i j) 9)
+  pub removed-age : (j : ℕ) → j < used - 1 → ageOf (removedHeads used i h) j ≡ younger (ageOf h i) (ageOf h (movedFrom used i j))
   unfolding removedHeads
   removed-age j hj =
       let e = length-shifted 12 used i h hi l in
-      youngered-age (word h i 9) (used - 1) (movedTo (i * 12) ((used - 1) * 12) 12 h) j (omega arith) hj ∙ ap (younger (word h i 9)) (shifted-row 12 used i h hi l j 9 (omega arith))
+      youngered-age (ageOf h i) (used - 1) (movedTo (i * 12) ((used - 1) * 12) 12 h) j (omega arith) hj ∙ ap (younger (ageOf h i)) (shifted-row 12 used i h hi l j 9 (omega arith))
 
   pub removed-key : (j : ℕ) → keyAt (removedHeads used i h) j ≡ keyAt h (movedFrom used i j)
   removed-key j =
@@ -178,4 +178,4 @@ pub removed-slots : (used i : ℕ) (h ws : List ℕ) → i < used → used * 12 
 unfolding rowSlots
 removed-slots used i h ws hi lh lw j hj =
     ap (λ (x : ℕ). take (slotCount x) (drop (j * 288 + 32) (removedWords of.Sets used i ws))) (removed-word used i h hi lh j 7 (omega arith) (omega arith))
-    ∙ removed-part of.Sets used i ws hi lw j 32 (slotCount (word h (movedFrom used i j) 7)) hj (omega arith)
+    ∙ removed-part of.Sets used i ws hi lw j 32 (slotCount (lastOf h (movedFrom used i j))) hj (omega arith)

@@ -8,7 +8,7 @@ use lib.Seq.{paste}
 use lib.Dec.{eqb}
 use Rattle.section.specs.Eit.{within}
 use Rattle.rows.specs.declared.Key.{Key}
-use Rattle.rows.specs.Rows.{word, put, keyAt}
+use Rattle.rows.specs.Rows.{keyAt, ageOf, withAge}
 use Rattle.ages.specs.Order.{younger}
 use Rattle.filter.specs.declared.Wanted.{Wanted}
 use Rattle.filter.specs.declared.Wanted.the-variants as wanted
@@ -52,10 +52,10 @@ movedTo to from n words = paste words to (take n (drop from words)) n
 -- each of the first n rows whose age is above a is one younger
 unfoldable pub youngered : ℕ → ℕ → List ℕ → List ℕ
 youngered a zero heads = heads
-youngered a (suc n) heads = youngered a n (put n 9 (younger a (word heads n 9)) heads)
+youngered a (suc n) heads = youngered a n (withAge n (younger a (ageOf heads n)) heads)
 
 unfoldable pub removedHeads : (used i : ℕ) → List ℕ → List ℕ
-removedHeads used i heads = youngered (word heads i 9) (used - 1) (movedTo (i * 12) ((used - 1) * 12) 12 heads)
+removedHeads used i heads = youngered (ageOf heads i) (used - 1) (movedTo (i * 12) ((used - 1) * 12) 12 heads)
 
 unfoldable pub removedWords : Of → (used i : ℕ) → List ℕ → List ℕ
 removedWords o used i words = movedTo (i * widthOf o) ((used - 1) * widthOf o) (widthOf o) words

@@ -24,7 +24,7 @@ use Rattle.gate.specs.Store.{answerNo, answerOf, emitsOf, hasRoom, begins, open
 use Rattle.ring_index.specs.Store.{indexOf}
 use Rattle.ring_index.specs.Store.{seenBy as foundBy}
 use Rattle.gate_indexed.specs.Store as indexed
-use Rattle.rows.specs.Rows.{put, touched}
+use Rattle.rows.specs.Rows.{touched, withMark}
 use Rattle.berths.specs.Berths.{berthOf, tableCount, berthedUnits, tablesThere}
 use Rattle.berths.specs.declared.Berth.{Berth}
 use Rattle.sets.specs.Store as sets
@@ -304,7 +304,7 @@ by-course course.Stay e heads slots tops units a i h = omega arith
 by-course course.Out e heads slots tops units a i h = omega arith
 by-course course.Range e heads slots tops units a i h = omega arith
 by-course course.Shelve e heads slots tops units a i h =
-    absurd (omega (arith, shelved e (put i 8 1 heads) slots tops units a i (berthOf tops (e .limit) (e .schedules) (e .«schedule_evictions») (eit.scheduleEntry a))))
+    absurd (omega (arith, shelved e (withMark i 1 heads) slots tops units a i (berthOf tops (e .limit) (e .schedules) (e .«schedule_evictions») (eit.scheduleEntry a))))
 
 shelf-past :
     (e : Eit) (heads slots tops units : List ℕ) (a : Arrival) (i : ℕ) (cells : List ℕ) →

@@ -10,7 +10,7 @@ use lib.Dec.{eqb, ltb}
 use lib.ListN.{length, take, drop, getD}
 use Rattle.laws.specs.Lists.{sameList}
 use Rattle.cells.specs.Cells.{keptLength, cellNumber, kept}
-use Rattle.rows.specs.Rows.{word, oldestOf, rowOf, roomIn, roomRenewed, roomNew, slotsAt}
+use Rattle.rows.specs.Rows.{oldestOf, rowOf, roomIn, roomRenewed, roomNew, slotsAt, ageOf, lastOf, versionOf}
 use Rattle.rows.specs.declared.Entry.{Entry}
 use Rattle.rows.specs.declared.Room.{Room}
 use Rattle.sets.specs.Store.{Store, Whole, RoomOk}
@@ -36,13 +36,13 @@ module _ (s : Store) (bytes : List ℕ) (i w n c : ℕ) (b : Bool) (f : n ≡ ke
   unfolding placeSlot
   slot-other t = rw (← part-is, t, ← f, ne-eqb n 0 z)
 
-pub known-same : (s : Store) (e : Entry) (bytes : List ℕ) (i v l w : ℕ) (p : Place) → v ≡ word (s .heads) i 6 → l ≡ word (s .heads) i 7 → (eqb v (e .version) && eqb l (e .last)) ≡ true
+pub known-same : (s : Store) (e : Entry) (bytes : List ℕ) (i v l w : ℕ) (p : Place) → v ≡ versionOf (s .heads) i → l ≡ lastOf (s .heads) i → (eqb v (e .version) && eqb l (e .last)) ≡ true
     → w ≡ getD (s .slots) (slotsAt i + e .number) 0 → p ≡ placeSlot s bytes i w → p ≡ placeKnown s e bytes i
 unfolding placeKnown
 known-same s e bytes i v l w p a b t f q = rw (← a, ← b, t, ← f) q
 
-pub known-other : (s : Store) (e : Entry) (bytes : List ℕ) (i v l a : ℕ) (r : Room) → v ≡ word (s .heads) i 6 → l ≡ word (s .heads) i 7 → (eqb v (e .version) && eqb l (e .last)) ≡ false
-    → a ≡ word (s .heads) i 9 → r ≡ roomRenewed (s .sets .used) (s .sets .evictions) i a → Goes r ≡ placeKnown s e bytes i
+pub known-other : (s : Store) (e : Entry) (bytes : List ℕ) (i v l a : ℕ) (r : Room) → v ≡ versionOf (s .heads) i → l ≡ lastOf (s .heads) i → (eqb v (e .version) && eqb l (e .last)) ≡ false
+    → a ≡ ageOf (s .heads) i → r ≡ roomRenewed (s .sets .used) (s .sets .evictions) i a → Goes r ≡ placeKnown s e bytes i
 unfolding placeKnown
 known-other s e bytes i v l a r f g t h q = rw (← f, ← g, t, ← h, q)
 
@@ -69,9 +69,9 @@ module _ (s : Store) (f : Whole (s .sets) (s .heads) (s .slots) (s .cells)) wher
 
   known-ok : (e : Entry) (bytes : List ℕ) (i : ℕ) → i < s .sets .used → PlaceOk s (placeKnown s e bytes i)
   unfolding placeKnown
-  known-ok e bytes i h = go (eqb (word (s .heads) i 6) (e .version) && eqb (word (s .heads) i 7) (e .last))
+  known-ok e bytes i h = go (eqb (versionOf (s .heads) i) (e .version) && eqb (lastOf (s .heads) i) (e .last))
     where
-      go : (b : Bool) → PlaceOk s (cond b (placeSlot s bytes i (getD (s .slots) (slotsAt i + e .number) 0)) (Goes (roomRenewed (s .sets .used) (s .sets .evictions) i (word (s .heads) i 9))))
+      go : (b : Bool) → PlaceOk s (cond b (placeSlot s bytes i (getD (s .slots) (slotsAt i + e .number) 0)) (Goes (roomRenewed (s .sets .used) (s .sets .evictions) i (ageOf (s .heads) i))))
       go true = slot-ok bytes i (getD (s .slots) (slotsAt i + e .number) 0) h
       go false = record { row = h; room = f .used; next = omega arith; all = omega arith; known = λ q. h }
 
@@ -83,7 +83,7 @@ module _ (s : Store) (f : Whole (s .sets) (s .heads) (s .slots) (s .cells)) wher
       o = oldestOf (s .heads) (s .sets .used)
 
       go : (b : Bool) → ltb (s .sets .used) (s .sets .limit) ≡ b
-          → RoomOk (s .sets) (cond b (roomRenewed (s .sets .used + 1) (s .sets .evictions) (s .sets .used) (s .sets .used)) (roomRenewed (s .sets .used) (s .sets .evictions + 1) o (word (s .heads) o 9)))
+          → RoomOk (s .sets) (cond b (roomRenewed (s .sets .used + 1) (s .sets .evictions) (s .sets .used) (s .sets .used)) (roomRenewed (s .sets .used) (s .sets .evictions + 1) o (ageOf (s .heads) o)))
       go true q =
           let h : s .sets .used < s .sets .limit = ltb-true (s .sets .used) (s .sets .limit) q in
           record { row = omega arith; room = omega arith; next = omega arith; all = omega arith; known = λ t. absurd (true≢false t) }

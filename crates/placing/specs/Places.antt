@@ -7,7 +7,7 @@ use lib.ListN.{getD}
 use lib.Dec.{ltb, eqb}
 use Rattle.laws.specs.Lists.{sameList}
 use Rattle.cells.specs.Cells.{keptLength, kept}
-use Rattle.rows.specs.Rows.{word, rowOf, roomIn, roomRenewed, roomNew, slotsAt}
+use Rattle.rows.specs.Rows.{rowOf, roomIn, roomRenewed, roomNew, slotsAt, ageOf, lastOf, versionOf}
 use Rattle.rows.specs.declared.Entry.{Entry}
 use Rattle.sets.specs.Store.{Store, RoomOk}
 use Rattle.placing.specs.declared.Place.{Place}
@@ -22,9 +22,9 @@ placeSlot s bytes i w =
 -- row i has the section's key: a differing version or last number empties it
 unfoldable pub placeKnown : Store → Entry → List ℕ → ℕ → Place
 placeKnown s e bytes i =
-    cond (eqb (word (s .heads) i 6) (e .version) && eqb (word (s .heads) i 7) (e .last))
+    cond (eqb (versionOf (s .heads) i) (e .version) && eqb (lastOf (s .heads) i) (e .last))
     (placeSlot s bytes i (getD (s .slots) (slotsAt i + e .number) 0))
-    (Goes (roomRenewed (s .sets .used) (s .sets .evictions) i (word (s .heads) i 9)))
+    (Goes (roomRenewed (s .sets .used) (s .sets .evictions) i (ageOf (s .heads) i)))
 
 -- a new key takes a further row, or at a full limit the least recently touched one
 unfoldable pub placeOf : Store → Entry → List ℕ → Place

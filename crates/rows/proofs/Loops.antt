@@ -16,7 +16,7 @@ use Rattle.cells.specs.Cells.{allWhole, allFilled, markedAll}
 use Rattle.rows.specs.declared.Key.{Key}
 use Rattle.rows.specs.declared.Entry.{Entry}
 use Rattle.rows.specs.declared.Room.{Room}
-use Rattle.rows.specs.Rows.{word, put, keyAt, sameKey, elderOf, oldestOf, older, aged, touched, freshHead, roomNew, keptHeads, slotsAt, slotCount, rowSlots, emptied, keptSlots, rowsWhole, markedRow, markedRows}
+use Rattle.rows.specs.Rows.{word, keyAt, sameKey, elderOf, oldestOf, older, aged, touched, freshHead, roomNew, keptHeads, slotsAt, slotCount, rowSlots, emptied, keptSlots, rowsWhole, markedRow, markedRows, ageOf, lastOf, withAge, withMark}
 
 pub before : (n : ℕ) → 0 < n → n ≡ suc (n - 1)
 before n h = omega arith
@@ -29,11 +29,11 @@ key-words heads i a b c d e f p q r s t u = rw (p, q, r, s, t, u)
 
 -- ---- oldest
 
-pub elder-new : (heads : List ℕ) (best i a b : ℕ) → a ≡ word heads best 9 → b ≡ word heads i 9 → a < b → i ≡ elderOf heads best i
+pub elder-new : (heads : List ℕ) (best i a b : ℕ) → a ≡ ageOf heads best → b ≡ ageOf heads i → a < b → i ≡ elderOf heads best i
 unfolding elderOf
 elder-new heads best i a b p q h = rw (← p, ← q, lt-ltb a b h)
 
-pub elder-old : (heads : List ℕ) (best i a b : ℕ) → a ≡ word heads best 9 → b ≡ word heads i 9 → b ≤ a → best ≡ elderOf heads best i
+pub elder-old : (heads : List ℕ) (best i a b : ℕ) → a ≡ ageOf heads best → b ≡ ageOf heads i → b ≤ a → best ≡ elderOf heads best i
 unfolding elderOf
 elder-old heads best i a b p q h = rw (← p, ← q, le-ltb a b h)
 
@@ -47,7 +47,7 @@ oldest-turn heads i b b' e k = rw (add-one i, ← e) k
 
 pub elder-below : (heads : List ℕ) (b i r n : ℕ) → r ≡ elderOf heads b i → b < n → i < n → r < n
 unfolding elderOf
-elder-below heads b i r n e h k = rw e (go (ltb (word heads b 9) (word heads i 9)))
+elder-below heads b i r n e h k = rw e (go (ltb (ageOf heads b) (ageOf heads i)))
   where
     go : (t : Bool) → cond t i b < n
     go true = k
@@ -61,9 +61,9 @@ oldest-end heads i b used e h k = let s : i ≡ used = omega arith in rw (← s)
 pub aged-none : (n : ℕ) (h : List ℕ) → h ≡ aged 0 n h
 unfolding aged
 aged-none zero h = refl
-aged-none (suc n) h = rw (le-ltb (word h n 9) 0 (omega arith), set-getD h (n * 12 + 9) 0) (aged-none n h)
+aged-none (suc n) h = rw (le-ltb (ageOf h n) 0 (omega arith), set-getD h (n * 12 + 9) 0) (aged-none n h)
 
-pub aged-turn : (a used n : ℕ) (h₀ h h' : List ℕ) (w v : ℕ) → 0 < n → w ≡ word h (n - 1) 9 → v ≡ older a w → h' ≡ put (n - 1) 9 v h → aged a used h₀ ≡ aged a n h
+pub aged-turn : (a used n : ℕ) (h₀ h h' : List ℕ) (w v : ℕ) → 0 < n → w ≡ ageOf h (n - 1) → v ≡ older a w → h' ≡ withAge (n - 1) v h → aged a used h₀ ≡ aged a n h
     → aged a used h₀ ≡ aged a (n - 1) h'
 unfolding aged
 aged-turn a used n h₀ h h' w v p e f g q = q ∙ ap (λ (k : ℕ). aged a k h) (before n p) ∙ rw (g, f, e)
@@ -75,7 +75,7 @@ aged-end a used n h₀ h p q = let s : n ≡ 0 = omega arith in sym (q ∙ rw s)
 pub aged-zero : (a used : ℕ) (h : List ℕ) → a ≡ 0 → h ≡ aged a used h
 aged-zero a used h e = rw e (aged-none used h)
 
-pub touch-done : (used i a : ℕ) (h h' h'' : List ℕ) → a ≡ word h i 9 → h' ≡ aged a used h → h'' ≡ put i 9 0 h' → h'' ≡ touched used i h
+pub touch-done : (used i a : ℕ) (h h' h'' : List ℕ) → a ≡ ageOf h i → h' ≡ aged a used h → h'' ≡ withAge i 0 h' → h'' ≡ touched used i h
 unfolding touched
 touch-done used i a h h' h'' e p q = rw (← e, ← p) q
 
@@ -92,7 +92,7 @@ pub room-added : (heads : List ℕ) (limit used evictions : ℕ) → used < limi
 unfolding roomNew
 room-added heads limit used evictions h = rw (lt-ltb used limit h)
 
-pub room-evicted : (heads : List ℕ) (limit used evictions o a : ℕ) → limit ≤ used → o ≡ oldestOf heads used → a ≡ word heads o 9
+pub room-evicted : (heads : List ℕ) (limit used evictions o a : ℕ) → limit ≤ used → o ≡ oldestOf heads used → a ≡ ageOf heads o
     → _≡_ {A = Room} (record { row = o; fresh = true; age = a; used = used; evictions = evictions + 1 }) (roomNew heads limit used evictions)
 unfolding roomNew
 room-evicted heads limit used evictions o a h e f = rw (le-ltb used limit h, ← e, ← f)
@@ -101,13 +101,13 @@ pub head-fresh : (r : Room) (e : Entry) (h h' : List ℕ) → r .fresh ≡ true 
 unfolding keptHeads
 head-fresh r e h h' t q = rw t q
 
-pub head-known : (r : Room) (e : Entry) (h h' : List ℕ) → r .fresh ≡ false → h' ≡ put (r .row) 8 0 h → h' ≡ keptHeads r e h
+pub head-known : (r : Room) (e : Entry) (h h' : List ℕ) → r .fresh ≡ false → h' ≡ withMark (r .row) 0 h → h' ≡ keptHeads r e h
 unfolding keptHeads
 head-known r e h h' t q = rw t q
 
 -- ---- slots
 
-pub row-part : (heads slots : List ℕ) (i w n : ℕ) → w ≡ word heads i 7 → n ≡ slotCount w → take (i * 288 + 32 + n - (i * 288 + 32)) (drop (i * 288 + 32) slots) ≡ rowSlots heads slots i
+pub row-part : (heads slots : List ℕ) (i w n : ℕ) → w ≡ lastOf heads i → n ≡ slotCount w → take (i * 288 + 32 + n - (i * 288 + 32)) (drop (i * 288 + 32) slots) ≡ rowSlots heads slots i
 unfolding rowSlots
 row-part heads slots i w n e f = let s : i * 288 + 32 + n - (i * 288 + 32) ≡ n = omega arith in rw (s, f, e)
 

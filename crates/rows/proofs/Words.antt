@@ -13,7 +13,7 @@ use lib.Seq.{getD-set-same, getD-set-other, paste, length-paste, getD-take, getD
 use Rattle.laws.proofs.Lists.{paste-past, paste-before, paste-in, getD-none}
 use Rattle.rows.specs.declared.Entry.{Entry}
 use Rattle.rows.specs.declared.Room.{Room}
-use Rattle.rows.specs.Rows.{word, put, older, aged, touched, headOf, freshHead, keptHeads, slotsAt, slotCount, rowSlots, emptied, keptSlots}
+use Rattle.rows.specs.Rows.{word, put, older, aged, touched, headOf, freshHead, keptHeads, slotsAt, slotCount, rowSlots, emptied, keptSlots, ageOf, lastOf, withAge, withMark}
 
 -- ---- one word
 
@@ -34,53 +34,53 @@ length-put i k v h = length-set h (i * 12 + k) v
 pub length-aged : (a n : ℕ) (h : List ℕ) → length (aged a n h) ≡ length h
 unfolding aged
 length-aged a zero h = refl
-length-aged a (suc n) h = length-aged a n (put n 9 (older a (word h n 9)) h) ∙ length-put n 9 (older a (word h n 9)) h
+length-aged a (suc n) h = length-aged a n (withAge n (older a (ageOf h n)) h) ∙ length-put n 9 (older a (ageOf h n)) h
 
 pub aged-not : (a n : ℕ) (h : List ℕ) (j m : ℕ) → m ≢ 9 → m < 12 → word (aged a n h) j m ≡ word h j m
 unfolding aged
 aged-not a zero h j m ne l = refl
-aged-not a (suc n) h j m ne l = aged-not a n (put n 9 (older a (word h n 9)) h) j m ne l ∙ put-not h n 9 (older a (word h n 9)) j m ne (omega arith) l
+aged-not a (suc n) h j m ne l = aged-not a n (withAge n (older a (ageOf h n)) h) j m ne l ∙ put-not h n 9 (older a (ageOf h n)) j m ne (omega arith) l
 
-aged-past : (a n : ℕ) (h : List ℕ) (j : ℕ) → n ≤ j → word (aged a n h) j 9 ≡ word h j 9
+aged-past : (a n : ℕ) (h : List ℕ) (j : ℕ) → n ≤ j → ageOf (aged a n h) j ≡ ageOf h j
 unfolding aged
 aged-past a zero h j l = refl
-aged-past a (suc n) h j l = aged-past a n (put n 9 (older a (word h n 9)) h) j (omega arith) ∙ put-row h n 9 (older a (word h n 9)) j 9 (omega arith) (omega arith) (omega arith)
+aged-past a (suc n) h j l = aged-past a n (withAge n (older a (ageOf h n)) h) j (omega arith) ∙ put-row h n 9 (older a (ageOf h n)) j 9 (omega arith) (omega arith) (omega arith)
 
-pub aged-age : (a n : ℕ) (h : List ℕ) (j : ℕ) → n * 12 ≤ length h → j < n → word (aged a n h) j 9 ≡ older a (word h j 9)
+pub aged-age : (a n : ℕ) (h : List ℕ) (j : ℕ) → n * 12 ≤ length h → j < n → ageOf (aged a n h) j ≡ older a (ageOf h j)
 unfolding aged
 aged-age a zero h j l k = absurd (not-suc-le-zero k)
 aged-age a (suc n) h j l k =
-    let v : ℕ = older a (word h n 9) in
-    let e : length (put n 9 v h) ≡ length h = length-put n 9 v h in
-    go (ℕ-discrete j n) (λ q. aged-age a n (put n 9 v h) j (omega arith) q)
+    let v : ℕ = older a (ageOf h n) in
+    let e : length (withAge n v h) ≡ length h = length-put n 9 v h in
+    go (ℕ-discrete j n) (λ q. aged-age a n (withAge n v h) j (omega arith) q)
   where
-    go : Dec (j ≡ n) → (j < n → word (aged a n (put n 9 (older a (word h n 9)) h)) j 9 ≡ older a (word (put n 9 (older a (word h n 9)) h) j 9))
-        → word (aged a n (put n 9 (older a (word h n 9)) h)) j 9 ≡ older a (word h j 9)
+    go : Dec (j ≡ n) → (j < n → ageOf (aged a n (withAge n (older a (ageOf h n)) h)) j ≡ older a (ageOf (withAge n (older a (ageOf h n)) h) j))
+        → ageOf (aged a n (withAge n (older a (ageOf h n)) h)) j ≡ older a (ageOf h j)
     go (yes q) ih =
-        let v : ℕ = older a (word h n 9) in
-        aged-past a n (put n 9 v h) j (omega arith) ∙ ap (λ (z : ℕ). word (put n 9 v h) z 9) q ∙ put-same h n 9 v (omega arith) ∙ ap (λ (z : ℕ). older a (word h z 9)) (sym q)
-    go (no d) ih = ih (omega arith) ∙ ap (older a) (put-row h n 9 (older a (word h n 9)) j 9 d (omega arith) (omega arith))
+        let v : ℕ = older a (ageOf h n) in
+        aged-past a n (withAge n v h) j (omega arith) ∙ ap (λ (z : ℕ). ageOf (withAge n v h) z) q ∙ put-same h n 9 v (omega arith) ∙ ap (λ (z : ℕ). older a (ageOf h z)) (sym q)
+    go (no d) ih = ih (omega arith) ∙ ap (older a) (put-row h n 9 (older a (ageOf h n)) j 9 d (omega arith) (omega arith))
 
 -- ---- a touch
 
 pub length-touched : (used i : ℕ) (h : List ℕ) → length (touched used i h) ≡ length h
 unfolding touched
-length-touched used i h = length-put i 9 0 (aged (word h i 9) used h) ∙ length-aged (word h i 9) used h
+length-touched used i h = length-put i 9 0 (aged (ageOf h i) used h) ∙ length-aged (ageOf h i) used h
 
 -- a touch changes ages alone
 pub touched-not : (used i : ℕ) (h : List ℕ) (j m : ℕ) → m ≢ 9 → m < 12 → word (touched used i h) j m ≡ word h j m
 unfolding touched
-touched-not used i h j m ne l = put-not (aged (word h i 9) used h) i 9 0 j m ne (omega arith) l ∙ aged-not (word h i 9) used h j m ne l
+touched-not used i h j m ne l = put-not (aged (ageOf h i) used h) i 9 0 j m ne (omega arith) l ∙ aged-not (ageOf h i) used h j m ne l
 
-pub touched-newest : (used i : ℕ) (h : List ℕ) → used * 12 ≤ length h → i < used → word (touched used i h) i 9 ≡ 0
+pub touched-newest : (used i : ℕ) (h : List ℕ) → used * 12 ≤ length h → i < used → ageOf (touched used i h) i ≡ 0
 unfolding touched
 touched-newest used i h l k =
-    let e : length (aged (word h i 9) used h) ≡ length h = length-aged (word h i 9) used h in
-    put-same (aged (word h i 9) used h) i 9 0 (omega arith)
+    let e : length (aged (ageOf h i) used h) ≡ length h = length-aged (ageOf h i) used h in
+    put-same (aged (ageOf h i) used h) i 9 0 (omega arith)
 
-pub touched-other : (used i : ℕ) (h : List ℕ) (j : ℕ) → used * 12 ≤ length h → j < used → j ≢ i → word (touched used i h) j 9 ≡ older (word h i 9) (word h j 9)
+pub touched-other : (used i : ℕ) (h : List ℕ) (j : ℕ) → used * 12 ≤ length h → j < used → j ≢ i → ageOf (touched used i h) j ≡ older (ageOf h i) (ageOf h j)
 unfolding touched
-touched-other used i h j l k ne = put-row (aged (word h i 9) used h) i 9 0 j 9 ne (omega arith) (omega arith) ∙ aged-age (word h i 9) used h j l k
+touched-other used i h j l k ne = put-row (aged (ageOf h i) used h) i 9 0 j 9 ne (omega arith) (omega arith) ∙ aged-age (ageOf h i) used h j l k
 
 -- ---- a row that begins anew
 
@@ -107,7 +107,7 @@ module _ (r : Room) (e : Entry) (h : List ℕ) (l : r .row * 12 + 12 ≤ length 
   unfolding keptHeads
   length-kept = go (r .fresh)
     where
-      go : (b : Bool) → length (cond b (freshHead (r .row) e (r .age) h) (put (r .row) 8 0 h)) ≡ length h
+      go : (b : Bool) → length (cond b (freshHead (r .row) e (r .age) h) (withMark (r .row) 0 h)) ≡ length h
       go true = length-fresh (r .row) e (r .age) h l
       go false = length-put (r .row) 8 0 h
 
@@ -116,7 +116,7 @@ module _ (r : Room) (e : Entry) (h : List ℕ) (l : r .row * 12 + 12 ≤ length 
   unfolding keptHeads
   kept-row j k ne hk = go (r .fresh)
     where
-      go : (b : Bool) → word (cond b (freshHead (r .row) e (r .age) h) (put (r .row) 8 0 h)) j k ≡ word h j k
+      go : (b : Bool) → word (cond b (freshHead (r .row) e (r .age) h) (withMark (r .row) 0 h)) j k ≡ word h j k
       go true = fresh-row (r .row) e (r .age) h l j k ne hk
       go false = put-row h (r .row) 8 0 j k ne (omega arith) hk
 
@@ -132,13 +132,13 @@ module _ (r : Room) (e : Entry) (h : List ℕ) (l : r .row * 12 + 12 ≤ length 
 -- ---- slots
 
 -- slot k of row i
-pub slot-at : (heads slots : List ℕ) (i k : ℕ) → k < slotCount (word heads i 7) → getD (rowSlots heads slots i) k 0 ≡ getD slots (slotsAt i + k) 0
+pub slot-at : (heads slots : List ℕ) (i k : ℕ) → k < slotCount (lastOf heads i) → getD (rowSlots heads slots i) k 0 ≡ getD slots (slotsAt i + k) 0
 unfolding rowSlots
-slot-at heads slots i k h = getD-take (slotCount (word heads i 7)) (drop (slotsAt i) slots) k 0 h ∙ getD-drop (slotsAt i) slots k 0
+slot-at heads slots i k h = getD-take (slotCount (lastOf heads i)) (drop (slotsAt i) slots) k 0 h ∙ getD-drop (slotsAt i) slots k 0
 
-pub length-slots : (heads slots : List ℕ) (i : ℕ) → i * 288 + 288 ≤ length slots → length (rowSlots heads slots i) ≡ slotCount (word heads i 7)
+pub length-slots : (heads slots : List ℕ) (i : ℕ) → i * 288 + 288 ≤ length slots → length (rowSlots heads slots i) ≡ slotCount (lastOf heads i)
 unfolding rowSlots
-length-slots heads slots i l = length-take-le (slotCount (word heads i 7)) (drop (slotsAt i) slots) (rw (length-drop (slotsAt i) slots) (omega arith))
+length-slots heads slots i l = length-take-le (slotCount (lastOf heads i)) (drop (slotsAt i) slots) (rw (length-drop (slotsAt i) slots) (omega arith))
 
 module _ (at n : ℕ) (slots : List ℕ) (l : at + n ≤ length slots) where
   zeros : n ≤ length (replicate {A = ℕ} n 0)

@@ -22,6 +22,25 @@ word heads i k = getD heads (i * 12 + k) 0
 abbrev pub put : ℕ → ℕ → ℕ → List ℕ → List ℕ
 put i k v heads = set heads (i * 12 + k) v
 
+-- of row i's head: the version, last_section_number (a schedule's: last_table_id), the mark (not 0: handed out) and the age
+abbrev pub versionOf : List ℕ → ℕ → ℕ
+versionOf heads i = word heads i 6
+
+abbrev pub lastOf : List ℕ → ℕ → ℕ
+lastOf heads i = word heads i 7
+
+abbrev pub markOf : List ℕ → ℕ → ℕ
+markOf heads i = word heads i 8
+
+abbrev pub ageOf : List ℕ → ℕ → ℕ
+ageOf heads i = word heads i 9
+
+abbrev pub withMark : ℕ → ℕ → List ℕ → List ℕ
+withMark i mark heads = put i 8 mark heads
+
+abbrev pub withAge : ℕ → ℕ → List ℕ → List ℕ
+withAge i age heads = put i 9 age heads
+
 abbrev pub keyAt : List ℕ → ℕ → Key
 keyAt heads i = record {
   pid = word heads i 0;
@@ -45,7 +64,7 @@ rowOf heads key used = firstFrom (λ (i : ℕ). sameKey (keyAt heads i) key) use
 
 -- row i where it is older than the row best
 unfoldable pub elderOf : List ℕ → ℕ → ℕ → ℕ
-elderOf heads best i = cond (ltb (word heads best 9) (word heads i 9)) i best
+elderOf heads best i = cond (ltb (ageOf heads best) (ageOf heads i)) i best
 
 -- of the first n rows the least recently touched: the first of the largest age
 unfoldable pub oldestOf : List ℕ → ℕ → ℕ
@@ -59,11 +78,11 @@ older a age = cond (ltb age a) (age + 1) age
 -- each of the first n rows whose age is below a is one older
 unfoldable pub aged : ℕ → ℕ → List ℕ → List ℕ
 aged a zero heads = heads
-aged a (suc n) heads = aged a n (put n 9 (older a (word heads n 9)) heads)
+aged a (suc n) heads = aged a n (withAge n (older a (ageOf heads n)) heads)
 
 -- row i becomes the newest: those that were newer are one older
 unfoldable pub touched : ℕ → ℕ → List ℕ → List ℕ
-touched used i heads = put i 9 0 (aged (word heads i 9) used heads)
+touched used i heads = withAge i 0 (aged (ageOf heads i) used heads)
 
 -- ---- a row for a section
 
@@ -90,7 +109,7 @@ roomNew heads limit used evictions =
     let o : ℕ = oldestOf heads used in
     cond (ltb used limit)
     (roomRenewed (used + 1) evictions used used)
-    (roomRenewed used (evictions + 1) o (word heads o 9))
+    (roomRenewed used (evictions + 1) o (ageOf heads o))
 
 -- the row whose slots no longer count once there is such room, or `used` where there is none
 abbrev pub goneRow : Room → ℕ → ℕ
@@ -98,7 +117,7 @@ goneRow r used = cond (r .fresh) (r .row) used
 
 -- "A new section clears the mark"
 unfoldable pub keptHeads : Room → Entry → List ℕ → List ℕ
-keptHeads r e heads = cond (r .fresh) (freshHead (r .row) e (r .age) heads) (put (r .row) 8 0 heads)
+keptHeads r e heads = cond (r .fresh) (freshHead (r .row) e (r .age) heads) (withMark (r .row) 0 heads)
 
 -- ---- slots, 288 words a row: 32 of segments, then 256 slots
 
@@ -110,7 +129,7 @@ abbrev pub slotCount : ℕ → ℕ
 slotCount last = min last 255 + 1
 
 unfoldable pub rowSlots : List ℕ → List ℕ → ℕ → List ℕ
-rowSlots heads slots i = take (slotCount (word heads i 7)) (drop (slotsAt i) slots)
+rowSlots heads slots i = take (slotCount (lastOf heads i)) (drop (slotsAt i) slots)
 
 -- the n words from `at` on are 0
 abbrev pub emptied : ℕ → ℕ → List ℕ → List ℕ

@@ -7,7 +7,7 @@ ghost use Prim.Native.Nat.{_+_, _-_, _*_, _<_, _≤_};
 ghost use lib.ListN.{length, getD};
 ghost use lib.Seq.{paste};
 ghost use Rattle.cells.specs.Cells.{allFilled};
-ghost use Rattle.rows.specs.Rows.{roomNew, goneRow, keptHeads, slotsAt, slotCount, rowSlots, emptied, keptSlots, rowsWhole, markedRow, markedRows};
+ghost use Rattle.rows.specs.Rows.{roomNew, goneRow, keptHeads, slotsAt, slotCount, rowSlots, emptied, keptSlots, rowsWhole, markedRow, markedRows, ageOf, lastOf, markOf, versionOf, withMark};
 ghost use Rattle.rows.specs.Rows.{word, put, keyAt, sameKey, rowOf, elderOf, oldestOf, older, aged, touched, freshHead};
 
 // What tells one row from another. The set collector has 0 as transport_stream_id and original_network_id.
@@ -76,35 +76,35 @@ fn change(heads: &mut [u64], i: usize, k: usize, v: u64)
 
 pub fn version(heads: &[u64], i: usize) -> u64
     requires { ⌜ i * 12 + 12 ≤ length (now heads) ⌝ }
-    ensures { λ r. ⌜ r ≡ word (now (heads .entry)) i 6 ⌝ }
+    ensures { λ r. ⌜ r ≡ versionOf (now (heads .entry)) i ⌝ }
 {
     get(heads, i, VERSION)
 }
 
 pub fn last(heads: &[u64], i: usize) -> u64
     requires { ⌜ i * 12 + 12 ≤ length (now heads) ⌝ }
-    ensures { λ r. ⌜ r ≡ word (now (heads .entry)) i 7 ⌝ }
+    ensures { λ r. ⌜ r ≡ lastOf (now (heads .entry)) i ⌝ }
 {
     get(heads, i, LAST)
 }
 
 pub fn mark(heads: &[u64], i: usize) -> u64
     requires { ⌜ i * 12 + 12 ≤ length (now heads) ⌝ }
-    ensures { λ r. ⌜ r ≡ word (now (heads .entry)) i 8 ⌝ }
+    ensures { λ r. ⌜ r ≡ markOf (now (heads .entry)) i ⌝ }
 {
     get(heads, i, MARK)
 }
 
 pub fn age(heads: &[u64], i: usize) -> u64
     requires { ⌜ i * 12 + 12 ≤ length (now heads) ⌝ }
-    ensures { λ r. ⌜ r ≡ word (now (heads .entry)) i 9 ⌝ }
+    ensures { λ r. ⌜ r ≡ ageOf (now (heads .entry)) i ⌝ }
 {
     get(heads, i, AGE)
 }
 
 pub fn set_mark(heads: &mut [u64], i: usize, v: u64)
     requires { ⌜ i * 12 + 12 ≤ length (now heads) ⌝ }
-    ensures { λ _. ⌜ now (heads .exit) ≡ put i 8 v (now (heads .entry)) ⌝ }
+    ensures { λ _. ⌜ now (heads .exit) ≡ withMark i v (now (heads .entry)) ⌝ }
 {
     change(heads, i, MARK, v);
 }

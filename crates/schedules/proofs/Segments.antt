@@ -11,7 +11,7 @@ use lib.ListN.{length, take, drop, getD, set}
 use Rattle.cells.specs.Cells.{allFilled}
 use Rattle.section.specs.Segment.{segmentEnd}
 use Rattle.section.proofs.eit.Segment.{end-from-start, end-within-last}
-use Rattle.rows.specs.Rows.{word, slotsAt, slotCount, emptied, keptSlots}
+use Rattle.rows.specs.Rows.{slotsAt, slotCount, emptied, keptSlots, lastOf}
 use Rattle.rows.specs.declared.Entry.{Entry}
 use Rattle.rows.specs.declared.Room.{Room}
 use Rattle.rows.proofs.Loops.{before}
@@ -47,9 +47,9 @@ pub segments-end : (slots : List ℕ) (i last whole s : ℕ) (ok : Bool) → s �
 unfolding segmentsComplete
 segments-end slots i last whole s ok p q = let z : s ≡ 0 = omega arith in sym (q ∙ rw z (and-true ok))
 
-pub set-segments : (heads slots : List ℕ) (i w n : ℕ) (r : Bool) → w ≡ word heads i 7 → n ≡ slotCount w → r ≡ segmentsComplete slots i (n - 1) ((n - 1) / 8 + 1) → r ≡ setComplete heads slots i
+pub set-segments : (heads slots : List ℕ) (i w n : ℕ) (r : Bool) → w ≡ lastOf heads i → n ≡ slotCount w → r ≡ segmentsComplete slots i (n - 1) ((n - 1) / 8 + 1) → r ≡ setComplete heads slots i
 unfolding setComplete
-set-segments heads slots i w n r e f q = let s : n - 1 ≡ min (word heads i 7) 255 = rw (← e) (omega arith) in rw (← s) q
+set-segments heads slots i w n r e f q = let s : n - 1 ≡ min (lastOf heads i) 255 = rw (← e) (omega arith) in rw (← s) q
 
 pub section-kept : (r : Room) (e : Entry) (n w : ℕ) (l l' l'' l''' : List ℕ) → l' ≡ cond (r .fresh) (emptied (r .row * 288) 32 l) l → l'' ≡ keptSlots r e w l' → l''' ≡ withWord (r .row) (e .number / 8) n l''
     → l''' ≡ keptSection r e n w l

@@ -14,7 +14,7 @@ use lib.ListN.{length, take, drop, getD, set, length-drop, length-set}
 use lib.Seq.{paste, length-take-le}
 use Rattle.laws.proofs.Lists.{paste-end}
 use Rattle.cells.specs.Cells.{allWhole, markedAll}
-use Rattle.rows.specs.Rows.{word, keyAt, rowOf, slotsAt, slotCount, rowSlots}
+use Rattle.rows.specs.Rows.{word, keyAt, rowOf, slotsAt, slotCount, rowSlots, lastOf, versionOf}
 use Rattle.rows.specs.declared.Key.{Key}
 use Rattle.rows.proofs.Loops.{before}
 use Rattle.schedules.specs.Segments.{wordOf, withWord, setComplete}
@@ -68,7 +68,7 @@ first-other kind e = rw (ne-eqb kind 2 e)
 pub kind-word : (tops : List ℕ) (k : ℕ) (key : Key) → key ≡ keyAt tops k → key .«table_id» ≡ word tops k 1
 kind-word tops k key e = rw e
 
-module _ (tops : List ℕ) (k kind first last : ℕ) (e : kind ≡ word tops k 1) (f : first ≡ firstBy kind) (g : last ≡ word tops k 7) where
+module _ (tops : List ℕ) (k kind first last : ℕ) (e : kind ≡ word tops k 1) (f : first ≡ firstBy kind) (g : last ≡ lastOf tops k) where
   range : min (last - first) 15 + 1 ≡ tablesOf tops k
   unfolding tablesOf
   range = rw (f, g, e)
@@ -130,7 +130,7 @@ without-end base n j u₀ u p q = let z : j ≡ 0 = omega arith in sym (q ∙ rw
 pub slots-end : (h₀ h words : List ℕ) (at k : ℕ) → h ≡ paste h₀ at words k → length words ≤ k → k ≤ length words → h ≡ paste h₀ at words (length words)
 slots-end h₀ h words at k e a b = paste-end h₀ h at words k (length words) e (omega arith)
 
-pub set-put : (heads slots : List ℕ) (i u v m : ℕ) (part units units' units'' : List ℕ) → v ≡ word heads i 6 → part ≡ rowSlots heads slots i → m ≡ length part - 1
+pub set-put : (heads slots : List ℕ) (i u v m : ℕ) (part units units' units'' : List ℕ) → v ≡ versionOf heads i → part ≡ rowSlots heads slots i → m ≡ length part - 1
     → units' ≡ paste units (u * 288 + 32) part (length part) → units'' ≡ withWords u (v % 4294967296) m units' → units'' ≡ withSet heads slots i u units
 unfolding withSet
 set-put heads slots i u v m part units units' units'' e p z q f = rw (← p, ← e, ← z, ← q) f
@@ -182,7 +182,7 @@ words-put u v l a b c d p q r = rw (← p, ← q) r
 part-length : (heads slots part : List ℕ) (i : ℕ) → i * 288 + 288 ≤ length slots → part ≡ rowSlots heads slots i → (0 < length part) × (length part ≤ 256)
 unfolding rowSlots
 part-length heads slots part i h e =
-    let l : length (take (slotCount (word heads i 7)) (drop (slotsAt i) slots)) ≡ slotCount (word heads i 7) = length-take-le (slotCount (word heads i 7)) (drop (slotsAt i) slots) (rw (length-drop (slotsAt i) slots) (omega arith)) in
+    let l : length (take (slotCount (lastOf heads i)) (drop (slotsAt i) slots)) ≡ slotCount (lastOf heads i) = length-take-le (slotCount (lastOf heads i)) (drop (slotsAt i) slots) (rw (length-drop (slotsAt i) slots) (omega arith)) in
     rw (e, l) (omega arith, omega arith)
 
 module _ (heads slots part : List ℕ) (i : ℕ) (h : i * 288 + 288 ≤ length slots) (e : part ≡ rowSlots heads slots i) where

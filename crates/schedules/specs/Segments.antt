@@ -7,7 +7,7 @@ use lib.ListN.{length, getD, take, drop, set}
 use lib.Dec.{eqb}
 use Rattle.cells.specs.Cells.{allFilled}
 use Rattle.section.specs.Segment.{segmentEnd}
-use Rattle.rows.specs.Rows.{word, slotsAt, emptied, keptSlots}
+use Rattle.rows.specs.Rows.{slotsAt, emptied, keptSlots, lastOf}
 use Rattle.rows.specs.declared.Entry.{Entry}
 use Rattle.rows.specs.declared.Room.{Room}
 
@@ -34,7 +34,7 @@ segmentsComplete slots i last (suc n) = segmentComplete slots i last n && segmen
 
 -- "A set is complete if each segment from 0 to last_section_number / 8" is: row i has as many slots as its head says, 256 at most
 unfoldable pub setComplete : List ℕ → List ℕ → ℕ → Bool
-setComplete heads slots i = segmentsComplete slots i (min (word heads i 7) 255) (min (word heads i 7) 255 / 8 + 1)
+setComplete heads slots i = segmentsComplete slots i (min (lastOf heads i) 255) (min (lastOf heads i) 255 / 8 + 1)
 
 -- a section is kept: its slot gets the word w and its segment the word n. A row that begins anew has no segments yet
 unfoldable pub keptSection : Room → Entry → ℕ → ℕ → List ℕ → List ℕ

@@ -8,7 +8,7 @@ use lib.ListN.{length, getD, take, drop, set}
 use lib.Seq.{paste}
 use lib.Dec.{eqb, ltb}
 use Rattle.cells.specs.Cells.{allWhole, someNames, markedAll}
-use Rattle.rows.specs.Rows.{word, rowOf, rowSlots, slotsAt, slotCount, takenIn}
+use Rattle.rows.specs.Rows.{word, rowOf, rowSlots, slotsAt, slotCount, takenIn, lastOf, versionOf}
 use Rattle.rows.specs.declared.Key.{Key}
 use Rattle.schedules.specs.Segments.{wordOf, withWord, setComplete}
 
@@ -27,7 +27,7 @@ firstBy kind = cond (eqb kind 2) 0x50 0x60
 
 -- how many tables the schedule of row k may have: those from the first of its kind to its last_table_id, the 16 of the kind at most
 unfoldable pub tablesOf : List ℕ → ℕ → ℕ
-tablesOf tops k = min (word tops k 7 - firstBy (word tops k 1)) 15 + 1
+tablesOf tops k = min (lastOf tops k - firstBy (word tops k 1)) 15 + 1
 
 -- of 01's 10
 unfoldable pub unitWhole : List ℕ → ℕ → ℕ → ℕ → Bool
@@ -89,7 +89,7 @@ withWords u version last units = withWord u 2 last (withWord u 1 version (withWo
 unfoldable pub withSet : List ℕ → List ℕ → ℕ → ℕ → List ℕ → List ℕ
 withSet heads slots i u units =
     let part : List ℕ = rowSlots heads slots i in
-    withWords u (word heads i 6 % 4294967296) (length part - 1) (paste units (slotsAt u) part (length part))
+    withWords u (versionOf heads i % 4294967296) (length part - 1) (paste units (slotsAt u) part (length part))
 
 -- the first table_id of a schedule's kind, by one of its table_ids
 abbrev pub firstTable : ℕ → ℕ

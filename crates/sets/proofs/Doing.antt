@@ -9,7 +9,7 @@ use lib.Dec.{eqb}
 use lib.ListN.{length}
 use lib.Seq.{paste}
 use Rattle.cells.specs.Cells.{slotWord, allFilled}
-use Rattle.rows.specs.Rows.{word, put, touched, keptHeads, keptSlots, rowSlots}
+use Rattle.rows.specs.Rows.{touched, keptHeads, keptSlots, rowSlots, markOf, withMark}
 use Rattle.sets.specs.declared.Sets.{Sets}
 use Rattle.sets.specs.declared.PushAnswer.{PushAnswer}
 use Rattle.sets.specs.declared.PushAnswer.the-variants.{Nothing, Set, Conflict}
@@ -18,14 +18,14 @@ use Rattle.sets.specs.declared.inner.Plan.{Plan}
 use Rattle.sets.specs.declared.inner.Plan.the-variants as plan
 use Rattle.sets.specs.Store.{Store, store, Left, leftPushed, goesOut, settledAnswer, settledHeads, settled, keptSets, keptIn, carried, KeepOk, RowOk, PlanOk}
 
-pub goes : (heads slots : List ℕ) (i m : ℕ) (b : Bool) → m ≡ word heads i 8 → b ≡ allFilled (rowSlots heads slots i) → (eqb m 0 && b) ≡ goesOut heads slots i
+pub goes : (heads slots : List ℕ) (i m : ℕ) (b : Bool) → m ≡ markOf heads i → b ≡ allFilled (rowSlots heads slots i) → (eqb m 0 && b) ≡ goesOut heads slots i
 unfolding goesOut
 goes heads slots i m b e f = rw (e, f)
 
 -- ---- settle
 
 module _ (used : ℕ) (h slots : List ℕ) (i : ℕ) (h' : List ℕ) (b : Bool) (e : h' ≡ touched used i h) (q : b ≡ goesOut h' slots i) where
-  pub settle-out : (h'' : List ℕ) → b ≡ true → h'' ≡ put i 8 1 h' → (Set i ≡ settledAnswer used h slots i) × (h'' ≡ settledHeads used h slots i)
+  pub settle-out : (h'' : List ℕ) → b ≡ true → h'' ≡ withMark i 1 h' → (Set i ≡ settledAnswer used h slots i) × (h'' ≡ settledHeads used h slots i)
   unfolding settledAnswer settledHeads
   settle-out h'' t p = (rw (← e, ← q, t), rw (← e, ← q, t) p)
 

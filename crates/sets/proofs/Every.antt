@@ -12,7 +12,7 @@ use Rattle.section.specs.declared.header.Collected.{Collected}
 use Rattle.section.specs.declared.header.Collected.the-variants as collected
 use Rattle.section.specs.declared.ids.MaybePid.{MaybePid}
 use Rattle.cells.specs.Cells.{keptLength, kept}
-use Rattle.rows.specs.Rows.{word, rowOf, roomIn, roomRenewed, roomNew, slotsAt}
+use Rattle.rows.specs.Rows.{rowOf, roomIn, roomRenewed, roomNew, slotsAt, ageOf, lastOf, versionOf}
 use Rattle.rows.specs.declared.Entry.{Entry}
 use Rattle.rows.specs.declared.Room.{Room}
 use Rattle.sets.specs.declared.PushAnswer.{PushAnswer}
@@ -37,11 +37,11 @@ module _
 
   known-by : (e : Entry) (i : ℕ) → P (planKnown s e bytes i)
   unfolding planKnown
-  known-by e i = go (eqb (word (s .heads) i 6) (e .version) && eqb (word (s .heads) i 7) (e .last))
+  known-by e i = go (eqb (versionOf (s .heads) i) (e .version) && eqb (lastOf (s .heads) i) (e .last))
     where
-      go : (b : Bool) → P (cond b (planSlot s e bytes i (getD (s .slots) (slotsAt i + e .number) 0)) (planKeep s e (roomRenewed (s .sets .used) (s .sets .evictions) i (word (s .heads) i 9))))
+      go : (b : Bool) → P (cond b (planSlot s e bytes i (getD (s .slots) (slotsAt i + e .number) 0)) (planKeep s e (roomRenewed (s .sets .used) (s .sets .evictions) i (ageOf (s .heads) i))))
       go true = slot-by e i (getD (s .slots) (slotsAt i + e .number) 0)
-      go false = keep e (roomRenewed (s .sets .used) (s .sets .evictions) i (word (s .heads) i 9))
+      go false = keep e (roomRenewed (s .sets .used) (s .sets .evictions) i (ageOf (s .heads) i))
 
   good-by : (e : Entry) → P (planGood s e bytes)
   unfolding planGood

@@ -15,7 +15,7 @@ use Rattle.section.specs.declared.header.Collected.{Collected}
 use Rattle.section.specs.declared.header.Collected.the-variants as collected
 use Rattle.section.specs.declared.ids.MaybePid.{MaybePid}
 use Rattle.cells.specs.Cells.{keptLength, lowestFree, kept}
-use Rattle.rows.specs.Rows.{word, elderOf, oldestOf, rowOf, roomIn, roomRenewed, roomNew, goneRow, slotsAt, takenIn}
+use Rattle.rows.specs.Rows.{elderOf, oldestOf, rowOf, roomIn, roomRenewed, roomNew, goneRow, slotsAt, takenIn, ageOf, lastOf, versionOf}
 use Rattle.rows.specs.declared.Entry.{Entry}
 use Rattle.rows.specs.declared.Room.{Room}
 use Rattle.sets.specs.declared.PushAnswer.the-variants.{Nothing, NotWhole, CounterFull, TooLong, NoCell}
@@ -29,7 +29,7 @@ use Rattle.sets.proofs.Judged.{good-numbers, good-length}
 
 elder-below : (heads : List ℕ) (n b : ℕ) → b < suc n → elderOf heads b n < suc n
 unfolding elderOf
-elder-below heads n b l = at (ltb (word heads b 9) (word heads n 9))
+elder-below heads n b l = at (ltb (ageOf heads b) (ageOf heads n))
   where
     at : (t : Bool) → cond t n b < suc n
     at true = omega arith
@@ -69,11 +69,11 @@ module _ (s : Store) (bytes : List ℕ) (f : Whole (s .sets) (s .heads) (s .slot
 
   known-ok : (i : ℕ) → i < s .sets .used → PlanOk s bytes (planKnown s e bytes i)
   unfolding planKnown
-  known-ok i h = go (eqb (word (s .heads) i 6) (e .version) && eqb (word (s .heads) i 7) (e .last))
+  known-ok i h = go (eqb (versionOf (s .heads) i) (e .version) && eqb (lastOf (s .heads) i) (e .last))
     where
-      go : (b : Bool) → PlanOk s bytes (cond b (planSlot s e bytes i (getD (s .slots) (slotsAt i + e .number) 0)) (planKeep s e (roomRenewed (s .sets .used) (s .sets .evictions) i (word (s .heads) i 9))))
+      go : (b : Bool) → PlanOk s bytes (cond b (planSlot s e bytes i (getD (s .slots) (slotsAt i + e .number) 0)) (planKeep s e (roomRenewed (s .sets .used) (s .sets .evictions) i (ageOf (s .heads) i))))
       go true = slot-ok i (getD (s .slots) (slotsAt i + e .number) 0) h
-      go false = keep-ok (roomRenewed (s .sets .used) (s .sets .evictions) i (word (s .heads) i 9)) (renewed-ok i (word (s .heads) i 9) h)
+      go false = keep-ok (roomRenewed (s .sets .used) (s .sets .evictions) i (ageOf (s .heads) i)) (renewed-ok i (ageOf (s .heads) i) h)
 
   new-ok : (s .sets .limit ≡ 0 → ⊥) → RoomOk (s .sets) (roomNew (s .heads) (s .sets .limit) (s .sets .used) (s .sets .evictions))
   unfolding roomNew
@@ -83,7 +83,7 @@ module _ (s : Store) (bytes : List ℕ) (f : Whole (s .sets) (s .heads) (s .slot
       o = oldestOf (s .heads) (s .sets .used)
 
       go : (b : Bool) → ltb (s .sets .used) (s .sets .limit) ≡ b
-          → RoomOk (s .sets) (cond b (roomRenewed (s .sets .used + 1) (s .sets .evictions) (s .sets .used) (s .sets .used)) (roomRenewed (s .sets .used) (s .sets .evictions + 1) o (word (s .heads) o 9)))
+          → RoomOk (s .sets) (cond b (roomRenewed (s .sets .used + 1) (s .sets .evictions) (s .sets .used) (s .sets .used)) (roomRenewed (s .sets .used) (s .sets .evictions + 1) o (ageOf (s .heads) o)))
       go true q =
           let h : s .sets .used < s .sets .limit = ltb-true (s .sets .used) (s .sets .limit) q in
           record { row = omega arith; room = omega arith; next = omega arith; all = omega arith; known = λ t. absurd (true≢false t) }

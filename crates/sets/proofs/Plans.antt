@@ -20,7 +20,7 @@ use Rattle.section.specs.declared.ids.Made.the-variants as made
 use Rattle.section.specs.declared.ids.MaybePid.{MaybePid}
 use Rattle.section.specs.declared.ids.MaybePid.the-variants as maybe
 use Rattle.cells.specs.Cells.{keptLength, cellNumber, slotWhole, lowestFree, kept}
-use Rattle.rows.specs.Rows.{word, rowOf, roomIn, roomRenewed, roomNew, goneRow, slotsAt, takenIn}
+use Rattle.rows.specs.Rows.{rowOf, roomIn, roomRenewed, roomNew, goneRow, slotsAt, takenIn, ageOf, lastOf, versionOf}
 use Rattle.rows.proofs.Whole.{slot-get}
 use Rattle.rows.specs.declared.Entry.{Entry}
 use Rattle.rows.specs.declared.Room.{Room}
@@ -105,23 +105,23 @@ place-fits c n size h k l =
 
 -- ---- a known key
 
-pub known-same : (s : Store) (e : Entry) (bytes : List ℕ) (i v l w : ℕ) (p : Plan) → v ≡ word (s .heads) i 6 → l ≡ word (s .heads) i 7 → (eqb v (e .version) && eqb l (e .last)) ≡ true
+pub known-same : (s : Store) (e : Entry) (bytes : List ℕ) (i v l w : ℕ) (p : Plan) → v ≡ versionOf (s .heads) i → l ≡ lastOf (s .heads) i → (eqb v (e .version) && eqb l (e .last)) ≡ true
     → w ≡ getD (s .slots) (slotsAt i + e .number) 0 → p ≡ planSlot s e bytes i w → p ≡ planKnown s e bytes i
 unfolding planKnown
 known-same s e bytes i v l w p a b t f q = rw (← a, ← b, t, ← f) q
 
-pub known-other : (s : Store) (e : Entry) (bytes : List ℕ) (i v l a : ℕ) (p : Plan) → v ≡ word (s .heads) i 6 → l ≡ word (s .heads) i 7 → (eqb v (e .version) && eqb l (e .last)) ≡ false
-    → a ≡ word (s .heads) i 9 → p ≡ planKeep s e (roomRenewed (s .sets .used) (s .sets .evictions) i a) → p ≡ planKnown s e bytes i
+pub known-other : (s : Store) (e : Entry) (bytes : List ℕ) (i v l a : ℕ) (p : Plan) → v ≡ versionOf (s .heads) i → l ≡ lastOf (s .heads) i → (eqb v (e .version) && eqb l (e .last)) ≡ false
+    → a ≡ ageOf (s .heads) i → p ≡ planKeep s e (roomRenewed (s .sets .used) (s .sets .evictions) i a) → p ≡ planKnown s e bytes i
 unfolding planKnown
 known-other s e bytes i v l a p f g t h q = rw (← f, ← g, t, ← h) q
 
 pub same-last : (a b u v : ℕ) → (eqb a u && eqb b v) ≡ true → b ≡ v
 same-last a b u v e = eqb-true b v (and-true (eqb a u) (eqb b v) e .1)
 
-pub known-slot : (s : Sets) (heads slots cells : List ℕ) (e : Entry) (i v l w : ℕ) → Whole s heads slots cells → Numbered e → i < s .used → l ≡ word heads i 7 → (eqb v (e .version) && eqb l (e .last)) ≡ true
+pub known-slot : (s : Sets) (heads slots cells : List ℕ) (e : Entry) (i v l w : ℕ) → Whole s heads slots cells → Numbered e → i < s .used → l ≡ lastOf heads i → (eqb v (e .version) && eqb l (e .last)) ≡ true
     → w ≡ getD slots (slotsAt i + e .number) 0 → slotWhole (s .count) (s .size) w ≡ true
 known-slot s heads slots cells e i v l w f n h p t q =
-    let k : word heads i 7 ≡ e .last = sym p ∙ same-last v l (e .version) (e .last) t in
+    let k : lastOf heads i ≡ e .last = sym p ∙ same-last v l (e .version) (e .last) t in
     let a = f .slots-long in
     let b = f .used in
     let c = n .number in

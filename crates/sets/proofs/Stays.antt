@@ -14,7 +14,7 @@ use lib.ListN.{length, getD}
 use lib.Seq.{paste, length-paste}
 use Rattle.section.specs.declared.ids.MaybePid.{MaybePid}
 use Rattle.cells.specs.Cells.{slotWord, slotWhole, lowestFree}
-use Rattle.rows.specs.Rows.{word, put, touched, goneRow, keptHeads, slotsAt, slotCount, keptSlots, rowsWhole, takenIn}
+use Rattle.rows.specs.Rows.{touched, goneRow, keptHeads, slotsAt, slotCount, keptSlots, rowsWhole, takenIn, lastOf, withMark}
 use Rattle.rows.proofs.Words.{put-not, length-put, length-touched, touched-not, length-kept, kept-row, kept-fresh, kept-known, length-kept-slots, kept-slot, kept-other, kept-empty, kept-same}
 use Rattle.rows.proofs.Whole.{slot-get, slot-all}
 use Rattle.rows.specs.declared.Entry.{Entry}
@@ -38,7 +38,7 @@ WholeStore s = Whole (s .sets) (s .heads) (s .slots) (s .cells)
 
 -- ---- heads that differ in no last_section_number
 
-heads-whole : (s : Sets) (heads heads' slots cells : List ℕ) → ((j : ℕ) → word heads' j 7 ≡ word heads j 7) → length heads' ≡ length heads → Whole s heads slots cells → Whole s heads' slots cells
+heads-whole : (s : Sets) (heads heads' slots cells : List ℕ) → ((j : ℕ) → lastOf heads' j ≡ lastOf heads j) → length heads' ≡ length heads → Whole s heads slots cells → Whole s heads' slots cells
 heads-whole s heads heads' slots cells e l w =
     let u = w .used in
     let sl = w .slots-long in
@@ -54,11 +54,11 @@ heads-whole s heads heads' slots cells e l w =
           slot-get heads slots (s .count) (s .size) (s .used) i k (w .rows) h (omega arith) (rw (e i) at hk));
     }
 
-settled-last : (used i : ℕ) (heads slots : List ℕ) (j : ℕ) → word (settledHeads used heads slots i) j 7 ≡ word heads j 7
+settled-last : (used i : ℕ) (heads slots : List ℕ) (j : ℕ) → lastOf (settledHeads used heads slots i) j ≡ lastOf heads j
 unfolding settledHeads
 settled-last used i heads slots j = go (goesOut (touched used i heads) slots i)
   where
-    go : (b : Bool) → word (cond b (put i 8 1 (touched used i heads)) (touched used i heads)) j 7 ≡ word heads j 7
+    go : (b : Bool) → lastOf (cond b (withMark i 1 (touched used i heads)) (touched used i heads)) j ≡ lastOf heads j
     go true = put-not (touched used i heads) i 8 1 j 7 (omega arith) (omega arith) (omega arith) ∙ touched-not used i heads j 7 (omega arith) (omega arith)
     go false = touched-not used i heads j 7 (omega arith) (omega arith)
 
@@ -66,7 +66,7 @@ settled-length : (used i : ℕ) (heads slots : List ℕ) → length (settledHead
 unfolding settledHeads
 settled-length used i heads slots = go (goesOut (touched used i heads) slots i)
   where
-    go : (b : Bool) → length (cond b (put i 8 1 (touched used i heads)) (touched used i heads)) ≡ length heads
+    go : (b : Bool) → length (cond b (withMark i 1 (touched used i heads)) (touched used i heads)) ≡ length heads
     go true = length-put i 8 1 (touched used i heads) ∙ length-touched used i heads
     go false = length-touched used i heads
 
@@ -112,29 +112,29 @@ module _ (s : Store) (bytes : List ℕ) (k : Keeping) (o : KeepOk s bytes k) whe
   new-slots : List ℕ
   new-slots = keptSlots r e w' (s .slots)
 
-  old-ok : (j m : ℕ) → j < s .sets .used → m < slotCount (word (s .heads) j 7) → Ok (getD (s .slots) (slotsAt j + m) 0)
+  old-ok : (j m : ℕ) → j < s .sets .used → m < slotCount (lastOf (s .heads) j) → Ok (getD (s .slots) (slotsAt j + m) 0)
   old-ok j m h l =
       let a = o .whole .slots-long in
       let b = o .whole .used in
       slot-get (s .heads) (s .slots) (s .sets .count) (s .sets .size) (s .sets .used) j m (o .whole .rows) h (omega arith) l
 
-  own-ok : (b : Bool) → r .fresh ≡ b → (m : ℕ) → m < slotCount (word (keptHeads r e (s .heads)) (r .row) 7) → Dec (m ≡ e .number) → Ok (getD new-slots (slotsAt (r .row) + m) 0)
+  own-ok : (b : Bool) → r .fresh ≡ b → (m : ℕ) → m < slotCount (lastOf (keptHeads r e (s .heads)) (r .row)) → Dec (m ≡ e .number) → Ok (getD new-slots (slotsAt (r .row) + m) 0)
   unfolding new-slots
   own-ok b f m l (yes q) =
       rw (q, kept-slot r e w' (s .slots) slot-room (o .numbered .number) (o .numbered .last))
       (new-whole (length bytes) (k .cell) (s .sets .count) (s .sets .size) (o .long) (o .fits) (o .cell) (o .whole .few))
   own-ok true f m l (no d) =
-      let last : word (keptHeads r e (s .heads)) (r .row) 7 ≡ e .last = kept-fresh r e (s .heads) head-room f 7 (omega arith) in
+      let last : lastOf (keptHeads r e (s .heads)) (r .row) ≡ e .last = kept-fresh r e (s .heads) head-room f 7 (omega arith) in
       rw (kept-empty r e w' (s .slots) slot-room (o .numbered .number) (o .numbered .last) f m d (omega (arith, last))) (empty-whole (s .sets .count) (s .sets .size))
   own-ok false f m l (no d) =
-      let last : word (keptHeads r e (s .heads)) (r .row) 7 ≡ word (s .heads) (r .row) 7 = kept-known r e (s .heads) head-room f 7 (omega arith) (omega arith) in
+      let last : lastOf (keptHeads r e (s .heads)) (r .row) ≡ lastOf (s .heads) (r .row) = kept-known r e (s .heads) head-room f 7 (omega arith) (omega arith) in
       rw (kept-same r e w' (s .slots) slot-room (o .numbered .number) (o .numbered .last) f m d) (old-ok (r .row) m (o .room .known f) (omega (arith, last)))
 
-  each : (j m : ℕ) → j < r .used → m < slotCount (word (keptHeads r e (s .heads)) j 7) → Dec (j ≡ r .row) → Ok (getD new-slots (slotsAt j + m) 0)
+  each : (j m : ℕ) → j < r .used → m < slotCount (lastOf (keptHeads r e (s .heads)) j) → Dec (j ≡ r .row) → Ok (getD new-slots (slotsAt j + m) 0)
   unfolding new-slots
-  each j m h l (yes q) = rw q (own-ok (r .fresh) refl m (subst (λ (n : ℕ). m < slotCount (word (keptHeads r e (s .heads)) n 7)) q l) (ℕ-discrete m (e .number)))
+  each j m h l (yes q) = rw q (own-ok (r .fresh) refl m (subst (λ (n : ℕ). m < slotCount (lastOf (keptHeads r e (s .heads)) n)) q l) (ℕ-discrete m (e .number)))
   each j m h l (no d) =
-      let last : word (keptHeads r e (s .heads)) j 7 ≡ word (s .heads) j 7 = kept-row r e (s .heads) head-room j 7 d (omega arith) in
+      let last : lastOf (keptHeads r e (s .heads)) j ≡ lastOf (s .heads) j = kept-row r e (s .heads) head-room j 7 d (omega arith) in
       let a = o .room .next in
       let b = o .room .all in
       let d' : j ≢ r .row = d in

@@ -18,7 +18,7 @@ use Rattle.section.specs.declared.ids.Made.the-variants as made
 use Rattle.section.specs.declared.ids.MaybePid.{MaybePid}
 use Rattle.section.specs.declared.ids.MaybePid.the-variants as maybe
 use Rattle.cells.specs.Cells.{slotWord, keptLength, cellNumber, allFilled, nextFilled, lowestFree, kept}
-use Rattle.rows.specs.Rows.{word, put, keyAt, rowOf, touched, roomIn, roomRenewed, roomNew, goneRow, keptHeads, slotsAt, rowSlots, keptSlots, rowsWhole, takenIn}
+use Rattle.rows.specs.Rows.{keyAt, rowOf, touched, roomIn, roomRenewed, roomNew, goneRow, keptHeads, slotsAt, rowSlots, keptSlots, rowsWhole, takenIn, ageOf, lastOf, markOf, versionOf, withMark}
 use Rattle.rows.specs.declared.Key.{Key}
 use Rattle.rows.specs.declared.Entry.{Entry}
 use Rattle.rows.specs.declared.Room.{Room}
@@ -99,8 +99,8 @@ unfoldable pub setIn : Store → ℕ → Handed
 setIn s i = record {
   row = i;
   key = keyAt (s .heads) i;
-  version = word (s .heads) i 6;
-  last = word (s .heads) i 7;
+  version = versionOf (s .heads) i;
+  last = lastOf (s .heads) i;
   sections = map (kept (s .cells) (s .sets .size)) (rowSlots (s .heads) (s .slots) i);
 }
 
@@ -213,9 +213,9 @@ planSlot s e bytes i w =
 -- row i has the section's key: a differing version or last number empties it
 unfoldable pub planKnown : Store → Entry → List ℕ → ℕ → Plan
 planKnown s e bytes i =
-    cond (eqb (word (s .heads) i 6) (e .version) && eqb (word (s .heads) i 7) (e .last))
+    cond (eqb (versionOf (s .heads) i) (e .version) && eqb (lastOf (s .heads) i) (e .last))
     (planSlot s e bytes i (getD (s .slots) (slotsAt i + e .number) 0))
-    (planKeep s e (roomRenewed (s .sets .used) (s .sets .evictions) i (word (s .heads) i 9)))
+    (planKeep s e (roomRenewed (s .sets .used) (s .sets .evictions) i (ageOf (s .heads) i)))
 
 unfoldable pub planGood : Store → Entry → List ℕ → Plan
 planGood s e bytes =
@@ -256,7 +256,7 @@ answered a s = left (answerOf a s) s
 
 -- "A full row not marked is handed out .. and marked"
 unfoldable pub goesOut : List ℕ → List ℕ → ℕ → Bool
-goesOut heads slots i = eqb (word heads i 8) 0 && allFilled (rowSlots heads slots i)
+goesOut heads slots i = eqb (markOf heads i) 0 && allFilled (rowSlots heads slots i)
 
 -- row i becomes the newest, and goes out where it is full and not marked
 unfoldable pub settledAnswer : ℕ → List ℕ → List ℕ → ℕ → PushAnswer
@@ -265,7 +265,7 @@ settledAnswer used heads slots i = cond (goesOut (touched used i heads) slots i)
 unfoldable pub settledHeads : ℕ → List ℕ → List ℕ → ℕ → List ℕ
 settledHeads used heads slots i =
     let h : List ℕ = touched used i heads in
-    cond (goesOut h slots i) (put i 8 1 h) h
+    cond (goesOut h slots i) (withMark i 1 h) h
 
 unfoldable pub settled : Store → ℕ → Left
 settled s i =

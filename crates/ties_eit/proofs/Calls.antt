@@ -38,8 +38,8 @@ use Rattle.section.specs.declared.ids.MaybePid.the-variants as maybe
 use Rattle.section.specs.declared.ids.Made.the-variants as made
 use Rattle.cells.specs.Cells.{allWhole}
 use Rattle.rows.specs.declared.Key.{Key}
-use Rattle.rows.specs.Rows.{rowSlots, rowsWhole}
-use Rattle.ages.specs.Order.{downFrom, inOrder, ageOf, rowsSeen}
+use Rattle.rows.specs.Rows.{rowSlots, rowsWhole, ageOf}
+use Rattle.ages.specs.Order.{downFrom, inOrder, rowsSeen}
 use Rattle.ages.specs.Slots.{cellsSeen}
 use Rattle.ages.proofs.Ages.{length-order}
 use Rattle.ages.proofs.Touch.{stands-none}

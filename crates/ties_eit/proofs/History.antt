@@ -37,7 +37,7 @@ use Rattle.ages.proofs.Touch.{stands-none}
 use Rattle.sets.proofs.Judged.{good-length}
 use Rattle.cells.specs.Cells.{slotWord}
 use Rattle.rows.specs.declared.Entry.{Entry}
-use Rattle.rows.specs.Rows.{put, touched, keptHeads}
+use Rattle.rows.specs.Rows.{touched, keptHeads, withMark}
 use Rattle.schedules.specs.Segments.{keptSection}
 use Rattle.berths.specs.declared.Berth.{Berth}
 use Rattle.berths.specs.Berths.{berthOf, tableCount, berthedUnits, tablesThere}
@@ -139,7 +139,7 @@ settling-changes course.Stay e heads slots tops units a i s = refl
 settling-changes course.Out e heads slots tops units a i s = refl
 settling-changes course.Range e heads slots tops units a i s = refl
 settling-changes course.Shelve e heads slots tops units a i s =
-    shelving-changes e (put i 8 1 heads) slots tops units a i (berthOf tops (e .limit) (e .schedules) (e .«schedule_evictions») (scheduleEntry a)) s
+    shelving-changes e (withMark i 1 heads) slots tops units a i (berthOf tops (e .limit) (e .schedules) (e .«schedule_evictions») (scheduleEntry a)) s
 
 plan-keeps : (s : Store) (bytes : Bytes) (p : Plan) → asBefore (answerTold ((carried s bytes p) .told)) ≡ true → (carried s bytes p) .store ≡ s
 unfolding asBefore answerTold settled keptAndSettled

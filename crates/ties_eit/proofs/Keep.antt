@@ -28,10 +28,10 @@ use Rattle.rules_eit.proofs.Keys.{sameSet-true}
 use Rattle.cells.specs.Cells.{slotWord, allWhole, lowestFree}
 use Rattle.rows.specs.declared.Entry.{Entry}
 use Rattle.rows.specs.declared.Room.{Room}
-use Rattle.rows.specs.Rows.{word, keyAt, touched, keptHeads, goneRow, rowSlots, takenIn, rowsWhole}
+use Rattle.rows.specs.Rows.{keyAt, touched, keptHeads, goneRow, rowSlots, takenIn, rowsWhole, lastOf, ageOf}
 use Rattle.rows.proofs.Words.{length-kept, kept-row, kept-fresh, kept-known}
 use Rattle.rows.proofs.Whole.{rows-get, rows-all}
-use Rattle.ages.specs.Order.{ageOf, Goes, Touched}
+use Rattle.ages.specs.Order.{Goes, Touched}
 use Rattle.ages.specs.Slots.{heldOf, heldSlots, cellsSeen}
 use Rattle.ages.proofs.Words.{key-same, ready-touched, kept-fresh-key, kept-unmarked}
 use Rattle.ages.proofs.Slots.{held-new, held-set, held-none, lowest-is}
@@ -75,7 +75,7 @@ sectionFor a bytes = record {
 pub data Meets (s : Store) (a : Arrival) (bytes : Bytes) (r : Room) (age : ℕ) : SetOf Held → Type 0 where
   anew : r .fresh ≡ true → r .age ≡ age → Meets s a bytes r age (fresh (partOf (sectionFor a bytes)))
   goesOn : r .fresh ≡ false → r .row < s .eit .used → keyAt (s .heads) (r .row) ≡ a .entry .key → ageOf (s .heads) (r .row) ≡ age
-      → word (s .heads) (r .row) 7 ≡ a .entry .last → Meets s a bytes r age (rowSeen (s .heads) (s .slots) (r .row))
+      → lastOf (s .heads) (r .row) ≡ a .entry .last → Meets s a bytes r age (rowSeen (s .heads) (s .slots) (r .row))
 
 module _ (s : Store) (z : Reached s) (f : Whole (s .eit) (s .heads) (s .slots) (s .cells) (s .schedule-heads) (s .units))
     (units-ok : schedulesWhole (s .schedule-heads) (s .units) (s .eit .count) (s .eit .size) (s .eit .schedules) ≡ true)
@@ -122,7 +122,7 @@ module _ (s : Store) (z : Reached s) (f : Whole (s .eit) (s .heads) (s .slots) (
   own-age (anew t u) = kept-fresh r e (s .heads) head-long t 9 (omega arith) ∙ u
   own-age (goesOn t l q u v) = kept-known r e (s .heads) head-long t 9 (omega arith) (omega arith) ∙ u
 
-  own-last : {met : SetOf Held} → Meets s a bytes r age met → word heads₁ (r .row) 7 ≡ e .last
+  own-last : {met : SetOf Held} → Meets s a bytes r age met → lastOf heads₁ (r .row) ≡ e .last
   own-last (anew t u) = kept-fresh r e (s .heads) head-long t 7 (omega arith)
   own-last (goesOn t l q u v) = kept-known r e (s .heads) head-long t 7 (omega arith) (omega arith) ∙ v
 

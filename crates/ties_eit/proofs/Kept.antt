@@ -13,7 +13,7 @@ use lib.Seq.{getD-set-same, getD-set-other}
 use Rattle.rules_eit.specs.Segments.{noLasts}
 use Rattle.rows.specs.declared.Entry.{Entry}
 use Rattle.rows.specs.declared.Room.{Room}
-use Rattle.rows.specs.Rows.{word, slotsAt, slotCount, rowSlots, emptied, keptSlots}
+use Rattle.rows.specs.Rows.{slotsAt, slotCount, rowSlots, emptied, keptSlots, lastOf}
 use Rattle.rows.proofs.Words.{length-kept-slots, length-emptied, emptied-in, emptied-out}
 use Rattle.ages.specs.Slots.{upFrom}
 use Rattle.ages.proofs.Slots.{part-alike, other-slots, own-slots, fresh-slots}
@@ -25,7 +25,7 @@ use Rattle.ties_eit.specs.View.{lastOf}
 slots-alike : (heads slots slots′ : List ℕ) (j : ℕ) → length slots′ ≡ length slots → ((k : ℕ) → slotsAt j ≤ k → k < slotsAt j + 256 → getD slots′ k 0 ≡ getD slots k 0)
     → rowSlots heads slots′ j ≡ rowSlots heads slots j
 unfolding rowSlots
-slots-alike heads slots slots′ j l e = part-alike 0 slots′ slots (slotsAt j) (slotCount (word heads j 7)) l (λ k a b. e k a (omega arith))
+slots-alike heads slots slots′ j l e = part-alike 0 slots′ slots (slotsAt j) (slotCount (lastOf heads j)) l (λ k a b. e k a (omega arith))
 
 module _ (r : Room) (e : Entry) (n w : ℕ) (slots : List ℕ) (long : r .row * 288 + 288 ≤ length slots) (number : e .number ≤ e .last) (last : e .last < 256) where
   -- a row that begins anew has no segments yet
@@ -68,16 +68,16 @@ module _ (r : Room) (e : Entry) (n w : ℕ) (slots : List ℕ) (long : r .row * 
       slots-alike heads (keptSlots r e w base) after j (length-set (keptSlots r e w base) (r .row * 288 + segment) n) (λ k p q.
       getD-set-other (keptSlots r e w base) (r .row * 288 + segment) k n 0 (omega arith))
 
-  pub after-other : (heads heads′ : List ℕ) (j : ℕ) → j ≢ r .row → word heads′ j 7 ≡ word heads j 7 → rowSlots heads′ after j ≡ rowSlots heads slots j
+  pub after-other : (heads heads′ : List ℕ) (j : ℕ) → j ≢ r .row → lastOf heads′ j ≡ lastOf heads j → rowSlots heads′ after j ≡ rowSlots heads slots j
   after-other heads heads′ j ne q = segment-slots heads′ j ∙ other-slots r e w base base-long number last heads heads′ j ne q ∙ begun-slots heads (r .fresh) j
 
-  pub after-own : (heads heads′ : List ℕ) → r .fresh ≡ false → word heads (r .row) 7 ≡ e .last → word heads′ (r .row) 7 ≡ e .last
+  pub after-own : (heads heads′ : List ℕ) → r .fresh ≡ false → lastOf heads (r .row) ≡ e .last → lastOf heads′ (r .row) ≡ e .last
       → rowSlots heads′ after (r .row) ≡ set (rowSlots heads slots (r .row)) (e .number) w
   after-own heads heads′ f p q =
       segment-slots heads′ (r .row) ∙ own-slots r e w base base-long number last heads heads′ f p q
       ∙ ap (λ (l : List ℕ). set l (e .number) w) (begun-slots heads (r .fresh) (r .row))
 
-  pub after-fresh : (heads′ : List ℕ) → r .fresh ≡ true → word heads′ (r .row) 7 ≡ e .last → rowSlots heads′ after (r .row) ≡ set (replicate (suc (e .last)) 0) (e .number) w
+  pub after-fresh : (heads′ : List ℕ) → r .fresh ≡ true → lastOf heads′ (r .row) ≡ e .last → rowSlots heads′ after (r .row) ≡ set (replicate (suc (e .last)) 0) (e .number) w
   after-fresh heads′ f q = segment-slots heads′ (r .row) ∙ fresh-slots r e w base base-long number last heads′ f q
 
   -- ---- segments

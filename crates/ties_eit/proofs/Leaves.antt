@@ -18,9 +18,9 @@ use Rattle.rules_eit.proofs.Exact.{Conflicting, conflict-touches}
 use Rattle.rules_eit.proofs.Free.{KeptIn, cells-change}
 use Rattle.cells.specs.Cells.{slotWord, names, someNames}
 use Rattle.rows.specs.declared.Entry.{Entry}
-use Rattle.rows.specs.Rows.{word, put, touched, keptHeads, slotsAt, slotCount, rowSlots}
+use Rattle.rows.specs.Rows.{word, touched, keptHeads, slotsAt, slotCount, rowSlots, lastOf, withMark, ageOf}
 use Rattle.rows.proofs.Words.{slot-at, length-slots, touched-not}
-use Rattle.ages.specs.Order.{ageOf, rowsSeen}
+use Rattle.ages.specs.Order.{rowsSeen}
 use Rattle.ages.proofs.Ages.{order-none, none-order}
 use Rattle.section.specs.declared.ids.MaybePid.{MaybePid}
 use Rattle.schedules.specs.Segments.{wordOf, keptSection}
@@ -79,7 +79,7 @@ settling-tells course.Stay e heads slots tops units a i s q = omega arith
 settling-tells course.Out e heads slots tops units a i s q = omega arith
 settling-tells course.Range e heads slots tops units a i s q = omega arith
 settling-tells course.Shelve e heads slots tops units a i s q =
-    shelving-tells e (put i 8 1 heads) slots tops units a i (berthOf tops (e .limit) (e .schedules) (e .«schedule_evictions») (scheduleEntry a)) s q
+    shelving-tells e (withMark i 1 heads) slots tops units a i (berthOf tops (e .limit) (e .schedules) (e .«schedule_evictions») (scheduleEntry a)) s q
 
 plan-ages : (s : Store) (bytes : Bytes) (p : Plan) → numberOf (answerTold ((carried s bytes p) .told)) ≡ 22 → AgesAlone s ((carried s bytes p) .store)
 unfolding settled keptAndSettled
@@ -103,7 +103,7 @@ conflict-memory s pid bytes h = plan-ages s bytes (planOf s pid bytes) (ap numbe
 
 module _ (s : Store) (z : Reached s) (long : s .eit .used * 288 ≤ length (s .slots)) (c : ℕ) where
   abbrev NoSlotNames : Type 0
-  NoSlotNames = (j n : ℕ) → j < s .eit .used → n < slotCount (word (s .heads) j 7) → names c (getD (s .slots) (slotsAt j + n) 0) ≡ false
+  NoSlotNames = (j n : ℕ) → j < s .eit .used → n < slotCount (lastOf (s .heads) j) → names c (getD (s .slots) (slotsAt j + n) 0) ≡ false
 
   -- of a table that is present, up to its schedule's last_table_id
   abbrev NoTableNames : Type 0
@@ -137,5 +137,5 @@ module _ (s : Store) (z : Reached s) (long : s .eit .used * 288 ≤ length (s .s
           order-none (setTakes c) (ageOf (s .heads)) (s .eit .used) (z .sets .ages) _ (λ j l. row-takes (s .heads) (s .slots) c j
           ∙ none-any (names c) (rowSlots (s .heads) (s .slots) j) 0 (λ n m.
           let d = length-slots (s .heads) (s .slots) j (omega arith) in
-          let q : n < slotCount (word (s .heads) j 7) = omega arith in
+          let q : n < slotCount (lastOf (s .heads) j) = omega arith in
           ap (names c) (slot-at (s .heads) (s .slots) j n q) ∙ f j n l q))

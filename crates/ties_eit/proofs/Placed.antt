@@ -24,10 +24,10 @@ use Rattle.rules_eit.proofs.Keys.{sameSet-true}
 use Rattle.cells.specs.Cells.{keptLength, slotWhole, allWhole, kept}
 use Rattle.rows.specs.declared.Entry.{Entry}
 use Rattle.rows.specs.declared.Room.{Room}
-use Rattle.rows.specs.Rows.{word, rowOf, roomIn, roomRenewed, roomNew, slotsAt, slotCount, rowSlots}
+use Rattle.rows.specs.Rows.{rowOf, roomIn, roomRenewed, roomNew, slotsAt, slotCount, rowSlots, ageOf, lastOf, versionOf}
 use Rattle.rows.proofs.Words.{slot-at, length-slots}
 use Rattle.rows.proofs.Whole.{rows-get}
-use Rattle.ages.specs.Order.{ageOf, Goes}
+use Rattle.ages.specs.Order.{Goes}
 use Rattle.ages.specs.Slots.{heldOf}
 use Rattle.ages.proofs.Touch.{row-has-key, no-row-has-key, goes-known, goes-new, finds-known, finds-none}
 use Rattle.ages.proofs.Slots.{held-filled, held-empty, held-get}
@@ -96,11 +96,11 @@ module _ (s : Store) (z : Reached s) (f : Whole (s .eit) (s .heads) (s .slots) (
     goes : Goes (s .heads) (s .eit .limit) (s .eit .used) (s .eit .evictions) (e .key) there (ageOf (s .heads) there) (s .eit .used) (s .eit .evictions)
     goes = goes-known (s .heads) (s .eit .limit) (s .eit .used) (s .eit .evictions) (e .key) h
 
-    fits-as : fits (partOf x) row ≡ (eqb (word (s .heads) there 6) (e .version) && eqb (word (s .heads) there 7) (e .last))
+    fits-as : fits (partOf x) row ≡ (eqb (versionOf (s .heads) there) (e .version) && eqb (lastOf (s .heads) there) (e .last))
     unfolding fits rowSeen partOf
     fits-as = refl
 
-    met-known : (b : Bool) → (eqb (word (s .heads) there 6) (e .version) && eqb (word (s .heads) there 7) (e .last)) ≡ b → metRow x k ((seen s) .eit) ≡ cond b row (fresh (partOf x))
+    met-known : (b : Bool) → (eqb (versionOf (s .heads) there) (e .version) && eqb (lastOf (s .heads) there) (e .last)) ≡ b → metRow x k ((seen s) .eit) ≡ cond b row (fresh (partOf x))
     unfolding metRow start seen
     met-known b q =
         rw (
@@ -112,17 +112,17 @@ module _ (s : Store) (z : Reached s) (f : Whole (s .eit) (s .heads) (s .slots) (
 
     -- "A differing version or last number empties the row"
     renewed-tied : metRow x k ((seen s) .eit) ≡ fresh (partOf x)
-        → Tied (carried s bytes (planPlaced s a (place.Goes (roomRenewed (s .eit .used) (s .eit .evictions) there (word (s .heads) there 9))))) (carry (seen s) x k (placeOf (seen s) x k))
+        → Tied (carried s bytes (planPlaced s a (place.Goes (roomRenewed (s .eit .used) (s .eit .evictions) there (ageOf (s .heads) there))))) (carry (seen s) x k (placeOf (seen s) x k))
     renewed-tied m =
         rw (place-empty (fresh-slot _ m))
-        (keep-tied s z f units-ok more more′ pos a kind arr bytes h12 hs (roomRenewed (s .eit .used) (s .eit .evictions) there (word (s .heads) there 9)) (ageOf (s .heads) there) goes (anew refl refl) m)
+        (keep-tied s z f units-ok more more′ pos a kind arr bytes h12 hs (roomRenewed (s .eit .used) (s .eit .evictions) there (ageOf (s .heads) there)) (ageOf (s .heads) there) goes (anew refl refl) m)
 
     -- the row goes on
-    module _ (last : word (s .heads) there 7 ≡ e .last) (m : metRow x k ((seen s) .eit) ≡ row) where
+    module _ (last : lastOf (s .heads) there ≡ e .last) (m : metRow x k ((seen s) .eit) ≡ row) where
       abbrev w : ℕ
       w = getD (s .slots) (slotsAt there + e .number) 0
 
-      in-row : e .number < slotCount (word (s .heads) there 7)
+      in-row : e .number < slotCount (lastOf (s .heads) there)
       in-row = let p = arr .numbered .number in let q = arr .numbered .last in omega arith
 
       slot-is : slotOf (partOf x) (metRow x k ((seen s) .eit)) ≡ heldOf w
@@ -186,12 +186,12 @@ module _ (s : Store) (z : Reached s) (f : Whole (s .eit) (s .heads) (s .slots) (
 
     known-tied : Tied (carried s bytes (planPlaced s a (placeKnown (setStore s) e bytes there))) (carry (seen s) x k (placeOf (seen s) x k))
     unfolding placeKnown
-    known-tied = go (eqb (word (s .heads) there 6) (e .version) && eqb (word (s .heads) there 7) (e .last)) refl
+    known-tied = go (eqb (versionOf (s .heads) there) (e .version) && eqb (lastOf (s .heads) there) (e .last)) refl
       where
-        go : (b : Bool) → (eqb (word (s .heads) there 6) (e .version) && eqb (word (s .heads) there 7) (e .last)) ≡ b
+        go : (b : Bool) → (eqb (versionOf (s .heads) there) (e .version) && eqb (lastOf (s .heads) there) (e .last)) ≡ b
             → Tied (carried s bytes (planPlaced s a (cond b (placeSlot (setStore s) bytes there (getD (s .slots) (slotsAt there + e .number) 0))
-            (place.Goes (roomRenewed (s .eit .used) (s .eit .evictions) there (word (s .heads) there 9)))))) (carry (seen s) x k (placeOf (seen s) x k))
-        go true q = slot-tied (same-last (word (s .heads) there 6) (word (s .heads) there 7) (e .version) (e .last) q) (met-known true q)
+            (place.Goes (roomRenewed (s .eit .used) (s .eit .evictions) there (ageOf (s .heads) there)))))) (carry (seen s) x k (placeOf (seen s) x k))
+        go true q = slot-tied (same-last (versionOf (s .heads) there) (lastOf (s .heads) there) (e .version) (e .last) q) (met-known true q)
         go false q = renewed-tied (met-known false q)
 
   pub placed-tied : Tied (carried s bytes (planPlaced s a (placeIn (setStore s) e bytes))) (carry (seen s) x k (placeOf (seen s) x k))

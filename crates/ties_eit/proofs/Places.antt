@@ -20,8 +20,8 @@ use Rattle.rules_eit.specs.Segments.{heldFrom}
 use Rattle.rules_eit.specs.Schedules.{CopyOf, ScheduleOf, tableOf, whole, wholes, allTables}
 use Rattle.rules_eit.specs.Cells.{copyTakes, scheduleTakes, onWhole}
 use Rattle.cells.specs.Cells.{allWhole, someNames}
-use Rattle.rows.specs.Rows.{word}
-use Rattle.ages.specs.Order.{ageOf, rowsSeen, Ages}
+use Rattle.rows.specs.Rows.{word, lastOf, ageOf}
+use Rattle.ages.specs.Order.{rowsSeen, Ages}
 use Rattle.ages.specs.Slots.{heldSlots, upFrom, cellsSeen}
 use Rattle.ages.proofs.Ages.{order-every, every-order, order-none, none-order}
 use Rattle.ages.proofs.Slots.{held-whole, held-names}
@@ -320,7 +320,7 @@ module _ (tops units : List ℕ) (row : ℕ) where
       past (o ∷ os) (suc k) l = past os k (omega arith)
 
 -- "A schedule with all tables from 0x50 or 0x60 to last_table_id": never where last_table_id is past the kind
-pub tables-there : (tops units : List ℕ) (row table last : ℕ) → word tops row 7 ≡ last → firstBy (word tops row 1) ≡ firstTable table
+pub tables-there : (tops units : List ℕ) (row table last : ℕ) → lastOf tops row ≡ last → firstBy (word tops row 1) ≡ firstTable table
     → allTables (firstTable table) (scheduleSeen tops units row) ≡ tablesThere units row table last
 unfolding allTables scheduleSeen tablesThere tablesOf
 tables-there tops units row table last e f = rw e (go (decLt (last - firstTable table) 16))

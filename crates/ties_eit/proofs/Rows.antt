@@ -22,7 +22,7 @@ use Rattle.rules_eit.specs.Segments.{segmentEnd as rulesEnd}
 use Rattle.rules_eit.specs.Cells.{setTakes}
 use Rattle.cells.specs.Cells.{filled, slotWhole, allFilled, allWhole, kept, someNames}
 use Rattle.section.specs.Segment.{segmentEnd}
-use Rattle.rows.specs.Rows.{word, rowSlots, slotsAt, slotCount}
+use Rattle.rows.specs.Rows.{word, rowSlots, slotsAt, slotCount, lastOf, markOf, versionOf}
 use Rattle.rows.proofs.Words.{length-slots}
 use Rattle.ages.specs.Slots.{heldOf, heldSlots, cellsSeen, upFrom}
 use Rattle.ages.proofs.Slots.{place, held-get, slots-same, held-names}
@@ -52,7 +52,7 @@ pub row-same : (heads heads′ slots slots′ : List ℕ) (i : ℕ) → ((m : �
 row-same heads heads′ slots slots′ i = row-as heads heads′ slots slots′ i i
 
 -- a row with its mark set, and else as it was
-pub row-marked : (heads heads′ slots : List ℕ) (i : ℕ) → word heads′ i 6 ≡ word heads i 6 → word heads′ i 7 ≡ word heads i 7 → word heads′ i 8 ≡ 1
+pub row-marked : (heads heads′ slots : List ℕ) (i : ℕ) → versionOf heads′ i ≡ versionOf heads i → lastOf heads′ i ≡ lastOf heads i → markOf heads′ i ≡ 1
     → rowSeen heads′ slots i ≡ marked (rowSeen heads slots i)
 unfolding rowSeen marked
 row-marked heads heads′ slots i v l m = rw (v, l, m, slots-same heads heads′ slots i l)
@@ -85,14 +85,14 @@ part-of : {A : Type 0} (xs : List A) (m a n : ℕ) → a + n ≤ m → take n (d
 part-of xs m a n h = sym (drop-take a n (take m xs)) ∙ ap (drop a) (take-take (a + n) m xs h) ∙ drop-take a n xs
 
 -- slots `start` to `end` of a row
-filled-to : (heads slots : List ℕ) (i start end : ℕ) → i * 288 + 288 ≤ length slots → word heads i 7 < 256 → start ≤ end → end ≤ word heads i 7
+filled-to : (heads slots : List ℕ) (i start end : ℕ) → i * 288 + 288 ≤ length slots → lastOf heads i < 256 → start ≤ end → end ≤ lastOf heads i
     → heldFrom (heldSlots (rowSlots heads slots i)) start (suc end - start) ≡ filledTo slots i start end
 unfolding filledTo rowSlots
 filled-to heads slots i start end l h from e =
     let n : end + 1 - start ≡ suc end - start = omega arith in
-    let d : length (rowSlots heads slots i) ≡ slotCount (word heads i 7) = length-slots heads slots i l in
+    let d : length (rowSlots heads slots i) ≡ slotCount (lastOf heads i) = length-slots heads slots i l in
     rw n (held-part (rowSlots heads slots i) (suc end - start) start (omega arith)
-    ∙ ap allFilled (part-of (drop (slotsAt i) slots) (slotCount (word heads i 7)) start (suc end - start) (omega arith)
+    ∙ ap allFilled (part-of (drop (slotsAt i) slots) (slotCount (lastOf heads i)) start (suc end - start) (omega arith)
     ∙ ap (take (suc end - start)) (drop-drop start (slotsAt i) slots)))
 
 ends : (start number last : ℕ) → rulesEnd start number last ≡ segmentEnd start number last
@@ -103,9 +103,9 @@ end-bounds : (start number last : ℕ) → start ≤ last → (start ≤ segment
 unfolding segmentEnd
 end-bounds start number last h = (omega arith, omega arith)
 
-module _ (heads slots : List ℕ) (i : ℕ) (l : i * 288 + 288 ≤ length slots) (h : word heads i 7 < 256) where
+module _ (heads slots : List ℕ) (i : ℕ) (l : i * 288 + 288 ≤ length slots) (h : lastOf heads i < 256) where
   abbrev last : ℕ
-  last = word heads i 7
+  last = lastOf heads i
 
   abbrev held : List (Option Held)
   held = heldSlots (rowSlots heads slots i)
@@ -149,23 +149,23 @@ segments-last last slots lasts g (suc n) =
     ap (λ (b : Bool). segmentFull last slots (8 * g) (getD lasts g none) && b) (segments-last last slots lasts (suc g) n ∙ rw z)
     ∙ swap (segmentFull last slots (8 * g) (getD lasts g none)) (segmentFull last slots (8 * (g + suc n)) (getD lasts (g + suc n) none)) (segmentsFull last slots lasts (suc g) n)
 
-module _ (heads slots : List ℕ) (i : ℕ) (l : i * 288 + 288 ≤ length slots) (h : word heads i 7 < 256) where
-  segments-are : (n : ℕ) → n ≤ suc (word heads i 7 / 8)
-      → segmentsFull (word heads i 7) (heldSlots (rowSlots heads slots i)) (upFrom (λ (g : ℕ). lastOf (wordOf slots i g)) 32 0) 0 n ≡ segmentsComplete slots i (word heads i 7) n
+module _ (heads slots : List ℕ) (i : ℕ) (l : i * 288 + 288 ≤ length slots) (h : lastOf heads i < 256) where
+  segments-are : (n : ℕ) → n ≤ suc (lastOf heads i / 8)
+      → segmentsFull (lastOf heads i) (heldSlots (rowSlots heads slots i)) (upFrom (λ (g : ℕ). lastOf (wordOf slots i g)) 32 0) 0 n ≡ segmentsComplete slots i (lastOf heads i) n
   unfolding segmentsComplete
-  segments-are zero k = seg-none (word heads i 7) (heldSlots (rowSlots heads slots i)) (upFrom (λ (g : ℕ). lastOf (wordOf slots i g)) 32 0)
+  segments-are zero k = seg-none (lastOf heads i) (heldSlots (rowSlots heads slots i)) (upFrom (λ (g : ℕ). lastOf (wordOf slots i g)) 32 0)
   segments-are (suc n) k =
       let z : 0 + n ≡ n = omega arith in
-      segments-last (word heads i 7) (heldSlots (rowSlots heads slots i)) (upFrom (λ (g : ℕ). lastOf (wordOf slots i g)) 32 0) 0 n
+      segments-last (lastOf heads i) (heldSlots (rowSlots heads slots i)) (upFrom (λ (g : ℕ). lastOf (wordOf slots i g)) 32 0) 0 n
       ∙ rw (z, segment-is heads slots i l h n (omega arith), segments-are n (omega arith))
 
   -- "A set is complete if each segment from 0 to last_section_number / 8" is
   pub complete-is : complete (rowSeen heads slots i) ≡ setComplete heads slots i
   unfolding complete rowSeen setComplete
   complete-is =
-      let m : min (word heads i 7) 255 ≡ word heads i 7 = omega arith in
-      let z : word heads i 7 / 8 + 1 ≡ suc (word heads i 7 / 8) = omega arith in
-      rw (m, z) (segments-are (suc (word heads i 7 / 8)) (omega arith))
+      let m : min (lastOf heads i) 255 ≡ lastOf heads i = omega arith in
+      let z : lastOf heads i / 8 + 1 ≡ suc (lastOf heads i / 8) = omega arith in
+      rw (m, z) (segments-are (suc (lastOf heads i / 8)) (omega arith))
 
 -- ---- what goes out
 

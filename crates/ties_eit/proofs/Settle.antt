@@ -22,10 +22,10 @@ use Rattle.rules_eit.specs.Cells.{Store as Shown, Turn, onWhole, onAnswer, show
 use Rattle.rules_eit.proofs.Keys.{sameSet-true}
 use Rattle.cells.specs.Cells.{allWhole, kept}
 use Rattle.rows.specs.declared.Key.{Key}
-use Rattle.rows.specs.Rows.{word, put, keyAt, touched, rowSlots, rowsWhole}
+use Rattle.rows.specs.Rows.{word, keyAt, touched, rowSlots, rowsWhole, lastOf, markOf, versionOf, withMark, ageOf}
 use Rattle.rows.proofs.Words.{put-same, put-not, put-row, length-put, length-touched, touched-not}
 use Rattle.rows.proofs.Whole.{rows-get, rows-all}
-use Rattle.ages.specs.Order.{ageOf, orderSeen, Goes, Touched}
+use Rattle.ages.specs.Order.{orderSeen, Goes, Touched}
 use Rattle.ages.specs.Slots.{cellsSeen}
 use Rattle.ages.proofs.Words.{ready-touched, put-touched, key-same}
 use Rattle.ages.proofs.Slots.{slots-same}
@@ -62,7 +62,7 @@ find-newest : {R : Type 0} (k k′ : SetKey) (r : R) (t : TouchOrder SetKey R) �
 unfolding newest
 find-newest k k′ r t e = find-before k k′ r e (t .rows)
 
-pub head-same : (heads heads′ : List ℕ) (j : ℕ) → word heads′ j 1 ≡ word heads j 1 → word heads′ j 6 ≡ word heads j 6 → word heads′ j 7 ≡ word heads j 7 → HeadFits heads j → HeadFits heads′ j
+pub head-same : (heads heads′ : List ℕ) (j : ℕ) → word heads′ j 1 ≡ word heads j 1 → versionOf heads′ j ≡ versionOf heads j → lastOf heads′ j ≡ lastOf heads j → HeadFits heads j → HeadFits heads′ j
 head-same heads heads′ j a b c f = record { version = rw b (f .version); last = rw c (f .last); kind = rw a (f .kind) }
 
 -- heads, slots and cells with row i made ready for the key, of age `age`; no other row in use differs
@@ -95,7 +95,7 @@ module _ (s : Store) (z : Reached s) (f : Whole (s .eit) (s .heads) (s .slots) (
 
   -- the heads that are left, with the mark set or not
   abbrev leftHeads : Bool → List ℕ
-  leftHeads b = cond b (put i 8 1 newer) newer
+  leftHeads b = cond b (withMark i 1 newer) newer
 
   abbrev leftStore : Bool → Store
   leftStore b = store (withRows (s .eit) used₁ evictions₁) (leftHeads b) slots₁ cells₁ (s .schedule-heads) (s .units)
@@ -310,7 +310,7 @@ module _ (s : Store) (z : Reached s) (f : Whole (s .eit) (s .heads) (s .slots) (
   pub settle-tied : Tied (leftShelf (settled (withRows (s .eit) used₁ evictions₁) heads₁ slots₁ (s .schedule-heads) (s .units) a i) slots₁ cells₁)
       (shows (seen s) cellsThere (judge (s .eit .limit) beside k (a .tables) rowThere))
   unfolding settled courseOf judge judged shows answerTold onAnswer rowSeen
-  settle-tied = rw (touched-not used₁ i heads₁ i 8 (omega arith) (omega arith), complete-there) (go (eqb (word heads₁ i 8) 0) (complete rowThere))
+  settle-tied = rw (touched-not used₁ i heads₁ i 8 (omega arith) (omega arith), complete-there) (go (eqb (markOf heads₁ i) 0) (complete rowThere))
     where
       go : (m c : Bool) → Tied (shelfBy (cond (m && c) (cond (ltb (a .kind) 2) course.Out (cond (ltb (a .tables) table) course.Range course.Shelve)) course.Stay))
           (shows (seen s) cellsThere (judged (s .eit .limit) beside k (a .tables) rowThere (not m) c))

@@ -27,10 +27,10 @@ use Rattle.cells.specs.Cells.{allWhole}
 use Rattle.rows.specs.declared.Key.{Key}
 use Rattle.rows.specs.declared.Entry.{Entry}
 use Rattle.rows.specs.declared.Room.{Room}
-use Rattle.rows.specs.Rows.{word, keyAt, rowOf, touched, keptHeads, roomIn, roomRenewed, roomNew, rowSlots, rowsWhole, oldestOf}
+use Rattle.rows.specs.Rows.{word, keyAt, rowOf, touched, keptHeads, roomIn, roomRenewed, roomNew, rowSlots, rowsWhole, oldestOf, ageOf, lastOf}
 use Rattle.rows.proofs.Words.{length-kept, kept-row, kept-fresh, kept-known, length-touched, touched-not}
 use Rattle.rows.proofs.Whole.{rows-get}
-use Rattle.ages.specs.Order.{ageOf, orderSeen, Goes, Touched}
+use Rattle.ages.specs.Order.{orderSeen, Goes, Touched}
 use Rattle.ages.specs.Slots.{upFrom}
 use Rattle.ages.proofs.Words.{key-same, ready-touched, kept-fresh-key}
 use Rattle.ages.proofs.Touch.{row-has-key, no-row-has-key, goes-known, goes-new, goes-row, finds-known, finds-none, touched-seen, touched-stands}
@@ -111,7 +111,7 @@ pub record Berthed (L : Store) (a : Arrival) (first : ℕ) (others : Rows SetKey
   pub goes : Goes (L .schedule-heads) (L .eit .limit) (L .eit .schedules) (L .eit .«schedule_evictions») (scheduleKeyOf a) (b .room .row) age (b .room .used) (b .room .evictions)
   pub own : keyAt (keptHeads (b .room) (scheduleEntry a) (L .schedule-heads)) (b .room .row) ≡ scheduleKeyOf a
   pub aged : ageOf (keptHeads (b .room) (scheduleEntry a) (L .schedule-heads)) (b .room .row) ≡ age
-  pub last : word (keptHeads (b .room) (scheduleEntry a) (L .schedule-heads)) (b .room .row) 7 ≡ a .tables
+  pub last : lastOf (keptHeads (b .room) (scheduleEntry a) (L .schedule-heads)) (b .room .row) ≡ a .tables
   pub begun : begin others ((keyShown (a .entry .key)) .schedule) first (a .tables) (find sameSchedule ((keyShown (a .entry .key)) .schedule) ((seen L) .eit .schedules .rows)) ≡ old
   pub old-last : old .lastTable ≡ a .tables
   pub sixteen : length (old .copies) ≡ 16
@@ -125,7 +125,7 @@ pub new-fresh : (heads : List ℕ) (limit used evictions : ℕ) → (roomNew hea
 unfolding roomNew
 new-fresh heads limit used evictions = go (ltb used limit)
   where
-    go : (b : Bool) → (cond b (roomRenewed (used + 1) evictions used used) (roomRenewed used (evictions + 1) (oldestOf heads used) (word heads (oldestOf heads used) 9))) .fresh ≡ true
+    go : (b : Bool) → (cond b (roomRenewed (used + 1) evictions used used) (roomRenewed used (evictions + 1) (oldestOf heads used) (ageOf heads (oldestOf heads used)))) .fresh ≡ true
     go true = refl
     go false = refl
 
@@ -266,7 +266,7 @@ module _ (L : Store) (z : Reached L) (a : Arrival) (kind : Kind) (first i : ℕ)
       ∙ finds-none scheduleShown scheduleWords sameSchedule sameSchedule-true schedule-self tops limit held evictions skey (z .schedules) skey-proper (scheduleSeen tops (L .units)) (no-row-has-key tops skey held k)
 
   -- a schedule's tables, by its head
-  tables-are : (tops′ : List ℕ) (k : ℕ) → word tops′ k 7 ≡ a .tables → word tops′ k 1 ≡ a .kind → tablesOf tops′ k ≡ countOf a
+  tables-are : (tops′ : List ℕ) (k : ℕ) → lastOf tops′ k ≡ a .tables → word tops′ k 1 ≡ a .kind → tablesOf tops′ k ≡ countOf a
   unfolding tablesOf
   tables-are tops′ k e f = rw (e, f, h .number, h .in-kind .by-word, h .in-kind .by-table)
 
@@ -274,7 +274,7 @@ module _ (L : Store) (z : Reached L) (a : Arrival) (kind : Kind) (first i : ℕ)
   places-few = omega arith
 
   -- the schedule is there, with the same last_table_id
-  same-berth : there < held → word tops there 7 ≡ a .tables → Berthed L a first others (record { room = roomIn held evictions there; refill = false }) (scheduleSeen tops (L .units) there)
+  same-berth : there < held → lastOf tops there ≡ a .tables → Berthed L a first others (record { room = roomIn held evictions there; refill = false }) (scheduleSeen tops (L .units) there)
   unfolding begin scheduleSeen readyUnits
   same-berth k e =
       let t = h .tops-long in
@@ -289,7 +289,7 @@ module _ (L : Store) (z : Reached L) (a : Arrival) (kind : Kind) (first i : ℕ)
         own = key-same tops (keptHeads r entry tops) there (λ m q. kept-known r entry tops long refl m (omega arith) (omega arith)) ∙ row-has-key tops skey held k;
         aged = kept-known r entry tops long refl 9 (omega arith) (omega arith);
         last = kept-known r entry tops long refl 7 (omega arith) (omega arith) ∙ e;
-        begun = rw (found-known k, eq-eqb (word tops there 7) (a .tables) e);
+        begun = rw (found-known k, eq-eqb (lastOf tops there) (a .tables) e);
         old-last = e;
         sixteen = length-up (placeSeen tops (L .units) there) 16 0;
         places = λ j q ne. sym (place-get tops (L .units) there j (omega arith) ∙ place-in tops (L .units) there j (omega arith));
@@ -307,7 +307,7 @@ module _ (L : Store) (z : Reached L) (a : Arrival) (kind : Kind) (first i : ℕ)
     fresh-age : ageOf (keptHeads r entry tops) (r .row) ≡ r .age
     fresh-age = kept-fresh r entry tops long f 9 (omega arith)
 
-    fresh-last : word (keptHeads r entry tops) (r .row) 7 ≡ a .tables
+    fresh-last : lastOf (keptHeads r entry tops) (r .row) ≡ a .tables
     fresh-last = kept-fresh r entry tops long f 7 (omega arith)
 
   refill-places : (t n : ℕ) → length (refill others l (a .tables) t n) ≡ n
@@ -316,14 +316,14 @@ module _ (L : Store) (z : Reached L) (a : Arrival) (kind : Kind) (first i : ℕ)
   refill-places t (suc n) = ap suc (refill-places (suc t) n)
 
   -- "If last_table_id differs from an existing schedule's, that row is emptied first and refilled"
-  other-berth : there < held → word tops there 7 ≢ a .tables
-      → Berthed L a first others (record { room = roomRenewed held evictions there (word tops there 9); refill = true }) (record { lastTable = a .tables; copies = refill others l (a .tables) first 16 })
+  other-berth : there < held → lastOf tops there ≢ a .tables
+      → Berthed L a first others (record { room = roomRenewed held evictions there (ageOf tops there); refill = true }) (record { lastTable = a .tables; copies = refill others l (a .tables) first 16 })
   unfolding begin scheduleSeen readyUnits
   other-berth k e =
       let t = h .tops-long in
       let f = h .few in
       let u = h .units-long in
-      let r : Room = roomRenewed held evictions there (word tops there 9) in
+      let r : Room = roomRenewed held evictions there (ageOf tops there) in
       let long : there * 12 + 12 ≤ length tops = omega arith in
       let low : first ≤ a .tables = let p = h .in-kind .from in let q = h .range in omega arith in
       let d = same in
@@ -333,7 +333,7 @@ module _ (L : Store) (z : Reached L) (a : Arrival) (kind : Kind) (first i : ℕ)
         own = fresh-own r refl long;
         aged = fresh-age r refl long;
         last = fresh-last r refl long;
-        begun = rw (found-known k, ne-eqb (word tops there 7) (a .tables) e);
+        begun = rw (found-known k, ne-eqb (lastOf tops there) (a .tables) e);
         old-last = refl;
         sixteen = refill-places first 16;
         places = λ j q ne. place low k j q ne;
@@ -405,14 +405,14 @@ module _ (L : Store) (z : Reached L) (a : Arrival) (kind : Kind) (first i : ℕ)
 
   berthed : (old : ScheduleOf Held) × Berthed L a first others berth old
   unfolding berthOf knownBerth
-  berthed = go (ltb there held) (eqb (word tops there 7) (a .tables)) refl refl
+  berthed = go (ltb there held) (eqb (lastOf tops there) (a .tables)) refl refl
     where
-      go : (b c : Bool) → ltb there held ≡ b → eqb (word tops there 7) (a .tables) ≡ c
+      go : (b c : Bool) → ltb there held ≡ b → eqb (lastOf tops there) (a .tables) ≡ c
           → (old : ScheduleOf Held) × Berthed L a first others (cond b
-          (cond c (record { room = roomIn held evictions there; refill = false }) (record { room = roomRenewed held evictions there (word tops there 9); refill = true }))
+          (cond c (record { room = roomIn held evictions there; refill = false }) (record { room = roomRenewed held evictions there (ageOf tops there); refill = true }))
           (record { room = roomNew tops limit held evictions; refill = false })) old
-      go true true p q = (scheduleSeen tops (L .units) there, same-berth (ltb-true there held p) (eqb-true (word tops there 7) (a .tables) q))
-      go true false p q = (record { lastTable = a .tables; copies = refill others l (a .tables) first 16 }, other-berth (ltb-true there held p) (eqb-false (word tops there 7) (a .tables) q))
+      go true true p q = (scheduleSeen tops (L .units) there, same-berth (ltb-true there held p) (eqb-true (lastOf tops there) (a .tables) q))
+      go true false p q = (record { lastTable = a .tables; copies = refill others l (a .tables) first 16 }, other-berth (ltb-true there held p) (eqb-false (lastOf tops there) (a .tables) q))
       go false c p q = (record { lastTable = a .tables; copies = replicate 16 none }, new-berth (ltb-false there held p))
 
   -- ---- the set is put in, and the schedule becomes the newest
@@ -482,7 +482,7 @@ module _ (L : Store) (z : Reached L) (a : Arrival) (kind : Kind) (first i : ℕ)
     key-after : keyAt tops₁ row ≡ skey
     key-after = then-touched .own
 
-    last-is : word tops₁ row 7 ≡ a .tables
+    last-is : lastOf tops₁ row ≡ a .tables
     last-is = touched-not (b .room .used) row (keptHeads (b .room) entry tops) row 7 (omega arith) (omega arith) ∙ w .last
 
     kind-is : word tops₁ row 1 ≡ a .kind
@@ -632,10 +632,10 @@ module _ (L : Store) (z : Reached L) (a : Arrival) (kind : Kind) (first i : ℕ)
     unfolding answerTold scheduleOut onAnswer onGuide guide enter
     schedule-out d e =
         let k : scheduleShown (keyAt tops₁ row) ≡ l = ap scheduleShown key-after ∙ skey-shown in
-        let v : word tops₁ row 7 ≡ old .lastTable = last-is ∙ sym (w .old-last) in
+        let v : lastOf tops₁ row ≡ old .lastTable = last-is ∙ sym (w .old-last) in
         let f = first-after in
         let n : min (a .tables - first) 15 + 1 ≡ count = omega arith in
-        let p : tablesShown (scheduleShown (keyAt tops₁ row)) (firstOfKind (word tops₁ row 1)) (tablesOut after (row * 16) (min (word tops₁ row 7 - firstOfKind (word tops₁ row 1)) 15 + 1))
+        let p : tablesShown (scheduleShown (keyAt tops₁ row)) (firstOfKind (word tops₁ row 1)) (tablesOut after (row * 16) (min (lastOf tops₁ row - firstOfKind (word tops₁ row 1)) 15 + 1))
         ≡ tablesShown l first (tablesOut after (row * 16) (min (a .tables - first) 15 + 1)) = λ t. tablesShown (k t) (f t) (tablesOut after (row * 16) (min (last-is t - f t) 15 + 1)) in
         let q : tablesShown l first (tablesOut after (row * 16) (min (a .tables - first) 15 + 1)) ≡ tablesShown l first (tablesOut after (row * 16) count) = ap (λ (m : ℕ). tablesShown l first (tablesOut after (row * 16) m)) n in
         let r : map (onWhole read) (wholes l first (take count (upFrom (placeSeen tops₁ units₁ row) 16 0))) ≡ map (onWhole read) (wholes l first (take (suc (old .lastTable - first)) (set (old .copies) (table - first) (some copy)))) =

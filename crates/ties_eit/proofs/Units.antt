@@ -17,7 +17,7 @@ use Rattle.laws.proofs.Lists.{paste-past, paste-before}
 use Rattle.rules_shared.specs.Cells.{Held}
 use Rattle.rules_eit.specs.Schedules.{CopyOf, copyOf}
 use Rattle.rows.specs.declared.Key.{Key}
-use Rattle.rows.specs.Rows.{word, rowOf, rowSlots, slotsAt, slotCount}
+use Rattle.rows.specs.Rows.{rowOf, rowSlots, slotsAt, slotCount, lastOf, versionOf}
 use Rattle.rows.proofs.Words.{length-slots}
 use Rattle.ages.proofs.Slots.{part-alike, part-pasted}
 use Rattle.schedules.specs.Segments.{wordOf, withWord, setComplete}
@@ -69,7 +69,7 @@ module _ (heads slots : List ℕ) (i u : ℕ) (units : List ℕ) (in-slots : i *
   abbrev pasted : List ℕ
   pasted = paste units (slotsAt u) part (length part)
 
-  part-length : length part ≡ slotCount (word heads i 7)
+  part-length : length part ≡ slotCount (lastOf heads i)
   part-length = length-slots heads slots i in-slots
 
   pasted-length : length pasted ≡ length units
@@ -81,7 +81,7 @@ module _ (heads slots : List ℕ) (i u : ℕ) (units : List ℕ) (in-slots : i *
 
   pub set-length : length (withSet heads slots i u units) ≡ length units
   unfolding withSet
-  set-length = words-length (word heads i 6 % 4294967296) (length part - 1) pasted ∙ pasted-length
+  set-length = words-length (versionOf heads i % 4294967296) (length part - 1) pasted ∙ pasted-length
 
   words-not : (v n : ℕ) (us : List ℕ) (j m : ℕ) → m < 288 → (j ≢ u) ⊎ (3 ≤ m) → wordOf (withWords u v n us) j m ≡ wordOf us j m
   words-not v n us j m hm o =
@@ -96,10 +96,10 @@ module _ (heads slots : List ℕ) (i u : ℕ) (units : List ℕ) (in-slots : i *
   pub set-other : (j : ℕ) → j ≢ u → copySeen (withSet heads slots i u units) j ≡ copySeen units j
   unfolding withSet
   set-other j ne =
-      copy-same units (withWords u (word heads i 6 % 4294967296) (length part - 1) pasted) j set-length (λ m h.
-      words-not (word heads i 6 % 4294967296) (length part - 1) pasted j m h (inl ne) ∙ beside m h (decLt j u))
+      copy-same units (withWords u (versionOf heads i % 4294967296) (length part - 1) pasted) j set-length (λ m h.
+      words-not (versionOf heads i % 4294967296) (length part - 1) pasted j m h (inl ne) ∙ beside m h (decLt j u))
     where
-      d : length part ≡ slotCount (word heads i 7)
+      d : length part ≡ slotCount (lastOf heads i)
       d = part-length
 
       beside : (m : ℕ) → m < 288 → Dec (j < u) → wordOf pasted j m ≡ wordOf units j m
@@ -108,7 +108,7 @@ module _ (heads slots : List ℕ) (i u : ℕ) (units : List ℕ) (in-slots : i *
 
   module _ (fit : HeadFits heads i) where
     abbrev v : ℕ
-    v = word heads i 6 % 4294967296
+    v = versionOf heads i % 4294967296
 
     abbrev n : ℕ
     n = length part - 1
@@ -120,29 +120,29 @@ module _ (heads slots : List ℕ) (i u : ℕ) (units : List ℕ) (in-slots : i *
         ∙ put-not (withWord u 0 1 pasted) u 1 v u 0 (omega arith) (omega arith) (inr (omega arith))
         ∙ put-same pasted u 0 1 (omega arith)
 
-    w1 : wordOf (withWords u v n pasted) u 1 ≡ word heads i 6
+    w1 : wordOf (withWords u v n pasted) u 1 ≡ versionOf heads i
     w1 =
         let l = pasted-length in
         let k = length-set pasted (u * 288 + 0) 1 in
         let f = fit .version in
-        let z : word heads i 6 % 4294967296 ≡ word heads i 6 = omega arith in
+        let z : versionOf heads i % 4294967296 ≡ versionOf heads i = omega arith in
         put-not (withWord u 1 v (withWord u 0 1 pasted)) u 2 n u 1 (omega arith) (omega arith) (inr (omega arith))
         ∙ put-same (withWord u 0 1 pasted) u 1 v (omega arith) ∙ z
 
-    w2 : wordOf (withWords u v n pasted) u 2 ≡ word heads i 7
+    w2 : wordOf (withWords u v n pasted) u 2 ≡ lastOf heads i
     w2 =
         let l = pasted-length in
         let d = part-length in
         let k : length (withWord u 1 v (withWord u 0 1 pasted)) ≡ length units = length-set (withWord u 0 1 pasted) (u * 288 + 1) v ∙ length-set pasted (u * 288 + 0) 1 ∙ l in
         let f = fit .last in
-        let z : length part - 1 ≡ word heads i 7 = omega arith in
+        let z : length part - 1 ≡ lastOf heads i = omega arith in
         put-same (withWord u 1 v (withWord u 0 1 pasted)) u 2 n (omega arith) ∙ z
 
     slots-in : unitSlots (withWords u v n pasted) u ≡ part
     unfolding unitSlots
     slots-in =
         let d = part-length in
-        let m : slotCount (word heads i 7) ≡ length part = omega arith in
+        let m : slotCount (lastOf heads i) ≡ length part = omega arith in
         rw (w2, m)
         (part-alike 0 (withWords u v n pasted) pasted (slotsAt u) (length part) (words-length v n pasted) (λ k a b.
         let z : u * 288 + (k - u * 288) ≡ k = omega arith in

@@ -27,7 +27,7 @@ use Rattle.section.specs.declared.eit.Reading.the-variants as reading
 use Rattle.section.specs.declared.ids.MaybePid.{MaybePid}
 use Rattle.section.specs.declared.ids.MaybePid.the-variants as maybe
 use Rattle.rows.specs.declared.Key.{Key}
-use Rattle.rows.specs.Rows.{word, rowSlots}
+use Rattle.rows.specs.Rows.{word, rowSlots, lastOf, markOf, versionOf}
 use Rattle.ages.specs.Order.{orderSeen, Stands}
 use Rattle.ages.specs.Slots.{heldSlots, upFrom, cellsSeen}
 use Rattle.sets.specs.Store.{bitOf}
@@ -102,11 +102,11 @@ lastOf w = cond (eqb w 0) none (some (w - 1))
 -- the set in row i: word 6 is its version, word 7 its last_section_number, word 8 not 0 where it went out; the row's first 32 words are its segments'
 unfoldable pub rowSeen : List ℕ → List ℕ → ℕ → SetOf Held
 rowSeen heads slots i = record {
-  version = word heads i 6;
-  last = word heads i 7;
+  version = versionOf heads i;
+  last = lastOf heads i;
   slots = heldSlots (rowSlots heads slots i);
   notes = upFrom (λ (g : ℕ). lastOf (wordOf slots i g)) 32 0;
-  mark = not (eqb (word heads i 8) 0);
+  mark = not (eqb (markOf heads i) 0);
 }
 
 -- the copy in unit u: word 0 is not 0 where it is present, 1 its version, 2 its last_section_number
@@ -120,7 +120,7 @@ placeSeen tops units k j = cond (ltb j (tablesOf tops k)) (copySeen units (k * 1
 
 -- the schedule in row k: word 7 is its last_table_id
 unfoldable pub scheduleSeen : List ℕ → List ℕ → ℕ → ScheduleOf Held
-scheduleSeen tops units k = record { lastTable = word tops k 7; copies = upFrom (placeSeen tops units k) 16 0 }
+scheduleSeen tops units k = record { lastTable = lastOf tops k; copies = upFrom (placeSeen tops units k) 16 0 }
 
 abbrev pub settingsOf : Store → Settings
 settingsOf s = record { limit = s .eit .limit; cellSize = s .eit .size }
@@ -269,8 +269,8 @@ pub record Opened (s : Store) : Type 0 where
 
 -- the head of a set in use: its version fits the 32 bits of a unit's word, its last_section_number a byte, and its table_id is one of an EIT
 pub record HeadFits (heads : List ℕ) (i : ℕ) : Type 0 where
-  pub version : word heads i 6 < 4294967296
-  pub last : word heads i 7 < 256
+  pub version : versionOf heads i < 4294967296
+  pub last : lastOf heads i < 256
   pub kind : kindOf (word heads i 1) ≡ some (theKind (kindOf (word heads i 1)))
 
 -- settings that opening takes, eviction counts that fit their 64 bits, heads that fit, and ages that are touch orders of keys, none of which stands twice

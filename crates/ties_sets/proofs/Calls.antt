@@ -33,9 +33,9 @@ use Rattle.section.specs.Facts.{Bytes as AllBytes}
 use Rattle.cells.specs.Cells.{keptLength, filled, slotWhole, allWhole, kept}
 use Rattle.rows.specs.declared.Entry.{Entry}
 use Rattle.rows.specs.declared.Room.{Room}
-use Rattle.rows.specs.Rows.{word, rowOf, roomIn, roomRenewed, roomNew, slotsAt, slotCount, rowSlots, oldestOf}
+use Rattle.rows.specs.Rows.{rowOf, roomIn, roomRenewed, roomNew, slotsAt, slotCount, rowSlots, oldestOf, ageOf, lastOf, versionOf}
 use Rattle.rows.specs.declared.Key.{Key}
-use Rattle.ages.specs.Order.{downFrom, inOrder, ageOf, rowsSeen, Goes, known}
+use Rattle.ages.specs.Order.{downFrom, inOrder, rowsSeen, Goes, known}
 use Rattle.ages.specs.Slots.{heldOf, cellsSeen}
 use Rattle.ages.proofs.Ages.{length-order}
 use Rattle.ages.proofs.Touch.{row-has-key, no-row-has-key, goes-known, goes-new, stands-none, finds-known, finds-none}
@@ -71,7 +71,7 @@ new-fresh : (heads : List ℕ) (limit used evictions : ℕ) → (roomNew heads l
 unfolding roomNew
 new-fresh heads limit used evictions = go (ltb used limit)
   where
-    go : (b : Bool) → (cond b (roomRenewed (used + 1) evictions used used) (roomRenewed used (evictions + 1) (oldestOf heads used) (word heads (oldestOf heads used) 9))) .fresh ≡ true
+    go : (b : Bool) → (cond b (roomRenewed (used + 1) evictions used used) (roomRenewed used (evictions + 1) (oldestOf heads used) (ageOf heads (oldestOf heads used)))) .fresh ≡ true
     go true = refl
     go false = refl
 
@@ -164,11 +164,11 @@ module _ (s : Store) (z : Reached s) (f : Whole (s .sets) (s .heads) (s .slots) 
     goes : Goes (s .heads) (s .sets .limit) (s .sets .used) (s .sets .evictions) (e .key) there (ageOf (s .heads) there) (s .sets .used) (s .sets .evictions)
     goes = goes-known (s .heads) (s .sets .limit) (s .sets .used) (s .sets .evictions) (e .key) h
 
-    fits-as : fits (partOf x) row ≡ (eqb (word (s .heads) there 6) (e .version) && eqb (word (s .heads) there 7) (e .last))
+    fits-as : fits (partOf x) row ≡ (eqb (versionOf (s .heads) there) (e .version) && eqb (lastOf (s .heads) there) (e .last))
     unfolding fits rowSeen partOf
     fits-as = refl
 
-    met-known : (b : Bool) → (eqb (word (s .heads) there 6) (e .version) && eqb (word (s .heads) there 7) (e .last)) ≡ b → metRow x ((seen s) .sets) ≡ cond b row (fresh (partOf x))
+    met-known : (b : Bool) → (eqb (versionOf (s .heads) there) (e .version) && eqb (lastOf (s .heads) there) (e .last)) ≡ b → metRow x ((seen s) .sets) ≡ cond b row (fresh (partOf x))
     unfolding metRow start seen
     met-known b q =
         rw (
@@ -180,17 +180,17 @@ module _ (s : Store) (z : Reached s) (f : Whole (s .sets) (s .heads) (s .slots) 
 
     -- "A differing version or last number empties the row"
     renewed-tied : metRow x ((seen s) .sets) ≡ fresh (partOf x)
-        → Tied (carried s bytes (planKeep s e (roomRenewed (s .sets .used) (s .sets .evictions) there (word (s .heads) there 9)))) (carry (seen s) x (placeOf (seen s) x))
+        → Tied (carried s bytes (planKeep s e (roomRenewed (s .sets .used) (s .sets .evictions) there (ageOf (s .heads) there)))) (carry (seen s) x (placeOf (seen s) x))
     renewed-tied m =
         rw (place-empty (fresh-slot _ m))
-        (keep-tied s z f more e n proper bytes h12 hs (roomRenewed (s .sets .used) (s .sets .evictions) there (word (s .heads) there 9)) (ageOf (s .heads) there) goes (anew refl refl) m)
+        (keep-tied s z f more e n proper bytes h12 hs (roomRenewed (s .sets .used) (s .sets .evictions) there (ageOf (s .heads) there)) (ageOf (s .heads) there) goes (anew refl refl) m)
 
     -- the row goes on
-    module _ (last : word (s .heads) there 7 ≡ e .last) (m : metRow x ((seen s) .sets) ≡ row) where
+    module _ (last : lastOf (s .heads) there ≡ e .last) (m : metRow x ((seen s) .sets) ≡ row) where
       abbrev w : ℕ
       w = getD (s .slots) (slotsAt there + e .number) 0
 
-      in-row : e .number < slotCount (word (s .heads) there 7)
+      in-row : e .number < slotCount (lastOf (s .heads) there)
       in-row = let a = n .number in let b = n .last in omega arith
 
       slot-is : slotOf (partOf x) (metRow x ((seen s) .sets)) ≡ heldOf w
@@ -247,12 +247,12 @@ module _ (s : Store) (z : Reached s) (f : Whole (s .sets) (s .heads) (s .slots) 
 
     known-tied : Tied (carried s bytes (planKnown s e bytes there)) (carry (seen s) x (placeOf (seen s) x))
     unfolding planKnown
-    known-tied = go (eqb (word (s .heads) there 6) (e .version) && eqb (word (s .heads) there 7) (e .last)) refl
+    known-tied = go (eqb (versionOf (s .heads) there) (e .version) && eqb (lastOf (s .heads) there) (e .last)) refl
       where
-        go : (b : Bool) → (eqb (word (s .heads) there 6) (e .version) && eqb (word (s .heads) there 7) (e .last)) ≡ b
+        go : (b : Bool) → (eqb (versionOf (s .heads) there) (e .version) && eqb (lastOf (s .heads) there) (e .last)) ≡ b
             → Tied (carried s bytes (cond b (planSlot s e bytes there (getD (s .slots) (slotsAt there + e .number) 0))
-            (planKeep s e (roomRenewed (s .sets .used) (s .sets .evictions) there (word (s .heads) there 9))))) (carry (seen s) x (placeOf (seen s) x))
-        go true q = slot-tied (same-last (word (s .heads) there 6) (word (s .heads) there 7) (e .version) (e .last) q) (met-known true q)
+            (planKeep s e (roomRenewed (s .sets .used) (s .sets .evictions) there (ageOf (s .heads) there))))) (carry (seen s) x (placeOf (seen s) x))
+        go true q = slot-tied (same-last (versionOf (s .heads) there) (lastOf (s .heads) there) (e .version) (e .last) q) (met-known true q)
         go false q = renewed-tied (met-known false q)
 
   good-tied : Tied (carried s bytes (planGood s e bytes)) (carry (seen s) x (placeOf (seen s) x))

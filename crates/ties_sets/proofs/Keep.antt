@@ -23,8 +23,8 @@ use Rattle.cells.specs.Cells.{slotWord, allWhole, lowestFree}
 use Rattle.rows.specs.declared.Key.{Key}
 use Rattle.rows.specs.declared.Entry.{Entry}
 use Rattle.rows.specs.declared.Room.{Room}
-use Rattle.rows.specs.Rows.{word, keyAt, touched, keptHeads, goneRow, rowSlots, keptSlots, takenIn}
-use Rattle.ages.specs.Order.{ageOf, Goes, known, added, evicted, Touched}
+use Rattle.rows.specs.Rows.{keyAt, touched, keptHeads, goneRow, rowSlots, keptSlots, takenIn, lastOf, ageOf}
+use Rattle.ages.specs.Order.{Goes, known, added, evicted, Touched}
 use Rattle.ages.specs.Slots.{heldOf, heldSlots, cellsSeen}
 use Rattle.rows.proofs.Words.{length-kept, kept-row, kept-fresh, kept-known, length-kept-slots}
 use Rattle.rows.proofs.Whole.{rows-get}
@@ -51,7 +51,7 @@ sectionFor e bytes = record { key = keyShown (e .key); version = e .version; num
 pub data Meets (s : Store) (e : Entry) (bytes : Bytes) (r : Room) (a : ℕ) : SetOf Held → Type 0 where
   anew : r .fresh ≡ true → r .age ≡ a → Meets s e bytes r a (fresh (partOf (sectionFor e bytes)))
   goesOn : r .fresh ≡ false → r .row < s .sets .used → keyAt (s .heads) (r .row) ≡ e .key → ageOf (s .heads) (r .row) ≡ a
-      → word (s .heads) (r .row) 7 ≡ e .last → Meets s e bytes r a (rowSeen (s .heads) (s .slots) (r .row))
+      → lastOf (s .heads) (r .row) ≡ e .last → Meets s e bytes r a (rowSeen (s .heads) (s .slots) (r .row))
 
 -- no more rows than the limit, and at most one eviction more
 goes-room : {heads : List ℕ} {limit used evictions : ℕ} {key : Key} {i a used′ evictions′ : ℕ} → Goes heads limit used evictions key i a used′ evictions′ → used ≤ limit → used′ ≤ limit
@@ -89,7 +89,7 @@ module _ (s : Store) (z : Reached s) (f : Whole (s .sets) (s .heads) (s .slots) 
   own-age (anew t u) = kept-fresh r e (s .heads) head-long t 9 (omega arith) ∙ u
   own-age (goesOn t l k u v) = kept-known r e (s .heads) head-long t 9 (omega arith) (omega arith) ∙ u
 
-  own-last : {met : SetOf Held} → Meets s e bytes r a met → word (keptHeads r e (s .heads)) (r .row) 7 ≡ e .last
+  own-last : {met : SetOf Held} → Meets s e bytes r a met → lastOf (keptHeads r e (s .heads)) (r .row) ≡ e .last
   own-last (anew t u) = kept-fresh r e (s .heads) head-long t 7 (omega arith)
   own-last (goesOn t l k u v) = kept-known r e (s .heads) head-long t 7 (omega arith) (omega arith) ∙ v
 

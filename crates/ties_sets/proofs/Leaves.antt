@@ -14,8 +14,8 @@ use Rattle.rules_sets.specs.Rules.{Section, offer, Answer, cleared, refused, no
 use Rattle.rules_sets.specs.Cells.{Store as Shown, takes, taken}
 use Rattle.rules_sets.proofs.Exact.{Conflicting, conflict-touches, KeptIn, cells-change}
 use Rattle.cells.specs.Cells.{names}
-use Rattle.rows.specs.Rows.{word, slotsAt, slotCount, rowSlots}
-use Rattle.ages.specs.Order.{ageOf, rowsSeen}
+use Rattle.rows.specs.Rows.{slotsAt, slotCount, rowSlots, lastOf, ageOf}
+use Rattle.ages.specs.Order.{rowsSeen}
 use Rattle.ages.proofs.Ages.{order-none, none-order}
 use Rattle.rows.proofs.Words.{slot-at, length-slots}
 use Rattle.section.specs.declared.ids.MaybePid.{MaybePid}
@@ -62,7 +62,7 @@ conflict-memory s pid bytes h = conflict-keeps s pid bytes (conflict-told ((push
 
 module _ (s : Store) (z : Reached s) (long : s .sets .used * 288 ≤ length (s .slots)) (c : ℕ) where
   abbrev NoSlotNames : Type 0
-  NoSlotNames = (j k : ℕ) → j < s .sets .used → k < slotCount (word (s .heads) j 7) → names c (getD (s .slots) (slotsAt j + k) 0) ≡ false
+  NoSlotNames = (j k : ℕ) → j < s .sets .used → k < slotCount (lastOf (s .heads) j) → names c (getD (s .slots) (slotsAt j + k) 0) ≡ false
 
   pub free-named-nowhere : taken ((seen s) .sets) c ≡ false → NoSlotNames
   unfolding taken seen rowsSeen
@@ -77,5 +77,5 @@ module _ (s : Store) (z : Reached s) (long : s .sets .used * 288 ≤ length (s .
       order-none (takes c) (ageOf (s .heads)) (s .sets .used) (z .stands .ages) _ (λ j l. row-takes (s .heads) (s .slots) c j
       ∙ none-any (names c) (rowSlots (s .heads) (s .slots) j) 0 (λ k m.
       let d = length-slots (s .heads) (s .slots) j (omega arith) in
-      let q : k < slotCount (word (s .heads) j 7) = omega arith in
+      let q : k < slotCount (lastOf (s .heads) j) = omega arith in
       ap (names c) (slot-at (s .heads) (s .slots) j k q) ∙ f j k l q))

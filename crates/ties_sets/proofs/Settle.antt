@@ -16,8 +16,8 @@ use Rattle.rules_sets.specs.Cells.{Turn, onWhole, onAnswer, shows}
 use Rattle.rules_sets.proofs.Keys.{sameKey-true}
 use Rattle.cells.specs.Cells.{allFilled, allWhole, kept}
 use Rattle.rows.specs.declared.Key.{Key}
-use Rattle.rows.specs.Rows.{word, put, keyAt, touched, rowSlots}
-use Rattle.ages.specs.Order.{ageOf, Goes, Touched}
+use Rattle.rows.specs.Rows.{word, keyAt, touched, rowSlots, markOf, withMark, ageOf}
+use Rattle.ages.specs.Order.{Goes, Touched}
 use Rattle.ages.specs.Slots.{cellsSeen}
 use Rattle.rows.proofs.Words.{put-same, put-not, put-row, length-put, length-touched, touched-not}
 use Rattle.ages.proofs.Words.{ready-touched, put-touched, key-same}
@@ -55,7 +55,7 @@ module _ (s s₁ : Store) (key : Key) (i a : ℕ) (z : Reached s) (proper : keyW
 
   -- the heads that are left, with the mark set or not
   abbrev pub leftHeads : Bool → List ℕ
-  leftHeads b = cond b (put i 8 1 newer) newer
+  leftHeads b = cond b (withMark i 1 newer) newer
 
   abbrev pub leftStore : Bool → Store
   leftStore b = store (s₁ .sets) (leftHeads b) (s₁ .slots) (s₁ .cells)
@@ -135,7 +135,7 @@ module _ (s s₁ : Store) (key : Key) (i a : ℕ) (z : Reached s) (proper : keyW
       let c = ap (map (kept (s₁ .cells) (s₁ .sets .size))) (slots-same (s₁ .heads) (leftHeads true) (s₁ .slots) i l) ∙ sym (sections-kept (s₁ .cells) (s₁ .sets .size) (s₁ .sets .count) (rowSlots (s₁ .heads) (s₁ .slots) i) f (r .row-whole)) in
       λ t. handout (record { key = keyShown (k t); version = v t; last = l t; sections = c t })
 
-  goes-as : goesOut newer (s₁ .slots) i ≡ (eqb (word (s₁ .heads) i 8) 0 && allFilled (rowSlots (s₁ .heads) (s₁ .slots) i))
+  goes-as : goesOut newer (s₁ .slots) i ≡ (eqb (markOf (s₁ .heads) i) 0 && allFilled (rowSlots (s₁ .heads) (s₁ .slots) i))
   unfolding goesOut
   goes-as =
       rw (touched-not used₁ i (s₁ .heads) i 8 (omega arith) (omega arith), slots-same (s₁ .heads) newer (s₁ .slots) i (touched-not used₁ i (s₁ .heads) i 7 (omega arith) (omega arith)))
@@ -150,7 +150,7 @@ module _ (s s₁ : Store) (key : Key) (i a : ℕ) (z : Reached s) (proper : keyW
 
     pub settle-tied : Tied (settled s₁ i) (shows (seen s) cellsThere (judge rest (keyShown key) rowThere))
     unfolding settled settledAnswer settledHeads judge judged shows rowSeen onAnswer answerTold
-    settle-tied = rw (goes-as, full-filled (rowSlots (s₁ .heads) (s₁ .slots) i)) (go (eqb (word (s₁ .heads) i 8) 0) (allFilled (rowSlots (s₁ .heads) (s₁ .slots) i)) refl)
+    settle-tied = rw (goes-as, full-filled (rowSlots (s₁ .heads) (s₁ .slots) i)) (go (eqb (markOf (s₁ .heads) i) 0) (allFilled (rowSlots (s₁ .heads) (s₁ .slots) i)) refl)
       where
         go : (m f : Bool) → allFilled (rowSlots (s₁ .heads) (s₁ .slots) i) ≡ f
             → Tied (answered (cond (m && f) (Set i) Nothing) (leftStore (m && f))) (shows (seen s) cellsThere (judged rest (keyShown key) rowThere (not m) f))

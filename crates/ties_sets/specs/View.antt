@@ -17,7 +17,7 @@ use Rattle.section.specs.declared.header.Collected.the-variants.{Malformed, Sho
 use Rattle.section.specs.declared.ids.MaybePid.{MaybePid}
 use Rattle.section.specs.declared.ids.MaybePid.the-variants as maybe
 use Rattle.rows.specs.declared.Key.{Key}
-use Rattle.rows.specs.Rows.{word, rowSlots}
+use Rattle.rows.specs.Rows.{rowSlots, lastOf, markOf, versionOf}
 use Rattle.ages.specs.Order.{orderSeen, Stands}
 use Rattle.ages.specs.Slots.{heldSlots, cellsSeen}
 use Rattle.sets.specs.History.{Call as Given, offer as section, empty as clears, called, OpenedStore}
@@ -52,11 +52,11 @@ keyWords k = record {
 -- row i: word 6 is its version, word 7 its last_section_number, word 8 not 0 where it was handed out
 unfoldable pub rowSeen : List ℕ → List ℕ → ℕ → SetOf Held
 rowSeen heads slots i = record {
-  version = word heads i 6;
-  last = word heads i 7;
+  version = versionOf heads i;
+  last = lastOf heads i;
   slots = heldSlots (rowSlots heads slots i);
   notes = tt;
-  mark = not (eqb (word heads i 8) 0);
+  mark = not (eqb (markOf heads i) 0);
 }
 
 abbrev pub settingsOf : Store → Settings
