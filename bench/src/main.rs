@@ -291,7 +291,7 @@ fn check_of_the_store(rounds: usize) {
         for _ in 0..=rounds {
             let start = now();
             for _ in 0..turns {
-                black_box(sets.has_section(usize::MAX, 0));
+                black_box(sets.has_section(u64::MAX, 0));
             }
             best = best.min((now() - start) as f64 / turns as f64);
         }

@@ -1,11 +1,10 @@
 //! A guide monitor in Rust over the proved library: reads records from standard input or from the file named, a PID (two bytes, high byte
 //! first) and a section each, and prints each new section, each complete set and schedule, and totals, as examples/monitor.c does.
 
-use petrizolu::{Complete, Eit, Gate, Name, Offered, Refused, Section, Sets};
+use petrizolu::{Answer, Complete, Eit, Gate, Name, Offered, Refused, Section, Sets};
 use std::io::{self, BufReader, Read};
 
 const SCHEDULE_ACTUAL: u8 = 2;
-const SHORT_FORM: u8 = 15;
 
 struct Monitor {
     gate: Gate,
@@ -23,11 +22,7 @@ fn pid_text(pid: Option<u16>) -> String {
 
 fn show_sections(sections: &[Section]) {
     for section in sections {
-        println!(
-            "  section {}, {} bytes",
-            section.number,
-            section.bytes.len()
-        );
+        println!("  section {}, {} bytes", section.number, section.bytes.len());
     }
 }
 
@@ -53,10 +48,7 @@ impl Monitor {
             return;
         }
         let table_id = section[0];
-        println!(
-            "new pid {pid:04X} table {table_id:02X}, {} bytes",
-            section.len()
-        );
+        println!("new pid {pid:04X} table {table_id:02X}, {} bytes", section.len());
         if (0x4E..=0x6F).contains(&table_id) {
             self.collect_events(pid, section);
         } else {
@@ -67,20 +59,11 @@ impl Monitor {
     fn collect_set(&mut self, pid: u16, section: &[u8]) {
         match self.sets.push(Some(pid), section) {
             // A TDT or TOT: there is no set of it.
-            Ok(None) | Err(Refused(SHORT_FORM)) => {}
+            Ok(None) | Err(Refused(Answer::SHORT_FORM)) => {}
             Ok(Some(row)) => {
                 self.complete_sets += 1;
-                let Name {
-                    pid,
-                    table_id,
-                    extension,
-                    version,
-                    ..
-                } = self.sets.name(&row);
-                println!(
-                    "set{} table {table_id:02X} extension {extension:04X} version {version}",
-                    pid_text(pid)
-                );
+                let Name { pid, table_id, extension, version, .. } = self.sets.name(&row);
+                println!("set{} table {table_id:02X} extension {extension:04X} version {version}", pid_text(pid));
                 show_sections(&self.sets.sections(&row));
             }
             Err(Refused(answer)) => self.refuse(answer),
@@ -92,32 +75,15 @@ impl Monitor {
             Ok(None) => {}
             Ok(Some(Complete::Set(row))) => {
                 self.complete_sets += 1;
-                let Name {
-                    pid,
-                    extension,
-                    version,
-                    ..
-                } = self.eit.name(&row);
-                println!(
-                    "present/following{} service {extension:04X} version {version}",
-                    pid_text(pid)
-                );
+                let Name { pid, extension, version, .. } = self.eit.name(&row);
+                println!("present/following{} service {extension:04X} version {version}", pid_text(pid));
                 show_sections(&self.eit.sections(&row));
             }
             Ok(Some(Complete::Schedule(row))) => {
                 self.complete_schedules += 1;
-                let Name {
-                    pid,
-                    table_id: kind,
-                    extension,
-                    last,
-                    ..
-                } = self.eit.schedule_name(&row);
+                let Name { pid, table_id: kind, extension, last, .. } = self.eit.schedule_name(&row);
                 let first = if kind == SCHEDULE_ACTUAL { 0x50 } else { 0x60 };
-                println!(
-                    "schedule{} service {extension:04X} tables {first:02X} to {last:02X}",
-                    pid_text(pid)
-                );
+                println!("schedule{} service {extension:04X} tables {first:02X} to {last:02X}", pid_text(pid));
                 for table_id in first..=last {
                     println!(" table {table_id:02X}");
                     show_sections(&self.eit.table_sections(&row, table_id - first));
@@ -127,7 +93,7 @@ impl Monitor {
         }
     }
 
-    fn refuse(&mut self, answer: u8) {
+    fn refuse(&mut self, answer: Answer) {
         self.refused += 1;
         println!("refused {answer}");
     }
@@ -138,13 +104,13 @@ impl Monitor {
             "sections {} new {} repeats {} crc {} unwatched {}",
             gate.completed, gate.emitted, gate.suppressed, gate.crc_failures, self.unwatched
         );
-        let eit = self.eit.counts();
+        let eit = self.eit.state();
         println!(
             "sets {} schedules {} refused {} evicted {}",
             self.complete_sets,
             self.complete_schedules,
             self.refused,
-            self.sets.counts().evictions + eit.evictions + eit.schedule_evictions
+            self.sets.state().evictions + eit.evictions + eit.schedule_evictions
         );
     }
 }
@@ -165,8 +131,7 @@ fn read_record(input: &mut impl Read, section: &mut Vec<u8>) -> io::Result<Optio
 }
 
 fn run(mut input: impl Read) -> io::Result<()> {
-    let mut monitor = Monitor::open()
-        .map_err(|Refused(answer)| io::Error::other(format!("the stores do not open: {answer}")))?;
+    let mut monitor = Monitor::open().map_err(|Refused(answer)| io::Error::other(format!("the stores do not open: {answer}")))?;
     let mut section = Vec::new();
     loop {
         match read_record(&mut input, &mut section) {

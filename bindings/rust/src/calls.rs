@@ -1,0 +1,463 @@
+//! Each function of the header, with a slice for each pointer and its length. A slice points to as many elements as it says, and two `&mut` do
+//! not overlap: that is all that the header asks of a caller, so these are safe for any content of what is lent, and answer for any.
+#![allow(clippy::too_many_arguments)]
+use crate::{ANY, Answer, raw, rows};
+
+/// A gate's settings and counters.
+#[repr(C)]
+#[derive(Debug, Clone, Copy, Default, PartialEq, Eq)]
+pub struct GateState {
+    pub capacity: u64,
+    pub repeats: u64,
+    pub follow: u64,
+    pub used: u64,
+    pub first: u64,
+    pub completed: u64,
+    pub emitted: u64,
+    pub suppressed: u64,
+    pub crc_failures: u64,
+    pub evictions: u64,
+}
+
+/// A set collector's settings and counts.
+#[repr(C)]
+#[derive(Debug, Clone, Copy, Default, PartialEq, Eq)]
+pub struct SetsState {
+    pub limit: u64,
+    pub size: u64,
+    pub count: u64,
+    pub used: u64,
+    pub evictions: u64,
+}
+
+/// An EIT collector's settings and counts.
+#[repr(C)]
+#[derive(Debug, Clone, Copy, Default, PartialEq, Eq)]
+pub struct EitState {
+    pub limit: u64,
+    pub size: u64,
+    pub count: u64,
+    pub used: u64,
+    pub evictions: u64,
+    pub schedules: u64,
+    pub schedule_evictions: u64,
+}
+
+/// Where a section of a row is.
+#[repr(C)]
+#[derive(Debug, Clone, Copy, Default, PartialEq, Eq)]
+pub struct Place {
+    pub number: u64,
+    pub start: u64,
+    pub length: u64,
+}
+
+impl Place {
+    /// The section's bytes.
+    pub fn part<'a>(&self, cells: &'a [u8]) -> &'a [u8] {
+        &cells[self.start as usize..][..self.length as usize]
+    }
+}
+
+/// Which sets and schedules to drop: each field exact, or [`ANY`].
+#[repr(C)]
+#[derive(Debug, Clone, Copy, PartialEq, Eq)]
+pub struct Filter {
+    pub pid: u64,
+    pub kind: u64,
+    pub service_id: u64,
+    pub transport_stream_id: u64,
+    pub original_network_id: u64,
+    pub current_next: u64,
+}
+
+impl Filter {
+    /// Matches all.
+    pub const ALL: Self =
+        Self { pid: ANY, kind: ANY, service_id: ANY, transport_stream_id: ANY, original_network_id: ANY, current_next: ANY };
+
+    /// Only those with this PID, or only those without one.
+    pub fn pid(self, pid: Option<u16>) -> Self {
+        Self { pid: rows::pid_word(pid).into(), ..self }
+    }
+
+    pub fn service_id(self, service_id: u16) -> Self {
+        Self { service_id: service_id.into(), ..self }
+    }
+}
+
+/// The CRC of ISO/IEC 13818-1, Annex A.
+pub fn crc(bytes: &[u8]) -> u32 {
+    // SAFETY: the pointer goes with the length of its slice.
+    unsafe { raw::petrizolu_crc(bytes.as_ptr(), bytes.len()) }
+}
+
+// ---- the gate
+
+pub fn gate_open(
+    gate: &mut GateState,
+    capacity: u64,
+    settings: u32,
+    extra: &[u16],
+    keys: &[u64],
+    changes: &[u64],
+    watch: &mut [u64],
+) -> Answer {
+    // SAFETY: each pointer goes with the length of its own slice, here and in all that follow.
+    Answer(unsafe {
+        raw::petrizolu_gate_open(
+            gate,
+            capacity,
+            settings,
+            extra.as_ptr(),
+            extra.len(),
+            keys.as_ptr(),
+            keys.len(),
+            changes.as_ptr(),
+            changes.len(),
+            watch.as_mut_ptr(),
+            watch.len(),
+        )
+    })
+}
+
+pub fn gate_offer(gate: &mut GateState, keys: &mut [u64], changes: &mut [u64], watch: &mut [u64], pid: u32, section: &[u8]) -> Answer {
+    // SAFETY: as above.
+    Answer(unsafe {
+        raw::petrizolu_gate_offer(
+            gate,
+            keys.as_mut_ptr(),
+            keys.len(),
+            changes.as_mut_ptr(),
+            changes.len(),
+            watch.as_mut_ptr(),
+            watch.len(),
+            pid,
+            section.as_ptr(),
+            section.len(),
+        )
+    })
+}
+
+pub fn watch_ask(watch: &[u64], pid: u32) -> Answer {
+    // SAFETY: as above.
+    Answer(unsafe { raw::petrizolu_watch_ask(watch.as_ptr(), watch.len(), pid) })
+}
+
+pub fn indexed_open(
+    gate: &mut GateState,
+    capacity: u64,
+    settings: u32,
+    extra: &[u16],
+    keys: &[u64],
+    changes: &[u64],
+    buckets: &mut [u64],
+    links: &[u64],
+    watch: &mut [u64],
+) -> Answer {
+    // SAFETY: as above.
+    Answer(unsafe {
+        raw::petrizolu_indexed_open(
+            gate,
+            capacity,
+            settings,
+            extra.as_ptr(),
+            extra.len(),
+            keys.as_ptr(),
+            keys.len(),
+            changes.as_ptr(),
+            changes.len(),
+            buckets.as_mut_ptr(),
+            buckets.len(),
+            links.as_ptr(),
+            links.len(),
+            watch.as_mut_ptr(),
+            watch.len(),
+        )
+    })
+}
+
+pub fn indexed_offer(
+    gate: &mut GateState,
+    keys: &mut [u64],
+    changes: &mut [u64],
+    buckets: &mut [u64],
+    links: &mut [u64],
+    watch: &mut [u64],
+    pid: u32,
+    section: &[u8],
+) -> Answer {
+    // SAFETY: as above.
+    Answer(unsafe {
+        raw::petrizolu_indexed_offer(
+            gate,
+            keys.as_mut_ptr(),
+            keys.len(),
+            changes.as_mut_ptr(),
+            changes.len(),
+            buckets.as_mut_ptr(),
+            buckets.len(),
+            links.as_mut_ptr(),
+            links.len(),
+            watch.as_mut_ptr(),
+            watch.len(),
+            pid,
+            section.as_ptr(),
+            section.len(),
+        )
+    })
+}
+
+// ---- the set collector
+
+pub fn sets_open(sets: &mut SetsState, limit: u64, size: u64, count: u64, heads: &[u64], slots: &[u32], cells: &[u8]) -> Answer {
+    // SAFETY: as above.
+    Answer(unsafe {
+        raw::petrizolu_sets_open(
+            sets,
+            limit,
+            size,
+            count,
+            heads.as_ptr(),
+            heads.len(),
+            slots.as_ptr(),
+            slots.len(),
+            cells.as_ptr(),
+            cells.len(),
+        )
+    })
+}
+
+/// `row` is written where the answer is 5.
+pub fn sets_push(
+    sets: &mut SetsState,
+    heads: &mut [u64],
+    slots: &mut [u32],
+    cells: &mut [u8],
+    pid: u32,
+    section: &[u8],
+    row: &mut u64,
+) -> Answer {
+    // SAFETY: as above.
+    Answer(unsafe {
+        raw::petrizolu_sets_push(
+            sets,
+            heads.as_mut_ptr(),
+            heads.len(),
+            slots.as_mut_ptr(),
+            slots.len(),
+            cells.as_mut_ptr(),
+            cells.len(),
+            pid,
+            section.as_ptr(),
+            section.len(),
+            row,
+        )
+    })
+}
+
+pub fn sets_clear(sets: &mut SetsState, heads: &[u64], slots: &[u32], cells: &[u8]) -> Answer {
+    // SAFETY: as above.
+    Answer(unsafe {
+        raw::petrizolu_sets_clear(sets, heads.as_ptr(), heads.len(), slots.as_ptr(), slots.len(), cells.as_ptr(), cells.len())
+    })
+}
+
+pub fn sets_next(sets: &SetsState, heads: &[u64], slots: &[u32], cells: &[u8], row: u64, from: u64, next: &mut Place) -> Answer {
+    // SAFETY: as above.
+    Answer(unsafe {
+        raw::petrizolu_sets_next(
+            sets,
+            heads.as_ptr(),
+            heads.len(),
+            slots.as_ptr(),
+            slots.len(),
+            cells.as_ptr(),
+            cells.len(),
+            row,
+            from,
+            next,
+        )
+    })
+}
+
+// ---- the EIT collector
+
+pub fn eit_open(
+    eit: &mut EitState,
+    limit: u64,
+    size: u64,
+    count: u64,
+    heads: &[u64],
+    slots: &[u32],
+    cells: &[u8],
+    schedule_heads: &[u64],
+    units: &[u32],
+) -> Answer {
+    // SAFETY: as above.
+    Answer(unsafe {
+        raw::petrizolu_eit_open(
+            eit,
+            limit,
+            size,
+            count,
+            heads.as_ptr(),
+            heads.len(),
+            slots.as_ptr(),
+            slots.len(),
+            cells.as_ptr(),
+            cells.len(),
+            schedule_heads.as_ptr(),
+            schedule_heads.len(),
+            units.as_ptr(),
+            units.len(),
+        )
+    })
+}
+
+/// `row` is written where the answer is 5 or 6.
+pub fn eit_push(
+    eit: &mut EitState,
+    heads: &mut [u64],
+    slots: &mut [u32],
+    cells: &mut [u8],
+    schedule_heads: &mut [u64],
+    units: &mut [u32],
+    pid: u32,
+    section: &[u8],
+    row: &mut u64,
+) -> Answer {
+    // SAFETY: as above.
+    Answer(unsafe {
+        raw::petrizolu_eit_push(
+            eit,
+            heads.as_mut_ptr(),
+            heads.len(),
+            slots.as_mut_ptr(),
+            slots.len(),
+            cells.as_mut_ptr(),
+            cells.len(),
+            schedule_heads.as_mut_ptr(),
+            schedule_heads.len(),
+            units.as_mut_ptr(),
+            units.len(),
+            pid,
+            section.as_ptr(),
+            section.len(),
+            row,
+        )
+    })
+}
+
+pub fn eit_clear(eit: &mut EitState, heads: &[u64], slots: &[u32], cells: &[u8], schedule_heads: &[u64], units: &[u32]) -> Answer {
+    // SAFETY: as above.
+    Answer(unsafe {
+        raw::petrizolu_eit_clear(
+            eit,
+            heads.as_ptr(),
+            heads.len(),
+            slots.as_ptr(),
+            slots.len(),
+            cells.as_ptr(),
+            cells.len(),
+            schedule_heads.as_ptr(),
+            schedule_heads.len(),
+            units.as_ptr(),
+            units.len(),
+        )
+    })
+}
+
+pub fn eit_drop(
+    eit: &mut EitState,
+    heads: &mut [u64],
+    slots: &mut [u32],
+    cells: &[u8],
+    schedule_heads: &mut [u64],
+    units: &mut [u32],
+    filter: &Filter,
+) -> Answer {
+    // SAFETY: as above.
+    Answer(unsafe {
+        raw::petrizolu_eit_drop(
+            eit,
+            heads.as_mut_ptr(),
+            heads.len(),
+            slots.as_mut_ptr(),
+            slots.len(),
+            cells.as_ptr(),
+            cells.len(),
+            schedule_heads.as_mut_ptr(),
+            schedule_heads.len(),
+            units.as_mut_ptr(),
+            units.len(),
+            filter,
+        )
+    })
+}
+
+pub fn eit_next(
+    eit: &EitState,
+    heads: &[u64],
+    slots: &[u32],
+    cells: &[u8],
+    schedule_heads: &[u64],
+    units: &[u32],
+    row: u64,
+    from: u64,
+    next: &mut Place,
+) -> Answer {
+    // SAFETY: as above.
+    Answer(unsafe {
+        raw::petrizolu_eit_next(
+            eit,
+            heads.as_ptr(),
+            heads.len(),
+            slots.as_ptr(),
+            slots.len(),
+            cells.as_ptr(),
+            cells.len(),
+            schedule_heads.as_ptr(),
+            schedule_heads.len(),
+            units.as_ptr(),
+            units.len(),
+            row,
+            from,
+            next,
+        )
+    })
+}
+
+pub fn eit_next_in_schedule(
+    eit: &EitState,
+    heads: &[u64],
+    slots: &[u32],
+    cells: &[u8],
+    schedule_heads: &[u64],
+    units: &[u32],
+    row: u64,
+    table: u64,
+    from: u64,
+    next: &mut Place,
+) -> Answer {
+    // SAFETY: as above.
+    Answer(unsafe {
+        raw::petrizolu_eit_next_in_schedule(
+            eit,
+            heads.as_ptr(),
+            heads.len(),
+            slots.as_ptr(),
+            slots.len(),
+            cells.as_ptr(),
+            cells.len(),
+            schedule_heads.as_ptr(),
+            schedule_heads.len(),
+            units.as_ptr(),
+            units.len(),
+            row,
+            table,
+            from,
+            next,
+        )
+    })
+}

@@ -1,0 +1,41 @@
+//! The proved library for Rust hosts. include/petrizolu.h says what each call does.
+//!
+//! [`Gate`], [`SmallGate`], [`Sets`] and [`Eit`] own the memory that they lend and tell answers as `Result`s: a host needs no more. Below them
+//! [`calls`] has each function of the header over slices of the caller's own, for hosts that lend other memory and for tests that write over it.
+
+mod answer;
+pub mod calls;
+mod eit;
+mod gate;
+mod raw;
+mod rows;
+mod sets;
+
+pub use answer::{Answer, Refused};
+pub use calls::{EitState, Filter, GateState, Place, SetsState, crc};
+pub use eit::{Complete, Eit};
+pub use gate::{Gate, Offered, SmallGate};
+pub use rows::{Name, Row, Section};
+pub use sets::Sets;
+
+/// To a collector: the section came with no PID.
+pub const NO_PID: u32 = u32::MAX;
+/// In a filter: this field is free.
+pub const ANY: u64 = u64::MAX;
+
+/// Keys of a gate by default.
+pub const DEFAULT_CAPACITY: u64 = 65_536;
+/// Keys of a collector by default.
+pub const DEFAULT_LIMIT: u64 = 256;
+
+/// Settings of a gate: emit repeats too; a changed PAT changes the watch; the eight well-known PIDs are watched and protected.
+pub const REPEATS: u32 = 1;
+pub const FOLLOW: u32 = 2;
+pub const WELL_KNOWN: u32 = 4;
+pub const DEFAULT_SETTINGS: u32 = FOLLOW | WELL_KNOWN;
+
+/// Words of the watch, of a row's head, of a row's slots, and of a schedule's 16 tables.
+pub const WATCH_WORDS: usize = 384;
+pub const HEAD_WORDS: usize = 12;
+pub const SLOT_WORDS: usize = 288;
+pub const UNIT_WORDS: usize = 16 * SLOT_WORDS;

@@ -1,0 +1,60 @@
+//! The set collector.
+use crate::calls::{self, Place, SetsState};
+use crate::rows::{self, Name, Row, Section, pid_word};
+use crate::{Answer, HEAD_WORDS, Refused, SLOT_WORDS};
+
+pub struct Sets {
+    state: SetsState,
+    heads: Box<[u64]>,
+    slots: Box<[u32]>,
+    cells: Box<[u8]>,
+}
+
+impl Sets {
+    pub fn open(limit: usize, size: usize, count: usize) -> Result<Self, Refused> {
+        let mut sets = Self {
+            state: SetsState::default(),
+            heads: vec![0; limit * HEAD_WORDS].into_boxed_slice(),
+            slots: vec![0; limit * SLOT_WORDS].into_boxed_slice(),
+            cells: vec![0; size * count].into_boxed_slice(),
+        };
+        let (limit, size, count) = (limit as u64, size as u64, count as u64);
+        calls::sets_open(&mut sets.state, limit, size, count, &sets.heads, &sets.slots, &sets.cells).done().map(|()| sets)
+    }
+
+    /// Gives a section; the row of a set that is complete with it.
+    pub fn push(&mut self, pid: Option<u16>, section: &[u8]) -> Result<Option<Row>, Refused> {
+        let mut row = 0;
+        let answer = calls::sets_push(&mut self.state, &mut self.heads, &mut self.slots, &mut self.cells, pid_word(pid), section, &mut row);
+        match answer {
+            Answer::NOTHING => Ok(None),
+            Answer::SET => Ok(Some(Row(row))),
+            other => Err(Refused(other)),
+        }
+    }
+
+    pub fn clear(&mut self) -> Result<(), Refused> {
+        calls::sets_clear(&mut self.state, &self.heads, &self.slots, &self.cells).done()
+    }
+
+    pub fn name(&self, row: &Row) -> Name {
+        rows::name(&self.heads, row)
+    }
+
+    pub fn sections(&self, row: &Row) -> Vec<Section<'_>> {
+        rows::sections(&self.cells, |from, place| self.next(row.0, from, place))
+    }
+
+    /// Whether the row of that number, in use or not, has a section of the number `from` or above.
+    pub fn has_section(&self, row: u64, from: u64) -> bool {
+        self.next(row, from, &mut Place::default()) == Answer::YES
+    }
+
+    fn next(&self, row: u64, from: u64, place: &mut Place) -> Answer {
+        calls::sets_next(&self.state, &self.heads, &self.slots, &self.cells, row, from, place)
+    }
+
+    pub fn state(&self) -> SetsState {
+        self.state
+    }
+}

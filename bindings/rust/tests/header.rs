@@ -1,0 +1,111 @@
+//! That src/raw.rs, src/calls.rs and src/answer.rs say what include/petrizolu.h says: functions, structs and answers are read from both texts.
+use std::collections::BTreeMap;
+
+const HEADER: &str = include_str!("../../../include/petrizolu.h");
+const RAW: &str = include_str!("../src/raw.rs");
+const CALLS: &str = include_str!("../src/calls.rs");
+const ANSWER: &str = include_str!("../src/answer.rs");
+
+/// Names with what is said of each.
+type Said = BTreeMap<String, Vec<String>>;
+
+fn words(text: &str) -> String {
+    text.split_whitespace().collect::<Vec<_>>().join(" ")
+}
+
+/// The header without its comments, its lines of the preprocessor and the bracket around C++.
+fn header() -> String {
+    let mut text = String::new();
+    for (at, part) in HEADER.split("/*").enumerate() {
+        text += if at == 0 { part } else { part.split_once("*/").expect("a comment ends").1 };
+    }
+    text.lines().filter(|line| !line.starts_with('#') && !line.starts_with("extern")).collect::<Vec<_>>().join("\n")
+}
+
+fn rust_type(c: &str) -> String {
+    let name = match c.trim_start_matches("const ") {
+        "uint64_t" => "u64",
+        "uint32_t" => "u32",
+        "uint16_t" => "u16",
+        "uint8_t" => "u8",
+        "size_t" => "usize",
+        "petrizolu_gate" => "GateState",
+        "petrizolu_sets" => "SetsState",
+        "petrizolu_eit" => "EitState",
+        "petrizolu_section" => "Place",
+        "petrizolu_filter" => "Filter",
+        other => panic!("not known: {other}"),
+    };
+    name.into()
+}
+
+/// `const uint64_t *keys` as `keys: *const u64`.
+fn rust_argument(c: &str) -> String {
+    let (before, name) = c.rsplit_once([' ', '*']).expect("a type and a name");
+    let kind = match before.trim_end_matches('*').trim() {
+        kind if kind.len() == before.len() => rust_type(kind),
+        kind if kind.starts_with("const ") => format!("*const {}", rust_type(kind)),
+        kind => format!("*mut {}", rust_type(kind)),
+    };
+    format!("{name}: {kind}")
+}
+
+fn functions_of_the_header() -> Said {
+    let mut all = Said::new();
+    let text = header();
+    for statement in text.split(';').map(words).filter(|s| s.contains("petrizolu_") && s.ends_with(')')) {
+        let (head, arguments) = statement.trim_end_matches(')').split_once('(').expect("a function");
+        let (result, name) = head.rsplit_once(' ').expect("a result");
+        let mut said: Vec<String> = arguments.split(", ").map(rust_argument).collect();
+        said.push(rust_type(result));
+        all.insert(name.into(), said);
+    }
+    all
+}
+
+fn functions_of_raw() -> Said {
+    let mut all = Said::new();
+    for function in RAW.split("pub fn ").skip(1).map(words) {
+        let (name, rest) = function.split_once('(').expect("a function");
+        let (arguments, rest) = rest.split_once(')').expect("its arguments");
+        let mut said: Vec<String> = arguments.split(',').map(words).filter(|argument| !argument.is_empty()).collect();
+        said.push(rest.trim_start_matches(" -> ").split(';').next().expect("a result").into());
+        all.insert(name.into(), said);
+    }
+    all
+}
+
+#[test]
+fn functions() {
+    assert_eq!(functions_of_raw(), functions_of_the_header());
+    assert_eq!(functions_of_raw().len(), 16);
+}
+
+/// The fields between the braces after `from`, in order; all are 64-bit words.
+fn fields(text: &str, from: &str, field: impl Fn(&str) -> Option<String>) -> Vec<String> {
+    let body = text.split_once(from).expect("the struct").1.split_once('}').expect("its end").0;
+    body.split([';', ',']).map(words).filter_map(|line| field(&line)).collect()
+}
+
+#[test]
+fn structs() {
+    let pairs = [("gate", "GateState"), ("sets", "SetsState"), ("eit", "EitState"), ("section", "Place"), ("filter", "Filter")];
+    for (c, rust) in pairs {
+        let of_c = fields(&header(), &format!("typedef struct petrizolu_{c} {{"), |line| Some(line.strip_prefix("uint64_t ")?.into()));
+        let of_rust = fields(CALLS, &format!("pub struct {rust} {{"), |line| Some(line.strip_prefix("pub ")?.strip_suffix(": u64")?.into()));
+        assert!(!of_c.is_empty());
+        assert_eq!(of_c, of_rust, "{c}");
+    }
+}
+
+#[test]
+fn answers() {
+    let of_c: Vec<String> = fields(&header(), "enum petrizolu_answer {", |line| Some(line.strip_prefix("PETRIZOLU_")?.into()));
+    let constant = |line: &str| {
+        let (name, number) = line.trim().strip_prefix("pub const ")?.split_once(": Self = Self(")?;
+        Some(format!("{name} = {}", number.strip_suffix(");")?))
+    };
+    let of_rust: Vec<String> = ANSWER.lines().filter_map(constant).collect();
+    assert_eq!(of_c, of_rust);
+    assert_eq!(of_c.len(), 23);
+}
