@@ -25,8 +25,7 @@ const STANDINS: [&str; 5] = ["lib.rs", "descriptors.rs", "collect/nit.rs", "coll
 
 fn main() {
     let here = PathBuf::from(env::var("CARGO_MANIFEST_DIR").unwrap());
-    let root = here.join("../..");
-    let published = root.join(env::var("PETRIZOLU_ORIGINAL").unwrap_or("../shared/docs/src".into()));
+    let published = PathBuf::from(env::var("PETRIZOLU_ORIGINAL").expect("PETRIZOLU_ORIGINAL names the folder of the original's sources"));
     let out = PathBuf::from(env::var("OUT_DIR").unwrap()).join("dvb-si");
     println!("cargo:rerun-if-env-changed=PETRIZOLU_ORIGINAL");
     fs::create_dir_all(out.join("collect")).unwrap();

@@ -14,8 +14,8 @@ macro_rules! faults {
             }
 
             /// Whose fault it is.
-            pub fn part(self) -> crate::command::Part {
-                match self { $(Fault::$name => crate::command::Part::$part,)* }
+            pub fn part(self) -> player::command::Part {
+                match self { $(Fault::$name => player::command::Part::$part,)* }
             }
         }
     };

@@ -30,9 +30,7 @@ pub fn collector_opening(limit: u16, cells: u16, size: u16) -> u8 {
 /// Whether packets bring these bytes as one section: a table_id of FF is stuffing, and section_length says where a section ends.
 pub fn deliverable(section: &[u8]) -> bool {
     match section {
-        [table_id, high, low, rest @ ..] => {
-            *table_id != 0xFF && rest.len() == usize::from(u16::from_be_bytes([high & 0x0F, *low]))
-        }
+        [table_id, high, low, rest @ ..] => *table_id != 0xFF && rest.len() == usize::from(u16::from_be_bytes([high & 0x0F, *low])),
         _ => false,
     }
 }

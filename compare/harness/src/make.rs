@@ -1,13 +1,24 @@
-//! Scripts made from a seed. In document 01's domain: sections of exactly 3 + section_length bytes that obey the layouts, PIDs 0 to 8191, enough
+//! Scripts made from a seed. Inside the domain: sections of exactly 3 + section_length bytes that obey the layouts, PIDs 0 to 8191, enough
 //! cells. Damaged: bytes of every kind, openings that are refused. Cell-bound: few and small cells.
-use crate::command::{By, Command, Filter, Part};
 use crate::second::{Reading, Second, crc};
+use player::command::{By, Command, Filter, Part};
 
 #[derive(Clone, Copy, Debug, PartialEq, Eq)]
 pub enum Domain {
     Inside,
     Damaged,
     CellBound,
+}
+
+impl Domain {
+    pub fn named(name: &str) -> Option<Domain> {
+        Some(match name {
+            "inside" => Domain::Inside,
+            "damaged" => Domain::Damaged,
+            "cells" => Domain::CellBound,
+            _ => return None,
+        })
+    }
 }
 
 /// A script of at least so many commands.
@@ -548,7 +559,7 @@ fn filter(dice: &mut Dice, tables: &[Table], domain: Domain) -> Filter {
         service_id: exact(2).then_some(table.head.extension),
         transport_stream_id: exact(3).then_some(table.network.0),
         original_network_id: exact(3).then_some(table.network.1),
-        current_next: exact(5).then_some(table.head.current_next),
+        current_next: exact(5).then_some(table.head.current_next.into()),
     };
     if domain == Domain::Damaged && exact(6) {
         filter.pid = Some(Some(0x2000));

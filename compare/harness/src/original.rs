@@ -1,12 +1,12 @@
 //! The original behind the commands.
-use crate::answer::{Answer, Held, Out, Set};
-use crate::command::{By, Command, Filter, Part};
 use crate::lent;
 use bytes::Bytes;
 use dvb_si::collect::{CollectError, CompleteSectionSet, CompletedEit, EitCollector, EitLogicalKey, SectionSetCollector};
 use dvb_si::demux::{SiDemux, Stats};
 use dvb_si::tables::eit::EitKind;
 use mpeg_ts::pid::Pid;
+use player::answer::{Answer, Held, Out, Set};
+use player::command::{By, Command, Filter, Part};
 
 pub struct Original {
     gate: SiDemux,
@@ -63,8 +63,7 @@ impl Original {
             [0, 0, 1] => 3,
             other => panic!("the counters moved by {other:?}"),
         };
-        let counters =
-            [after.sections_completed, after.emitted, after.suppressed, after.crc_failures, after.gate_evictions];
+        let counters = [after.sections_completed, after.emitted, after.suppressed, after.crc_failures, after.gate_evictions];
         Answer::Judged(number, counters)
     }
 
@@ -164,7 +163,7 @@ impl Original {
     }
 }
 
-/// Document 01's number of an error.
+/// The number of docs/RULES.md, "Answers", that an error stands for.
 fn number(error: &CollectError) -> u8 {
     match error {
         CollectError::Section(dvb_si::Error::BufferTooShort { what, .. }) if *what == mpeg_ts::section::READER => 14,
@@ -205,7 +204,7 @@ fn matches(filter: &Filter, key: &EitLogicalKey) -> bool {
         && filter.service_id.is_none_or(|id| id == key.service_id)
         && filter.transport_stream_id.is_none_or(|id| id == key.transport_stream_id)
         && filter.original_network_id.is_none_or(|id| id == key.original_network_id)
-        && filter.current_next.is_none_or(|cn| cn == key.current_next_indicator)
+        && filter.current_next.is_none_or(|cn| cn == u8::from(key.current_next_indicator))
 }
 
 /// A section in packets of 188 bytes (ISO/IEC 13818-1, 2.4.3): it starts the first, and stuffing fills the last.

@@ -1,51 +1,84 @@
-//! Which two implementations are compared, and the smallest script that tells two apart.
-use crate::command::{Command, tape_of};
+//! Which implementations are compared, and the smallest script that tells two apart.
 use crate::faults::Fault;
 use crate::original::Original;
-use crate::program::Programs;
+use crate::report::Report;
 use crate::second::{Reading, Second};
+use player::answer::Answer;
+use player::command::Command;
+use player::port::Port;
 use std::fmt::{self, Display};
 
 #[derive(Clone, Copy, Debug, PartialEq, Eq)]
 pub enum Side {
     /// dvb-si 12.0.1.
     Original,
-    /// The second implementation, on document 01's side, or the original's, in the named differences.
+    /// The second implementation, on the side of docs/RULES.md, or the original's, in the named differences.
     Second { as_original: bool, fault: Option<Fault> },
-    /// The port's program `replay`.
-    Replay,
+    /// The proved library.
+    Port,
 }
 
 impl Side {
-    pub const DOCUMENT: Side = Side::Second { as_original: false, fault: None };
+    pub const RULES: Side = Side::Second { as_original: false, fault: None };
     pub const AS_ORIGINAL: Side = Side::Second { as_original: true, fault: None };
 
-    /// A line for each command.
-    pub fn lines(self, programs: Option<&Programs>, script: &[Command]) -> Vec<String> {
+    fn begin(self) -> Running {
         match self {
-            Side::Original => {
-                let mut original = Original::new();
-                script.iter().map(|command| original.answer(command).to_string()).collect()
-            }
-            Side::Second { as_original, fault } => {
-                let mut second = Second::new(Reading { as_original, fault, ..Reading::default() });
-                script.iter().map(|command| second.answer(command).to_string()).collect()
-            }
-            Side::Replay => {
-                let output = programs.expect("asked only where there are programs").output("replay", &tape_of(script));
-                output.lines().map(String::from).collect()
-            }
+            Side::Original => Running::Original(Box::new(Original::new())),
+            Side::Second { as_original, fault } => Running::Second(Second::new(Reading { as_original, fault, ..Reading::default() })),
+            Side::Port => Running::Port(Box::new(Port::begin())),
         }
+    }
+
+    /// A line for each command.
+    pub fn lines(self, script: &[Command]) -> Vec<String> {
+        let mut running = self.begin();
+        script.iter().map(|command| line(&running.answer(command))).collect()
     }
 }
 
 impl Display for Side {
     fn fmt(&self, f: &mut fmt::Formatter<'_>) -> fmt::Result {
+        f.write_str(match self {
+            Side::Original => "original",
+            Side::Port => "port",
+            Side::Second { as_original: false, .. } => "second",
+            Side::Second { as_original: true, .. } => "second, as original",
+        })
+    }
+}
+
+/// What a side answers; or, where the two forms of the port's gate differ, how.
+type Told = Result<Answer, String>;
+
+fn line(told: &Told) -> String {
+    match told {
+        Ok(answer) => answer.to_string(),
+        Err(differs) => format!("differs: {differs}"),
+    }
+}
+
+/// A side in the middle of a script.
+enum Running {
+    Original(Box<Original>),
+    Second(Second),
+    Port(Box<Port>),
+}
+
+impl Running {
+    fn answer(&mut self, command: &Command) -> Told {
         match self {
-            Side::Original => f.write_str("original"),
-            Side::Replay => f.write_str("replay"),
-            Side::Second { as_original: false, .. } => f.write_str("second"),
-            Side::Second { as_original: true, .. } => f.write_str("second, as original"),
+            Running::Original(original) => Ok(original.answer(command)),
+            Running::Second(second) => Ok(second.answer(command)),
+            Running::Port(port) => port.answer(command).map_err(|differs| differs.0),
+        }
+    }
+
+    /// What is compared only at the end of a script.
+    fn end(&self) -> Result<(), String> {
+        match self {
+            Running::Port(port) => port.end().map_err(|differs| differs.0),
+            _ => Ok(()),
         }
     }
 }
@@ -57,28 +90,57 @@ pub struct Found {
     pub answers: [(Side, String); 2],
 }
 
-pub fn first_difference(programs: Option<&Programs>, sides: [Side; 2], script: &[Command]) -> Option<Found> {
-    let [one, other] = sides.map(|side| side.lines(programs, script));
-    let line = (0..one.len().max(other.len())).find(|&line| one.get(line) != other.get(line))?;
-    let told = |lines: &[String]| lines.get(line).cloned().unwrap_or("(no line)".into());
-    Some(Found { script: script.to_vec(), line, answers: [(sides[0], told(&one)), (sides[1], told(&other))] })
+impl Found {
+    fn at(script: &[Command], line: usize, answers: [(Side, String); 2]) -> Found {
+        Found { script: script[..=line.min(script.len() - 1)].to_vec(), line, answers }
+    }
+}
+
+pub fn first_difference(sides: [Side; 2], script: &[Command]) -> Option<Found> {
+    let mut running = sides.map(Side::begin);
+    for (at, command) in script.iter().enumerate() {
+        let told = running.each_mut().map(|side| side.answer(command));
+        if told[0] != told[1] {
+            return Some(Found::at(script, at, [(sides[0], line(&told[0])), (sides[1], line(&told[1]))]));
+        }
+    }
+    let [one, other] = running.each_ref().map(Running::end);
+    let said = |end: Result<(), String>| end.err().unwrap_or_default();
+    (one.is_err() || other.is_err()).then(|| Found::at(script, script.len(), [(sides[0], said(one)), (sides[1], said(other))]))
+}
+
+/// Runs a script through all sides at once, command by command. The original has to be equal to the second implementation on its side, the port to
+/// the second implementation on the side of the rules, whose answers are counted.
+pub fn differing(script: &[Command], report: &mut Report) -> Option<Found> {
+    let sides = [Side::Original, Side::AS_ORIGINAL, Side::RULES, Side::Port];
+    let mut running = sides.map(Side::begin);
+    for (at, command) in script.iter().enumerate() {
+        let told = running.each_mut().map(|side| side.answer(command));
+        for pair in [[0, 1], [2, 3]] {
+            if told[pair[0]] != told[pair[1]] {
+                return Some(Found::at(script, at, pair.map(|side| (sides[side], line(&told[side])))));
+            }
+        }
+        report.count(command, told[2].as_ref().expect("the second implementation is one"));
+    }
+    if let Running::Second(second) = &running[2] {
+        report.met(second.reading.met);
+    }
+    let end = running[3].end().err()?;
+    Some(Found::at(script, script.len(), [(Side::RULES, String::new()), (Side::Port, end)]))
 }
 
 /// Leaves out what the difference does not need: ever smaller runs of commands, until none can go.
-pub fn smallest(programs: Option<&Programs>, mut found: Found) -> Found {
-    let sides = [found.answers[0].0, found.answers[1].0];
-    found.script.truncate(found.line + 1);
+pub fn smallest(mut found: Found) -> Found {
+    let sides = found.answers.each_ref().map(|(side, _)| *side);
     let mut run = found.script.len().div_ceil(2);
     while run > 0 {
         let mut from = 0;
         while from < found.script.len() {
             let mut shorter = found.script.clone();
             shorter.drain(from..(from + run).min(shorter.len()));
-            match first_difference(programs, sides, &shorter) {
-                Some(less) => {
-                    found = less;
-                    found.script.truncate(found.line + 1);
-                }
+            match first_difference(sides, &shorter) {
+                Some(less) => found = less,
                 None => from += run,
             }
         }

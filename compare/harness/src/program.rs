@@ -1,45 +1,35 @@
-//! The port's programs, run as processes.
-use std::fs::{self, File};
+//! The program `watch`, run as a process.
+use std::io::Write;
 use std::path::{Path, PathBuf};
 use std::process::{Command, Stdio};
+use std::thread;
 
-/// The project's programs, as its script `run` starts them.
-pub struct Programs {
-    root: PathBuf,
-    scratch: PathBuf,
+/// A program of the project, as its script `run` starts it.
+pub struct Program {
+    run: PathBuf,
+    name: &'static str,
 }
 
-impl Programs {
-    /// `None` where the Rattle kit is not there, so that no program can be built.
-    pub fn find(root: &Path) -> Option<Programs> {
-        let built = Command::new("rt").arg("version").stdout(Stdio::null()).stderr(Stdio::null()).status();
-        let scratch = std::env::temp_dir().join(format!("compare-{}", std::process::id()));
-        built.ok().filter(|status| status.success())?;
-        fs::create_dir_all(&scratch).ok()?;
-        Some(Programs { root: root.to_path_buf(), scratch })
+impl Program {
+    pub fn new(root: &Path, name: &'static str) -> Program {
+        Program { run: root.join("run"), name }
     }
 
-    pub fn has(&self, name: &str) -> bool {
-        self.root.join("crates").join(name).is_dir()
-    }
-
-    /// What a program writes on an input.
-    pub fn output(&self, name: &str, input: &[u8]) -> String {
-        let (stdin, stdout) = (self.scratch.join("stdin"), self.scratch.join("stdout"));
-        fs::write(&stdin, input).expect("the folder for temporary files can be written");
-        let status = Command::new(self.root.join("run"))
-            .arg(name)
+    /// What it writes on an input.
+    pub fn output(&self, input: &[u8]) -> String {
+        let mut started = Command::new(&self.run)
+            .arg(self.name)
             .env("PETRIZOLU_BUILT", "1")
-            .stdin(File::open(&stdin).expect("just written"))
-            .stdout(File::create(&stdout).expect("the folder for temporary files can be written"))
-            .status();
-        assert!(status.is_ok_and(|status| status.success()), "the program {name} failed");
-        String::from_utf8(fs::read(&stdout).expect("just written")).expect("the programs write ASCII")
-    }
-}
-
-impl Drop for Programs {
-    fn drop(&mut self) {
-        let _ = fs::remove_dir_all(&self.scratch);
+            .stdin(Stdio::piped())
+            .stdout(Stdio::piped())
+            .spawn()
+            .expect("the script run can be started");
+        let mut stdin = started.stdin.take().expect("piped above");
+        let input = input.to_vec();
+        let writer = thread::spawn(move || stdin.write_all(&input));
+        let output = started.wait_with_output().expect("its output can be read");
+        writer.join().expect("the writer does not panic").expect("it reads its whole input");
+        assert!(output.status.success(), "the program {} failed", self.name);
+        String::from_utf8(output.stdout).expect("programs write ASCII")
     }
 }

@@ -1,7 +1,8 @@
 //! What was compared.
-use crate::command::Command;
 use crate::make::Domain;
-use crate::second::{Difference, Reading, Second};
+use crate::second::Difference;
+use player::answer::Answer;
+use player::command::Command;
 use std::collections::BTreeMap;
 use std::fmt::{self, Display};
 
@@ -9,33 +10,32 @@ use std::fmt::{self, Display};
 pub struct Report {
     commands: usize,
     kinds: BTreeMap<&'static str, usize>,
-    /// By part and number of document 01's table.
-    answers: BTreeMap<(String, u8), usize>,
-    replayed: usize,
+    /// By part and number of docs/RULES.md, "Answers".
+    answers: BTreeMap<(&'static str, u8), usize>,
     met: [u64; 3],
 }
 
 impl Report {
-    /// Counts a script that was compared.
-    pub fn add(&mut self, script: &[Command], with_replay: bool) {
-        let mut second = Second::new(Reading::default());
-        for command in script {
-            self.commands += 1;
-            *self.kinds.entry(command.kind()).or_default() += 1;
-            if let Some((part, number)) = second.answer(command).number() {
-                *self.answers.entry((part.to_string(), number)).or_default() += 1;
-            }
-        }
-        if with_replay {
-            self.replayed += script.len();
-        }
-        for (all, met) in self.met.iter_mut().zip(second.reading.met) {
-            *all += met;
+    /// Counts a command that all sides answered alike, by what the rules say of it.
+    pub fn count(&mut self, command: &Command, answer: &Answer) {
+        self.commands += 1;
+        *self.kinds.entry(command.kind()).or_default() += 1;
+        if let Some((part, number)) = answer.number() {
+            *self.answers.entry((part.name(), number)).or_default() += 1;
         }
     }
 
-    /// How often a number of document 01's table was answered, by whatever part.
-    pub fn answered(&self, number: u8) -> usize {
+    /// Counts how often named differences decided an answer.
+    pub fn met(&mut self, met: [u64; 3]) {
+        self.met.iter_mut().zip(met).for_each(|(all, met)| *all += met);
+    }
+
+    pub fn commands(&self) -> usize {
+        self.commands
+    }
+
+    /// How often a number was answered, by whatever part.
+    fn answered(&self, number: u8) -> usize {
         self.answers.iter().filter(|((_, n), _)| *n == number).map(|(_, count)| count).sum()
     }
 
@@ -48,7 +48,7 @@ impl Report {
 
 impl Display for Report {
     fn fmt(&self, f: &mut fmt::Formatter<'_>) -> fmt::Result {
-        writeln!(f, "  commands: {}, of them replayed by the port: {}", self.commands, self.replayed)?;
+        writeln!(f, "  commands: {}", self.commands)?;
         let kinds: Vec<String> = self.kinds.iter().map(|(kind, count)| format!("{kind} {count}")).collect();
         writeln!(f, "  kinds: {}", kinds.join(", "))?;
         let answers: Vec<String> = self.answers.iter().map(|((part, n), count)| format!("{part} {n}: {count}")).collect();
@@ -59,7 +59,7 @@ impl Display for Report {
     }
 }
 
-/// How often each number of document 01's table was answered.
+/// How often each number of docs/RULES.md, "Answers", was answered.
 #[derive(Default)]
 pub struct Answered([usize; 24]);
 

@@ -1,9 +1,9 @@
-//! Document 01's program `watch`, over the original and over the second implementation.
-use crate::answer::Answer;
-use crate::command::{By, Command};
+//! The program `watch`, over the original and over the second implementation.
+use player::answer::Answer;
+use player::command::{By, Command};
 use std::fmt::Write as _;
 
-/// Document 01's example: five records, of which the fourth is a TOT too short for its CRC.
+/// The example of docs/RULES.md, "Examples": five records, of which the fourth is a TOT too short for its CRC.
 pub const EXAMPLE: [[&[u8]; 2]; 5] = [
     [&[0x00, 0x14], &[0x70, 0x70, 0x05, 0xC0, 0x79, 0x12, 0x45, 0x00]],
     [&[0x00, 0x14], &[0x70, 0x70, 0x05, 0xC0, 0x79, 0x12, 0x45, 0x00]],

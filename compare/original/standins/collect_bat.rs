@@ -1,4 +1,4 @@
-//! Stand-in: document 01 leaves the `Complete*` views out.
+//! Stand-in: the `Complete*` views are no part of the port.
 use crate::descriptors::DescriptorRegistry;
 
 #[derive(Debug)]

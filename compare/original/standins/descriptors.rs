@@ -1,4 +1,4 @@
-//! Stand-in: descriptors are not judged (document 01, "Layouts"), so a loop of them is its bytes.
+//! Stand-in: descriptors are not judged (docs/RULES.md, "Layouts"), so a loop of them is its bytes.
 
 #[derive(Debug, Clone, Copy, PartialEq, Eq)]
 pub struct DescriptorLoop<'a>(&'a [u8]);

@@ -41,7 +41,7 @@ pub(crate) fn section_length_of(bytes: &[u8]) -> usize {
     usize::from(u16::from_be_bytes([bytes[1] & 0x0F, bytes[2]]))
 }
 
-/// How strict the original's is, is not known. Document 01: "correct length", that is exactly header + section_length bytes, at least `least`.
+/// How strict the original's is, is not known. docs/RULES.md, "Layouts": true length, that is exactly header + section_length bytes, at least `least`.
 pub(crate) fn check_section_length(have: usize, header: usize, section_length: usize, least: usize) -> crate::Result<usize> {
     let total = header + section_length;
     if have != total {
@@ -97,7 +97,7 @@ pub(crate) fn write_crc(_buf: &mut [u8], _at: usize) {
     unreachable!("nothing is serialized")
 }
 
-/// The tables of a section. Document 01 leaves the typed views out, so none is ever made.
+/// The tables of a section. The typed views are no part of the port, so none is ever made.
 #[derive(Debug)]
 pub enum AnyTableSection<'a> {
     Unknown { table_id: u8, raw: &'a [u8] },

@@ -1,9 +1,9 @@
-//! Document 01, "Collectors" and "Cells": the set collector, and the EIT collector, which is one with schedules.
+//! docs/RULES.md, "Collectors" and "Cells": the set collector, and the EIT collector, which is one with schedules.
 use super::section::{Kind, kind, refused_by_a_collector, refused_by_the_eit, version, word};
 use super::{Difference, Reading};
-use crate::answer::{Out, Set};
-use crate::command::Filter;
 use crate::faults::Fault;
+use player::answer::{Out, Set};
+use player::command::Filter;
 
 /// What a row or a schedule is found by. Of a schedule, table_id is that of the kind's first table.
 #[derive(Clone, Copy, Debug, PartialEq, Eq)]
@@ -105,7 +105,9 @@ impl Collector {
         if let Some(number) = refused_by_a_collector(reading, section) {
             return Err(number);
         }
-        if self.eit && let Some(number) = refused_by_the_eit(reading, section) {
+        if self.eit
+            && let Some(number) = refused_by_the_eit(reading, section)
+        {
             return Err(number);
         }
         let limit = if self.limit == 0 && reading.has(Fault::LimitZeroHoldsOne) { 1 } else { self.limit };
@@ -343,5 +345,5 @@ fn matches(filter: &Filter, key: &Key) -> bool {
         && filter.service_id.is_none_or(|id| id == key.extension)
         && filter.transport_stream_id.is_none_or(|id| id == transport_stream_id)
         && filter.original_network_id.is_none_or(|id| id == original_network_id)
-        && filter.current_next.is_none_or(|cn| cn == key.current_next)
+        && filter.current_next.is_none_or(|cn| cn == u8::from(key.current_next))
 }

@@ -1,4 +1,4 @@
-//! Document 01, "Gate" and "Watched PIDs".
+//! docs/RULES.md, "Gate" and "Watched PIDs".
 use super::Reading;
 use super::section::{crc, crc_fits, long_form, programs, stored_crc, version, word};
 use crate::faults::Fault;

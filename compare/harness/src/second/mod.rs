@@ -1,18 +1,18 @@
-//! A second implementation, written from document 01 and the standards alone: no table, no cleverness, rows in plain order. Where document 01 and
+//! A second implementation, written from docs/RULES.md and the standards alone: no table, no cleverness, rows in plain order. Where the rules and
 //! the original differ, `Reading` says whose side is taken, and each place is named as in docs/DIFFERENCES.md.
 mod collector;
 mod gate;
 mod section;
 
-use crate::answer::{Answer, Held, Out};
-use crate::command::{By, Command, Filter, Part};
 use crate::faults::Fault;
 use crate::lent;
 use collector::Collector;
 use gate::Gate;
+use player::answer::{Answer, Held, Out};
+use player::command::{By, Command, Filter, Part};
 pub use section::crc;
 
-/// The differences between document 01 and the original that a run can show.
+/// The differences between the rules and the original that a run can show.
 #[derive(Clone, Copy, Debug, PartialEq, Eq)]
 pub enum Difference {
     /// D1: a short-form section of table 0 is no PAT; the original follows it.
@@ -36,7 +36,7 @@ impl Difference {
     }
 }
 
-/// How document 01 is read, and what was met on the way.
+/// How the rules are read, and what was met on the way.
 #[derive(Clone, Debug, Default)]
 pub struct Reading {
     /// Take the original's side in every difference.
@@ -135,10 +135,9 @@ impl Second {
 
     fn held(&self, part: Part) -> Held {
         match (part, &self.sets, &self.eit) {
-            (Part::Eit, _, Some(eit)) => Held::Eit {
-                evicted: [eit.rows.evictions, eit.schedules.evictions],
-                rows: [eit.rows.held.len(), eit.schedules.held.len()],
-            },
+            (Part::Eit, _, Some(eit)) => {
+                Held::Eit { evicted: [eit.rows.evictions, eit.schedules.evictions], rows: [eit.rows.held.len(), eit.schedules.held.len()] }
+            }
             (Part::Eit, _, None) => Held::Eit { evicted: [0; 2], rows: [0; 2] },
             (_, Some(sets), _) => Held::Sets { evicted: sets.rows.evictions, rows: sets.rows.held.len() },
             (_, None, _) => Held::Sets { evicted: 0, rows: 0 },

@@ -1,4 +1,4 @@
-//! Document 01, "Layouts": what the bytes of a section say.
+//! docs/RULES.md, "Layouts": what the bytes of a section say.
 use super::{Difference, Reading};
 use crate::faults::Fault;
 

@@ -1,4 +1,4 @@
-//! Stand-in for `mpeg_ts`, whose text is not published with dvb-si: written from ISO/IEC 13818-1, document 01 and the places that use it.
+//! Stand-in for `mpeg_ts`, whose text is not published with dvb-si: written from ISO/IEC 13818-1, docs/RULES.md and the places that use it.
 pub mod pid;
 pub mod section;
 pub mod ts;

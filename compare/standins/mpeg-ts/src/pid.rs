@@ -22,7 +22,7 @@ impl fmt::Display for Pid {
     }
 }
 
-/// Document 01, "Watched PIDs".
+/// docs/RULES.md, "Watched PIDs".
 pub mod well_known {
     use super::Pid;
 

@@ -1,4 +1,4 @@
-//! The generic section reader. How strict the original's is, is not known: this one refuses what document 01 answers 14 to.
+//! The generic section reader. How strict the original's is, is not known: this one refuses what docs/RULES.md answers 14 to.
 use crate::Error;
 use broadcast_common::{Parse, crc32_mpeg2};
 

@@ -1,9 +1,9 @@
 //! What an implementation answers, and the line that says it.
-use crate::command::{Part, hex, pid_text};
-use std::fmt::{self, Display};
+use crate::command::Part;
+use std::fmt::{self, Display, Write as _};
 
 /// A set as it is handed out.
-#[derive(Debug)]
+#[derive(Debug, PartialEq, Eq)]
 pub struct Set {
     pub pid: Option<u16>,
     pub table_id: u8,
@@ -14,7 +14,7 @@ pub struct Set {
     pub sections: Vec<Vec<u8>>,
 }
 
-#[derive(Debug)]
+#[derive(Debug, PartialEq, Eq)]
 pub enum Out {
     Nothing,
     Set(Set),
@@ -22,15 +22,15 @@ pub enum Out {
 }
 
 /// How many keys were evicted and are held: of sets, and in the EIT collector of schedules.
-#[derive(Debug)]
+#[derive(Debug, PartialEq, Eq)]
 pub enum Held {
     Sets { evicted: u64, rows: usize },
     Eit { evicted: [u64; 2], rows: [usize; 2] },
 }
 
-#[derive(Debug)]
+#[derive(Debug, PartialEq, Eq)]
 pub enum Answer {
-    /// A number of document 01's table alone.
+    /// A number alone.
     Number(Part, u8),
     /// The gate's answer to a section, with completed, emitted, suppressed, CRC failures and evictions.
     Judged(u8, [u64; 5]),
@@ -44,7 +44,7 @@ pub enum Answer {
 }
 
 impl Answer {
-    /// The number of document 01's table, and whose answer it is.
+    /// The number, and whose answer it is.
     pub fn number(&self) -> Option<(Part, u8)> {
         match self {
             Answer::Number(part, n) => Some((*part, *n)),
@@ -58,11 +58,7 @@ impl Answer {
 
 impl Display for Part {
     fn fmt(&self, f: &mut fmt::Formatter<'_>) -> fmt::Result {
-        f.write_str(match self {
-            Part::Gate => "gate",
-            Part::Sets => "sets",
-            Part::Eit => "eit",
-        })
+        f.write_str(self.name())
     }
 }
 
@@ -109,4 +105,17 @@ impl Display for Answer {
             }
         }
     }
+}
+
+/// Bytes in upper-case hexadecimal; a section of no bytes is a point.
+pub fn hex(bytes: &[u8]) -> String {
+    let mut text = String::with_capacity(2 * bytes.len());
+    for byte in bytes {
+        let _ = write!(text, "{byte:02X}");
+    }
+    if text.is_empty() { ".".into() } else { text }
+}
+
+pub fn pid_text(pid: Option<u16>) -> String {
+    pid.map_or("-".into(), |pid| format!("{pid:04X}"))
 }

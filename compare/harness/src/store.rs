@@ -1,0 +1,43 @@
+//! The stored tapes of tests/tapes, with the lines that they print.
+use crate::make::{self, Domain};
+use crate::pairs::{Side, differing, smallest};
+use crate::report::Report;
+use crate::written::Written;
+use player::command::Command;
+use player::tape::tape_of;
+use std::fs;
+use std::path::Path;
+
+/// Seeds that no comparison of less than a thousand uses.
+const SEEDS: std::ops::Range<u64> = 1000..1004;
+const COMMANDS: usize = 2500;
+
+/// `domain` has the written scripts and some seeds inside the domain, without what a named difference decides, answered by the original; `damaged` has
+/// damaged and cell-bound seeds, answered by the second implementation.
+pub fn store(root: &Path) -> bool {
+    let seeds = |domain| SEEDS.flat_map(move |seed| make::script(seed, COMMANDS, domain));
+    let by_hand = Written::all(root, "scripts").into_iter().flat_map(|script| script.commands);
+    let inside: Vec<Command> = by_hand.chain(seeds(Domain::Inside)).collect();
+    let outside: Vec<Command> = seeds(Domain::Damaged).chain(seeds(Domain::CellBound)).collect();
+    store_tape(root, "domain", Side::Original, &without_named(inside)) && store_tape(root, "damaged", Side::RULES, &outside)
+}
+
+fn store_tape(root: &Path, name: &str, side: Side, script: &[Command]) -> bool {
+    if let Some(found) = differing(script, &mut Report::default()) {
+        println!("a difference at command {}; the smallest script found:\n{}", found.line + 1, smallest(found));
+        return false;
+    }
+    let file = |end: &str| root.join("tests/tapes").join(format!("{name}.{end}"));
+    let lines: String = side.lines(script).iter().map(|line| format!("{line}\n")).collect();
+    fs::write(file("tape"), tape_of(script)).expect("the project's folder can be written");
+    fs::write(file("txt"), lines).expect("the project's folder can be written");
+    println!("tests/tapes/{name}: {} commands, answered by {side}", script.len());
+    true
+}
+
+/// Leaves out the commands that the original answers otherwise than the rules say. Inside the domain these are refusals (D2), which change nothing.
+fn without_named(script: Vec<Command>) -> Vec<Command> {
+    let [original, rules] = [Side::Original, Side::RULES].map(|side| side.lines(&script));
+    let alike = original.iter().zip(&rules).map(|(one, other)| one == other);
+    script.into_iter().zip(alike).filter_map(|(command, alike)| alike.then_some(command)).collect()
+}

@@ -1,0 +1,77 @@
+//! What an implementation is asked.
+
+#[derive(Clone, Copy, Debug, PartialEq, Eq, PartialOrd, Ord)]
+pub enum Part {
+    Gate,
+    Sets,
+    Eit,
+}
+
+impl Part {
+    /// The word that its commands and its lines begin with.
+    pub fn name(self) -> &'static str {
+        match self {
+            Part::Gate => "gate",
+            Part::Sets => "sets",
+            Part::Eit => "eit",
+        }
+    }
+}
+
+/// The filter of `eit drop`: what is `None` is free. A PID may be asked to be none. A kind above 3 or a current_next above 1 matches nothing.
+#[derive(Clone, Copy, Debug, Default)]
+pub struct Filter {
+    pub pid: Option<Option<u16>>,
+    pub kind: Option<u8>,
+    pub service_id: Option<u16>,
+    pub transport_stream_id: Option<u16>,
+    pub original_network_id: Option<u16>,
+    pub current_next: Option<u8>,
+}
+
+/// How a section comes to the gate: in packets, so only on a watched PID, or straight to it.
+#[derive(Clone, Copy, Debug, PartialEq, Eq)]
+pub enum By {
+    Packets,
+    Offer,
+}
+
+#[derive(Clone, Debug)]
+pub enum Command {
+    GateOpen { capacity: u32, repeats: bool, follow: bool, well_known: bool, extra: Vec<u16> },
+    Gate { by: By, pid: u16, section: Vec<u8> },
+    Ask { pid: u16 },
+    Watched,
+    Open { part: Part, limit: u16, cells: u16, size: u16 },
+    Push { part: Part, pid: Option<u16>, section: Vec<u8> },
+    Clear { part: Part },
+    Drop(Filter),
+}
+
+impl Command {
+    pub fn part(&self) -> Part {
+        match self {
+            Command::GateOpen { .. } | Command::Gate { .. } | Command::Ask { .. } | Command::Watched => Part::Gate,
+            Command::Open { part, .. } | Command::Push { part, .. } | Command::Clear { part } => *part,
+            Command::Drop(_) => Part::Eit,
+        }
+    }
+
+    /// The words a command begins with in a script.
+    pub fn kind(&self) -> &'static str {
+        match self {
+            Command::GateOpen { .. } => "gate open",
+            Command::Gate { by: By::Packets, .. } => "gate section",
+            Command::Gate { by: By::Offer, .. } => "gate offer",
+            Command::Ask { .. } => "gate ask",
+            Command::Watched => "gate watched",
+            Command::Open { part: Part::Eit, .. } => "eit open",
+            Command::Open { .. } => "sets open",
+            Command::Push { part: Part::Eit, .. } => "eit push",
+            Command::Push { .. } => "sets push",
+            Command::Clear { part: Part::Eit } => "eit clear",
+            Command::Clear { .. } => "sets clear",
+            Command::Drop(_) => "eit drop",
+        }
+    }
+}

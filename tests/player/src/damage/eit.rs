@@ -1,0 +1,178 @@
+//! An EIT collector of three rows and three schedules, two and one in use, and four cells of 64 bytes.
+use crate::{Case, Store, case};
+use petrizolu::{Answer, EitState, Filter, Place};
+use player::eit::Eit;
+
+#[derive(Clone, Copy)]
+pub enum Call {
+    Push,
+    Drop,
+    Next,
+    Table,
+    Clear,
+    Open,
+    /// After a refused opening, a push to the store that was open.
+    Former,
+    /// After a refused opening, a push to what was asked for.
+    Anew,
+}
+use Call::*;
+
+#[derive(Clone, PartialEq)]
+pub struct Damaged {
+    eit: Eit,
+    pid: u32,
+    row: u64,
+    table: u64,
+}
+
+/// A present/following set of one section.
+const PRESENT: &[u8] = b"\x4E\xB0\x0F\x00\x01\xC1\x00\x00\x00\x01\x00\x01\x00\x4E\xCC\x8F\x87\x8E";
+/// A schedule of one table of one section.
+const SCHEDULE: &[u8] = b"\x50\xB0\x0F\x00\x01\xC1\x00\x00\x00\x01\x00\x01\x00\x50\x72\xA5\x90\x6F";
+/// The schedule's next version, which is pushed to a damaged store.
+const VERSION: &[u8] = b"\x50\xB0\x0F\x00\x01\xC3\x00\x00\x00\x01\x00\x01\x00\x50\x92\x65\xD9\x14";
+
+/// What is kept by value after `filled`.
+const WHOLE: EitState = EitState { limit: 3, size: 64, count: 4, used: 2, evictions: 0, schedules: 1, schedule_evictions: 0 };
+
+impl Damaged {
+    fn push(&mut self) -> Answer {
+        self.eit.push(self.pid, VERSION).0
+    }
+
+    /// An opening with the settings that the case has. Whether a refusal left what is kept by value counts; what an opening makes of it does not.
+    fn open(&mut self, asked: EitState) -> Answer {
+        let before = self.eit.state;
+        let answer = self.eit.open(asked.limit, asked.size, asked.count);
+        if answer == Answer::DONE {
+            self.eit.state = before;
+        }
+        answer
+    }
+
+    /// A refused opening and a push, with this kept by value instead.
+    fn refused(&mut self, state: EitState) -> Answer {
+        let asked = self.eit.state;
+        self.eit.state = state;
+        assert_ne!(self.open(asked), Answer::DONE);
+        let answer = self.push();
+        if self.eit.state == state {
+            self.eit.state = asked;
+        }
+        answer
+    }
+}
+
+impl Store for Damaged {
+    type Call = Call;
+
+    /// Sets in rows 0 and 1, a schedule in row 0; both went out.
+    fn filled() -> Self {
+        let mut eit = Eit::lend(3, 256, 0);
+        let answers = (eit.open(3, 64, 4), eit.push(0x0012, PRESENT), eit.push(0x0012, SCHEDULE));
+        assert_eq!(answers, (Answer::DONE, (Answer::SET, 0), (Answer::SCHEDULE, 0)));
+        assert_eq!(eit.state, WHOLE);
+        Self { eit, pid: 0x0012, row: 0, table: 0 }
+    }
+
+    fn name(call: Call) -> &'static str {
+        match call {
+            Push => "push",
+            Drop => "drop",
+            Next => "next section",
+            Table => "next in the schedule",
+            Clear => "clear",
+            Open => "open",
+            Former => "open, push to the store before",
+            Anew => "open, push to what it gave back",
+        }
+    }
+
+    fn call(&mut self, call: Call) -> Answer {
+        let asked = self.eit.state;
+        match call {
+            Push => self.push(),
+            Drop => self.eit.drop_matching(&Filter { pid: self.pid.into(), ..Filter::ALL }),
+            Next => self.eit.next(self.row, 0, &mut Place::default()),
+            Table => self.eit.next_in_schedule(self.row, self.table, 0, &mut Place::default()),
+            Clear => self.eit.clear(),
+            Open => self.open(asked),
+            Former => self.refused(WHOLE),
+            Anew => self.refused(EitState { used: 0, evictions: 0, schedules: 0, schedule_evictions: 0, ..asked }),
+        }
+    }
+}
+
+const ALL: &[Call] = &[Push, Drop, Next, Table, Clear, Open];
+
+/// The word of a slot with a kept length of 18 bytes, those of the sections here.
+const KEPT: u32 = 18 << 16;
+
+pub const CASES: &[Case<Damaged>] = &[
+    case("nothing damaged", ALL, |_| {}),
+    // 10 and 13: settings that opening refuses, and counts above the limit.
+    case("cell size 11", ALL, |d| d.eit.state.size = 11),
+    case("cell size 4097, no cells", ALL, |d| d.eit.state = EitState { size: 4097, count: 0, ..WHOLE }),
+    case("65536 cells", ALL, |d| d.eit.state.count = 65536),
+    case("limit 4", ALL, |d| d.eit.state.limit = 4),
+    case("4 rows used of 3", ALL, |d| d.eit.state.used = 4),
+    case("4 schedules of 3", ALL, |d| d.eit.state.schedules = 4),
+    // 10 and 13: a lent slice too short by one.
+    case("35 words of heads", ALL, |d| d.eit.heads.lend(35)),
+    case("863 words of slots", ALL, |d| d.eit.slots.lend(863)),
+    case("255 bytes of cells", ALL, |d| d.eit.cells.lend(255)),
+    case("35 words of schedule heads", ALL, |d| d.eit.schedule_heads.lend(35)),
+    case("13823 words of units", ALL, |d| d.eit.units.lend(13823)),
+    // 10: a filled slot of a row in use, or of a table that a schedule in use has, whose cell number is past the last or whose kept length is not
+    // within 12 to the cell size.
+    case("a set's slot that names cell 4 of 4", ALL, |d| d.eit.slots[32] = KEPT + 4),
+    case("a set's kept length of 11", ALL, |d| d.eit.slots[32] = 11 << 16),
+    case("a set's kept length of 65", ALL, |d| d.eit.slots[320] = 65 << 16),
+    case("a schedule's slot that names cell 4 of 4", ALL, |d| d.eit.units[32] = KEPT + 4),
+    case("a schedule's kept length of 11", ALL, |d| d.eit.units[32] = 11 << 16),
+    case("a schedule's kept length of 65", ALL, |d| d.eit.units[32] = 65 << 16),
+    // Not 10: what stands in no slot of a row in use, in a table that a schedule has not, or in a schedule not in use.
+    case("a kept length of 11 past the set's last slot", ALL, |d| d.eit.slots[33] = 11 << 16),
+    case("a kept length of 11 in a row not in use", ALL, |d| d.eit.slots[608] = 11 << 16),
+    case("a kept length of 11 past the table's last slot", ALL, |d| d.eit.units[33] = 11 << 16),
+    case("a kept length of 11 in a table not present", ALL, |d| d.eit.units[320] = 11 << 16),
+    case("a kept length of 11 in a schedule not in use", ALL, |d| d.eit.units[4640] = 11 << 16),
+    case("a kept length of 11, no schedule used", ALL, |d| {
+        d.eit.units[32] = 11 << 16;
+        d.eit.state.schedules = 0;
+    }),
+    // Words that no history leaves and the rules do not name: the rules as they are written, first matching row.
+    case("a segment's word of 300", ALL, |d| d.eit.slots[288] = 300),
+    case("a table_id of 0x70 in a set's head", ALL, |d| d.eit.heads[1] = 0x70),
+    case("a PID of 9000 in a set's head", ALL, |d| d.eit.heads[12] = 9000),
+    case("a last_section_number of 300", ALL, |d| d.eit.heads[19] = 300),
+    case("a kind of 7 in a schedule's head", ALL, |d| d.eit.schedule_heads[1] = 7),
+    case("a last_table_id of 0x51 in a schedule's head", ALL, |d| d.eit.schedule_heads[7] = 0x51),
+    case("a table present that never came", ALL, |d| d.eit.units[288] = 1),
+    case("a table's last_section_number of 300", ALL, |d| d.eit.units[2] = 300),
+    // 11, 12, and the lower number first.
+    case("evictions at their end", ALL, |d| d.eit.state.evictions = u64::MAX),
+    case("schedule evictions at their end", ALL, |d| d.eit.state.schedule_evictions = u64::MAX),
+    case("PID 8192", ALL, |d| d.pid = 8192),
+    case("PID 8192, evictions at their end", ALL, |d| {
+        d.pid = 8192;
+        d.eit.state.evictions = u64::MAX;
+    }),
+    case("PID 8192, evictions at their end, 4 schedules of 3", ALL, |d| {
+        d.pid = 8192;
+        d.eit.state = EitState { evictions: u64::MAX, schedules: 4, ..WHOLE };
+    }),
+    // Limit 0, and 9: a row not in use has no section, nor has a table not present.
+    case("limit 0, 2 rows used", ALL, |d| d.eit.state.limit = 0),
+    case("limit 0, 1 schedule used", ALL, |d| d.eit.state = EitState { limit: 0, used: 0, ..WHOLE }),
+    case("limit 0, nothing used", ALL, |d| d.eit.state = EitState { limit: 0, used: 0, schedules: 0, ..WHOLE }),
+    case("schedule 1", &[Table], |d| d.row = 1),
+    case("row 2", &[Next], |d| d.row = 2),
+    case("table 1", &[Table], |d| d.table = 1),
+    case("table 16", &[Table], |d| d.table = 16),
+    // After an opening that was refused.
+    case("limit 4", &[Former, Anew], |d| d.eit.state.limit = 4),
+    case("cell size 11", &[Former, Anew], |d| d.eit.state.size = 11),
+    case("13823 words of units", &[Anew], |d| d.eit.units.lend(13823)),
+];

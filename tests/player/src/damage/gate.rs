@@ -1,0 +1,163 @@
+//! A gate of two rows, both in use.
+use crate::{Case, Store, case};
+use petrizolu::{Answer, DEFAULT_SETTINGS, GateState};
+use player::gate::Plain;
+
+#[derive(Clone, Copy)]
+pub enum Call {
+    Offer,
+    Ask,
+    Open,
+    /// The watch alone: an opening of a gate that has rows of its own.
+    Watch,
+    /// After a refused opening, an offer to the store that was open.
+    Former,
+    /// After a refused opening, an offer to what was asked for.
+    Anew,
+}
+use Call::*;
+
+#[derive(Clone, PartialEq)]
+pub struct Damaged {
+    gate: Plain,
+    pid: u16,
+}
+
+/// A time and date section, the one that is offered to a damaged store.
+const TDT: &[u8] = b"\x70\x70\x05\xC0\x79\x12\x45\x00";
+/// A PAT that adds PID 0x0100 to the watch.
+const PAT: &[u8] = b"\x00\xB0\x0D\x00\x01\xC1\x00\x00\x00\x01\xE1\x00\xE8\xF9\x5E\x7D";
+
+/// What is kept by value after an opening, and after `filled`.
+const OPENED: GateState = GateState {
+    capacity: 2,
+    repeats: 0,
+    follow: 1,
+    used: 0,
+    first: 0,
+    completed: 0,
+    emitted: 0,
+    suppressed: 0,
+    crc_failures: 0,
+    evictions: 0,
+};
+const WHOLE: GateState = GateState { used: 2, completed: 2, emitted: 2, ..OPENED };
+
+impl Damaged {
+    fn offer(&mut self) -> Answer {
+        self.gate.offer(self.pid.into(), TDT)
+    }
+
+    /// An opening with the capacity and the PID that the case has. Whether a refusal left what is kept by value counts; what an opening makes of it
+    /// does not.
+    fn open(&mut self, capacity: u64) -> Answer {
+        let before = self.gate.state;
+        let answer = self.gate.open(capacity, DEFAULT_SETTINGS, &[self.pid]);
+        if answer == Answer::DONE {
+            self.gate.state = before;
+        }
+        answer
+    }
+
+    fn open_watch(&mut self) -> Answer {
+        let mut other = Plain { watch: self.gate.watch.clone(), ..Plain::lend(1, 0) };
+        let answer = other.open(1, DEFAULT_SETTINGS, &[self.pid]);
+        self.gate.watch = other.watch;
+        answer
+    }
+
+    /// A refused opening and an offer on a PID, with this kept by value instead.
+    fn refused(&mut self, state: GateState, pid: u16) -> Answer {
+        let asked = self.gate.state;
+        self.gate.state = state;
+        assert_ne!(self.open(asked.capacity), Answer::DONE);
+        let answer = self.gate.offer(pid.into(), TDT);
+        if self.gate.state == state {
+            self.gate.state = asked;
+        }
+        answer
+    }
+}
+
+impl Store for Damaged {
+    type Call = Call;
+
+    /// Two keys.
+    fn filled() -> Self {
+        let mut gate = Plain::lend(2, 0);
+        assert_eq!(gate.open(2, DEFAULT_SETTINGS, &[0x0014]), Answer::DONE);
+        assert_eq!(gate.state, OPENED);
+        assert_eq!((gate.offer(0, PAT), gate.offer(0x0014, TDT)), (Answer::EMITTED, Answer::EMITTED));
+        assert_eq!(gate.state, WHOLE);
+        Self { gate, pid: 0x0014 }
+    }
+
+    fn name(call: Call) -> &'static str {
+        match call {
+            Offer => "offer",
+            Ask => "ask",
+            Open => "open",
+            Watch => "open the watch",
+            Former => "open, offer to the store before",
+            Anew => "open, offer to what it gave back",
+        }
+    }
+
+    fn call(&mut self, call: Call) -> Answer {
+        let asked = self.gate.state;
+        match call {
+            Offer => self.offer(),
+            Ask => self.gate.ask(self.pid.into()),
+            Open => self.open(asked.capacity),
+            Watch => self.open_watch(),
+            Former => self.refused(WHOLE, 0x0014),
+            Anew => self.refused(GateState { capacity: asked.capacity, ..OPENED }, self.pid),
+        }
+    }
+}
+
+const ALL: &[Call] = &[Offer, Ask, Open, Watch];
+
+pub const CASES: &[Case<Damaged>] = &[
+    case("nothing damaged", ALL, |_| {}),
+    // 10: used above room, first not below it. Capacity 0 has room for one key.
+    case("3 rows used of 2", ALL, |d| d.gate.state.used = 3),
+    case("first row 2 of 2", ALL, |d| d.gate.state.first = 2),
+    case("2 rows used, capacity 0", ALL, |d| d.gate.state.capacity = 0),
+    case("1 row used, capacity 0", ALL, |d| d.gate.state = GateState { capacity: 0, used: 1, ..WHOLE }),
+    // 10 and 13: less lent than the settings need.
+    case("keys of 1 row", ALL, |d| d.gate.keys.lend(1)),
+    case("changes of 1 row", ALL, |d| d.gate.changes.lend(1)),
+    case("383 words of the watch", ALL, |d| d.gate.watch.lend(383)),
+    case("capacity 3", ALL, |d| d.gate.state.capacity = 3),
+    case("capacity 2^64 - 1", ALL, |d| d.gate.state.capacity = u64::MAX),
+    // 11: each of the five counters at its end.
+    case("completed at its end", ALL, |d| d.gate.state.completed = u64::MAX),
+    case("emitted at its end", ALL, |d| d.gate.state.emitted = u64::MAX),
+    case("suppressed at its end", ALL, |d| d.gate.state.suppressed = u64::MAX),
+    case("CRC failures at their end", ALL, |d| d.gate.state.crc_failures = u64::MAX),
+    case("evictions at their end", ALL, |d| d.gate.state.evictions = u64::MAX),
+    // 12, and the lower number first.
+    case("PID 8192", ALL, |d| d.pid = 8192),
+    case("PID 8192, completed at its end", ALL, |d| {
+        d.pid = 8192;
+        d.gate.state.completed = u64::MAX;
+    }),
+    case("PID 8192, completed at its end, 3 rows used of 2", ALL, |d| {
+        d.pid = 8192;
+        d.gate.state = GateState { used: 3, completed: u64::MAX, ..WHOLE };
+    }),
+    case("completed one below its end", ALL, |d| d.gate.state.completed = u64::MAX - 1),
+    // What no history leaves and the rules do not name: the rules as they are written, first matching row.
+    case("a key of 2^64 - 1", ALL, |d| d.gate.keys[1] = u64::MAX),
+    case("a version and change number of 2^64 - 1", ALL, |d| d.gate.changes[1] = u64::MAX),
+    case("the first word of the watch 0", ALL, |d| d.gate.watch[0] = 0),
+    case("64 PIDs followed that no PAT named", ALL, |d| d.gate.watch[300] = u64::MAX),
+    case("first row 1", ALL, |d| d.gate.state.first = 1),
+    case("no row used, first row 1", ALL, |d| d.gate.state = GateState { used: 0, first: 1, ..WHOLE }),
+    // After an opening that was refused, by 13 and by 12.
+    case("capacity 3", &[Former, Anew], |d| d.gate.state.capacity = 3),
+    case("keys of 1 row", &[Anew], |d| d.gate.keys.lend(1)),
+    case("383 words of the watch", &[Anew], |d| d.gate.watch.lend(383)),
+    case("PID 8192", &[Former], |d| d.pid = 8192),
+];

@@ -1,0 +1,64 @@
+//! `damage gate`, `damage sets`, `damage eit`: what a tape cannot reach. Lent memory is written over, less of it is lent or a count is preset, one
+//! thing at a time, and each call is made on it: a line says what it answers, and whether every word, lent or kept by value, is as it was. 10, 11, 12
+//! and 13 leave all as before.
+use petrizolu::Answer;
+use std::io::{self, BufWriter, Write};
+use std::process::ExitCode;
+
+mod eit;
+mod gate;
+mod sets;
+
+/// What is damaged: a store, and what the calls are given. Two are equal where every word is.
+trait Store: Clone + PartialEq {
+    type Call: Copy;
+
+    /// A whole store with something in it.
+    fn filled() -> Self;
+
+    /// What a line calls it.
+    fn name(call: Self::Call) -> &'static str;
+
+    fn call(&mut self, call: Self::Call) -> Answer;
+}
+
+/// A damage, and the calls that are made after it, each on a store of its own.
+struct Case<S: Store + 'static> {
+    name: &'static str,
+    calls: &'static [S::Call],
+    damage: fn(&mut S),
+}
+
+const fn case<S: Store>(name: &'static str, calls: &'static [S::Call], damage: fn(&mut S)) -> Case<S> {
+    Case { name, calls, damage }
+}
+
+fn run<S: Store>(cases: &[Case<S>], out: &mut impl Write) -> io::Result<()> {
+    for case in cases {
+        for &call in case.calls {
+            let mut store = S::filled();
+            (case.damage)(&mut store);
+            let before = store.clone();
+            let answer = store.call(call);
+            let left = if store == before { "as before" } else { "CHANGED" };
+            writeln!(out, "{}: {} {answer} {left}", case.name, S::name(call))?;
+        }
+    }
+    Ok(())
+}
+
+fn main() -> io::Result<ExitCode> {
+    let part = std::env::args().nth(1).unwrap_or_default();
+    let mut out = BufWriter::new(io::stdout().lock());
+    match part.as_str() {
+        "gate" => run(gate::CASES, &mut out)?,
+        "sets" => run(sets::CASES, &mut out)?,
+        "eit" => run(eit::CASES, &mut out)?,
+        _ => {
+            eprintln!("usage: damage gate|sets|eit");
+            return Ok(ExitCode::from(2));
+        }
+    }
+    out.flush()?;
+    Ok(ExitCode::SUCCESS)
+}

@@ -1,0 +1,163 @@
+//! A set collector of three rows, two in use, and four cells of 64 bytes.
+use crate::{Case, Store, case};
+use petrizolu::{Answer, Place, SetsState};
+use player::sets::Sets;
+
+#[derive(Clone, Copy)]
+pub enum Call {
+    Push,
+    Next,
+    Clear,
+    Open,
+    /// After a refused opening, a push to the store that was open.
+    Former,
+    /// After a refused opening, a push to what was asked for.
+    Anew,
+}
+use Call::*;
+
+#[derive(Clone, PartialEq)]
+pub struct Damaged {
+    sets: Sets,
+    pid: u32,
+    row: u64,
+}
+
+/// The only section of a set.
+const ONLY: &[u8] = b"\x42\xB0\x0D\x00\x01\xC1\x00\x00\xAA\xAA\xAA\xAA\xAB\x3D\x3D\xBD";
+/// The first section of another set, of two.
+const FIRST: &[u8] = b"\x42\xB0\x0D\x00\x02\xC1\x00\x01\xB0\xB0\xB0\xB0\xF5\xB8\x1C\xB0";
+/// The second of the two, which is pushed to a damaged store.
+const SECOND: &[u8] = b"\x42\xB0\x0D\x00\x02\xC1\x01\x01\xB1\xB1\xB1\xB1\xE5\xFD\xFB\x93";
+
+/// What is kept by value after `filled`.
+const WHOLE: SetsState = SetsState { limit: 3, size: 64, count: 4, used: 2, evictions: 0 };
+
+impl Damaged {
+    fn push(&mut self) -> Answer {
+        self.sets.push(self.pid, SECOND).0
+    }
+
+    /// An opening with the settings that the case has. Whether a refusal left what is kept by value counts; what an opening makes of it does not.
+    fn open(&mut self, asked: SetsState) -> Answer {
+        let before = self.sets.state;
+        let answer = self.sets.open(asked.limit, asked.size, asked.count);
+        if answer == Answer::DONE {
+            self.sets.state = before;
+        }
+        answer
+    }
+
+    /// A refused opening and a push, with this kept by value instead.
+    fn refused(&mut self, state: SetsState) -> Answer {
+        let asked = self.sets.state;
+        self.sets.state = state;
+        assert_ne!(self.open(asked), Answer::DONE);
+        let answer = self.push();
+        if self.sets.state == state {
+            self.sets.state = asked;
+        }
+        answer
+    }
+}
+
+impl Store for Damaged {
+    type Call = Call;
+
+    /// Row 0 has a set that went out, row 1 the first of two sections.
+    fn filled() -> Self {
+        let mut sets = Sets::lend(3, 256, 0);
+        let answers = (sets.open(3, 64, 4), sets.push(0x0011, ONLY), sets.push(0x0011, FIRST).0);
+        assert_eq!(answers, (Answer::DONE, (Answer::SET, 0), Answer::NOTHING));
+        assert_eq!(sets.state, WHOLE);
+        Self { sets, pid: 0x0011, row: 0 }
+    }
+
+    fn name(call: Call) -> &'static str {
+        match call {
+            Push => "push",
+            Next => "next section",
+            Clear => "clear",
+            Open => "open",
+            Former => "open, push to the store before",
+            Anew => "open, push to what it gave back",
+        }
+    }
+
+    fn call(&mut self, call: Call) -> Answer {
+        let asked = self.sets.state;
+        match call {
+            Push => self.push(),
+            Next => self.sets.next(self.row, 0, &mut Place::default()),
+            Clear => self.sets.clear(),
+            Open => self.open(asked),
+            Former => self.refused(WHOLE),
+            Anew => self.refused(SetsState { used: 0, evictions: 0, ..asked }),
+        }
+    }
+}
+
+const ALL: &[Call] = &[Push, Next, Clear, Open];
+
+/// The word of a slot with a kept length of 16 bytes, those of the sections here.
+const KEPT: u32 = 16 << 16;
+
+pub const CASES: &[Case<Damaged>] = &[
+    case("nothing damaged", ALL, |_| {}),
+    // 10 and 13: settings that opening refuses, and used above the limit.
+    case("cell size 11", ALL, |d| d.sets.state.size = 11),
+    case("cell size 4097, no cells", ALL, |d| d.sets.state = SetsState { size: 4097, count: 0, ..WHOLE }),
+    case("cell size 4096, no cells", ALL, |d| d.sets.state = SetsState { size: 4096, count: 0, ..WHOLE }),
+    case("65536 cells", ALL, |d| d.sets.state.count = 65536),
+    case("limit 4", ALL, |d| d.sets.state.limit = 4),
+    case("limit 2^64 - 1", ALL, |d| d.sets.state.limit = u64::MAX),
+    case("4 rows used of 3", ALL, |d| d.sets.state.used = 4),
+    // 10 and 13: a lent slice too short by one.
+    case("35 words of heads", ALL, |d| d.sets.heads.lend(35)),
+    case("863 words of slots", ALL, |d| d.sets.slots.lend(863)),
+    case("255 bytes of cells", ALL, |d| d.sets.cells.lend(255)),
+    // 10: a filled slot of a row in use whose cell number is past the last, or whose kept length is not within 12 to the cell size.
+    case("a slot that names cell 4 of 4", ALL, |d| d.sets.slots[32] = KEPT + 4),
+    case("a slot that names cell 65535", ALL, |d| d.sets.slots[32] = KEPT + 65535),
+    case("a kept length of 11", ALL, |d| d.sets.slots[32] = 11 << 16),
+    case("a kept length of 65", ALL, |d| d.sets.slots[32] = 65 << 16),
+    case("a kept length of 11 in a slot that was empty", ALL, |d| d.sets.slots[321] = 11 << 16),
+    // Not 10: what stands in no slot of a row in use, a slot of length 0, and lengths within the bounds.
+    case("a slot of length 0 that names cell 65535", ALL, |d| d.sets.slots[32] = 65535),
+    case("a kept length of 12", ALL, |d| d.sets.slots[32] = 12 << 16),
+    case("a kept length of 64", ALL, |d| d.sets.slots[32] = 64 << 16),
+    case("a kept length of 11 past the row's last slot", ALL, |d| d.sets.slots[33] = 11 << 16),
+    case("a kept length of 11 in a row not in use", ALL, |d| d.sets.slots[608] = 11 << 16),
+    case("a segment's word of 2^32 - 1", ALL, |d| d.sets.slots[0] = u32::MAX),
+    case("a cell named twice", ALL, |d| d.sets.slots[321] = KEPT),
+    // Heads that no history leaves and the rules do not name: the rules as they are written, first matching row.
+    case("a PID of 9000 in a head", ALL, |d| d.sets.heads[12] = 9000),
+    case("a key that stands twice", ALL, |d| d.sets.heads[2] = 2),
+    case("a last_section_number of 300", ALL, |d| d.sets.heads[19] = 300),
+    case("a version of 2^64 - 1", ALL, |d| d.sets.heads[18] = u64::MAX),
+    case("a mark on a row that is not full", ALL, |d| d.sets.heads[20] = 7),
+    case("an age of 2^64 - 1", ALL, |d| d.sets.heads[9] = u64::MAX),
+    case("two rows of one age", ALL, |d| d.sets.heads[9] = 0),
+    // 11, 12, and the lower number first; limit 0.
+    case("evictions at their end", ALL, |d| d.sets.state.evictions = u64::MAX),
+    case("evictions one below their end", ALL, |d| d.sets.state.evictions = u64::MAX - 1),
+    case("PID 8192", ALL, |d| d.pid = 8192),
+    case("PID 8192, evictions at their end", ALL, |d| {
+        d.pid = 8192;
+        d.sets.state.evictions = u64::MAX;
+    }),
+    case("PID 8192, evictions at their end, 4 rows used of 3", ALL, |d| {
+        d.pid = 8192;
+        d.sets.state = SetsState { used: 4, evictions: u64::MAX, ..WHOLE };
+    }),
+    case("limit 0, 2 rows used", ALL, |d| d.sets.state.limit = 0),
+    case("limit 0, no row used", ALL, |d| d.sets.state = SetsState { limit: 0, used: 0, ..WHOLE }),
+    // 9: a row that is not in use has no section.
+    case("row 2", &[Next], |d| d.row = 2),
+    case("row 2^64 - 1", &[Next], |d| d.row = u64::MAX),
+    case("no row used", &[Next], |d| d.sets.state.used = 0),
+    // After an opening that was refused.
+    case("limit 4", &[Former, Anew], |d| d.sets.state.limit = 4),
+    case("cell size 11", &[Former, Anew], |d| d.sets.state.size = 11),
+    case("255 bytes of cells", &[Anew], |d| d.sets.cells.lend(255)),
+];

@@ -1,0 +1,203 @@
+//! The gate over lent memory, in both its forms, and the two beside each other.
+use crate::answer::Answer;
+use crate::command::{By, Command, Part};
+use crate::lent::{Lent, words};
+use petrizolu::{Answer as Number, DEFAULT_CAPACITY, DEFAULT_SETTINGS, FOLLOW, GateState, REPEATS, WATCH_WORDS, WELL_KNOWN, calls};
+
+/// Where the two forms differ, in words.
+#[derive(Debug)]
+pub struct Differs(pub String);
+
+/// The gate that looks through its rows in order.
+#[derive(Clone, PartialEq)]
+pub struct Plain {
+    pub state: GateState,
+    pub keys: Lent<u64>,
+    pub changes: Lent<u64>,
+    pub watch: Lent<u64>,
+}
+
+impl Plain {
+    /// Memory for so many rows, every byte of it `byte`; no gate is open.
+    pub fn lend(rows: usize, byte: u8) -> Self {
+        Self { state: GateState::default(), keys: words(byte, rows), changes: words(byte, rows), watch: words(byte, WATCH_WORDS) }
+    }
+
+    pub fn open(&mut self, capacity: u64, settings: u32, extra: &[u16]) -> Number {
+        calls::gate_open(&mut self.state, capacity, settings, extra, &self.keys, &self.changes, &mut self.watch)
+    }
+
+    pub fn offer(&mut self, pid: u32, section: &[u8]) -> Number {
+        calls::gate_offer(&mut self.state, &mut self.keys, &mut self.changes, &mut self.watch, pid, section)
+    }
+
+    pub fn ask(&self, pid: u32) -> Number {
+        calls::watch_ask(&self.watch, pid)
+    }
+}
+
+/// The gate with an index over its rows.
+#[derive(Clone, PartialEq)]
+pub struct Indexed {
+    pub state: GateState,
+    pub keys: Lent<u64>,
+    pub changes: Lent<u64>,
+    pub buckets: Lent<u64>,
+    pub links: Lent<u64>,
+    pub watch: Lent<u64>,
+}
+
+impl Indexed {
+    /// As of the plain gate.
+    pub fn lend(rows: usize, byte: u8) -> Self {
+        Self {
+            state: GateState::default(),
+            keys: words(byte, rows),
+            changes: words(byte, rows),
+            buckets: words(byte, rows),
+            links: words(byte, rows),
+            watch: words(byte, WATCH_WORDS),
+        }
+    }
+
+    pub fn open(&mut self, capacity: u64, settings: u32, extra: &[u16]) -> Number {
+        calls::indexed_open(
+            &mut self.state,
+            capacity,
+            settings,
+            extra,
+            &self.keys,
+            &self.changes,
+            &mut self.buckets,
+            &self.links,
+            &mut self.watch,
+        )
+    }
+
+    pub fn offer(&mut self, pid: u32, section: &[u8]) -> Number {
+        calls::indexed_offer(
+            &mut self.state,
+            &mut self.keys,
+            &mut self.changes,
+            &mut self.buckets,
+            &mut self.links,
+            &mut self.watch,
+            pid,
+            section,
+        )
+    }
+
+    pub fn ask(&self, pid: u32) -> Number {
+        calls::watch_ask(&self.watch, pid)
+    }
+}
+
+/// Whether packets bring these bytes as one section (ISO/IEC 13818-1, 2.4.4): a table_id of FF is stuffing, and section_length says where a section
+/// ends.
+fn deliverable(section: &[u8]) -> bool {
+    match section {
+        [table_id, high, low, rest @ ..] => *table_id != 0xFF && rest.len() == usize::from(u16::from_be_bytes([high & 0x0F, *low])),
+        _ => false,
+    }
+}
+
+/// Both forms, each with memory of its own. Every command goes to both.
+pub struct Gates {
+    pub plain: Plain,
+    pub indexed: Indexed,
+}
+
+impl Gates {
+    /// Gates with the default settings, on memory whose bytes were all `byte`.
+    pub fn begin(byte: u8) -> Self {
+        let rows = DEFAULT_CAPACITY as usize;
+        let mut gates = Self { plain: Plain::lend(rows, byte), indexed: Indexed::lend(rows, byte) };
+        gates.plain.open(DEFAULT_CAPACITY, DEFAULT_SETTINGS, &[]);
+        gates.indexed.open(DEFAULT_CAPACITY, DEFAULT_SETTINGS, &[]);
+        gates
+    }
+
+    /// Carries out a command of the gate.
+    pub fn answer(&mut self, command: &Command) -> Result<Answer, Differs> {
+        match command {
+            Command::GateOpen { capacity, repeats, follow, well_known, extra } => {
+                let flags = [(*repeats, REPEATS), (*follow, FOLLOW), (*well_known, WELL_KNOWN)];
+                let settings = flags.iter().filter(|(on, _)| *on).map(|(_, flag)| flag).sum();
+                self.open((*capacity).into(), settings, extra)
+            }
+            Command::Gate { by: By::Packets, pid, section } => self.deliver(*pid, section),
+            Command::Gate { by: By::Offer, pid, section } => self.offer(*pid, section),
+            Command::Ask { pid } => Ok(Answer::Number(Part::Gate, self.ask(*pid)?.0)),
+            Command::Watched => self.watched(),
+            other => panic!("no command of the gate: {other}"),
+        }
+    }
+
+    fn open(&mut self, capacity: u64, settings: u32, extra: &[u16]) -> Result<Answer, Differs> {
+        let plain = self.plain.open(capacity, settings, extra);
+        let indexed = self.indexed.open(capacity, settings, extra);
+        let number = self.same(plain, indexed)?;
+        self.same_rows()?;
+        Ok(Answer::Number(Part::Gate, number.0))
+    }
+
+    fn offer(&mut self, pid: u16, section: &[u8]) -> Result<Answer, Differs> {
+        let plain = self.plain.offer(pid.into(), section);
+        let indexed = self.indexed.offer(pid.into(), section);
+        let number = self.same(plain, indexed)?;
+        let GateState { completed, emitted, suppressed, crc_failures, evictions, .. } = self.plain.state;
+        Ok(match number {
+            Number::EMITTED | Number::SUPPRESSED | Number::CRC_FAILURE => {
+                Answer::Judged(number.0, [completed, emitted, suppressed, crc_failures, evictions])
+            }
+            refused => Answer::Number(Part::Gate, refused.0),
+        })
+    }
+
+    fn ask(&self, pid: u16) -> Result<Number, Differs> {
+        self.same(self.plain.ask(pid.into()), self.indexed.ask(pid.into()))
+    }
+
+    fn deliver(&mut self, pid: u16, section: &[u8]) -> Result<Answer, Differs> {
+        match self.ask(pid)? {
+            Number::YES if deliverable(section) => self.offer(pid, section),
+            Number::YES => Ok(Answer::Undeliverable),
+            Number::NO => Ok(Answer::Unwatched),
+            refused => Ok(Answer::Number(Part::Gate, refused.0)),
+        }
+    }
+
+    /// The watched PIDs, each of the 8,192 asked for.
+    fn watched(&self) -> Result<Answer, Differs> {
+        self.same_state()?;
+        Ok(Answer::Watched((0..8192).filter(|&pid| self.plain.ask(pid.into()) == Number::YES).collect()))
+    }
+
+    /// What both forms answered.
+    fn same(&self, plain: Number, indexed: Number) -> Result<Number, Differs> {
+        self.same_state()?;
+        if plain == indexed { Ok(plain) } else { Err(Differs(format!("plain {plain}, indexed {indexed}"))) }
+    }
+
+    /// That settings, counters, the rows in use and the watch are the same.
+    fn same_state(&self) -> Result<(), Differs> {
+        if self.plain.state != self.indexed.state {
+            return Err(Differs(format!("plain {:?}, indexed {:?}", self.plain.state, self.indexed.state)));
+        }
+        same_words("watch", &self.plain.watch, &self.indexed.watch)
+    }
+
+    /// Keys and changes are many: they are compared at each opening and at the end.
+    pub fn same_rows(&self) -> Result<(), Differs> {
+        same_words("keys", &self.plain.keys, &self.indexed.keys)?;
+        same_words("changes", &self.plain.changes, &self.indexed.changes)
+    }
+}
+
+fn same_words(what: &str, plain: &[u64], indexed: &[u64]) -> Result<(), Differs> {
+    if plain == indexed {
+        return Ok(());
+    }
+    let at = plain.iter().zip(indexed).position(|(a, b)| a != b).unwrap_or(plain.len());
+    Err(Differs(format!("{what}: plain and indexed differ from word {at} on")))
+}

@@ -1,0 +1,15 @@
+//! Plays commands over the library that hosts link, and says the line that each is answered with. It is how the library is run beside the
+//! original and beside a second implementation (compare/), and how stored runs are held to what was stored (tests/run).
+//!
+//! `command` has what is asked and `answer` what is told; `script` has commands as text, `tape` as bytes. `lent` owns memory that a test may write
+//! over, `gate`, `sets` and `eit` make the calls over it, `port` puts the three together and `play` plays a whole tape.
+pub mod answer;
+pub mod command;
+pub mod eit;
+pub mod gate;
+pub mod lent;
+pub mod play;
+pub mod port;
+pub mod script;
+pub mod sets;
+pub mod tape;

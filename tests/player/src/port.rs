@@ -1,0 +1,41 @@
+//! The library behind the commands.
+use crate::answer::Answer;
+use crate::command::{Command, Part};
+use crate::eit::Eit;
+use crate::gate::{Differs, Gates};
+use crate::sets::Sets;
+
+/// As many rows and bytes of cells as a collector is lent; a gate has rows for the default capacity.
+const ROWS: usize = 64;
+const CELLS: usize = 1 << 20;
+
+pub struct Port {
+    pub gates: Gates,
+    pub sets: Sets,
+    pub eit: Eit,
+}
+
+impl Port {
+    /// A gate with the default settings is open, the collectors are not, and answer 10 until they are.
+    pub fn begin() -> Self {
+        Self::on_bytes(0)
+    }
+
+    /// The same on memory whose bytes were all `byte` before: what it held is not to matter.
+    pub fn on_bytes(byte: u8) -> Self {
+        Self { gates: Gates::begin(byte), sets: Sets::lend(ROWS, CELLS, byte), eit: Eit::lend(ROWS, CELLS, byte) }
+    }
+
+    pub fn answer(&mut self, command: &Command) -> Result<Answer, Differs> {
+        match command.part() {
+            Part::Gate => self.gates.answer(command),
+            Part::Sets => Ok(self.sets.answer(command)),
+            Part::Eit => Ok(self.eit.answer(command)),
+        }
+    }
+
+    /// What is compared only once no command follows.
+    pub fn end(&self) -> Result<(), Differs> {
+        self.gates.same_rows()
+    }
+}

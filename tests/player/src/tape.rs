@@ -1,0 +1,192 @@
+//! Commands as the bytes of a tape. Numbers are high byte first.
+//!
+//! ```text
+//! 10 gate open     capacity u32, flags u8 (1 repeats, 2 follow, 4 well-known PIDs), count u8, that many PIDs u16
+//! 11 gate section  PID u16, length u16, the bytes: as a packet would deliver them, so only on a watched PID
+//! 12 gate offer    PID u16, length u16, the bytes: offered, watched or not
+//! 13 gate ask      PID u16
+//! 14 gate watched
+//! 20 sets open     limit u16, cells u16, cell size u16
+//! 21 sets push     PID u16 (FFFF none), length u16, the bytes
+//! 22 sets clear
+//! 30 31 32         the same of the EIT collector
+//! 33 eit drop      mask u8 (1 PID, 2 kind, 4 service_id, 8 transport_stream_id, 10 original_network_id, 20 current_next), PID u16 (FFFF
+//!                  none), kind u8 (0 and 1 present/following actual and other, 2 and 3 schedule actual and other), service_id u16,
+//!                  transport_stream_id u16, original_network_id u16, current_next u8
+//! ```
+use crate::command::{By, Command, Filter, Part};
+use std::io::{self, ErrorKind, Read};
+
+/// Stands on a tape for "no PID".
+const NO_PID: u16 = 0xFFFF;
+
+// ---- reading
+
+/// Why there is no next command.
+#[derive(Debug)]
+pub enum Stop {
+    End,
+    /// The tape ends inside a command.
+    Cut,
+    /// No command begins with this byte.
+    Bad,
+    Unreadable(io::Error),
+}
+
+impl From<io::Error> for Stop {
+    fn from(error: io::Error) -> Stop {
+        match error.kind() {
+            ErrorKind::UnexpectedEof => Stop::Cut,
+            _ => Stop::Unreadable(error),
+        }
+    }
+}
+
+/// A tape that is being read.
+pub struct Tape<R> {
+    input: R,
+    /// Bytes read.
+    read: u64,
+    /// Where the last command begins, counted from 0.
+    pub place: u64,
+}
+
+impl<R: Read> Tape<R> {
+    pub fn new(input: R) -> Self {
+        Self { input, read: 0, place: 0 }
+    }
+
+    pub fn next_command(&mut self) -> Result<Command, Stop> {
+        self.place = self.read;
+        let first = match self.byte() {
+            Err(Stop::Cut) => return Err(Stop::End),
+            first => first?,
+        };
+        let part = if first < 0x30 { Part::Sets } else { Part::Eit };
+        Ok(match first {
+            0x10 => self.gate_open()?,
+            0x11 => Command::Gate { by: By::Packets, pid: self.short()?, section: self.section()? },
+            0x12 => Command::Gate { by: By::Offer, pid: self.short()?, section: self.section()? },
+            0x13 => Command::Ask { pid: self.short()? },
+            0x14 => Command::Watched,
+            0x20 | 0x30 => Command::Open { part, limit: self.short()?, cells: self.short()?, size: self.short()? },
+            0x21 | 0x31 => Command::Push { part, pid: self.maybe_pid()?, section: self.section()? },
+            0x22 | 0x32 => Command::Clear { part },
+            0x33 => self.filter()?,
+            _ => return Err(Stop::Bad),
+        })
+    }
+
+    fn bytes<const N: usize>(&mut self) -> Result<[u8; N], Stop> {
+        let mut bytes = [0; N];
+        self.input.read_exact(&mut bytes)?;
+        self.read += N as u64;
+        Ok(bytes)
+    }
+
+    fn byte(&mut self) -> Result<u8, Stop> {
+        self.bytes().map(u8::from_be_bytes)
+    }
+
+    fn short(&mut self) -> Result<u16, Stop> {
+        self.bytes().map(u16::from_be_bytes)
+    }
+
+    fn maybe_pid(&mut self) -> Result<Option<u16>, Stop> {
+        Ok(Some(self.short()?).filter(|&pid| pid != NO_PID))
+    }
+
+    fn section(&mut self) -> Result<Vec<u8>, Stop> {
+        let mut section = vec![0; self.short()?.into()];
+        self.input.read_exact(&mut section)?;
+        self.read += section.len() as u64;
+        Ok(section)
+    }
+
+    fn gate_open(&mut self) -> Result<Command, Stop> {
+        let capacity = self.bytes().map(u32::from_be_bytes)?;
+        let flags = self.byte()?;
+        let extra = (0..self.byte()?).map(|_| self.short()).collect::<Result<_, _>>()?;
+        Ok(Command::GateOpen { capacity, repeats: flags & 1 != 0, follow: flags & 2 != 0, well_known: flags & 4 != 0, extra })
+    }
+
+    fn filter(&mut self) -> Result<Command, Stop> {
+        let mask = self.byte()?;
+        let exact = |bit: u8| mask & bit != 0;
+        Ok(Command::Drop(Filter {
+            pid: Some(self.maybe_pid()?).filter(|_| exact(0x01)),
+            kind: Some(self.byte()?).filter(|_| exact(0x02)),
+            service_id: Some(self.short()?).filter(|_| exact(0x04)),
+            transport_stream_id: Some(self.short()?).filter(|_| exact(0x08)),
+            original_network_id: Some(self.short()?).filter(|_| exact(0x10)),
+            current_next: Some(self.byte()?).filter(|_| exact(0x20)),
+        }))
+    }
+}
+
+// ---- writing
+
+pub fn tape_of(script: &[Command]) -> Vec<u8> {
+    let mut tape = Vec::new();
+    script.iter().for_each(|command| write_command(command, &mut tape));
+    tape
+}
+
+fn write_command(command: &Command, tape: &mut Vec<u8>) {
+    let collector = |part: &Part, command: u8| if *part == Part::Eit { 0x30 + command } else { 0x20 + command };
+    match command {
+        Command::GateOpen { capacity, repeats, follow, well_known, extra } => {
+            tape.push(0x10);
+            tape.extend(capacity.to_be_bytes());
+            tape.push(u8::from(*repeats) | u8::from(*follow) << 1 | u8::from(*well_known) << 2);
+            tape.push(u8::try_from(extra.len()).expect("at most 255 extra PIDs"));
+            tape.extend(extra.iter().flat_map(|pid| pid.to_be_bytes()));
+        }
+        Command::Gate { by, pid, section } => {
+            tape.push(if *by == By::Packets { 0x11 } else { 0x12 });
+            write_section(tape, *pid, section);
+        }
+        Command::Ask { pid } => {
+            tape.push(0x13);
+            tape.extend(pid.to_be_bytes());
+        }
+        Command::Watched => tape.push(0x14),
+        Command::Open { part, limit, cells, size } => {
+            tape.push(collector(part, 0));
+            tape.extend([limit, cells, size].into_iter().flat_map(|n| n.to_be_bytes()));
+        }
+        Command::Push { part, pid, section } => {
+            tape.push(collector(part, 1));
+            write_section(tape, pid.unwrap_or(NO_PID), section);
+        }
+        Command::Clear { part } => tape.push(collector(part, 2)),
+        Command::Drop(filter) => {
+            tape.push(0x33);
+            write_filter(tape, filter);
+        }
+    }
+}
+
+fn write_section(tape: &mut Vec<u8>, pid: u16, section: &[u8]) {
+    tape.extend(pid.to_be_bytes());
+    tape.extend(u16::try_from(section.len()).expect("at most 65,535 bytes").to_be_bytes());
+    tape.extend(section);
+}
+
+fn write_filter(tape: &mut Vec<u8>, filter: &Filter) {
+    let exact = [
+        filter.pid.is_some(),
+        filter.kind.is_some(),
+        filter.service_id.is_some(),
+        filter.transport_stream_id.is_some(),
+        filter.original_network_id.is_some(),
+        filter.current_next.is_some(),
+    ];
+    tape.push(exact.iter().rev().fold(0, |mask, &bit| mask << 1 | u8::from(bit)));
+    tape.extend(filter.pid.flatten().unwrap_or(NO_PID).to_be_bytes());
+    tape.push(filter.kind.unwrap_or(0));
+    for field in [filter.service_id, filter.transport_stream_id, filter.original_network_id] {
+        tape.extend(field.unwrap_or(0).to_be_bytes());
+    }
+    tape.push(filter.current_next.unwrap_or(0));
+}
