@@ -1,3 +1,0 @@
-// The gate's commands as a tape has them, and the lines of their answers.
-pub mod order;
-pub mod told;
