@@ -9,12 +9,12 @@ use borrow.Author.Tests.{ltb-true, ltb-false, eqb-false}
 use lib.Dec.{eqb, ltb}
 use lib.ListN.{length, getD}
 use Rattle.section.specs.Judged.{collectedOf}
-use Rattle.section.specs.Eit.{eitOf}
+use Rattle.eit_section.specs.Eit.{eitOf}
 use Rattle.section.specs.declared.header.Header.{Header}
 use Rattle.section.specs.declared.header.Collected.{Collected}
 use Rattle.section.specs.declared.header.Collected.the-variants as collected
-use Rattle.section.specs.declared.eit.Reading.{Reading}
-use Rattle.section.specs.declared.eit.Reading.the-variants as reading
+use Rattle.eit_section.specs.declared.Reading.{Reading}
+use Rattle.eit_section.specs.declared.Reading.the-variants as reading
 use Rattle.section.specs.declared.ids.MaybePid.{MaybePid}
 use Rattle.cells.specs.Cells.{lowestFree}
 use Rattle.rows.specs.Rows.{goneRow}

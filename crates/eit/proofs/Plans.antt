@@ -12,13 +12,13 @@ use lib.Dec.{eqb, ltb}
 use lib.ListN.{length, getD}
 use Rattle.laws.proofs.Tests.{or-false}
 use Rattle.section.specs.Judged.{collectedOf}
-use Rattle.section.specs.Eit.{eitOf}
+use Rattle.eit_section.specs.Eit.{eitOf}
 use Rattle.section.specs.declared.header.Header.{Header}
 use Rattle.section.specs.declared.header.Collected.{Collected}
 use Rattle.section.specs.declared.header.Collected.the-variants as collected
-use Rattle.section.specs.declared.eit.Eit as fields
-use Rattle.section.specs.declared.eit.Reading.{Reading}
-use Rattle.section.specs.declared.eit.Reading.the-variants as reading
+use Rattle.eit_section.specs.declared.Eit as fields
+use Rattle.eit_section.specs.declared.Reading.{Reading}
+use Rattle.eit_section.specs.declared.Reading.the-variants as reading
 use Rattle.section.specs.declared.ids.MaybePid.{MaybePid}
 use Rattle.section.proofs.Facts.{takes}
 use Rattle.cells.specs.Cells.{lowestFree}

@@ -8,15 +8,15 @@ use lib.ListN.{length, getD}
 use lib.Seq.{paste}
 use lib.Dec.{ltb, leb, eqb}
 use Rattle.section.specs.Judged.{collectedOf}
-use Rattle.section.specs.Eit.{eitOf}
+use Rattle.eit_section.specs.Eit.{eitOf}
 use Rattle.section.specs.declared.header.Header.{Header}
 use Rattle.section.specs.declared.header.Collected.{Collected}
 use Rattle.section.specs.declared.header.Collected.the-variants as collected
-use Rattle.section.specs.declared.eit.Eit as fields
-use Rattle.section.specs.declared.eit.Kind.{Kind}
-use Rattle.section.specs.declared.eit.Kind.the-variants as kind
-use Rattle.section.specs.declared.eit.Reading.{Reading}
-use Rattle.section.specs.declared.eit.Reading.the-variants as reading
+use Rattle.eit_section.specs.declared.Eit as fields
+use Rattle.eit_section.specs.declared.Kind.{Kind}
+use Rattle.eit_section.specs.declared.Kind.the-variants as kind
+use Rattle.eit_section.specs.declared.Reading.{Reading}
+use Rattle.eit_section.specs.declared.Reading.the-variants as reading
 use Rattle.section.specs.declared.ids.MaybePid.{MaybePid}
 use Rattle.cells.specs.Cells.{slotWord, filled, nextFilled, lowestFree, kept}
 use Rattle.rows.specs.Rows.{word, keyAt, touched, goneRow, keptHeads, rowSlots, lastOf, markOf, versionOf, withMark}

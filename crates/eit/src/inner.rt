@@ -7,6 +7,8 @@ use crate::PushAnswer;
 use crate::Pushed;
 use crate::WantedPid;
 use berths::Berth;
+use eit_section::Kind;
+use eit_section::Reading;
 use filter::Fields;
 use filter::Of;
 use filter::Wanted;
@@ -14,8 +16,6 @@ use placing::Place;
 use rows::Entry;
 use rows::Key;
 use rows::Room;
-use section::eit::Kind;
-use section::eit::Reading;
 use section::header::Collected;
 use section::header::Header;
 use section::ids::Made;
@@ -31,7 +31,7 @@ ghost use Prim.Native.Nat.{ℕ, _+_, _*_, _<_, _≤_};
 ghost use lib.ListN.{length};
 ghost use lib.Seq.{paste};
 ghost use Rattle.section.specs.Judged.{collectedOf};
-ghost use Rattle.section.specs.Eit.{eitOf};
+ghost use Rattle.eit_section.specs.Eit.{eitOf};
 ghost use Rattle.cells.specs.Cells.{slotWord};
 ghost use Rattle.rows.specs.Rows.{keptHeads};
 ghost use Rattle.sets.specs.Store.{Numbered, questionOf};
@@ -167,7 +167,7 @@ fn kind_number(kind: Kind) -> u64
     }
 }
 
-fn key_of(pid: u64, h: Header, f: section::eit::Eit) -> Key
+fn key_of(pid: u64, h: Header, f: eit_section::Eit) -> Key
     ensures { λ r. ⌜ r ≡ keyOf pid h f ⌝ }
 {
     let service = f.service_id;
@@ -192,7 +192,7 @@ fn entry_of(key: Key, h: Header) -> Entry
     }
 }
 
-fn arrival_of(pid: u64, h: Header, f: section::eit::Eit) -> Arrival
+fn arrival_of(pid: u64, h: Header, f: eit_section::Eit) -> Arrival
     ensures { λ r. ⌜ r ≡ arrivalOf pid h f ⌝ }
 {
     let entry = entry_of(key_of(pid, h, f), h);
@@ -306,7 +306,7 @@ fn plan_read(
     requires { ⌜ eit .evictions < 18446744073709551615 ⌝ }
     ensures { λ r. ⌜ r ≡ planRead (store eit (now (heads .entry)) (now (slots .entry)) (now (cells .entry)) (now («schedule_heads» .entry)) (now (units .entry))) (now (bytes .entry)) pid h (eitOf (now (bytes .entry))) ⌝ }
 {
-    match section::eit::read(bytes) {
+    match eit_section::read(bytes) {
         Reading::NotEit => Plan::Refuse(PushAnswer::NotEit),
         Reading::Broken => Plan::Refuse(PushAnswer::Broken),
         Reading::Good(f) => {

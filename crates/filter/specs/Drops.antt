@@ -6,7 +6,7 @@ use mathlib.Core.Bool.{Bool, true, cond, _&&_}
 use lib.ListN.{length, take, drop}
 use lib.Seq.{paste}
 use lib.Dec.{eqb}
-use Rattle.section.specs.Eit.{within}
+use Rattle.eit_section.specs.Eit.{within}
 use Rattle.rows.specs.declared.Key.{Key}
 use Rattle.rows.specs.Rows.{keyAt, ageOf, withAge}
 use Rattle.ages.specs.Order.{younger}

@@ -17,13 +17,14 @@ use Rattle.ring.proofs.Laws.{whole as ring-whole}
 use Rattle.section.specs.Header.{tableId}
 use Rattle.section.specs.Key.{keyOf}
 use Rattle.section.specs.Judged.{judgedOf}
-use Rattle.section.specs.Pat.{readable, patOf, withPrograms}
-use Rattle.section.specs.declared.pat.Pat.{Pat}
-use Rattle.section.specs.declared.pat.Pat.the-variants.{Readable, Unreadable}
+use Rattle.pat.specs.Pat.{readable, patOf, withPrograms}
+use Rattle.pat.specs.declared.Pat.{Pat}
+use Rattle.pat.specs.declared.Pat.the-variants.{Readable, Unreadable}
 use Rattle.section.specs.declared.header.Parts.{Parts}
 use Rattle.section.specs.declared.header.Judged.{Judged}
 use Rattle.section.specs.declared.header.Judged.the-variants.{Short, Mismatch, Sound}
-use Rattle.section.proofs.Facts.{judged-table, unreadable, made-one, made-none}
+use Rattle.section.proofs.Facts.{judged-table, made-one, made-none}
+use Rattle.pat.proofs.Laws.{unreadable}
 use Rattle.section.specs.Ids.{pidMade}
 use Rattle.section.specs.declared.ids.Pid.{Pid}
 use Rattle.section.specs.declared.ids.Made.{Made}

@@ -19,9 +19,9 @@ use Rattle.section.specs.declared.header.Parts.{Parts}
 use Rattle.section.specs.declared.header.Judged.{Judged}
 use Rattle.section.specs.declared.header.Judged.the-variants.{Short, Mismatch, Sound}
 use Rattle.section.specs.Facts.{Bytes}
-use Rattle.section.specs.Pat.{readable}
+use Rattle.pat.specs.Pat.{readable}
 use Rattle.section.proofs.Facts.{judged-change}
-use Rattle.section.proofs.pat.Laws.{length-programs}
+use Rattle.pat.proofs.Laws.{length-programs}
 use Rattle.watched.specs.Store.{following}
 use Rattle.watched.proofs.Meaning.{length-following}
 use Rattle.gate.specs.Store.{wholeOf, anyFull, failedOf, Store, Left, soundOf, judgedAs, consideredOf, offered, seenBy, answerNo, answerOf, programsOf, followedPat, watchAfter}

@@ -9,11 +9,11 @@ use Rattle.rules_shared.specs.Runs.{storeAfter}
 use Rattle.ring.specs.Store.{seenOf, stampOf}
 use Rattle.section.specs.Key.{keyOf}
 use Rattle.section.specs.Judged.{judgedOf}
-use Rattle.section.specs.Pat.{readable}
+use Rattle.pat.specs.Pat.{readable}
 use Rattle.section.specs.declared.header.Parts.{Parts}
 use Rattle.section.specs.declared.header.Judged.{Judged}
 use Rattle.section.specs.declared.header.Judged.the-variants.{Short, Mismatch, Sound}
-use Rattle.section.proofs.pat.Laws.{length-programs}
+use Rattle.pat.proofs.Laws.{length-programs}
 use Rattle.watched.specs.Store.{allPids, filled, following}
 use Rattle.watched.specs.Rules.{InStep}
 use Rattle.watched.proofs.Meaning.{opened-in-step, following-in-step, length-following}

@@ -160,9 +160,9 @@ fn follow_pat(words: &mut [u64], section: &[u8])
     ensures { λ _. ⌜ now (words .exit) ≡ followedPat (now (words .entry)) (now (section .entry)) ⌝ }
 {
     let mut programs = [0u64; 128];
-    match section::pat::programs(section, &mut programs) {
-        section::pat::Pat::Readable => watched::inner::follow(words, &programs),
-        section::pat::Pat::Unreadable => {}
+    match pat::programs(section, &mut programs) {
+        pat::Pat::Readable => watched::inner::follow(words, &programs),
+        pat::Pat::Unreadable => {}
     }
 }
 

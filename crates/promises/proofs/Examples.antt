@@ -14,8 +14,8 @@ use Rattle.section.specs.Key.{keyOf}
 use Rattle.section.specs.Judged.{judgedOf}
 use Rattle.section.specs.declared.header.Judged.{Judged}
 use Rattle.section.proofs.Examples.{key-small, key-largest, cut-off, all-ones}
-use Rattle.section.proofs.eit.Segment.{as-sent, counted-within, past-last, no-wrap}
-use Rattle.section.proofs.pat.Laws.{example-pids}
+use Rattle.eit_section.proofs.Segment.{as-sent, counted-within, past-last, no-wrap}
+use Rattle.pat.proofs.Laws.{example-pids}
 use Rattle.ring.specs.Rules.{Row, offeredTo, later, atCapacity}
 use Rattle.gate.specs.Rules.{Manner, Told, admitted, judgedIn, told, tells, acts}
 use Rattle.rules_sets.specs.Rules.{sameKey, partOf, full, whole, metRow, judged, judge, finish, push, admit, step}

@@ -10,8 +10,8 @@ use Rattle.rules_shared.specs.Touch.{Entry}
 use Rattle.rules_shared.specs.Cells.{Settings}
 use Rattle.rules_shared.specs.Runs.{storeAfter}
 use Rattle.section.specs.Key.{keyOf}
-use Rattle.section.specs.Segment.{segmentEnd}
-use Rattle.section.specs.Pat.{groupsOf, programPids}
+use Rattle.eit_section.specs.Segment.{segmentEnd}
+use Rattle.pat.specs.Pat.{groupsOf, programPids}
 use Rattle.ring.specs.Rules.{Row, offeredTo}
 use Rattle.gate.specs.Store.{zeroes}
 use Rattle.gate.specs.Rules.{Manner, Held, tells, acts}

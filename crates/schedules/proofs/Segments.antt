@@ -9,8 +9,8 @@ use borrow.Author.Tests.{eq-eqb, ne-eqb}
 use lib.Dec.{eqb}
 use lib.ListN.{length, take, drop, getD, set}
 use Rattle.cells.specs.Cells.{allFilled}
-use Rattle.section.specs.Segment.{segmentEnd}
-use Rattle.section.proofs.eit.Segment.{end-from-start, end-within-last}
+use Rattle.eit_section.specs.Segment.{segmentEnd}
+use Rattle.eit_section.proofs.Segment.{end-from-start, end-within-last}
 use Rattle.rows.specs.Rows.{slotsAt, slotCount, emptied, keptSlots, lastOf}
 use Rattle.rows.specs.declared.Entry.{Entry}
 use Rattle.rows.specs.declared.Room.{Room}

@@ -6,7 +6,7 @@ use mathlib.Core.Bool.{Bool, true, false, cond, not, _&&_}
 use lib.ListN.{length, getD, take, drop, set}
 use lib.Dec.{eqb}
 use Rattle.cells.specs.Cells.{allFilled}
-use Rattle.section.specs.Segment.{segmentEnd}
+use Rattle.eit_section.specs.Segment.{segmentEnd}
 use Rattle.rows.specs.Rows.{slotsAt, emptied, keptSlots, lastOf}
 use Rattle.rows.specs.declared.Entry.{Entry}
 use Rattle.rows.specs.declared.Room.{Room}

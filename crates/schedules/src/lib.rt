@@ -66,7 +66,7 @@ fn segment_complete(slots: &[u32], i: usize, last: u8, s: usize) -> bool
         return false;
     }
     let start = s * SEGMENT;
-    let end = section::eit::segment_end(start as u8, ((n - 1) % 256) as u8, last);
+    let end = eit_section::segment_end(start as u8, ((n - 1) % 256) as u8, last);
     filled_to(slots, i, start, wide(end))
 }
 

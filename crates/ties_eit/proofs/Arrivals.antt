@@ -12,17 +12,17 @@ use Rattle.rules_shared.specs.Same.{Bytes}
 use Rattle.rules_eit.specs.Keys.{Kind, presentActual, presentOther, scheduleActual, scheduleOther, between, kindOf, kindNumber}
 use Rattle.section.specs.Judged.{collectedOf}
 use Rattle.section.specs.Header.{byteAt, headerOf}
-use Rattle.section.specs.Eit.{within, isEit, fieldsOf, layoutGood, eitOf}
-use Rattle.section.specs.Eit.{kindOf as kindRead}
+use Rattle.eit_section.specs.Eit.{within, isEit, fieldsOf, layoutGood, eitOf}
+use Rattle.eit_section.specs.Eit.{kindOf as kindRead}
 use Rattle.section.specs.Facts.{Takes}
 use Rattle.section.proofs.Facts.{takes}
 use Rattle.section.specs.declared.header.Header.{Header}
 use Rattle.section.specs.declared.header.Collected.the-variants as collected
-use Rattle.section.specs.declared.eit.Eit as fields
-use Rattle.section.specs.declared.eit.Kind.{Kind as Read}
-use Rattle.section.specs.declared.eit.Kind.the-variants.{PresentFollowingActual, PresentFollowingOther, ScheduleActual, ScheduleOther, None}
-use Rattle.section.specs.declared.eit.Reading.{Reading}
-use Rattle.section.specs.declared.eit.Reading.the-variants as reading
+use Rattle.eit_section.specs.declared.Eit as fields
+use Rattle.eit_section.specs.declared.Kind.{Kind as Read}
+use Rattle.eit_section.specs.declared.Kind.the-variants.{PresentFollowingActual, PresentFollowingOther, ScheduleActual, ScheduleOther, None}
+use Rattle.eit_section.specs.declared.Reading.{Reading}
+use Rattle.eit_section.specs.declared.Reading.the-variants as reading
 use Rattle.sets.proofs.Judged.{header-numbers}
 use Rattle.eit.specs.Store.{arrivalOf}
 use Rattle.eit.specs.Store.{kindNumber as numberRead}

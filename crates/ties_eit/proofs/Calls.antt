@@ -25,14 +25,14 @@ use Rattle.rules_eit.specs.Cells.{onAnswer, storeWhole, anyAtEnd, ended, shows,
 use Rattle.rules_eit.proofs.Keys.{sameSet-true, sameSchedule-true}
 use Rattle.section.specs.Judged.{collectedOf}
 use Rattle.section.specs.Header.{byteAt}
-use Rattle.section.specs.Eit.{eitOf, fieldsOf}
-use Rattle.section.specs.Eit.{kindOf as kindRead}
+use Rattle.eit_section.specs.Eit.{eitOf, fieldsOf}
+use Rattle.eit_section.specs.Eit.{kindOf as kindRead}
 use Rattle.section.specs.Facts.{Bytes as AllBytes}
 use Rattle.section.specs.declared.header.Header.{Header}
 use Rattle.section.specs.declared.header.Collected.{Collected}
 use Rattle.section.specs.declared.header.Collected.the-variants as collected
-use Rattle.section.specs.declared.eit.Reading.{Reading}
-use Rattle.section.specs.declared.eit.Reading.the-variants as reading
+use Rattle.eit_section.specs.declared.Reading.{Reading}
+use Rattle.eit_section.specs.declared.Reading.the-variants as reading
 use Rattle.section.specs.declared.ids.MaybePid.{MaybePid}
 use Rattle.section.specs.declared.ids.MaybePid.the-variants as maybe
 use Rattle.section.specs.declared.ids.Made.the-variants as made

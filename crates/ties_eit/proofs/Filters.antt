@@ -11,7 +11,7 @@ use Rattle.laws.proofs.Tests.{eqb-sym}
 use Rattle.rules_shared.specs.Same.{samePid}
 use Rattle.rules_eit.specs.Keys.{Kind, presentActual, presentOther, scheduleActual, scheduleOther, between, kindOf, kindNumber, sameKind, anyPid, exactly, pidPasses, passes}
 use Rattle.rules_eit.specs.Keys.{matches as keyMatches}
-use Rattle.section.specs.Eit.{within}
+use Rattle.eit_section.specs.Eit.{within}
 use Rattle.rows.specs.declared.Key.{Key}
 use Rattle.sets.specs.Store.{bitOf}
 use Rattle.filter.specs.declared.Wanted.{Wanted}

@@ -25,12 +25,12 @@ use Rattle.rules_eit.proofs.Cells.{obeys-rules, settings-stay}
 use Rattle.rules_eit.proofs.Whole.{LongEnough, never-10}
 use Rattle.rules_eit.proofs.Exact.{NeedsCell, only-then-21, then-21}
 use Rattle.section.specs.Judged.{collectedOf}
-use Rattle.section.specs.Eit.{eitOf}
+use Rattle.eit_section.specs.Eit.{eitOf}
 use Rattle.section.specs.declared.header.Header.{Header}
 use Rattle.section.specs.declared.header.Collected.{Collected}
 use Rattle.section.specs.declared.header.Collected.the-variants as collected
-use Rattle.section.specs.declared.eit.Reading.{Reading}
-use Rattle.section.specs.declared.eit.Reading.the-variants as reading
+use Rattle.eit_section.specs.declared.Reading.{Reading}
+use Rattle.eit_section.specs.declared.Reading.the-variants as reading
 use Rattle.section.specs.declared.ids.MaybePid.the-variants as maybe
 use Rattle.ages.specs.Order.{downFrom, inOrder, rowsSeen}
 use Rattle.ages.proofs.Touch.{stands-none}

@@ -21,7 +21,7 @@ use Rattle.rules_eit.specs.Segments.{heldFrom, segmentFull, segmentsFull, compl
 use Rattle.rules_eit.specs.Segments.{segmentEnd as rulesEnd}
 use Rattle.rules_eit.specs.Cells.{setTakes}
 use Rattle.cells.specs.Cells.{filled, slotWhole, allFilled, allWhole, kept, someNames}
-use Rattle.section.specs.Segment.{segmentEnd}
+use Rattle.eit_section.specs.Segment.{segmentEnd}
 use Rattle.rows.specs.Rows.{word, rowSlots, slotsAt, slotCount, lastOf, markOf, versionOf}
 use Rattle.rows.proofs.Words.{length-slots}
 use Rattle.ages.specs.Slots.{heldOf, heldSlots, cellsSeen, upFrom}

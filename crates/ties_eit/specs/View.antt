@@ -16,14 +16,14 @@ use Rattle.rules_eit.specs.Schedules.{CopyOf, ScheduleOf, WholeOf, tableOf}
 use Rattle.rules_eit.specs.Rules.{Section, Call, clear, drop, refuse, offer, Answer, done, refused, nothing, handout, schedule, conflict, range, notWhole, counterFull, noCell}
 use Rattle.rules_eit.specs.Cells.{Store as Shown}
 use Rattle.section.specs.Judged.{collectedOf}
-use Rattle.section.specs.Eit.{eitOf, fieldsOf}
+use Rattle.eit_section.specs.Eit.{eitOf, fieldsOf}
 use Rattle.section.specs.declared.header.Header.{Header}
 use Rattle.section.specs.declared.header.Collected.{Collected}
 use Rattle.section.specs.declared.header.Collected.the-variants as collected
-use Rattle.section.specs.declared.eit.Eit as fields
-use Rattle.section.specs.declared.eit.Kind.the-variants as kind
-use Rattle.section.specs.declared.eit.Reading.{Reading}
-use Rattle.section.specs.declared.eit.Reading.the-variants as reading
+use Rattle.eit_section.specs.declared.Eit as fields
+use Rattle.eit_section.specs.declared.Kind.the-variants as kind
+use Rattle.eit_section.specs.declared.Reading.{Reading}
+use Rattle.eit_section.specs.declared.Reading.the-variants as reading
 use Rattle.section.specs.declared.ids.MaybePid.{MaybePid}
 use Rattle.section.specs.declared.ids.MaybePid.the-variants as maybe
 use Rattle.rows.specs.declared.Key.{Key}

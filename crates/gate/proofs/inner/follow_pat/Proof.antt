@@ -4,7 +4,7 @@ use Rattle.gate.proofs.inner.follow_pat.Statement.{statement}
 use Rattle.gate.proofs.inner.follow_pat.Tie as tie
 use Rattle.gate.proofs.inner.follow_pat.Reads as reads
 use Rattle.gate.proofs.inner.follow_pat.Lts as lts
-use Rattle.section.proofs.pat.programs.Reads as programs-reads
+use Rattle.pat.proofs.programs.Reads as programs-reads
 use Rattle.watched.proofs.inner.follow.Reads as follow-reads
 
 -- src/inner.rt:125:11

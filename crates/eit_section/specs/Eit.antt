@@ -1,0 +1,61 @@
+-- The event information section, EN 300 468 5.2.4: byte 0 table_id, 3 and 4 service_id (the table_id_extension), 8 and 9 transport_stream_id,
+-- 10 and 11 original_network_id, 12 segment_last_section_number, 13 last_table_id, then events to the CRC, the last four bytes.
+use Prim.Native.Nat.{ℕ, _-_}
+use mathlib.Core.List.{List}
+use mathlib.Core.Bool.{Bool, true, false, cond, _&&_}
+use lib.ListN.{length, take, drop}
+use lib.Dec.{leb, eqb}
+use Rattle.laws.specs.Entries.{wholeEntries}
+use Rattle.section.specs.Header.{byteAt, word16}
+use Rattle.section.specs.declared.ids.ServiceId.{ServiceId}
+use Rattle.eit_section.specs.declared.Kind.{Kind}
+use Rattle.eit_section.specs.declared.Kind.the-variants.{PresentFollowingActual, PresentFollowingOther, ScheduleActual, ScheduleOther, None}
+use Rattle.eit_section.specs.declared.Eit.{Eit}
+use Rattle.eit_section.specs.declared.Reading.{Reading}
+use Rattle.eit_section.specs.declared.Reading.the-variants.{NotEit, Broken, Good}
+
+abbrev pub within : ℕ → ℕ → ℕ → Bool
+within low high t = leb low t && leb t high
+
+-- the kind by table_id (EN 300 468 table 2)
+abbrev pub kindOf : ℕ → Kind
+kindOf t =
+    cond (eqb t 0x4E) PresentFollowingActual
+    (cond (eqb t 0x4F) PresentFollowingOther
+    (cond (within 0x50 0x5F t) ScheduleActual
+    (cond (within 0x60 0x6F t) ScheduleOther
+    None)))
+
+-- one of the four kinds
+abbrev pub isEit : Kind → Bool
+isEit PresentFollowingActual = true
+isEit PresentFollowingOther = true
+isEit ScheduleActual = true
+isEit ScheduleOther = true
+isEit None = false
+
+-- the fields before the events
+abbrev pub fieldsOf : List ℕ → Kind → Eit
+fieldsOf s kind =
+    record {
+      kind = kind;
+      «service_id» = record { 0 = word16 (byteAt s 3) (byteAt s 4) };
+      «transport_stream_id» = word16 (byteAt s 8) (byteAt s 9);
+      «original_network_id» = word16 (byteAt s 10) (byteAt s 11);
+      «segment_last_section_number» = byteAt s 12;
+      «last_table_id» = byteAt s 13;
+    }
+
+-- at least 18 bytes, and from byte 14 to the CRC whole events: 12 bytes each and the descriptors that their last 12 bits count
+abbrev pub layoutGood : List ℕ → Bool
+layoutGood s = leb 18 (length s) && wholeEntries 12 (take (length s - 18) (drop 14 s))
+
+-- a section read as an EIT
+unfoldable pub eitOf : List ℕ → Reading
+eitOf s = cond (isEit (kindOf (byteAt s 0))) (cond (layoutGood s) (Good (fieldsOf s (kindOf (byteAt s 0)))) Broken) NotEit
+
+-- 01's number of a refusal; 0 where there is none
+abbrev pub readingNo : Reading → ℕ
+readingNo NotEit = 18
+readingNo Broken = 19
+readingNo (Good e) = 0

@@ -1,0 +1,2 @@
+pub mod Eit
+pub mod Segment
