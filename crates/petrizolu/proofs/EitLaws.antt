@@ -6,10 +6,10 @@ use mathlib.Core.List.{List}
 use mathlib.Core.Bool.{cond}
 use lib.Dec.{eqb}
 use Rattle.section.specs.declared.ids.MaybePid.{MaybePid}
-use Rattle.abi.specs.Answers.{Words, words, Pushes, pushes}
-use Rattle.abi.specs.Pids.{maybePid}
-use Rattle.abi.specs.Collectors.{tellsNext}
-use Rattle.abi.specs.Eits.{eitOf, wordsOf, wordsOpened, rowBy, tellsOpened, tellsPushed, tellsCleared, tellsDropped, filterOf}
+use Rattle.host_words.specs.Answers.{Words, words, Pushes, pushes}
+use Rattle.host_words.specs.Pids.{maybePid}
+use Rattle.host_sets.specs.Collectors.{tellsNext}
+use Rattle.host_eit.specs.Eits.{eitOf, wordsOf, wordsOpened, rowBy, tellsOpened, tellsPushed, tellsCleared, tellsDropped, filterOf}
 use Rattle.sets.specs.Store.{openNumber, questionOf}
 use Rattle.sets.specs.declared.OpenAnswer.{OpenAnswer}
 use Rattle.sets.specs.declared.OpenAnswer.the-variants as open-answer

@@ -6,10 +6,10 @@ use mathlib.Core.List.{List}
 use mathlib.Core.Bool.{cond}
 use lib.ListN.{length}
 use lib.Dec.{eqb}
-use Rattle.abi.specs.Pids.{pidNumber}
-use Rattle.abi.specs.Answers.{Words, words}
-use Rattle.abi.specs.Gates.{settingsOf, heldIn, wordsOf, wordsOpened, tellsOpened, tellsOffered}
-use Rattle.abi.specs.declared.gates.Held.{Held}
+use Rattle.host_words.specs.Pids.{pidNumber}
+use Rattle.host_words.specs.Answers.{Words, words}
+use Rattle.host_gate.specs.Gates.{settingsOf, heldIn, wordsOf, wordsOpened, tellsOpened, tellsOffered}
+use Rattle.host_gate.specs.declared.Held.{Held}
 use Rattle.watched.specs.Store.{openingNo, askedNo, asked}
 use Rattle.watched.specs.declared.Opening.{Opening}
 use Rattle.watched.specs.declared.Opening.the-variants as opening

@@ -8,12 +8,14 @@ use native.Mathlib.Omega.{arith}
 use lib.ListN.{length}
 use lib.Dec.{ltb, eqb}
 use borrow.Author.Tests.{ne-eqb}
-use Rattle.abi.specs.Answers as answers
-use Rattle.abi.specs.Pids.{pidNumber, maybePid}
-use Rattle.abi.specs.Gates.{settingsOf, gateOf, countersOf}
-use Rattle.abi.specs.Collectors.{setsOf}
-use Rattle.abi.specs.Eits.{eitOf, filterOf}
-use Rattle.abi.proofs.Same.{gate-same, sets-same, eit-same}
+use Rattle.host_words.specs.Answers as answers
+use Rattle.host_words.specs.Pids.{pidNumber, maybePid}
+use Rattle.host_gate.specs.Gates.{settingsOf, gateOf, countersOf}
+use Rattle.host_sets.specs.Collectors.{setsOf}
+use Rattle.host_eit.specs.Eits.{eitOf, filterOf}
+use Rattle.host_gate.proofs.Same.{gate-same}
+use Rattle.host_sets.proofs.Same.{sets-same}
+use Rattle.host_eit.proofs.Same.{eit-same}
 use Rattle.ring.specs.Store.{stampOf, seenOf}
 use Rattle.section.specs.Key.{keyOf}
 use Rattle.section.specs.Judged.{judgedOf}

@@ -6,9 +6,9 @@ use mathlib.Core.List.{List}
 use mathlib.Core.Bool.{cond}
 use lib.Dec.{eqb}
 use Rattle.section.specs.declared.ids.MaybePid.{MaybePid}
-use Rattle.abi.specs.Answers.{Words, words, Pushes, pushes}
-use Rattle.abi.specs.Pids.{maybePid}
-use Rattle.abi.specs.Collectors.{setsOf, wordsOf, wordsOpened, rowBy, tellsOpened, tellsPushed, tellsCleared, tellsNext}
+use Rattle.host_words.specs.Answers.{Words, words, Pushes, pushes}
+use Rattle.host_words.specs.Pids.{maybePid}
+use Rattle.host_sets.specs.Collectors.{setsOf, wordsOf, wordsOpened, rowBy, tellsOpened, tellsPushed, tellsCleared, tellsNext}
 use Rattle.sets.specs.Store.{openNumber, pushNumber, setIn, answerOf, Store, store, asked, leftOpened, leftPushed, leftCleared, openedOf, pushedOf, clearedOf, questionOf, nextOf}
 use Rattle.sets.specs.declared.Sets.{Sets}
 use Rattle.sets.specs.declared.Opened.{Opened}

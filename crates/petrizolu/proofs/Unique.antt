@@ -7,7 +7,7 @@ use mathlib.Core.List.{List}
 use Rattle.laws.proofs.Unique.{one-result}
 use Rattle.crc.specs.Crc.{crcOf}
 use Rattle.petrizolu.specs.Gates.{GateBegun, begun, gateOpened, GateLeft, left, gateOffered, watchAsked, IndexedBegun, indexedBegun, indexedOpened, IndexedLeft, indexedLeft, indexedOffered}
-use Rattle.abi.specs.Answers.{Words, words}
+use Rattle.host_words.specs.Answers.{Words, words}
 use Rattle.petrizolu.specs.Collectors.{setsOpened, setsCleared, SetsLeft, setsLeft, setsPushed, setsNext}
 use Rattle.petrizolu.specs.Eits.{eitOpened, eitCleared, EitLeft, eitLeft, eitPushed, EitDropped, eitDroppedTo, eitDropped, eitNext, eitNextIn}
 

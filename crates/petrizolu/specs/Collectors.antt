@@ -4,9 +4,9 @@ use Prim.Native.Nat.{ℕ}
 use mathlib.Core.List.{List, [], _∷_}
 use mathlib.Core.Bool.{cond}
 use lib.Dec.{eqb}
-use Rattle.abi.specs.Answers.{Words, words}
-use Rattle.abi.specs.Pids.{maybePid}
-use Rattle.abi.specs.Collectors.{setsOf, wordsOf, wordsAfter}
+use Rattle.host_words.specs.Answers.{Words, words}
+use Rattle.host_words.specs.Pids.{maybePid}
+use Rattle.host_sets.specs.Collectors.{setsOf, wordsOf, wordsAfter}
 use Rattle.sets.specs.Store.{Told, plain, handed, Left, store, asked, openedOf, pushedOf, clearedOf, Question, nextOf}
 
 -- the number of what a call told; a set that goes out is 5

@@ -4,9 +4,9 @@ use Prim.Native.Nat.{ℕ}
 use mathlib.Core.List.{List, [], _∷_}
 use mathlib.Core.Bool.{cond}
 use lib.Dec.{eqb}
-use Rattle.abi.specs.Answers.{Words, words}
-use Rattle.abi.specs.Pids.{maybePid}
-use Rattle.abi.specs.Eits.{eitOf, wordsOf, wordsAfter, filterOf}
+use Rattle.host_words.specs.Answers.{Words, words}
+use Rattle.host_words.specs.Pids.{maybePid}
+use Rattle.host_eit.specs.Eits.{eitOf, wordsOf, wordsAfter, filterOf}
 use Rattle.eit.specs.Store.{Told, plain, a-set, a-schedule, Left, store, asked, openedOf, pushedOf, clearedOf, droppedOf, nextOf, nextInOf}
 use Rattle.petrizolu.specs.Collectors.{nextAs}
 

@@ -5,8 +5,8 @@ use mathlib.Core.List.{List}
 use mathlib.Core.Bool.{cond}
 use lib.ListN.{length}
 use lib.Dec.{eqb}
-use Rattle.abi.specs.Pids.{pidNumber}
-use Rattle.abi.specs.Gates.{settingsOf, gateOf, countersOf, wordsOf, wordsAfter}
+use Rattle.host_words.specs.Pids.{pidNumber}
+use Rattle.host_gate.specs.Gates.{settingsOf, gateOf, countersOf, wordsOf, wordsAfter}
 use Rattle.watched.specs.Store.{asked}
 use Rattle.gate.specs.Store.{Begun, opened, Left, storeOf, offered}
 use Rattle.ring_index.specs.Store.{indexOf}

@@ -4,7 +4,7 @@
 ghost use mathlib.Core.Path.{_≡_};
 ghost use Rattle.crc.specs.Crc.{crcOf};
 ghost use Rattle.petrizolu.specs.Gates.{begun, gateOpened, left, gateOffered, watchAsked, indexedBegun, indexedOpened, indexedLeft, indexedOffered};
-ghost use Rattle.abi.specs.Answers.{words};
+ghost use Rattle.host_words.specs.Answers.{words};
 ghost use Rattle.petrizolu.specs.Collectors.{setsLeft, setsOpened, setsPushed, setsCleared, setsNext};
 ghost use Rattle.petrizolu.specs.Eits.{eitOpened, eitLeft, eitPushed, eitCleared, eitDroppedTo, eitDropped, eitNext, eitNextIn};
 
@@ -29,9 +29,9 @@ pub extern "C" fn petrizolu_gate_open(
 ) -> u8
     ensures { λ r. ⌜ begun r (now (gate .exit)) (now (watch .exit)) ≡ gateOpened (now (gate .entry)) capacity settings (now (extra .entry)) (now (keys .entry)) (now (changes .entry)) (now (watch .entry)) ⌝ }
 {
-    let asked = abi::gates::settings(capacity, settings);
+    let asked = host_gate::settings(capacity, settings);
     let opened = gate::open(asked, extra, keys, changes, watch);
-    abi::gates::write_opened(gate, opened)
+    host_gate::write_opened(gate, opened)
 }
 
 // Offers a section that came on a PID, watched or not: 1, 2, 3, 10, 11 or 12.
@@ -46,8 +46,8 @@ pub extern "C" fn petrizolu_gate_offer(
 ) -> u8
     ensures { λ r. ⌜ left r (now (gate .exit)) (now (keys .exit)) (now (changes .exit)) (now (watch .exit)) ≡ gateOffered (now (gate .entry)) (now (keys .entry)) (now (changes .entry)) (now (watch .entry)) pid (now (section .entry)) ⌝ }
 {
-    let held = abi::gates::read(gate);
-    let number = abi::pids::number(pid);
+    let held = host_gate::read(gate);
+    let number = host_words::pids::number(pid);
     let offered = gate::offer(
         held.gate,
         held.counters,
@@ -57,7 +57,7 @@ pub extern "C" fn petrizolu_gate_offer(
         number,
         section,
     );
-    abi::gates::write_offered(gate, offered)
+    host_gate::write_offered(gate, offered)
 }
 
 // Whether a PID is watched: 8, 9, 10 or 12.
@@ -65,7 +65,7 @@ pub extern "C" fn petrizolu_gate_offer(
 pub extern "C" fn petrizolu_watch_ask(watch: &[u64], pid: u32) -> u8
     ensures { λ r. ⌜ r ≡ watchAsked (now (watch .entry)) pid ⌝ }
 {
-    watched::ask(watch, abi::pids::number(pid)).number()
+    watched::ask(watch, host_words::pids::number(pid)).number()
 }
 
 // `petrizolu_gate_open` for a gate with an index over its rows: also the buckets are written.
@@ -83,9 +83,9 @@ pub extern "C" fn petrizolu_indexed_open(
 ) -> u8
     ensures { λ r. ⌜ indexedBegun r (now (gate .exit)) (now (buckets .exit)) (now (watch .exit)) ≡ indexedOpened (now (gate .entry)) capacity settings (now (extra .entry)) (now (keys .entry)) (now (changes .entry)) (now (buckets .entry)) (now (links .entry)) (now (watch .entry)) ⌝ }
 {
-    let asked = abi::gates::settings(capacity, settings);
+    let asked = host_gate::settings(capacity, settings);
     let opened = gate_indexed::open(asked, extra, keys, changes, buckets, links, watch);
-    abi::gates::write_opened(gate, opened)
+    host_gate::write_opened(gate, opened)
 }
 
 // `petrizolu_gate_offer` through the index.
@@ -102,8 +102,8 @@ pub extern "C" fn petrizolu_indexed_offer(
 ) -> u8
     ensures { λ r. ⌜ indexedLeft r (now (gate .exit)) (now (keys .exit)) (now (changes .exit)) (now (buckets .exit)) (now (links .exit)) (now (watch .exit)) ≡ indexedOffered (now (gate .entry)) (now (keys .entry)) (now (changes .entry)) (now (buckets .entry)) (now (links .entry)) (now (watch .entry)) pid (now (section .entry)) ⌝ }
 {
-    let held = abi::gates::read(gate);
-    let number = abi::pids::number(pid);
+    let held = host_gate::read(gate);
+    let number = host_words::pids::number(pid);
     let offered = gate_indexed::offer(
         held.gate,
         held.counters,
@@ -115,7 +115,7 @@ pub extern "C" fn petrizolu_indexed_offer(
         number,
         section,
     );
-    abi::gates::write_offered(gate, offered)
+    host_gate::write_offered(gate, offered)
 }
 
 // Opens a set collector: 7 or 13. A refusal leaves the words as they were; nothing else lent is written.
@@ -139,7 +139,7 @@ pub extern "C" fn petrizolu_sets_open(
         slots,
         cells,
     );
-    abi::collectors::write_opened(sets, opened)
+    host_sets::write_opened(sets, opened)
 }
 
 // Offers a section, with the PID that it came on or, for 0xFFFFFFFF, without. 5 writes the set's row into `row`.
@@ -155,10 +155,10 @@ pub extern "C" fn petrizolu_sets_push(
 ) -> u8
     ensures { λ r. ⌜ setsLeft r (now (sets .exit)) (now (heads .exit)) (now (slots .exit)) (now (cells .exit)) (now (row .exit)) ≡ setsPushed (now (sets .entry)) (now (heads .entry)) (now (slots .entry)) (now (cells .entry)) pid (now (section .entry)) (now (row .entry)) ⌝ }
 {
-    let before = abi::collectors::sets(sets);
-    let from = abi::pids::maybe(pid);
+    let before = host_sets::sets(sets);
+    let from = host_words::pids::maybe(pid);
     let pushed = sets::push(before, heads, slots, cells, from, section);
-    abi::collectors::write_pushed(sets, row, pushed)
+    host_sets::write_pushed(sets, row, pushed)
 }
 
 // No row is in use then: 7, or 10.
@@ -171,9 +171,9 @@ pub extern "C" fn petrizolu_sets_clear(
 ) -> u8
     ensures { λ r. ⌜ words r (now (sets .exit)) ≡ setsCleared (now (sets .entry)) (now (heads .entry)) (now (slots .entry)) (now (cells .entry)) ⌝ }
 {
-    let before = abi::collectors::sets(sets);
+    let before = host_sets::sets(sets);
     let cleared = sets::clear(before, heads, slots, cells);
-    abi::collectors::write_cleared(sets, cleared)
+    host_sets::write_cleared(sets, cleared)
 }
 
 // Has the set in a row another section, from a slot on? 8, 9 or 10; `next` gets its number, and where its bytes are in the cells.
@@ -189,9 +189,9 @@ pub extern "C" fn petrizolu_sets_next(
 ) -> u8
     ensures { λ r. ⌜ words r (now (next .exit)) ≡ setsNext (now (sets .entry)) (now (heads .entry)) (now (slots .entry)) (now (cells .entry)) row from ⌝ }
 {
-    let collector = abi::collectors::sets(sets);
+    let collector = host_sets::sets(sets);
     let told = sets::next_section(collector, heads, slots, cells, row as usize, from as usize);
-    abi::collectors::write_next(next, told)
+    host_sets::write_next(next, told)
 }
 
 // Opens an EIT collector: 7 or 13. A refusal leaves the words as they were; nothing else lent is written.
@@ -219,7 +219,7 @@ pub extern "C" fn petrizolu_eit_open(
         schedule_heads,
         units,
     );
-    abi::eits::write_opened(eit, opened)
+    host_eit::write_opened(eit, opened)
 }
 
 // Offers a section, with the PID that it came on or, for 0xFFFFFFFF, without. 5 writes the set's row into `row`, 6 the schedule's.
@@ -237,8 +237,8 @@ pub extern "C" fn petrizolu_eit_push(
 ) -> u8
     ensures { λ r. ⌜ eitLeft r (now (eit .exit)) (now (heads .exit)) (now (slots .exit)) (now (cells .exit)) (now («schedule_heads» .exit)) (now (units .exit)) (now (row .exit)) ≡ eitPushed (now (eit .entry)) (now (heads .entry)) (now (slots .entry)) (now (cells .entry)) (now («schedule_heads» .entry)) (now (units .entry)) pid (now (section .entry)) (now (row .entry)) ⌝ }
 {
-    let before = abi::eits::eit(eit);
-    let from = abi::pids::maybe(pid);
+    let before = host_eit::eit(eit);
+    let from = host_words::pids::maybe(pid);
     let pushed = eit::push(
         before,
         heads,
@@ -249,7 +249,7 @@ pub extern "C" fn petrizolu_eit_push(
         from,
         section,
     );
-    abi::eits::write_pushed(eit, row, pushed)
+    host_eit::write_pushed(eit, row, pushed)
 }
 
 // No set and no schedule is in use then: 7, or 10.
@@ -264,9 +264,9 @@ pub extern "C" fn petrizolu_eit_clear(
 ) -> u8
     ensures { λ r. ⌜ words r (now (eit .exit)) ≡ eitCleared (now (eit .entry)) (now (heads .entry)) (now (slots .entry)) (now (cells .entry)) (now («schedule_heads» .entry)) (now (units .entry)) ⌝ }
 {
-    let before = abi::eits::eit(eit);
+    let before = host_eit::eit(eit);
     let cleared = eit::clear(before, heads, slots, cells, schedule_heads, units);
-    abi::eits::write_cleared(eit, cleared)
+    host_eit::write_cleared(eit, cleared)
 }
 
 // Sets and schedules that match the filter go: 7, 10, or 12 for a PID of the filter that is none. A word with all 64 bits set is free, the PID 0xFFFFFFFF
@@ -283,10 +283,10 @@ pub extern "C" fn petrizolu_eit_drop(
 ) -> u8
     ensures { λ r. ⌜ eitDroppedTo r (now (eit .exit)) (now (heads .exit)) (now (slots .exit)) (now («schedule_heads» .exit)) (now (units .exit)) ≡ eitDropped (now (eit .entry)) (now (heads .entry)) (now (slots .entry)) (now (cells .entry)) (now («schedule_heads» .entry)) (now (units .entry)) (now (filter .entry)) ⌝ }
 {
-    let before = abi::eits::eit(eit);
-    let wanted = abi::eits::filter(filter);
+    let before = host_eit::eit(eit);
+    let wanted = host_eit::filter(filter);
     let dropped = eit::drop(before, heads, slots, cells, schedule_heads, units, wanted);
-    abi::eits::write_dropped(eit, dropped)
+    host_eit::write_dropped(eit, dropped)
 }
 
 // Has the set in a row another section, from a slot on? 8, 9 or 10; `next` gets its number, and where its bytes are in the cells.
@@ -304,7 +304,7 @@ pub extern "C" fn petrizolu_eit_next(
 ) -> u8
     ensures { λ r. ⌜ words r (now (next .exit)) ≡ eitNext (now (eit .entry)) (now (heads .entry)) (now (slots .entry)) (now (cells .entry)) (now («schedule_heads» .entry)) (now (units .entry)) row from ⌝ }
 {
-    let collector = abi::eits::eit(eit);
+    let collector = host_eit::eit(eit);
     let told = eit::next_section(
         collector,
         heads,
@@ -315,7 +315,7 @@ pub extern "C" fn petrizolu_eit_next(
         row as usize,
         from as usize,
     );
-    abi::collectors::write_next(next, told)
+    host_sets::write_next(next, told)
 }
 
 // Has that table of the schedule in a row another section, from a slot on? Tables count from the first of the kind, 0x50 or 0x60, on.
@@ -334,7 +334,7 @@ pub extern "C" fn petrizolu_eit_next_in_schedule(
 ) -> u8
     ensures { λ r. ⌜ words r (now (next .exit)) ≡ eitNextIn (now (eit .entry)) (now (heads .entry)) (now (slots .entry)) (now (cells .entry)) (now («schedule_heads» .entry)) (now (units .entry)) row table from ⌝ }
 {
-    let collector = abi::eits::eit(eit);
+    let collector = host_eit::eit(eit);
     let told = eit::next_in_schedule(
         collector,
         heads,
@@ -346,5 +346,5 @@ pub extern "C" fn petrizolu_eit_next_in_schedule(
         table as usize,
         from as usize,
     );
-    abi::collectors::write_next(next, told)
+    host_sets::write_next(next, told)
 }

@@ -4,8 +4,8 @@ use Rattle.petrizolu.proofs.petrizolu_eit_clear.Statement.{statement}
 use Rattle.petrizolu.proofs.petrizolu_eit_clear.Tie as tie
 use Rattle.petrizolu.proofs.petrizolu_eit_clear.Reads as reads
 use Rattle.petrizolu.proofs.petrizolu_eit_clear.Lts as lts
-use Rattle.abi.proofs.eits.eit.Reads as eit-reads
-use Rattle.abi.proofs.eits.write_cleared.Reads as write-cleared-reads
+use Rattle.host_eit.proofs.eit.Reads as eit-reads
+use Rattle.host_eit.proofs.write_cleared.Reads as write-cleared-reads
 use Rattle.eit.proofs.clear.Reads as clear-reads
 
 -- src/lib.rt:258:9

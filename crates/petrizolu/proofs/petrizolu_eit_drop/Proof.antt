@@ -4,9 +4,9 @@ use Rattle.petrizolu.proofs.petrizolu_eit_drop.Statement.{statement}
 use Rattle.petrizolu.proofs.petrizolu_eit_drop.Tie as tie
 use Rattle.petrizolu.proofs.petrizolu_eit_drop.Reads as reads
 use Rattle.petrizolu.proofs.petrizolu_eit_drop.Lts as lts
-use Rattle.abi.proofs.eits.eit.Reads as eit-reads
-use Rattle.abi.proofs.eits.filter.Reads as filter-reads
-use Rattle.abi.proofs.eits.write_dropped.Reads as write-dropped-reads
+use Rattle.host_eit.proofs.eit.Reads as eit-reads
+use Rattle.host_eit.proofs.filter.Reads as filter-reads
+use Rattle.host_eit.proofs.write_dropped.Reads as write-dropped-reads
 use Rattle.eit.proofs.drop.Reads as drop-reads
 
 -- src/lib.rt:277:9

@@ -4,8 +4,8 @@ use Rattle.petrizolu.proofs.petrizolu_eit_next.Statement.{statement}
 use Rattle.petrizolu.proofs.petrizolu_eit_next.Tie as tie
 use Rattle.petrizolu.proofs.petrizolu_eit_next.Reads as reads
 use Rattle.petrizolu.proofs.petrizolu_eit_next.Lts as lts
-use Rattle.abi.proofs.collectors.write_next.Reads as write-next-reads
-use Rattle.abi.proofs.eits.eit.Reads as eit-reads
+use Rattle.host_sets.proofs.write_next.Reads as write-next-reads
+use Rattle.host_eit.proofs.eit.Reads as eit-reads
 use Rattle.eit.proofs.next_section.Reads as next-section-reads
 
 -- src/lib.rt:298:9

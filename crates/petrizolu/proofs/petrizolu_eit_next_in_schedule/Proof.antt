@@ -4,8 +4,8 @@ use Rattle.petrizolu.proofs.petrizolu_eit_next_in_schedule.Statement.{s
 use Rattle.petrizolu.proofs.petrizolu_eit_next_in_schedule.Tie as tie
 use Rattle.petrizolu.proofs.petrizolu_eit_next_in_schedule.Reads as reads
 use Rattle.petrizolu.proofs.petrizolu_eit_next_in_schedule.Lts as lts
-use Rattle.abi.proofs.collectors.write_next.Reads as write-next-reads
-use Rattle.abi.proofs.eits.eit.Reads as eit-reads
+use Rattle.host_sets.proofs.write_next.Reads as write-next-reads
+use Rattle.host_eit.proofs.eit.Reads as eit-reads
 use Rattle.eit.proofs.next_in_schedule.Reads as next-in-schedule-reads
 
 -- src/lib.rt:328:9

@@ -4,7 +4,7 @@ use Rattle.petrizolu.proofs.petrizolu_eit_open.Statement.{statement}
 use Rattle.petrizolu.proofs.petrizolu_eit_open.Tie as tie
 use Rattle.petrizolu.proofs.petrizolu_eit_open.Reads as reads
 use Rattle.petrizolu.proofs.petrizolu_eit_open.Lts as lts
-use Rattle.abi.proofs.eits.write_opened.Reads as write-opened-reads
+use Rattle.host_eit.proofs.write_opened.Reads as write-opened-reads
 use Rattle.eit.proofs.open.Reads as open-reads
 
 -- src/lib.rt:203:9

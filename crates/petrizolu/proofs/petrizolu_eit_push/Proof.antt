@@ -4,9 +4,9 @@ use Rattle.petrizolu.proofs.petrizolu_eit_push.Statement.{statement}
 use Rattle.petrizolu.proofs.petrizolu_eit_push.Tie as tie
 use Rattle.petrizolu.proofs.petrizolu_eit_push.Reads as reads
 use Rattle.petrizolu.proofs.petrizolu_eit_push.Lts as lts
-use Rattle.abi.proofs.eits.eit.Reads as eit-reads
-use Rattle.abi.proofs.eits.write_pushed.Reads as write-pushed-reads
-use Rattle.abi.proofs.pids.maybe.Reads as maybe-reads
+use Rattle.host_eit.proofs.eit.Reads as eit-reads
+use Rattle.host_eit.proofs.write_pushed.Reads as write-pushed-reads
+use Rattle.host_words.proofs.pids.maybe.Reads as maybe-reads
 use Rattle.eit.proofs.push.Reads as push-reads
 
 -- src/lib.rt:231:9

@@ -4,8 +4,8 @@ use Rattle.petrizolu.proofs.petrizolu_gate_open.Statement.{statement}
 use Rattle.petrizolu.proofs.petrizolu_gate_open.Tie as tie
 use Rattle.petrizolu.proofs.petrizolu_gate_open.Reads as reads
 use Rattle.petrizolu.proofs.petrizolu_gate_open.Lts as lts
-use Rattle.abi.proofs.gates.settings.Reads as settings-reads
-use Rattle.abi.proofs.gates.write_opened.Reads as write-opened-reads
+use Rattle.host_gate.proofs.settings.Reads as settings-reads
+use Rattle.host_gate.proofs.write_opened.Reads as write-opened-reads
 use Rattle.gate.proofs.open.Reads as open-reads
 
 -- src/lib.rt:23:9

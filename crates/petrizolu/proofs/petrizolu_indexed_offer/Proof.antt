@@ -4,9 +4,9 @@ use Rattle.petrizolu.proofs.petrizolu_indexed_offer.Statement.{statemen
 use Rattle.petrizolu.proofs.petrizolu_indexed_offer.Tie as tie
 use Rattle.petrizolu.proofs.petrizolu_indexed_offer.Reads as reads
 use Rattle.petrizolu.proofs.petrizolu_indexed_offer.Lts as lts
-use Rattle.abi.proofs.gates.read.Reads as read-reads
-use Rattle.abi.proofs.gates.write_offered.Reads as write-offered-reads
-use Rattle.abi.proofs.pids.number.Reads as number-reads
+use Rattle.host_gate.proofs.read.Reads as read-reads
+use Rattle.host_gate.proofs.write_offered.Reads as write-offered-reads
+use Rattle.host_words.proofs.pids.number.Reads as number-reads
 use Rattle.gate_indexed.proofs.offer.Reads as offer-reads
 
 -- src/lib.rt:96:9

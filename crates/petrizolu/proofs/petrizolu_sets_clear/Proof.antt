@@ -4,8 +4,8 @@ use Rattle.petrizolu.proofs.petrizolu_sets_clear.Statement.{statement}
 use Rattle.petrizolu.proofs.petrizolu_sets_clear.Tie as tie
 use Rattle.petrizolu.proofs.petrizolu_sets_clear.Reads as reads
 use Rattle.petrizolu.proofs.petrizolu_sets_clear.Lts as lts
-use Rattle.abi.proofs.collectors.sets.Reads as sets-reads
-use Rattle.abi.proofs.collectors.write_cleared.Reads as write-cleared-reads
+use Rattle.host_sets.proofs.sets.Reads as sets-reads
+use Rattle.host_sets.proofs.write_cleared.Reads as write-cleared-reads
 use Rattle.sets.proofs.clear.Reads as clear-reads
 
 -- src/lib.rt:165:9

@@ -4,8 +4,8 @@ use Rattle.petrizolu.proofs.petrizolu_sets_next.Statement.{statement}
 use Rattle.petrizolu.proofs.petrizolu_sets_next.Tie as tie
 use Rattle.petrizolu.proofs.petrizolu_sets_next.Reads as reads
 use Rattle.petrizolu.proofs.petrizolu_sets_next.Lts as lts
-use Rattle.abi.proofs.collectors.sets.Reads as sets-reads
-use Rattle.abi.proofs.collectors.write_next.Reads as write-next-reads
+use Rattle.host_sets.proofs.sets.Reads as sets-reads
+use Rattle.host_sets.proofs.write_next.Reads as write-next-reads
 use Rattle.sets.proofs.next_section.Reads as next-section-reads
 
 -- src/lib.rt:183:9

@@ -4,7 +4,7 @@ use Rattle.petrizolu.proofs.petrizolu_sets_open.Statement.{statement}
 use Rattle.petrizolu.proofs.petrizolu_sets_open.Tie as tie
 use Rattle.petrizolu.proofs.petrizolu_sets_open.Reads as reads
 use Rattle.petrizolu.proofs.petrizolu_sets_open.Lts as lts
-use Rattle.abi.proofs.collectors.write_opened.Reads as write-opened-reads
+use Rattle.host_sets.proofs.write_opened.Reads as write-opened-reads
 use Rattle.sets.proofs.open.Reads as open-reads
 
 -- src/lib.rt:125:9

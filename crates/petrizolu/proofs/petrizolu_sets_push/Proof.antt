@@ -4,9 +4,9 @@ use Rattle.petrizolu.proofs.petrizolu_sets_push.Statement.{statement}
 use Rattle.petrizolu.proofs.petrizolu_sets_push.Tie as tie
 use Rattle.petrizolu.proofs.petrizolu_sets_push.Reads as reads
 use Rattle.petrizolu.proofs.petrizolu_sets_push.Lts as lts
-use Rattle.abi.proofs.collectors.sets.Reads as sets-reads
-use Rattle.abi.proofs.collectors.write_pushed.Reads as write-pushed-reads
-use Rattle.abi.proofs.pids.maybe.Reads as maybe-reads
+use Rattle.host_sets.proofs.sets.Reads as sets-reads
+use Rattle.host_sets.proofs.write_pushed.Reads as write-pushed-reads
+use Rattle.host_words.proofs.pids.maybe.Reads as maybe-reads
 use Rattle.sets.proofs.push.Reads as push-reads
 
 -- src/lib.rt:149:9

@@ -4,7 +4,7 @@ use Rattle.petrizolu.proofs.petrizolu_watch_ask.Statement.{statement}
 use Rattle.petrizolu.proofs.petrizolu_watch_ask.Tie as tie
 use Rattle.petrizolu.proofs.petrizolu_watch_ask.Reads as reads
 use Rattle.petrizolu.proofs.petrizolu_watch_ask.Lts as lts
-use Rattle.abi.proofs.pids.number.Reads as pids-number-reads
+use Rattle.host_words.proofs.pids.number.Reads as pids-number-reads
 use Rattle.watched.proofs.Asked.number.Reads as Asked-number-reads
 use Rattle.watched.proofs.ask.Reads as ask-reads
 

@@ -1,5 +1,0 @@
-pub mod Answers
-pub mod Pids
-pub mod Gates
-pub mod Collectors
-pub mod Eits

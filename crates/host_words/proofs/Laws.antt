@@ -1,0 +1,32 @@
+-- One law for each way out of a function.
+-- Assumes nothing.
+use Prim.Native.Nat.{ℕ, _<_, _≤_}
+use mathlib.Core.Path.{_≡_}
+use mathlib.Core.List.{List}
+use borrow.Author.Tests.{lt-ltb, le-ltb, eq-eqb, ne-eqb}
+use Rattle.section.specs.declared.ids.MaybePid.the-variants as maybe
+use Rattle.host_words.specs.Answers.{words, pushes}
+use Rattle.host_words.specs.Pids.{pidNumber, maybePid}
+
+-- ---- what is handed to the host
+
+pub words-are : (r n : ℕ) (w v : List ℕ) → r ≡ n → w ≡ v → words r w ≡ words n v
+words-are r n w v e f = λ i. record { answer = e i; now = f i }
+
+pub pushes-are : (r n : ℕ) (w v x y : List ℕ) → r ≡ n → w ≡ v → x ≡ y → pushes r w x ≡ pushes n v y
+pushes-are r n w v x y e f g = λ i. record { answer = e i; now = f i; row = g i }
+
+-- ---- PIDs
+
+module _ (pid : ℕ) where
+  pub pid-small : pid < 65535 → pid ≡ pidNumber pid
+  pid-small h = rw (lt-ltb pid 65535 h)
+
+  pub pid-large : 65535 ≤ pid → 65535 ≡ pidNumber pid
+  pid-large h = rw (le-ltb pid 65535 h)
+
+  pub pid-none : pid ≡ 0xFFFF_FFFF → maybe.None ≡ maybePid pid
+  pid-none h = rw (eq-eqb pid 0xFFFF_FFFF h)
+
+  pub pid-some : (n : ℕ) → (pid ≡ 0xFFFF_FFFF → ⊥) → n ≡ pidNumber pid → maybe.Some n ≡ maybePid pid
+  pid-some n h e = rw (ne-eqb pid 0xFFFF_FFFF h, e)
