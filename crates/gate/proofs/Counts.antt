@@ -8,7 +8,7 @@ use mathlib.Core.Bool.{Bool, true, false, cond, not, _||_, _&&_}
 use native.Mathlib.Omega.{arith}
 use lib.ListN.{length}
 use lib.Dec.{ltb, eqb}
-use Rattle.rules_shared.specs.Runs.{answers, storeAfter}
+use Rattle.laws.specs.Runs.{answers, storeAfter}
 use Rattle.ring.specs.Store.{seenOf, stampOf}
 use Rattle.ring.specs.declared.Seen.{Seen}
 use Rattle.section.specs.Key.{keyOf}

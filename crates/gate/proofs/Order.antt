@@ -9,7 +9,7 @@ use lib.Dec.{ltb, leb}
 use native.Mathlib.Omega.{arith}
 use borrow.Author.Tests.{le-leb}
 use Rattle.laws.proofs.Tests.{true-and}
-use Rattle.rules_shared.specs.Runs.{answers, storeAfter}
+use Rattle.laws.specs.Runs.{answers, storeAfter}
 use Rattle.ring.specs.Store.{stampOf, seenOf}
 use Rattle.ring.specs.Rules.{Row, changed, Memory, memoryAfter, inOrder, Reached}
 use Rattle.ring.proofs.Laws.{whole-test}

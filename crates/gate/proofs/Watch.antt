@@ -5,7 +5,7 @@ use mathlib.Core.Path.{_≡_, refl, _∙_}
 use mathlib.Core.List.{List, [], _∷_}
 use mathlib.Core.Bool.{Bool, true, false, cond, _&&_}
 use lib.ListN.{length, replicate, length-replicate}
-use Rattle.rules_shared.specs.Runs.{storeAfter}
+use Rattle.laws.specs.Runs.{storeAfter}
 use Rattle.ring.specs.Store.{seenOf, stampOf}
 use Rattle.section.specs.Key.{keyOf}
 use Rattle.section.specs.Judged.{judgedOf}

@@ -10,7 +10,7 @@ use lib.Dec.{ltb, leb}
 use native.Mathlib.Omega.{arith}
 use borrow.Author.Tests.{le-leb, leb-true}
 use Rattle.laws.proofs.Tests.{true-and, and-true}
-use Rattle.rules_shared.specs.Runs.{answers, storeAfter}
+use Rattle.laws.specs.Runs.{answers, storeAfter}
 use Rattle.ring.specs.Store.{roomOf, stampOf}
 use Rattle.ring.specs.Rules.{memoryAfter}
 use Rattle.ring.proofs.Laws.{whole-test}

@@ -5,7 +5,7 @@ use mathlib.Core.Option.{some, Option·some-injective}
 use mathlib.Core.List.{List, [], _∷_, map}
 use Prim.Native.Nat.{ℕ, zero, suc}
 use Rattle.laws.proofs.Tests.{none≢some}
-use Rattle.rules_shared.specs.Runs.{At, Never, GivenBy}
+use Rattle.laws.specs.Runs.{At, Never, GivenBy}
 use Rattle.rules_sets.specs.Rules.{Whole, Answer, clear, handout, counterFull, noCell}
 use Rattle.rules_sets.specs.Demand.{run, withCells, Smaller, NoConflict, NeverBarred}
 use Rattle.rules_sets.proofs.Demand.{demand-3-cells}

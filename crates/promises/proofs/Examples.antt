@@ -9,7 +9,7 @@ use Rattle.rules_shared.specs.Same.{sameBytes, samePid}
 use Rattle.rules_shared.specs.Slots.{isHeld, present}
 use Rattle.rules_shared.specs.Touch.{oldestGone, room, leaves, count, find, remove, others, evicts, untouched, aside, newest}
 use Rattle.rules_shared.specs.Row.{fresh, fits, start, slotOf, keep, marked, putOver, put}
-use Rattle.rules_shared.specs.Runs.{storeAfter}
+use Rattle.laws.specs.Runs.{storeAfter}
 use Rattle.section.specs.Key.{keyOf}
 use Rattle.section.specs.Judged.{judgedOf}
 use Rattle.section.specs.declared.header.Judged.{Judged}

@@ -11,7 +11,7 @@ use Rattle.laws.specs.Lists.{every}
 use Rattle.laws.proofs.Facts.{anyOf}
 use Rattle.rules_shared.specs.Same.{Bytes, sameBytes}
 use Rattle.rules_shared.specs.Touch.{untouched}
-use Rattle.rules_shared.specs.Runs.{answers}
+use Rattle.laws.specs.Runs.{answers}
 use Rattle.crc.specs.Crc.{crcFrom, bitsIn, bitIn}
 use Rattle.section.specs.Header.{storedCrc, workedCrc, headerOf}
 use Rattle.section.specs.Judged.{malformed, collectedLong, collectedOf}

@@ -16,7 +16,7 @@ use Rattle.laws.proofs.Tests.{none≢some, and-true}
 use Rattle.laws.proofs.Facts.{anyOf, not-among}
 use Rattle.rules_shared.specs.Same.{Bytes}
 use Rattle.rules_shared.specs.Touch.{untouched}
-use Rattle.rules_shared.specs.Runs.{At, Never}
+use Rattle.laws.specs.Runs.{At, Never}
 use Rattle.section.specs.Facts.{Bytes as AllBytes}
 use Rattle.section.specs.declared.ids.MaybePid.the-variants as maybe
 use Rattle.rules_sets.specs.Rules.{Key, Call, offer, Whole, Answer, cleared, refused, nothing, handout, conflict, notWhole, counterFull, noCell}

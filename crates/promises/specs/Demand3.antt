@@ -11,7 +11,7 @@
 use Prim.Native.Nat.{ℕ, _≤_}
 use mathlib.Core.Path.{_≡_}
 use mathlib.Core.List.{List}
-use Rattle.rules_shared.specs.Runs.{answers, At, Never, GivenBy}
+use Rattle.laws.specs.Runs.{answers, At, Never, GivenBy}
 use Rattle.rules_sets.specs.Rules.{Whole, Answer, handout, conflict, notWhole, counterFull, noCell}
 use Rattle.sets.specs.Store.{Store}
 use Rattle.sets.specs.History.{Call as Given, empty as clears, Bytes as OfBytes}

@@ -8,7 +8,7 @@ use mathlib.Core.List.{List, [], _∷_, map}
 use lib.ListN.{replicate}
 use Rattle.rules_shared.specs.Touch.{Entry}
 use Rattle.rules_shared.specs.Cells.{Settings}
-use Rattle.rules_shared.specs.Runs.{storeAfter}
+use Rattle.laws.specs.Runs.{storeAfter}
 use Rattle.section.specs.Key.{keyOf}
 use Rattle.eit_section.specs.Segment.{segmentEnd}
 use Rattle.pat.specs.Pat.{groupsOf, programPids}

@@ -10,7 +10,7 @@ use Rattle.rules_shared.specs.Slots.{someHeld, everyHeld, onSlots}
 use Rattle.rules_shared.specs.Touch.{count, someRow, everyRow, seenAs, untouched, onOrder}
 use Rattle.rules_shared.specs.Row.{onRow}
 use Rattle.rules_shared.specs.Cells.{bytesOf, names, lowest, write, placeNew, placeHeld, place, roomWhole, heldWhole, atEnd}
-use Rattle.rules_shared.specs.Runs.{answers}
+use Rattle.laws.specs.Runs.{answers}
 use Rattle.rules_eit.specs.Keys.{presentActual, scheduleActual}
 use Rattle.rules_eit.specs.Rules.{Call, drop, offer, Answer, nothing, handout, conflict, noCell, numberOf}
 use Rattle.rules_eit.specs.Cells.{Store, onCopy, onSchedule, onEit, onWhole, onGuide, onAnswer, setTakes, copyTakes, scheduleTakes, taken, storeWhole, anyAtEnd, ended, shows, rest, roomFor, placeOf, carry, pushIn, admitIn, offerIn, dropIn, good, guarded, call, callTells, callActs}

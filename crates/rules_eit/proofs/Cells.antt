@@ -13,7 +13,7 @@ use Rattle.rules_shared.specs.Same.{Bytes}
 use Rattle.rules_shared.specs.Touch.{seenAs, emptied, onOrder}
 use Rattle.rules_shared.specs.Row.{keep, onRow, put}
 use Rattle.rules_shared.specs.Cells.{Held, Cells, bytesOf, write, heldIn}
-use Rattle.rules_shared.specs.Runs.{Obeys, bars, does}
+use Rattle.laws.specs.Runs.{Obeys, bars, does}
 use Rattle.rules_shared.proofs.Cells.{kept-shown, rules-keep, rules-ignore, rules-refuse}
 use Rattle.rules_eit.specs.Keys.{Kind, kindOf, SetKey}
 use Rattle.rules_eit.specs.Rules.{Section, keyOf, partOf, Call, offer, refused, nothing, conflict, barred, StepOf, Eit, Step, gives, judge, cleared, finish, push, admit, offered, dropping, step, tells, acts}

@@ -10,7 +10,7 @@ use Rattle.rules_shared.specs.Same.{Bytes, sameBytes, samePid}
 use Rattle.rules_shared.specs.Slots.{isHeld, present}
 use Rattle.rules_shared.specs.Touch.{Entry, oldestGone, room, leaves, count, retain, find, remove, others, evicts, untouched, aside, newest, touch, emptied, retained}
 use Rattle.rules_shared.specs.Row.{fresh, fits, start, slotOf, keep, marked, putOver, put}
-use Rattle.rules_shared.specs.Runs.{answers, storeAfter}
+use Rattle.laws.specs.Runs.{answers, storeAfter}
 use Rattle.rules_eit.specs.Keys.{Kind, presentActual, presentOther, scheduleActual, scheduleOther, between, kindOf, firstOf, kindNumber, sameKind, ScheduleKey, SetKey, sameSchedule, sameSet, Filter, anyPid, exactly, badPid, pidPasses, passes, matches}
 use Rattle.rules_eit.specs.Segments.{segmentEnd, SetOf, heldFrom, segmentFull, segmentsFull, complete}
 use Rattle.rules_eit.specs.Schedules.{ScheduleOf, copyOf, whole, copied, refill, begin, enter, allTables, wholes, guide}

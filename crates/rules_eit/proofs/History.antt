@@ -13,11 +13,11 @@ use lib.ListN.{length, length-replicate, length-set}
 use Rattle.rules_shared.specs.Touch.{Rows, find, untouched, emptied, retained}
 use Rattle.rules_shared.specs.Row.{fresh, keep, marked, put}
 use Rattle.rules_shared.specs.Cells.{Settings}
-use Rattle.rules_shared.specs.Runs.{storeAfter}
+use Rattle.laws.specs.Runs.{storeAfter}
 use Rattle.rules_shared.proofs.All.{All, all-aside, all-newest, all-touch, all-retain, all-find, length-aside, length-newest, length-touch, length-retain}
 use Rattle.rules_shared.proofs.Distinct.{Distinct, distinct-aside, distinct-newest, distinct-touch, distinct-retain}
 use Rattle.rules_shared.proofs.Row.{start-has, put-has}
-use Rattle.rules_shared.proofs.Runs.{after-all}
+use Rattle.laws.proofs.Runs.{after-all}
 use Rattle.rules_shared.specs.Same.{Bytes}
 use Rattle.rules_eit.specs.Keys.{Kind, kindOf, firstOf, ScheduleKey, SetKey, sameSchedule, sameSet, Filter, badPid}
 use Rattle.rules_eit.specs.Segments.{complete}

@@ -13,10 +13,10 @@ use Rattle.rules_shared.specs.Slots.{everyHeld}
 use Rattle.rules_shared.specs.Touch.{untouched, emptied}
 use Rattle.rules_shared.specs.Row.{keep}
 use Rattle.rules_shared.specs.Cells.{Settings, Held, Cells, write, heldIn, roomWhole, heldWhole}
-use Rattle.rules_shared.specs.Runs.{answers, storeAfter, At, Never}
+use Rattle.laws.specs.Runs.{answers, storeAfter, At, Never}
 use Rattle.rules_shared.proofs.All.{every-all, all-every}
 use Rattle.rules_shared.proofs.Cells.{length-write, held-whole, whole-held, room-whole}
-use Rattle.rules_shared.proofs.Runs.{after-all, never-after}
+use Rattle.laws.proofs.Runs.{after-all, never-after}
 use Rattle.rules_eit.specs.Keys.{SetKey}
 use Rattle.rules_eit.specs.Segments.{SetOf}
 use Rattle.rules_eit.specs.Schedules.{ScheduleOf}

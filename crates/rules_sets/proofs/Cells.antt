@@ -11,7 +11,7 @@ use Rattle.rules_shared.specs.Same.{Bytes}
 use Rattle.rules_shared.specs.Touch.{seenAs, untouched, emptied, onOrder}
 use Rattle.rules_shared.specs.Row.{keep, onRow, put}
 use Rattle.rules_shared.specs.Cells.{Held, Cells, bytesOf, write, heldIn}
-use Rattle.rules_shared.specs.Runs.{Obeys, bars, does}
+use Rattle.laws.specs.Runs.{Obeys, bars, does}
 use Rattle.rules_shared.proofs.Views.{aside-on, newest-on}
 use Rattle.rules_shared.proofs.Cells.{kept-shown, rules-keep, rules-ignore, rules-refuse}
 use Rattle.rules_sets.specs.Rules.{sameKey, SetsOf, Section, partOf, Call, offer, conflict, barred, StepOf, Step, gives, judge, finish, push, admit, step, tells, acts}

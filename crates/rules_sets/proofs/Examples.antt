@@ -13,7 +13,7 @@ use Rattle.rules_shared.specs.Slots.{isHeld, present, someHeld, everyHeld, onSl
 use Rattle.rules_shared.specs.Touch.{Entry, oldestGone, room, leaves, count, someRow, everyRow, seenAs, find, remove, others, evicts, untouched, aside, newest, touch, emptied, onOrder}
 use Rattle.rules_shared.specs.Row.{fresh, fits, start, slotOf, keep, marked, onRow, putOver, put}
 use Rattle.rules_shared.specs.Cells.{bytesOf, names, lowest, write, placeNew, placeHeld, place, roomWhole, heldWhole, atEnd}
-use Rattle.rules_shared.specs.Runs.{answers, storeAfter, GivenBy}
+use Rattle.laws.specs.Runs.{answers, storeAfter, GivenBy}
 use Rattle.rules_sets.specs.Rules.{Key, sameKey, SetRow, Sets, partOf, Call, clear, refuse, offer, Whole, Answer, cleared, nothing, handout, conflict, noCell, numberOf, full, whole, metRow, judged, judge, finish, push, admit, step, tells, acts, opened}
 use Rattle.rules_sets.specs.Cells.{Store, onSets, onWhole, onAnswer, view, takes, taken, storeWhole, ended, shows, rest, roomFor, placeOf, carry, pushIn, admitIn, good, guarded, call, callTells, callActs}
 

@@ -15,7 +15,7 @@ use Rattle.laws.proofs.Facts.{eq-passes, anyOf, not-among}
 use Rattle.rules_shared.specs.Same.{Bytes, sameBytes}
 use Rattle.rules_shared.specs.Touch.{untouched}
 use Rattle.rules_shared.specs.Cells.{roomWhole}
-use Rattle.rules_shared.specs.Runs.{answers, At, Never, GivenBy}
+use Rattle.laws.specs.Runs.{answers, At, Never, GivenBy}
 use Rattle.rules_sets.specs.Rules.{Call, clear, refuse, offer, Whole, Answer, cleared, refused, nothing, handout, conflict, notWhole, counterFull, noCell, numberOf, barred}
 use Rattle.rules_sets.specs.Cells.{Store, storeWhole, ended, guarded, call, callTells}
 use Rattle.rules_sets.specs.Demand.{run, withCells, Smaller, NoConflict, NeverBarred, EachHandedOut}

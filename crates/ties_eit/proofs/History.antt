@@ -13,9 +13,9 @@ use lib.ListN.{length}
 use Rattle.rules_shared.specs.Same.{Bytes}
 use Rattle.rules_shared.specs.Touch.{untouched, onOrder, seenAs}
 use Rattle.rules_shared.specs.Cells.{Settings}
-use Rattle.rules_shared.specs.Runs.{answers, storeAfter, At, Never, Obeys, bars, does}
-use Rattle.rules_shared.proofs.Runs.{each-read, answers-read}
-use Rattle.rules_shared.proofs.Runs.{same-answers as run-same}
+use Rattle.laws.specs.Runs.{answers, storeAfter, At, Never, Obeys, bars, does}
+use Rattle.laws.proofs.Runs.{each-read, answers-read}
+use Rattle.laws.proofs.Runs.{same-answers as run-same}
 use Rattle.rules_eit.specs.Keys.{Kind, sameSet, sameSchedule}
 use Rattle.rules_eit.specs.Rules.{Eit, Section, offer, refuse, Answer, done, refused, nothing, handout, schedule, conflict, range, notWhole, counterFull, noCell, barred, asBefore}
 use Rattle.rules_eit.specs.Rules.{tells as rulesTell, acts as rulesAct, opened as rulesOpened}

@@ -14,8 +14,8 @@ use lib.ListN.{length}
 use Rattle.rules_shared.specs.Same.{Bytes}
 use Rattle.rules_shared.specs.Touch.{untouched}
 use Rattle.rules_shared.specs.Cells.{roomWhole}
-use Rattle.rules_shared.specs.Runs.{answers, storeAfter, At, Never, Obeys, bars, does}
-use Rattle.rules_shared.proofs.Runs.{each-read}
+use Rattle.laws.specs.Runs.{answers, storeAfter, At, Never, Obeys, bars, does}
+use Rattle.laws.proofs.Runs.{each-read}
 use Rattle.rules_sets.specs.Rules.{sameKey, Section, offer, refuse, notWhole, noCell, barred, asBefore}
 use Rattle.rules_sets.specs.Rules.{tells as rulesTell, acts as rulesAct}
 use Rattle.rules_sets.specs.Cells.{Store as Shown, view, callTells, callActs}
