@@ -1,0 +1,192 @@
+// What a section's bytes and its PID say to a collector (docs/RULES.md, "Collectors" and "Answers"): a refusal (12, 14 to 17, for the EIT collector
+// also 18 and 19), or what arrived. No store is looked at.
+use answers::Refusal;
+use eit_section::Eit;
+use eit_section::Kind;
+use eit_section::Reading;
+use rows::Entry;
+use rows::Key;
+use section::header::Collected;
+use section::header::Header;
+use section::ids::Made;
+use section::ids::MaybePid;
+use section::ids::Pid;
+ghost use mathlib.Core.Path.{_≡_};
+ghost use Rattle.section.specs.Judged.{collectedOf};
+ghost use Rattle.eit_section.specs.Eit.{eitOf};
+ghost use Rattle.arrivals.specs.Arrivals.{pidOf, pidWord, bitOf, setKey, eitKey, entryOf, kindNumber, arrivalOf};
+ghost use Rattle.arrivals.specs.Arrivals.{setRead, setArrival, eitFields, eitRead, eitArrival, SetTaken, EitTaken};
+
+// The PID word of a key, or that the number given is no PID.
+pub enum PidWord {
+    Is(u64),
+    TooLarge,
+}
+
+// What a section says to the set collector.
+pub enum SetArrival {
+    Refused(Refusal),
+    Arrived(Entry),
+}
+
+// What an EIT section says: its row and slot; its kind, by number; the word of its segment, segment_last_section_number and 1; last_table_id.
+pub struct Arrival {
+    pub entry: Entry,
+    pub kind: u64,
+    pub segment: u32,
+    pub tables: u64,
+}
+
+// What a section says to the EIT collector.
+pub enum EitArrival {
+    Refused(Refusal),
+    Arrived(Arrival),
+}
+
+// 12, then 14 to 17.
+pub fn set_arrival(pid: MaybePid, bytes: &[u8]) -> SetArrival
+    ensures { λ r. ⌜ r ≡ setArrival pid (now (bytes .entry)) ⌝ }
+    ensures { λ r. ⌜ SetTaken (now (bytes .entry)) r ⌝ }
+{
+    match pid_word(pid) {
+        PidWord::TooLarge => SetArrival::Refused(Refusal::BadPid),
+        PidWord::Is(p) => set_read(p, bytes),
+    }
+}
+
+// 12, then 14 to 19.
+pub fn eit_arrival(pid: MaybePid, bytes: &[u8]) -> EitArrival
+    ensures { λ r. ⌜ r ≡ eitArrival pid (now (bytes .entry)) ⌝ }
+    ensures { λ r. ⌜ EitTaken (now (bytes .entry)) r ⌝ }
+{
+    match pid_word(pid) {
+        PidWord::TooLarge => EitArrival::Refused(Refusal::BadPid),
+        PidWord::Is(p) => eit_read(p, bytes),
+    }
+}
+
+// The PID of a key: a number of 8192 or more is refused (12).
+pub fn pid_word(pid: MaybePid) -> PidWord
+    ensures { λ r. ⌜ r ≡ pidWord pid ⌝ }
+{
+    match pid {
+        MaybePid::None => PidWord::Is(Key::NO_PID),
+        MaybePid::Some(v) => made_word(Pid::make(v)),
+    }
+}
+
+fn made_word(m: Made) -> PidWord
+    ensures { λ r. ⌜ r ≡ pidOf m ⌝ }
+{
+    match m {
+        Made::One(p) => PidWord::Is(p.0 as u64),
+        Made::TooLarge => PidWord::TooLarge,
+    }
+}
+
+// A bit of a section, as a word of a key.
+fn bit(b: bool) -> u64
+    ensures { λ r. ⌜ r ≡ bitOf b ⌝ }
+{
+    if b { 1 } else { 0 }
+}
+
+fn set_key(pid: u64, h: Header) -> Key
+    ensures { λ r. ⌜ r ≡ setKey pid h ⌝ }
+{
+    Key {
+        pid,
+        table_id: h.table_id as u64,
+        extension: h.extension as u64,
+        current_next: bit(h.current_next),
+        transport_stream_id: 0,
+        original_network_id: 0,
+    }
+}
+
+fn eit_key(pid: u64, h: Header, f: Eit) -> Key
+    ensures { λ r. ⌜ r ≡ eitKey pid h f ⌝ }
+{
+    let service = f.service_id;
+    Key {
+        pid,
+        table_id: h.table_id as u64,
+        extension: service.0 as u64,
+        current_next: bit(h.current_next),
+        transport_stream_id: f.transport_stream_id as u64,
+        original_network_id: f.original_network_id as u64,
+    }
+}
+
+fn entry_of(key: Key, h: Header) -> Entry
+    ensures { λ r. ⌜ r ≡ entryOf key h ⌝ }
+{
+    Entry {
+        key,
+        version: h.version as u64,
+        last: h.last as u64,
+        number: h.number as usize,
+    }
+}
+
+fn kind_number(kind: Kind) -> u64
+    ensures { λ r. ⌜ r ≡ kindNumber kind ⌝ }
+{
+    match kind {
+        Kind::PresentFollowingActual => 0,
+        Kind::PresentFollowingOther => 1,
+        Kind::ScheduleActual => 2,
+        Kind::ScheduleOther => 3,
+        Kind::None => 4,
+    }
+}
+
+fn arrival_of(pid: u64, h: Header, f: Eit) -> Arrival
+    ensures { λ r. ⌜ r ≡ arrivalOf pid h f ⌝ }
+{
+    let entry = entry_of(eit_key(pid, h, f), h);
+    let kind = f.kind;
+    Arrival {
+        entry,
+        kind: kind_number(kind),
+        segment: f.segment_last_section_number as u32 + 1,
+        tables: f.last_table_id as u64,
+    }
+}
+
+// 14 to 17, then what the header says.
+fn set_read(pid: u64, bytes: &[u8]) -> SetArrival
+    ensures { λ r. ⌜ r ≡ setRead pid (collectedOf (now (bytes .entry))) ⌝ }
+{
+    match section::header::collect(bytes) {
+        Collected::Malformed => SetArrival::Refused(Refusal::Malformed),
+        Collected::ShortForm => SetArrival::Refused(Refusal::ShortForm),
+        Collected::BadNumber => SetArrival::Refused(Refusal::BadNumber),
+        Collected::BadCrc => SetArrival::Refused(Refusal::BadCrc),
+        Collected::Good(h) => SetArrival::Arrived(entry_of(set_key(pid, h), h)),
+    }
+}
+
+// 14 to 17, then the rest.
+fn eit_read(pid: u64, bytes: &[u8]) -> EitArrival
+    ensures { λ r. ⌜ r ≡ eitRead pid (now (bytes .entry)) (collectedOf (now (bytes .entry))) ⌝ }
+{
+    match section::header::collect(bytes) {
+        Collected::Malformed => EitArrival::Refused(Refusal::Malformed),
+        Collected::ShortForm => EitArrival::Refused(Refusal::ShortForm),
+        Collected::BadNumber => EitArrival::Refused(Refusal::BadNumber),
+        Collected::BadCrc => EitArrival::Refused(Refusal::BadCrc),
+        Collected::Good(h) => eit_fields(pid, h, bytes),
+    }
+}
+
+// 18 and 19, then what the section says.
+fn eit_fields(pid: u64, h: Header, bytes: &[u8]) -> EitArrival
+    ensures { λ r. ⌜ r ≡ eitFields pid h (eitOf (now (bytes .entry))) ⌝ }
+{
+    match eit_section::read(bytes) {
+        Reading::NotEit => EitArrival::Refused(Refusal::NotEit),
+        Reading::Broken => EitArrival::Refused(Refusal::Broken),
+        Reading::Good(f) => EitArrival::Arrived(arrival_of(pid, h, f)),
+    }
+}
