@@ -12,6 +12,8 @@
  *
  * Threads: a store (a struct with its arrays) is used by one caller at a time. Different stores may be used at the same time, and the calls
  * that ask (const struct) may run together on one store while nobody changes it.
+ *
+ * Each call has an example, which goes on from those before it: `section` has `length` bytes and came on the PID `pid`.
  */
 #ifndef PETRIZOLU_H
 #define PETRIZOLU_H
@@ -101,7 +103,11 @@ enum petrizolu_answer {
 #define PETRIZOLU_HEAD_VERSION 6u
 #define PETRIZOLU_HEAD_LAST 7u                   /* last_section_number; in schedule_heads: last_table_id */
 
-/* ---- the CRC of ISO/IEC 13818-1, Annex A: over a section with its own CRC at the end it is 0 */
+/*
+ * ---- the CRC of ISO/IEC 13818-1, Annex A: over a section with its own CRC at the end it is 0
+ *
+ *     uint32_t crc = petrizolu_crc((const uint8_t *)"123456789", 9);     // 0x0376E6E7
+ */
 
 uint32_t petrizolu_crc(const uint8_t *bytes, size_t byte_count);
 
@@ -109,7 +115,8 @@ uint32_t petrizolu_crc(const uint8_t *bytes, size_t byte_count);
  * ---- the gate: which sections are new
  *
  * A struct of words and not a value that comes back: one pointer reads better in C than a struct in and a struct out, the counters can be read
- * at any time by name, and no value of a flag is out of range.
+ * at any time by name, and no value of a flag is out of range. A struct of zeros is an open gate of capacity 0, which keeps one key, with repeats and
+ * following off: with arrays for one row, offers to it are taken. So a host looks at what opening answered before it offers.
  */
 
 typedef struct petrizolu_gate {
@@ -129,6 +136,12 @@ typedef struct petrizolu_gate {
  * Opens a gate and its watch. settings: PETRIZOLU_REPEATS and so on, or'ed; other bits are not looked at. extra: PIDs that are watched and
  * protected besides the well-known ones. keys and changes need not be written before.
  * 7: *gate and watch are written, counters 0. 12: an extra PID is 8192 or more. 13: keys, changes or watch are too short. A refusal writes nothing.
+ *
+ *     static uint64_t keys[512], changes[512], watch[PETRIZOLU_WATCH_WORDS];
+ *     static const uint16_t extra[] = {0x0100};
+ *     petrizolu_gate gate;
+ *     if (petrizolu_gate_open(&gate, 512, PETRIZOLU_DEFAULT_SETTINGS, extra, 1, keys, 512, changes, 512, watch, PETRIZOLU_WATCH_WORDS) != PETRIZOLU_DONE)
+ *         return 1;
  */
 uint8_t petrizolu_gate_open(petrizolu_gate *gate, uint64_t capacity, uint32_t settings, const uint16_t *extra, size_t extra_count,
                             const uint64_t *keys, size_t key_count, const uint64_t *changes, size_t change_count, uint64_t *watch,
@@ -137,22 +150,43 @@ uint8_t petrizolu_gate_open(petrizolu_gate *gate, uint64_t capacity, uint32_t se
 /*
  * Offers a section that came on a PID, watched or not: 1, 2 or 3. Counters and rows move, and a changed PAT changes the watch where following is
  * on. 10, 11, 12: all as before.
+ *
+ *     if (petrizolu_gate_offer(&gate, keys, 512, changes, 512, watch, PETRIZOLU_WATCH_WORDS, pid, section, length) == PETRIZOLU_EMITTED)
+ *         printf("new, %llu so far\n", (unsigned long long)gate.emitted);
  */
 uint8_t petrizolu_gate_offer(petrizolu_gate *gate, uint64_t *keys, size_t key_count, uint64_t *changes, size_t change_count, uint64_t *watch,
                              size_t watch_words, uint32_t pid, const uint8_t *section, size_t section_length);
 
-/* Is this PID watched? 8, 9; 10 (fewer than 384 words), 12. */
+/*
+ * Is this PID watched? 8, 9; 10 (fewer than 384 words), 12.
+ *
+ *     bool wanted = petrizolu_watch_ask(watch, PETRIZOLU_WATCH_WORDS, pid) == PETRIZOLU_YES;
+ */
 uint8_t petrizolu_watch_ask(const uint64_t *watch, size_t watch_words, uint32_t pid);
 
 /*
  * The same gate with an index over its rows: for thousands of keys. It answers as the one above and keeps the same rows; opening writes the
  * buckets, links need not be written before. The two forms do not share a store. On damaged memory a key counts as held where the chain from its
  * bucket reaches it.
+ *
+ *     enum { ROWS = PETRIZOLU_DEFAULT_CAPACITY };
+ *     static uint64_t rows[4][ROWS];
+ *     petrizolu_gate large;
+ *     if (petrizolu_indexed_open(&large, ROWS, PETRIZOLU_DEFAULT_SETTINGS, extra, 1, rows[0], ROWS, rows[1], ROWS, rows[2], ROWS, rows[3], ROWS, watch,
+ *                                PETRIZOLU_WATCH_WORDS) != PETRIZOLU_DONE)
+ *         return 1;
  */
 uint8_t petrizolu_indexed_open(petrizolu_gate *gate, uint64_t capacity, uint32_t settings, const uint16_t *extra, size_t extra_count,
                                const uint64_t *keys, size_t key_count, const uint64_t *changes, size_t change_count, uint64_t *buckets,
                                size_t bucket_count, const uint64_t *links, size_t link_count, uint64_t *watch, size_t watch_words);
 
+/*
+ * As petrizolu_gate_offer.
+ *
+ *     if (petrizolu_indexed_offer(&large, rows[0], ROWS, rows[1], ROWS, rows[2], ROWS, rows[3], ROWS, watch, PETRIZOLU_WATCH_WORDS, pid, section,
+ *                                 length) == PETRIZOLU_SUPPRESSED)
+ *         printf("seen before\n");
+ */
 uint8_t petrizolu_indexed_offer(petrizolu_gate *gate, uint64_t *keys, size_t key_count, uint64_t *changes, size_t change_count,
                                 uint64_t *buckets, size_t bucket_count, uint64_t *links, size_t link_count, uint64_t *watch,
                                 size_t watch_words, uint32_t pid, const uint8_t *section, size_t section_length);
@@ -180,6 +214,14 @@ typedef struct petrizolu_sets {
  * Opens a collector. heads: PETRIZOLU_HEADS(limit), slots: PETRIZOLU_SLOTS(limit), cells: PETRIZOLU_CELLS(size, count) elements at least; they
  * need not be written before and are not written here.
  * 7: *sets is written. 13: *sets as before.
+ *
+ *     enum { LIMIT = 64, SIZE = 4096, COUNT = 256 };
+ *     static uint64_t heads[PETRIZOLU_HEADS(LIMIT)];
+ *     static uint32_t slots[PETRIZOLU_SLOTS(LIMIT)];
+ *     static uint8_t cells[PETRIZOLU_CELLS(SIZE, COUNT)];
+ *     petrizolu_sets sets;
+ *     if (petrizolu_sets_open(&sets, LIMIT, SIZE, COUNT, heads, sizeof heads / 8, slots, sizeof slots / 4, cells, sizeof cells) != PETRIZOLU_DONE)
+ *         return 1;
  */
 uint8_t petrizolu_sets_open(petrizolu_sets *sets, uint64_t limit, uint64_t size, uint64_t count, const uint64_t *heads, size_t head_words,
                             const uint32_t *slots, size_t slot_words, const uint8_t *cells, size_t cell_bytes);
@@ -187,17 +229,32 @@ uint8_t petrizolu_sets_open(petrizolu_sets *sets, uint64_t limit, uint64_t size,
 /*
  * Gives a section with the PID that it came on, or PETRIZOLU_NO_PID. 5: the set in *row is complete and handed out. 4, 10 to 12, 14 to 17, 20 to
  * 22 else, and *row is not written then.
+ *
+ *     uint64_t row = 0;
+ *     if (petrizolu_sets_push(&sets, heads, sizeof heads / 8, slots, sizeof slots / 4, cells, sizeof cells, pid, section, length, &row) == PETRIZOLU_SET)
+ *         printf("table %02llX\n", (unsigned long long)heads[row * PETRIZOLU_HEAD_WORDS + PETRIZOLU_HEAD_TABLE_ID]);
  */
 uint8_t petrizolu_sets_push(petrizolu_sets *sets, uint64_t *heads, size_t head_words, uint32_t *slots, size_t slot_words, uint8_t *cells,
                             size_t cell_bytes, uint32_t pid, const uint8_t *section, size_t section_length, uint64_t *row);
 
-/* Empties all rows; the eviction count stays. 7, 10. */
+/*
+ * Empties all rows; the eviction count stays. 7, 10.
+ *
+ *     petrizolu_sets_clear(&sets, heads, sizeof heads / 8, slots, sizeof slots / 4, cells, sizeof cells);
+ */
 uint8_t petrizolu_sets_clear(petrizolu_sets *sets, const uint64_t *heads, size_t head_words, const uint32_t *slots, size_t slot_words,
                              const uint8_t *cells, size_t cell_bytes);
 
 /*
  * Has the set in a row another section, its number `from` or more? 8: *next tells of it; go on from next->number + 1. 9: no, or no such row. 10.
  * *next is written with zeros where there is none.
+ *
+ *     petrizolu_section next;
+ *     uint64_t from = 0;
+ *     while (petrizolu_sets_next(&sets, heads, sizeof heads / 8, slots, sizeof slots / 4, cells, sizeof cells, row, from, &next) == PETRIZOLU_YES) {
+ *         fwrite(cells + next.start, 1, next.length, stdout);
+ *         from = next.number + 1;
+ *     }
  */
 uint8_t petrizolu_sets_next(const petrizolu_sets *sets, const uint64_t *heads, size_t head_words, const uint32_t *slots, size_t slot_words,
                             const uint8_t *cells, size_t cell_bytes, uint64_t row, uint64_t from, petrizolu_section *next);
@@ -217,6 +274,13 @@ typedef struct petrizolu_eit {
 /*
  * Opens a collector. As the set collector's, and schedule_heads: PETRIZOLU_HEADS(limit), units: PETRIZOLU_UNITS(limit) elements at least.
  * 7: *eit is written. 13: *eit as before.
+ *
+ *     static uint64_t schedule_heads[PETRIZOLU_HEADS(LIMIT)];
+ *     static uint32_t units[PETRIZOLU_UNITS(LIMIT)];
+ *     petrizolu_eit eit;
+ *     if (petrizolu_eit_open(&eit, LIMIT, SIZE, COUNT, heads, sizeof heads / 8, slots, sizeof slots / 4, cells, sizeof cells, schedule_heads,
+ *                            sizeof schedule_heads / 8, units, sizeof units / 4) != PETRIZOLU_DONE)
+ *         return 1;
  */
 uint8_t petrizolu_eit_open(petrizolu_eit *eit, uint64_t limit, uint64_t size, uint64_t count, const uint64_t *heads, size_t head_words,
                            const uint32_t *slots, size_t slot_words, const uint8_t *cells, size_t cell_bytes, const uint64_t *schedule_heads,
@@ -225,12 +289,20 @@ uint8_t petrizolu_eit_open(petrizolu_eit *eit, uint64_t limit, uint64_t size, ui
 /*
  * Gives an EIT section. 5: the present/following set in row *row is complete. 6: the schedule in row *row of the schedules is complete. 4, 10
  * to 12, 14 to 23 else, and *row is not written then.
+ *
+ *     uint8_t answer = petrizolu_eit_push(&eit, heads, sizeof heads / 8, slots, sizeof slots / 4, cells, sizeof cells, schedule_heads,
+ *                                         sizeof schedule_heads / 8, units, sizeof units / 4, pid, section, length, &row);
  */
 uint8_t petrizolu_eit_push(petrizolu_eit *eit, uint64_t *heads, size_t head_words, uint32_t *slots, size_t slot_words, uint8_t *cells,
                            size_t cell_bytes, uint64_t *schedule_heads, size_t schedule_head_words, uint32_t *units, size_t unit_words,
                            uint32_t pid, const uint8_t *section, size_t section_length, uint64_t *row);
 
-/* Empties all sets and schedules; the eviction counts stay. 7, 10. */
+/*
+ * Empties all sets and schedules; the eviction counts stay. 7, 10.
+ *
+ *     petrizolu_eit_clear(&eit, heads, sizeof heads / 8, slots, sizeof slots / 4, cells, sizeof cells, schedule_heads, sizeof schedule_heads / 8, units,
+ *                         sizeof units / 4);
+ */
 uint8_t petrizolu_eit_clear(petrizolu_eit *eit, const uint64_t *heads, size_t head_words, const uint32_t *slots, size_t slot_words,
                             const uint8_t *cells, size_t cell_bytes, const uint64_t *schedule_heads, size_t schedule_head_words,
                             const uint32_t *units, size_t unit_words);
@@ -245,12 +317,25 @@ typedef struct petrizolu_filter {
     uint64_t current_next;    /* 0 or 1 */
 } petrizolu_filter;
 
-/* Drops each set and each schedule that the filter matches; no eviction is counted. 7; 10 and 12 (an exact PID of 8192 or more): as before. */
+/*
+ * Drops each set and each schedule that the filter matches; no eviction is counted. 7; 10 and 12 (an exact PID of 8192 or more): as before.
+ *
+ *     petrizolu_filter service = {PETRIZOLU_ANY, PETRIZOLU_ANY, 0x0001, PETRIZOLU_ANY, PETRIZOLU_ANY, PETRIZOLU_ANY};
+ *     petrizolu_eit_drop(&eit, heads, sizeof heads / 8, slots, sizeof slots / 4, cells, sizeof cells, schedule_heads, sizeof schedule_heads / 8, units,
+ *                        sizeof units / 4, &service);
+ */
 uint8_t petrizolu_eit_drop(petrizolu_eit *eit, uint64_t *heads, size_t head_words, uint32_t *slots, size_t slot_words, const uint8_t *cells,
                            size_t cell_bytes, uint64_t *schedule_heads, size_t schedule_head_words, uint32_t *units, size_t unit_words,
                            const petrizolu_filter *filter);
 
-/* As petrizolu_sets_next, of a set's row. */
+/*
+ * As petrizolu_sets_next, of a set's row.
+ *
+ *     from = 0;
+ *     while (petrizolu_eit_next(&eit, heads, sizeof heads / 8, slots, sizeof slots / 4, cells, sizeof cells, schedule_heads, sizeof schedule_heads / 8,
+ *                               units, sizeof units / 4, row, from, &next) == PETRIZOLU_YES)
+ *         from = next.number + 1;
+ */
 uint8_t petrizolu_eit_next(const petrizolu_eit *eit, const uint64_t *heads, size_t head_words, const uint32_t *slots, size_t slot_words,
                            const uint8_t *cells, size_t cell_bytes, const uint64_t *schedule_heads, size_t schedule_head_words,
                            const uint32_t *units, size_t unit_words, uint64_t row, uint64_t from, petrizolu_section *next);
@@ -258,6 +343,12 @@ uint8_t petrizolu_eit_next(const petrizolu_eit *eit, const uint64_t *heads, size
 /*
  * The same of one table of the schedule in a row. Tables are counted from the first of the kind: table_id 0x50 or 0x60 is 0. A schedule that was
  * handed out has all tables from 0 to last_table_id - 0x50 or 0x60. 9 where the schedule has not that table.
+ *
+ *     uint64_t table = 0;
+ *     from = 0;
+ *     while (petrizolu_eit_next_in_schedule(&eit, heads, sizeof heads / 8, slots, sizeof slots / 4, cells, sizeof cells, schedule_heads,
+ *                                           sizeof schedule_heads / 8, units, sizeof units / 4, row, table, from, &next) == PETRIZOLU_YES)
+ *         from = next.number + 1;
  */
 uint8_t petrizolu_eit_next_in_schedule(const petrizolu_eit *eit, const uint64_t *heads, size_t head_words, const uint32_t *slots,
                                        size_t slot_words, const uint8_t *cells, size_t cell_bytes, const uint64_t *schedule_heads,

@@ -1,4 +1,4 @@
-//! What `replay` lends the libraries. The original lends nothing, so its answers 10, 12 and 13 are given for it here (D5 of
+//! What the player lends the library. The original lends nothing, so its answers 10, 12 and 13 are given for it here (D5 of
 //! docs/DIFFERENCES.md: no counterpart).
 
 /// Rows of the gate.

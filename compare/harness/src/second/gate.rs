@@ -19,7 +19,7 @@ pub struct Gate {
     keys: Vec<Kept>,
     /// Completed, emitted, suppressed, CRC failures, evictions.
     pub counters: [u64; 5],
-    watched: BTreeSet<u16>,
+    pub watched: BTreeSet<u16>,
     protected: BTreeSet<u16>,
     followed: BTreeSet<u16>,
 }

@@ -87,7 +87,7 @@ impl Second {
                 Answer::Judged(number, self.gate.counters)
             }
             Command::Ask { pid } => Answer::Number(Part::Gate, if self.gate.watches(*pid) { 8 } else { 9 }),
-            Command::Watched => Answer::Watched((0..8192).filter(|&pid| self.gate.watches(pid)).collect()),
+            Command::Watched => Answer::Watched(self.gate.watched.iter().copied().collect()),
             Command::Open { part, limit, cells, size } => {
                 let answer = lent::collector_opening(*limit, *cells, *size);
                 if answer == 7 {
