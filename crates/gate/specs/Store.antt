@@ -1,49 +1,48 @@
--- What opening and offering answer and leave (document 01, "Gate" and "Watched PIDs"), for every gate, every record of counters and every content
+-- What opening and offering answer and leave (docs/RULES.md, "Gate" and "Watched PIDs"), for every gate, every record of counters and every content
 -- of the lent slices. `cond test a b` is a where the test is true, else b.
-use Prim.Native.Nat.{ℕ, _+_, _^_, _<_, _≤_}
+use Prim.Native.Nat.{ℕ, _≤_}
 use mathlib.Core.List.{List}
-use mathlib.Core.Bool.{Bool, true, false, cond, not, _&&_, _||_}
+use mathlib.Core.Bool.{Bool, true, false, cond, _&&_, _||_}
 use lib.ListN.{length, replicate}
-use lib.Dec.{ltb, leb, eqb}
-use Rattle.ring.specs.Rules.{emptyRing}
+use lib.Dec.{ltb, leb}
+use Rattle.ring.specs.Store.{emptyRing}
 use Rattle.ring.specs.Store.{roomOf, Whole, stampOf, seenOf, keysAfter, changesAfter}
 use Rattle.ring.specs.Store.{wholeOf as ringWhole}
 use Rattle.ring.specs.declared.Ring.{Ring}
 use Rattle.ring.specs.declared.Seen.{Seen}
+use Rattle.section.specs.Ids.{originOf}
 use Rattle.section.specs.Key.{keyOf}
+use Rattle.section.specs.declared.ids.Origin.{Origin}
 use Rattle.section.specs.Judged.{judgedOf}
 use Rattle.pat.specs.Pat.{readable, withPrograms}
 use Rattle.section.specs.declared.header.Parts.{Parts}
 use Rattle.section.specs.declared.header.Judged.{Judged}
 use Rattle.section.specs.declared.header.Judged.the-variants.{Short, Mismatch, Sound}
-use Rattle.watched.specs.Store.{openingNo, allPids, filled, following}
-use Rattle.watched.specs.declared.Opening.{Opening}
+use Rattle.watched.specs.Store.{allPids, filled, following}
+use Rattle.answers.specs.Answers.{refusalNo, outcomeNo}
+use Rattle.answers.specs.declared.Refusal.{Refusal}
+use Rattle.answers.specs.declared.Outcome.{Outcome}
+use Rattle.counters.specs.Counters.{zeroes, anyFull, countedOf, failedOf}
+use Rattle.counters.specs.declared.Counters.{Counters}
 use Rattle.gate.specs.declared.Settings.{Settings}
 use Rattle.gate.specs.declared.Gate.{Gate}
-use Rattle.gate.specs.declared.Counters.{Counters}
 use Rattle.gate.specs.declared.Offered.{Offered}
 use Rattle.gate.specs.declared.Opened.{Opened}
 use Rattle.gate.specs.declared.Answer.{Answer}
-use Rattle.gate.specs.declared.Answer.the-variants.{Emitted, Suppressed, CrcFailure, NotWhole, CounterFull, BadPid}
+use Rattle.gate.specs.declared.Answer.the-variants.{Emitted, Suppressed, CrcFailure, Refused}
 
 -- capacity 65,536, repeats off, following on, the well-known PIDs watched
 abbrev pub defaults : Settings
 defaults = record { capacity = 65536; repeats = false; follow = true; «well_known» = true }
 
--- the paper's number of each answer
+-- the number of each answer (docs/RULES.md, "Answers")
 abbrev pub answerNo : Answer → ℕ
 answerNo Emitted = 1
 answerNo Suppressed = 2
 answerNo CrcFailure = 3
-answerNo NotWhole = 10
-answerNo CounterFull = 11
-answerNo BadPid = 12
+answerNo (Refused r) = refusalNo r
 
 -- ---- opening
-
--- a fresh record
-abbrev pub zeroes : Counters
-zeroes = record { completed = 0; emitted = 0; suppressed = 0; «crc_failures» = 0; evictions = 0 }
 
 -- a gate with no rows
 abbrev pub emptyGate : Settings → Gate
@@ -53,10 +52,10 @@ emptyGate s = record { ring = emptyRing (s .capacity); repeats = s .repeats; fol
 abbrev pub hasRoom : ℕ → ℕ → ℕ → ℕ → Bool
 hasRoom capacity keys changes words = leb (roomOf capacity) keys && leb (roomOf capacity) changes && leb 384 words
 
-abbrev pub begun : Opening → Settings → Opened
+abbrev pub begun : Outcome → Settings → Opened
 begun a s = record { answer = a; gate = emptyGate s; counters = zeroes }
 
--- the paper's number of opening's answer, the gate and the counters, and the words of the watch
+-- the number of opening's answer, the gate and the counters, and the words of the watch
 pub record Begun : Type 0 where
   pub answer : ℕ
   pub gate : Gate
@@ -65,7 +64,7 @@ pub record Begun : Type 0 where
 
 -- what opening handed back, with the watch as it left it
 abbrev pub begunBy : Opened → List ℕ → Begun
-begunBy o words = record { answer = openingNo (o .answer); gate = o .gate; counters = o .counters; words = words }
+begunBy o words = record { answer = outcomeNo (o .answer); gate = o .gate; counters = o .counters; words = words }
 
 abbrev pub begins : ℕ → Settings → List ℕ → Begun
 begins answer s words = record { answer = answer; gate = emptyGate s; counters = zeroes; words = words }
@@ -88,21 +87,6 @@ pub record Fits (g : Gate) (keys changes words : ℕ) : Type 0 where
   pub rows : Whole (g .ring) keys changes
   pub watch : 384 ≤ words
 
-abbrev pub isFull : ℕ → Bool
-isFull n = eqb n 18446744073709551615
-
--- 11: a counter is at 2^64 - 1
-abbrev pub anyFull : Counters → Bool
-anyFull c = isFull (c .completed) || isFull (c .emitted) || isFull (c .suppressed) || isFull (c .«crc_failures») || isFull (c .evictions)
-
--- one more of each fits
-pub record CanCount (c : Counters) : Type 0 where
-  pub completed : c .completed + 1 < 2 ^ 64
-  pub emitted : c .emitted + 1 < 2 ^ 64
-  pub suppressed : c .suppressed + 1 < 2 ^ 64
-  pub failures : c .«crc_failures» + 1 < 2 ^ 64
-  pub evictions : c .evictions + 1 < 2 ^ 64
-
 -- a gate, its counters and the words of the three lent slices
 pub record Store : Type 0 where
   pub gate : Gate
@@ -114,43 +98,18 @@ pub record Store : Type 0 where
 abbrev pub storeOf : Gate → Counters → List ℕ → List ℕ → List ℕ → Store
 storeOf g c keys changes words = record { gate = g; counters = c; keys = keys; changes = changes; words = words }
 
--- the paper's number of an answer, and the store that is left
-pub record Left : Type 0 where
+-- the number of an answer, and the store that is left
+pub record Offering : Type 0 where
   pub answer : ℕ
   pub store : Store
 
 -- what a call handed back, with the slices as it left them
-abbrev pub leftBy : Offered → List ℕ → List ℕ → List ℕ → Left
+abbrev pub leftBy : Offered → List ℕ → List ℕ → List ℕ → Offering
 leftBy o keys changes words = record { answer = answerNo (o .answer); store = storeOf (o .gate) (o .counters) keys changes words }
 
-abbrev pub refused : Answer → Gate → Counters → Offered
-refused a g c = record { answer = a; gate = g; counters = c }
-
--- one more where the test is true
-abbrev pub plusOf : ℕ → Bool → ℕ
-plusOf n more = cond more (n + 1) n
-
--- the counters after a section that passed its CRC
-abbrev pub countedOf : Counters → Bool → Bool → Counters
-countedOf c emitted evicted =
-    record {
-      completed = plusOf (c .completed) true;
-      emitted = plusOf (c .emitted) emitted;
-      suppressed = plusOf (c .suppressed) (not emitted);
-      «crc_failures» = c .«crc_failures»;
-      evictions = plusOf (c .evictions) evicted;
-    }
-
--- the counters after a section that did not
-abbrev pub failedOf : Counters → Counters
-failedOf c =
-    record {
-      completed = plusOf (c .completed) true;
-      emitted = c .emitted;
-      suppressed = c .suppressed;
-      «crc_failures» = plusOf (c .«crc_failures») true;
-      evictions = c .evictions;
-    }
+-- a refusal leaves the gate and its counters as they were
+abbrev pub refused : Refusal → Gate → Counters → Offered
+refused r g c = record { answer = Refused r; gate = g; counters = c }
 
 -- 3 touches only completed and CRC failures
 abbrev pub failure : Gate → Counters → Offered
@@ -187,9 +146,9 @@ abbrev pub watchAfter : Bool → List ℕ → List ℕ → List ℕ
 watchAfter follows words section = cond follows (followedPat words section) words
 
 -- a section that passed its CRC, with its parts
-unfoldable pub soundOf : Store → ℕ → List ℕ → Parts → Left
-soundOf s pid section p =
-    let key : ℕ = keyOf pid (p .«table_id») (p .extension) (p .number) in
+unfoldable pub soundOf : Store → Origin → List ℕ → Parts → Offering
+soundOf s from section p =
+    let key : ℕ = keyOf from (p .«table_id») (p .extension) (p .number) in
     let number : ℕ = stampOf (p .version) (p .change) in
     let seen : Seen = seenOf (s .gate .ring) (s .keys) (s .changes) key number in
     leftBy (seenBy (s .gate) (s .counters) seen)
@@ -198,21 +157,21 @@ soundOf s pid section p =
     (watchAfter (seen .changed && s .gate .follow) (s .words) section)
 
 -- a section as the gate judges it
-unfoldable pub judgedAs : Store → ℕ → List ℕ → Judged → Left
-judgedAs s pid section Short = leftBy (failure (s .gate) (s .counters)) (s .keys) (s .changes) (s .words)
-judgedAs s pid section (Mismatch stored worked) = leftBy (failure (s .gate) (s .counters)) (s .keys) (s .changes) (s .words)
-judgedAs s pid section (Sound p) = soundOf s pid section p
+unfoldable pub judgedAs : Store → Origin → List ℕ → Judged → Offering
+judgedAs s from section Short = leftBy (failure (s .gate) (s .counters)) (s .keys) (s .changes) (s .words)
+judgedAs s from section (Mismatch stored worked) = leftBy (failure (s .gate) (s .counters)) (s .keys) (s .changes) (s .words)
+judgedAs s from section (Sound p) = soundOf s from section p
 
-unfoldable pub consideredOf : Store → ℕ → List ℕ → Left
-consideredOf s pid section = judgedAs s pid section (judgedOf section)
+unfoldable pub consideredOf : Store → Origin → List ℕ → Offering
+consideredOf s from section = judgedAs s from section (judgedOf section)
 
 -- every store, PID and section: 10, 11 and 12 leave all as it was
-unfoldable pub offered : Store → ℕ → List ℕ → Left
+unfoldable pub offered : Store → ℕ → List ℕ → Offering
 offered s pid section =
     cond (wholeOf (s .gate) (length (s .keys)) (length (s .changes)) (length (s .words)))
     (cond (anyFull (s .counters))
     (record { answer = 11; store = s })
     (cond (ltb pid 8192)
-    (consideredOf s pid section)
+    (consideredOf s (originOf pid) section)
     (record { answer = 12; store = s })))
     (record { answer = 10; store = s })

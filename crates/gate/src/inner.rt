@@ -1,45 +1,45 @@
 // The gate's parts: what an offer that nothing refuses does, step by step.
 use crate::Answer;
-use crate::Counters;
 use crate::Gate;
 use crate::Offered;
 use crate::Opened;
 use crate::Settings;
+use answers::Outcome;
+use answers::Refusal;
+use counters::Counters;
 use ring::Ring;
 use ring::Seen;
 use section::header::Judged;
 use section::header::Parts;
-use section::ids::Pid;
-use watched::Opening;
+use section::ids::Origin;
 ghost use mathlib.Core.Path.{_≡_};
 ghost use mathlib.Core.Bool.{Bool, true, false};
-ghost use Prim.Native.Nat.{_+_, _<_, _≤_, _^_};
+ghost use Prim.Native.Nat.{_<_, _≤_};
 ghost use lib.ListN.{length};
 ghost use Rattle.ring.specs.Store.{Whole, keysAfter, changesAfter, stampOf};
 ghost use Rattle.section.specs.Key.{keyOf};
 ghost use Rattle.section.specs.Header.{tableId};
-ghost use Rattle.gate.specs.Store.{wholeOf, hasRoom, begun, anyFull, CanCount, Fits, plusOf, countedOf, failedOf, refused, storeOf, leftBy, consideredOf, soundOf, failure, gateWith, emitsOf, answerOf, seenBy, followedPat, watchAfter};
+ghost use Rattle.counters.specs.Counters.{CanCount};
+ghost use Rattle.gate.specs.Store.{wholeOf, hasRoom, begun, Fits, refused, storeOf, leftBy, consideredOf, soundOf, failure, gateWith, emitsOf, answerOf, seenBy, followedPat, watchAfter};
 
-const LAST: u64 = 18446744073709551615;
-
-// Not 10: the ring fits its slices, and the watch has its 384 words.
+// Not 10: the ring fits its slices, and the watch has its words.
 pub fn is_whole(gate: Gate, keys: usize, changes: usize, words: usize) -> bool
     ensures { λ r. ⌜ r ≡ wholeOf gate keys changes words ⌝ }
 {
     let ring = gate.ring;
-    ring::is_whole(ring, keys, changes) & (384 <= words)
+    ring::is_whole(ring, keys, changes) & (watched::WORDS <= words)
 }
 
-// Not 13: a row of each slice for each key that is to be held, and the watch's 384 words.
+// Not 13: a row of each slice for each key that is to be held, and the watch's words.
 pub fn has_room(capacity: u64, keys: usize, changes: usize, words: usize) -> bool
     ensures { λ r. ⌜ r ≡ hasRoom capacity keys changes words ⌝ }
 {
     let all = ring::room(capacity);
-    (all <= keys) & (all <= changes) & (384 <= words)
+    (all <= keys) & (all <= changes) & (watched::WORDS <= words)
 }
 
 // An answer of opening, with the gate that was asked for.
-pub fn begin(answer: Opening, settings: Settings) -> Opened
+pub fn begin(answer: Outcome, settings: Settings) -> Opened
     ensures { λ r. ⌜ r ≡ begun answer settings ⌝ }
 {
     Opened {
@@ -53,76 +53,30 @@ pub fn begin(answer: Opening, settings: Settings) -> Opened
             repeats: settings.repeats,
             follow: settings.follow,
         },
-        counters: Counters {
-            completed: 0,
-            emitted: 0,
-            suppressed: 0,
-            crc_failures: 0,
-            evictions: 0,
-        },
+        counters: counters::fresh(),
     }
 }
 
-// 11: whether one of the five counters is at its end.
-pub fn any_full(c: Counters) -> bool
-    ensures { λ r. ⌜ r ≡ anyFull c ⌝ }
-{
-    (c.completed == LAST)
-        | (c.emitted == LAST)
-        | (c.suppressed == LAST)
-        | (c.crc_failures == LAST)
-        | (c.evictions == LAST)
-}
-
-// An answer that leaves the gate and its counters as they were.
-pub fn unchanged(answer: Answer, gate: Gate, counters: Counters) -> Offered
-    ensures { λ r. ⌜ r ≡ refused answer gate counters ⌝ }
+// A refusal leaves the gate and its counters as they were.
+pub fn refuse(refusal: Refusal, gate: Gate, counters: Counters) -> Offered
+    ensures { λ r. ⌜ r ≡ refused refusal gate counters ⌝ }
 {
     Offered {
-        answer: answer,
+        answer: Answer::Refused(refusal),
         gate: gate,
         counters: counters,
-    }
-}
-
-// One more where the test is true.
-fn plus(n: u64, more: bool) -> u64
-    requires { ⌜ n + 1 < 2 ^ 64 ⌝ }
-    ensures { λ r. ⌜ r ≡ plusOf n more ⌝ }
-{
-    if more { n + 1 } else { n }
-}
-
-// One more section judged by the ring, emitted or suppressed, and one key that left where `evicted`.
-fn counted(c: Counters, emitted: bool, evicted: bool) -> Counters
-    requires { ⌜ CanCount c ⌝ }
-    ensures { λ r. ⌜ r ≡ countedOf c emitted evicted ⌝ }
-{
-    Counters {
-        completed: plus(c.completed, true),
-        emitted: plus(c.emitted, emitted),
-        suppressed: plus(c.suppressed, !emitted),
-        crc_failures: c.crc_failures,
-        evictions: plus(c.evictions, evicted),
     }
 }
 
 // 3: one more section and one more CRC failure, and nothing else.
-pub fn fail(gate: Gate, c: Counters) -> Offered
-    requires { ⌜ CanCount c ⌝ }
-    ensures { λ r. ⌜ r ≡ failure gate c ⌝ }
+pub fn fail(gate: Gate, counters: Counters) -> Offered
+    requires { ⌜ CanCount counters ⌝ }
+    ensures { λ r. ⌜ r ≡ failure gate counters ⌝ }
 {
-    let counters = Counters {
-        completed: plus(c.completed, true),
-        emitted: c.emitted,
-        suppressed: c.suppressed,
-        crc_failures: plus(c.crc_failures, true),
-        evictions: c.evictions,
-    };
     Offered {
         answer: Answer::CrcFailure,
         gate: gate,
-        counters: counters,
+        counters: counters::failed(counters),
     }
 }
 
@@ -150,7 +104,7 @@ pub fn tell(gate: Gate, counters: Counters, seen: Seen) -> Offered
             repeats: gate.repeats,
             follow: gate.follow,
         },
-        counters: counted(counters, emits, seen.evicted),
+        counters: counters::counted(counters, emits, seen.evicted),
     }
 }
 
@@ -183,17 +137,17 @@ fn admit(
     keys: &mut [u64],
     changes: &mut [u64],
     words: &mut [u64],
-    pid: Pid,
+    from: Origin,
     parts: Parts,
     section: &[u8],
 ) -> Offered
     requires { ⌜ CanCount counters ⌝ }
     requires { ⌜ Fits gate (length (now keys)) (length (now changes)) (length (now words)) ⌝ }
     requires { ⌜ parts .«table_id» ≡ tableId (now section) ⌝ }
-    ensures { λ r. ⌜ leftBy r (now (keys .exit)) (now (changes .exit)) (now (words .exit)) ≡ soundOf (storeOf gate counters (now (keys .entry)) (now (changes .entry)) (now (words .entry))) (pid .0) (now (section .entry)) parts ⌝ }
+    ensures { λ r. ⌜ leftBy r (now (keys .exit)) (now (changes .exit)) (now (words .exit)) ≡ soundOf (storeOf gate counters (now (keys .entry)) (now (changes .entry)) (now (words .entry))) from (now (section .entry)) parts ⌝ }
 {
     let ring = gate.ring;
-    let key = section::header::key(pid, parts.table_id, parts.extension, parts.number);
+    let key = section::header::key(from, parts.table_id, parts.extension, parts.number);
     let seen = ring::admit(ring, keys, changes, key, parts.version, parts.change);
     follow_where(
         seen.changed & gate.follow & (parts.table_id == 0),
@@ -210,16 +164,16 @@ pub fn consider(
     keys: &mut [u64],
     changes: &mut [u64],
     words: &mut [u64],
-    pid: Pid,
+    from: Origin,
     section: &[u8],
 ) -> Offered
     requires { ⌜ CanCount counters ⌝ }
     requires { ⌜ Fits gate (length (now keys)) (length (now changes)) (length (now words)) ⌝ }
-    ensures { λ r. ⌜ leftBy r (now (keys .exit)) (now (changes .exit)) (now (words .exit)) ≡ consideredOf (storeOf gate counters (now (keys .entry)) (now (changes .entry)) (now (words .entry))) (pid .0) (now (section .entry)) ⌝ }
+    ensures { λ r. ⌜ leftBy r (now (keys .exit)) (now (changes .exit)) (now (words .exit)) ≡ consideredOf (storeOf gate counters (now (keys .entry)) (now (changes .entry)) (now (words .entry))) from (now (section .entry)) ⌝ }
 {
     match section::header::judge(section) {
         Judged::Short => fail(gate, counters),
         Judged::Mismatch(_, _) => fail(gate, counters),
-        Judged::Sound(parts) => admit(gate, counters, keys, changes, words, pid, parts, section),
+        Judged::Sound(parts) => admit(gate, counters, keys, changes, words, from, parts, section),
     }
 }

@@ -1,9 +1,11 @@
 // The gate: which sections are new and which repeat what was seen, counted, and which PIDs a changed PAT adds to the watch.
 // What is small goes in by value and comes back in the answer; the rows of the ring and the words of the watch are lent.
+use answers::Outcome;
+use answers::Refusal;
+use counters::Counters;
 use ring::Ring;
-use section::ids::Made;
-use section::ids::Pid;
-use watched::Opening;
+use section::ids::Origin;
+use section::ids::OriginMade;
 ghost use mathlib.Core.Path.{_≡_};
 ghost use Prim.Native.Nat.{ℕ};
 ghost use lib.ListN.{length};
@@ -50,22 +52,12 @@ pub struct Gate {
     pub follow: bool,
 }
 
-pub struct Counters {
-    pub completed: u64,
-    pub emitted: u64,
-    pub suppressed: u64,
-    pub crc_failures: u64,
-    pub evictions: u64,
-}
-
-// Document 01's 1, 2, 3, 10, 11 and 12.
+// What an offer answers: 1, 2, 3, or a refusal.
 pub enum Answer {
     Emitted,
     Suppressed,
     CrcFailure,
-    NotWhole,
-    CounterFull,
-    BadPid,
+    Refused(Refusal),
 }
 
 impl Answer {
@@ -76,9 +68,7 @@ impl Answer {
             Answer::Emitted => 1,
             Answer::Suppressed => 2,
             Answer::CrcFailure => 3,
-            Answer::NotWhole => 10,
-            Answer::CounterFull => 11,
-            Answer::BadPid => 12,
+            Answer::Refused(refusal) => refusal.number(),
         }
     }
 }
@@ -90,7 +80,7 @@ pub struct Offered {
 }
 
 pub struct Opened {
-    pub answer: Opening,
+    pub answer: Outcome,
     pub gate: Gate,
     pub counters: Counters,
 }
@@ -107,13 +97,13 @@ pub fn open(
     ensures { λ r. ⌜ begunBy r (now (words .exit)) ≡ opened settings (now (extra .entry)) (length (now (keys .entry))) (length (now (changes .entry))) (now (words .entry)) ⌝ }
 {
     if !watched::inner::pids_good(extra) {
-        return inner::begin(Opening::BadPid, settings);
+        return inner::begin(Outcome::Refused(Refusal::BadPid), settings);
     }
     if !inner::has_room(settings.capacity, keys.len(), changes.len(), words.len()) {
-        return inner::begin(Opening::TooLittle, settings);
+        return inner::begin(Outcome::Refused(Refusal::TooLittle), settings);
     }
     watched::inner::fill(words, settings.well_known, extra);
-    inner::begin(Opening::Opened, settings)
+    inner::begin(Outcome::Done, settings)
 }
 
 // Offers a section that came on a PID, watched or not. Every input has one answer: 10, 11 and 12 change nothing at all.
@@ -129,13 +119,21 @@ pub fn offer(
     ensures { λ r. ⌜ leftBy r (now (keys .exit)) (now (changes .exit)) (now (words .exit)) ≡ offered (storeOf gate counters (now (keys .entry)) (now (changes .entry)) (now (words .entry))) pid (now (section .entry)) ⌝ }
 {
     if !inner::is_whole(gate, keys.len(), changes.len(), words.len()) {
-        return inner::unchanged(Answer::NotWhole, gate, counters);
+        return inner::refuse(Refusal::NotWhole, gate, counters);
     }
-    if inner::any_full(counters) {
-        return inner::unchanged(Answer::CounterFull, gate, counters);
+    if counters::any_full(counters) {
+        return inner::refuse(Refusal::CounterFull, gate, counters);
     }
-    match Pid::make(pid) {
-        Made::One(p) => inner::consider(gate, counters, keys, changes, words, p, section),
-        Made::TooLarge => inner::unchanged(Answer::BadPid, gate, counters),
+    match Origin::make(pid) {
+        OriginMade::One(from) => inner::consider(
+            gate,
+            counters,
+            keys,
+            changes,
+            words,
+            from,
+            section,
+        ),
+        OriginMade::BadPid => inner::refuse(Refusal::BadPid, gate, counters),
     }
 }

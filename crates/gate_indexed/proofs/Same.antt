@@ -12,7 +12,7 @@ use borrow.Author.Tests.{le-leb, leb-true}
 use Rattle.laws.proofs.Tests.{true-and, and-true}
 use Rattle.laws.specs.Runs.{answers, storeAfter}
 use Rattle.ring.specs.Store.{roomOf, stampOf}
-use Rattle.ring.specs.Rules.{memoryAfter}
+use Rattle.ring.specs.View.{memoryAfter}
 use Rattle.ring.proofs.Laws.{whole-test}
 use Rattle.ring.proofs.Order.{opened-reached}
 use Rattle.ring_index.specs.Store.{Index, indexOf, indexBy, clearedBy}
@@ -24,14 +24,18 @@ use Rattle.section.specs.declared.header.Parts.{Parts}
 use Rattle.section.specs.declared.header.Judged.{Judged}
 use Rattle.section.specs.declared.header.Judged.the-variants.{Short, Mismatch, Sound}
 use Rattle.section.proofs.Facts.{judged-change}
-use Rattle.gate.specs.Store.{emptyGate, zeroes, hasRoom, wholeOf, anyFull, Store, storeOf, soundOf, judgedAs, consideredOf, offered}
-use Rattle.gate.specs.Store.{Left as Told, seenBy as answeredBy}
-use Rattle.gate.specs.Rules.{Offer, memoryOf, rowFrom, Opened, storeTells, storeActs, OfBytes}
+use Rattle.gate.specs.Store.{emptyGate, hasRoom, wholeOf, Store, storeOf, soundOf, judgedAs, consideredOf, offered}
+use Rattle.counters.specs.Counters.{zeroes, anyFull}
+use Rattle.section.specs.Ids.{originOf}
+use Rattle.section.specs.declared.ids.Origin.{Origin}
+use Rattle.gate.specs.Store.{Offering as Told, seenBy as answeredBy}
+use Rattle.gate.specs.Rules.{Offer, rowFrom, OfBytes}
+use Rattle.gate.specs.View.{memoryOf, Opened, storeTells, storeActs}
 use Rattle.gate.specs.declared.Settings.{Settings}
 use Rattle.watched.specs.Store.{allPids, filled}
 use Rattle.watched.proofs.Meaning.{length-filled}
 use Rattle.gate.proofs.Order.{follows}
-use Rattle.gate_indexed.specs.Store.{hasRoomFor, Begun, begins, openedBy, wholeBy, Indexed, indexedOf, Left, soundBy, judgedBy, consideredBy, offeredBy}
+use Rattle.gate_indexed.specs.Store.{hasRoomFor, Begun, begins, openedBy, wholeBy, Indexed, indexedOf, Offering, soundBy, judgedBy, consideredBy, offeredBy}
 use Rattle.gate_indexed.specs.Runs.{tellsBy, actsBy}
 
 -- what every store has that came from an opened one
@@ -40,30 +44,31 @@ pub record OpenedBy (s : Indexed) : Type 0 where
   pub kept : Kept (memoryOf (s .store)) (s .index)
 
 -- what the gate with an index answered and left, and what the one without
-pub record Same (l : Left) (k : Told) : Type 0 where
+pub record Same (l : Offering) (k : Told) : Type 0 where
   pub answer : l .answer ≡ k .answer
   pub store : l .left .store ≡ k .store
   pub kept : Kept (memoryOf (k .store)) (l .left .index)
 
-module _ (s : Indexed) (r : OpenedBy s) (pid : ℕ) (section : List ℕ) where
-  sound-same : (p : Parts) → p .change < 2 ^ 32 → Same (soundBy s pid section p) (soundOf (s .store) pid section p)
+module _ (s : Indexed) (r : OpenedBy s) (from : Origin) (section : List ℕ) where
+  sound-same : (p : Parts) → p .change < 2 ^ 32 → Same (soundBy s from section p) (soundOf (s .store) from section p)
   unfolding soundBy soundOf answeredBy memoryAfter
   sound-same p small =
-      let a = seen-same (memoryOf (s .store)) (r .opened .reached) (s .index) (r .kept) (rowFrom pid p .key) (stampOf (p .version) (p .change)) in
-      let b = keys-same (memoryOf (s .store)) (r .opened .reached) (s .index) (r .kept) (rowFrom pid p .key) 0 in
-      let c = changes-same (memoryOf (s .store)) (r .opened .reached) (s .index) (r .kept) (rowFrom pid p .key) (stampOf (p .version) (p .change)) in
+      let a = seen-same (memoryOf (s .store)) (r .opened .reached) (s .index) (r .kept) (rowFrom from p .key) (stampOf (p .version) (p .change)) in
+      let b = keys-same (memoryOf (s .store)) (r .opened .reached) (s .index) (r .kept) (rowFrom from p .key) 0 in
+      let c = changes-same (memoryOf (s .store)) (r .opened .reached) (s .index) (r .kept) (rowFrom from p .key) (stampOf (p .version) (p .change)) in
       record {
         answer = rw a;
         store = rw (a, b, c);
-        kept = sound-after (memoryOf (s .store)) (s .index) (rowFrom pid p) (r .opened .reached) (r .kept) small;
+        kept = sound-after (memoryOf (s .store)) (s .index) (rowFrom from p) (r .opened .reached) (r .kept) small;
       }
 
-  judged-same : Bytes section → (v : Judged) → v ≡ judgedOf section → Same (judgedBy s pid section v) (judgedAs (s .store) pid section v)
+  judged-same : Bytes section → (v : Judged) → v ≡ judgedOf section → Same (judgedBy s from section v) (judgedAs (s .store) from section v)
   unfolding judgedBy judgedAs
   judged-same b Short e = record { answer = refl; store = refl; kept = record { covers = r .kept .covers; holds = r .kept .holds } }
   judged-same b (Mismatch stored worked) e = record { answer = refl; store = refl; kept = record { covers = r .kept .covers; holds = r .kept .holds } }
   judged-same b (Sound p) e = sound-same p (judged-change section b p (sym e))
 
+module _ (s : Indexed) (r : OpenedBy s) (pid : ℕ) (section : List ℕ) where
   -- every offer
   pub offer-same : Bytes section → Same (offeredBy s pid section) (offered (s .store) pid section)
   unfolding offeredBy offered consideredBy consideredOf
@@ -82,10 +87,10 @@ module _ (s : Indexed) (r : OpenedBy s) (pid : ℕ) (section : List ℕ) where
 
       refuse :
           (f k : Bool) →
-          Same (cond f (record { answer = 11; left = s }) (cond k (judgedBy s pid section (judgedOf section)) (record { answer = 12; left = s })))
-          (cond f (record { answer = 11; store = s .store }) (cond k (judgedAs (s .store) pid section (judgedOf section)) (record { answer = 12; store = s .store })))
+          Same (cond f (record { answer = 11; left = s }) (cond k (judgedBy s (originOf pid) section (judgedOf section)) (record { answer = 12; left = s })))
+          (cond f (record { answer = 11; store = s .store }) (cond k (judgedAs (s .store) (originOf pid) section (judgedOf section)) (record { answer = 12; store = s .store })))
       refuse true k = record { answer = refl; store = refl; kept = r .kept }
-      refuse false true = judged-same b (judgedOf section) refl
+      refuse false true = judged-same s r (originOf pid) section b (judgedOf section) refl
       refuse false false = record { answer = refl; store = refl; kept = r .kept }
 
 -- the store that is left came from opening too

@@ -1,4 +1,4 @@
--- What opening and offering answer and leave where the gate's rows have an index (document 01, "Gate" and "Watched PIDs"), for every gate, every
+-- What opening and offering answer and leave where the gate's rows have an index (docs/RULES.md, "Gate" and "Watched PIDs"), for every gate, every
 -- record of counters and every content of the lent slices. As without an index, but that a key is held where the walk from its bucket finds it.
 use Prim.Native.Nat.{ℕ}
 use mathlib.Core.List.{List}
@@ -8,17 +8,21 @@ use lib.Dec.{ltb, leb}
 use Rattle.ring.specs.Store.{roomOf, stampOf}
 use Rattle.ring.specs.declared.Seen.{Seen}
 use Rattle.ring_index.specs.Store.{Covers, Index, indexOf, clearedBy, seenBy, keysBy, changesBy, indexBy}
+use Rattle.section.specs.Ids.{originOf}
 use Rattle.section.specs.Key.{keyOf}
+use Rattle.section.specs.declared.ids.Origin.{Origin}
 use Rattle.section.specs.Judged.{judgedOf}
 use Rattle.section.specs.declared.header.Parts.{Parts}
 use Rattle.section.specs.declared.header.Judged.{Judged}
 use Rattle.section.specs.declared.header.Judged.the-variants.{Short, Mismatch, Sound}
-use Rattle.watched.specs.Store.{openingNo, allPids, filled}
-use Rattle.gate.specs.Store.{answerNo, emptyGate, zeroes, hasRoom, wholeOf, Fits, anyFull, Store, storeOf, failure, watchAfter}
+use Rattle.watched.specs.Store.{allPids, filled}
+use Rattle.answers.specs.Answers.{outcomeNo}
+use Rattle.counters.specs.Counters.{zeroes, anyFull}
+use Rattle.counters.specs.declared.Counters.{Counters}
+use Rattle.gate.specs.Store.{answerNo, emptyGate, hasRoom, wholeOf, Fits, Store, storeOf, failure, watchAfter}
 use Rattle.gate.specs.Store.{seenBy as answeredBy}
 use Rattle.gate.specs.declared.Settings.{Settings}
 use Rattle.gate.specs.declared.Gate.{Gate}
-use Rattle.gate.specs.declared.Counters.{Counters}
 use Rattle.gate.specs.declared.Offered.{Offered}
 use Rattle.gate.specs.declared.Opened.{Opened}
 
@@ -29,7 +33,7 @@ abbrev pub hasRoomFor : ℕ → ℕ → ℕ → ℕ → ℕ → ℕ → Bool
 hasRoomFor capacity keys changes buckets links words =
     hasRoom capacity keys changes words && leb (roomOf capacity) buckets && leb (roomOf capacity) links
 
--- the paper's number of opening's answer, the gate and the counters, the buckets, and the words of the watch
+-- the number of opening's answer, the gate and the counters, the buckets, and the words of the watch
 pub record Begun : Type 0 where
   pub answer : ℕ
   pub gate : Gate
@@ -40,7 +44,7 @@ pub record Begun : Type 0 where
 -- what opening handed back, with the slices as it left them
 abbrev pub begunBy : Opened → List ℕ → List ℕ → Begun
 begunBy o buckets words =
-    record { answer = openingNo (o .answer); gate = o .gate; counters = o .counters; buckets = buckets; words = words }
+    record { answer = outcomeNo (o .answer); gate = o .gate; counters = o .counters; buckets = buckets; words = words }
 
 abbrev pub begins : ℕ → Settings → List ℕ → List ℕ → Begun
 begins answer s buckets words = record { answer = answer; gate = emptyGate s; counters = zeroes; buckets = buckets; words = words }
@@ -74,19 +78,19 @@ pub record Indexed : Type 0 where
 abbrev pub indexedOf : Gate → Counters → List ℕ → List ℕ → Index → List ℕ → Indexed
 indexedOf g c keys changes x words = record { store = storeOf g c keys changes words; index = x }
 
--- the paper's number of an answer, and the store that is left
-pub record Left : Type 0 where
+-- the number of an answer, and the store that is left
+pub record Offering : Type 0 where
   pub answer : ℕ
   pub left : Indexed
 
 -- what a call handed back, with the slices as it left them
-abbrev pub leftBy : Offered → List ℕ → List ℕ → Index → List ℕ → Left
+abbrev pub leftBy : Offered → List ℕ → List ℕ → Index → List ℕ → Offering
 leftBy o keys changes x words = record { answer = answerNo (o .answer); left = indexedOf (o .gate) (o .counters) keys changes x words }
 
 -- a section that passed its CRC, with its parts
-unfoldable pub soundBy : Indexed → ℕ → List ℕ → Parts → Left
-soundBy s pid section p =
-    let key : ℕ = keyOf pid (p .«table_id») (p .extension) (p .number) in
+unfoldable pub soundBy : Indexed → Origin → List ℕ → Parts → Offering
+soundBy s from section p =
+    let key : ℕ = keyOf from (p .«table_id») (p .extension) (p .number) in
     let number : ℕ = stampOf (p .version) (p .change) in
     let seen : Seen = seenBy (s .store .gate .ring) (s .store .keys) (s .store .changes) (s .index) key number in
     leftBy (answeredBy (s .store .gate) (s .store .counters) seen)
@@ -96,25 +100,25 @@ soundBy s pid section p =
     (watchAfter (seen .changed && s .store .gate .follow) (s .store .words) section)
 
 -- 3 changes neither rows nor index nor watch
-abbrev pub failedBy : Indexed → Left
+abbrev pub failedBy : Indexed → Offering
 failedBy s = leftBy (failure (s .store .gate) (s .store .counters)) (s .store .keys) (s .store .changes) (s .index) (s .store .words)
 
 -- a section as the gate judges it
-unfoldable pub judgedBy : Indexed → ℕ → List ℕ → Judged → Left
-judgedBy s pid section Short = failedBy s
-judgedBy s pid section (Mismatch stored worked) = failedBy s
-judgedBy s pid section (Sound p) = soundBy s pid section p
+unfoldable pub judgedBy : Indexed → Origin → List ℕ → Judged → Offering
+judgedBy s from section Short = failedBy s
+judgedBy s from section (Mismatch stored worked) = failedBy s
+judgedBy s from section (Sound p) = soundBy s from section p
 
-unfoldable pub consideredBy : Indexed → ℕ → List ℕ → Left
-consideredBy s pid section = judgedBy s pid section (judgedOf section)
+unfoldable pub consideredBy : Indexed → Origin → List ℕ → Offering
+consideredBy s from section = judgedBy s from section (judgedOf section)
 
 -- every store, PID and section: 10, 11 and 12 leave all as it was
-unfoldable pub offeredBy : Indexed → ℕ → List ℕ → Left
+unfoldable pub offeredBy : Indexed → ℕ → List ℕ → Offering
 offeredBy s pid section =
     cond (wholeBy (s .store .gate) (length (s .store .keys)) (length (s .store .changes)) (length (s .index .buckets)) (length (s .index .links)) (length (s .store .words)))
     (cond (anyFull (s .store .counters))
     (record { answer = 11; left = s })
     (cond (ltb pid 8192)
-    (consideredBy s pid section)
+    (consideredBy s (originOf pid) section)
     (record { answer = 12; left = s })))
     (record { answer = 10; left = s })

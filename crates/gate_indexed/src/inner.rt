@@ -1,18 +1,18 @@
 // The parts of the gate that know its index.
-use gate::Counters;
+use counters::Counters;
 use gate::Gate;
 use gate::Offered;
 use section::header::Judged;
 use section::header::Parts;
-use section::ids::Pid;
+use section::ids::Origin;
 ghost use mathlib.Core.Path.{_≡_};
 ghost use lib.ListN.{length};
 ghost use Rattle.section.specs.Header.{tableId};
 ghost use Rattle.ring_index.specs.Store.{indexOf};
-ghost use Rattle.gate.specs.Store.{CanCount};
+ghost use Rattle.counters.specs.Counters.{CanCount};
 ghost use Rattle.gate_indexed.specs.Store.{hasRoomFor, wholeBy, FitsBy, indexedOf, leftBy, soundBy, consideredBy};
 
-// Not 10: the ring fits its slices, a bucket and a link for each row, and the watch has its 384 words.
+// Not 10: the ring fits its slices, a bucket and a link for each row, and the watch has its words.
 pub fn is_whole(
     gate: Gate,
     keys: usize,
@@ -52,17 +52,17 @@ fn admit(
     buckets: &mut [u64],
     links: &mut [u64],
     words: &mut [u64],
-    pid: Pid,
+    from: Origin,
     parts: Parts,
     section: &[u8],
 ) -> Offered
     requires { ⌜ CanCount counters ⌝ }
     requires { ⌜ FitsBy gate (length (now keys)) (length (now changes)) (length (now buckets)) (length (now links)) (length (now words)) ⌝ }
     requires { ⌜ parts .«table_id» ≡ tableId (now section) ⌝ }
-    ensures { λ r. ⌜ leftBy r (now (keys .exit)) (now (changes .exit)) (indexOf (now (buckets .exit)) (now (links .exit))) (now (words .exit)) ≡ soundBy (indexedOf gate counters (now (keys .entry)) (now (changes .entry)) (indexOf (now (buckets .entry)) (now (links .entry))) (now (words .entry))) (pid .0) (now (section .entry)) parts ⌝ }
+    ensures { λ r. ⌜ leftBy r (now (keys .exit)) (now (changes .exit)) (indexOf (now (buckets .exit)) (now (links .exit))) (now (words .exit)) ≡ soundBy (indexedOf gate counters (now (keys .entry)) (now (changes .entry)) (indexOf (now (buckets .entry)) (now (links .entry))) (now (words .entry))) from (now (section .entry)) parts ⌝ }
 {
     let ring = gate.ring;
-    let key = section::header::key(pid, parts.table_id, parts.extension, parts.number);
+    let key = section::header::key(from, parts.table_id, parts.extension, parts.number);
     let seen = ring_index::admit(
         ring,
         keys,
@@ -90,12 +90,12 @@ pub fn consider(
     buckets: &mut [u64],
     links: &mut [u64],
     words: &mut [u64],
-    pid: Pid,
+    from: Origin,
     section: &[u8],
 ) -> Offered
     requires { ⌜ CanCount counters ⌝ }
     requires { ⌜ FitsBy gate (length (now keys)) (length (now changes)) (length (now buckets)) (length (now links)) (length (now words)) ⌝ }
-    ensures { λ r. ⌜ leftBy r (now (keys .exit)) (now (changes .exit)) (indexOf (now (buckets .exit)) (now (links .exit))) (now (words .exit)) ≡ consideredBy (indexedOf gate counters (now (keys .entry)) (now (changes .entry)) (indexOf (now (buckets .entry)) (now (links .entry))) (now (words .entry))) (pid .0) (now (section .entry)) ⌝ }
+    ensures { λ r. ⌜ leftBy r (now (keys .exit)) (now (changes .exit)) (indexOf (now (buckets .exit)) (now (links .exit))) (now (words .exit)) ≡ consideredBy (indexedOf gate counters (now (keys .entry)) (now (changes .entry)) (indexOf (now (buckets .entry)) (now (links .entry))) (now (words .entry))) from (now (section .entry)) ⌝ }
 {
     match section::header::judge(section) {
         Judged::Short => gate::inner::fail(gate, counters),
@@ -108,7 +108,7 @@ pub fn consider(
             buckets,
             links,
             words,
-            pid,
+            from,
             parts,
             section,
         ),

@@ -1,14 +1,14 @@
 // The gate with an index over its rows: a key is looked up, held and given up in a time that does not grow with the capacity. From an opened store
 // it answers and leaves rows as the gate without an index. What is small goes in by value and comes back in the answer.
-use gate::Answer;
-use gate::Counters;
+use answers::Outcome;
+use answers::Refusal;
+use counters::Counters;
 use gate::Gate;
 use gate::Offered;
 use gate::Opened;
 use gate::Settings;
-use section::ids::Made;
-use section::ids::Pid;
-use watched::Opening;
+use section::ids::Origin;
+use section::ids::OriginMade;
 ghost use mathlib.Core.Path.{_≡_};
 ghost use lib.ListN.{length};
 ghost use Rattle.ring_index.specs.Store.{indexOf};
@@ -30,7 +30,7 @@ pub fn open(
     ensures { λ r. ⌜ begunBy r (now (buckets .exit)) (now (words .exit)) ≡ openedBy settings (now (extra .entry)) (length (now (keys .entry))) (length (now (changes .entry))) (length (now (links .entry))) (now (buckets .entry)) (now (words .entry)) ⌝ }
 {
     if !watched::inner::pids_good(extra) {
-        return gate::inner::begin(Opening::BadPid, settings);
+        return gate::inner::begin(Outcome::Refused(Refusal::BadPid), settings);
     }
     if !inner::has_room(
         settings.capacity,
@@ -40,11 +40,11 @@ pub fn open(
         links.len(),
         words.len(),
     ) {
-        return gate::inner::begin(Opening::TooLittle, settings);
+        return gate::inner::begin(Outcome::Refused(Refusal::TooLittle), settings);
     }
     ring_index::clear(buckets, ring::room(settings.capacity));
     watched::inner::fill(words, settings.well_known, extra);
-    gate::inner::begin(Opening::Opened, settings)
+    gate::inner::begin(Outcome::Done, settings)
 }
 
 // Offers a section that came on a PID, watched or not. Every input has one answer: 10, 11 and 12 change nothing at all.
@@ -69,13 +69,13 @@ pub fn offer(
         links.len(),
         words.len(),
     ) {
-        return gate::inner::unchanged(Answer::NotWhole, gate, counters);
+        return gate::inner::refuse(Refusal::NotWhole, gate, counters);
     }
-    if gate::inner::any_full(counters) {
-        return gate::inner::unchanged(Answer::CounterFull, gate, counters);
+    if counters::any_full(counters) {
+        return gate::inner::refuse(Refusal::CounterFull, gate, counters);
     }
-    match Pid::make(pid) {
-        Made::One(p) => inner::consider(
+    match Origin::make(pid) {
+        OriginMade::One(from) => inner::consider(
             gate,
             counters,
             keys,
@@ -83,9 +83,9 @@ pub fn offer(
             buckets,
             links,
             words,
-            p,
+            from,
             section,
         ),
-        Made::TooLarge => gate::inner::unchanged(Answer::BadPid, gate, counters),
+        OriginMade::BadPid => gate::inner::refuse(Refusal::BadPid, gate, counters),
     }
 }

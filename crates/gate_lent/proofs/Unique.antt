@@ -5,8 +5,8 @@ use Prim.Native.Nat.{ℕ}
 use mathlib.Core.Path.{_≡_, ap}
 use mathlib.Core.List.{List}
 use Rattle.laws.proofs.Unique.{one-result}
-use Rattle.gate.specs.Store.{Store, Left, offered}
-use Rattle.gate.specs.declared.Counters.{Counters}
+use Rattle.gate.specs.Store.{Store, Offering, offered}
+use Rattle.counters.specs.declared.Counters.{Counters}
 use Rattle.gate.proofs.Unique.{answer-one}
 use Rattle.gate_lent.specs.Told.{toldBy}
 use Rattle.gate_lent.specs.declared.Told.{Told}
@@ -16,11 +16,11 @@ pub offer-unique :
     toldBy t c ks ms ws ≡ offered s pid section → toldBy u d ls ns xs ≡ offered s pid section → (t ≡ u) × (c ≡ d) × (ks ≡ ls) × (ms ≡ ns) × (ws ≡ xs)
 offer-unique s pid section t u c d ks ls ms ns ws xs a b =
     let e : toldBy t c ks ms ws ≡ toldBy u d ls ns xs = one-result (offered s pid section) a b in
-    let n : t .answer ≡ u .answer = answer-one (t .answer) (u .answer) (ap (λ (l : Left). l .answer) e) in
-    let g = ap (λ (l : Left). l .store .gate) e in (
+    let n : t .answer ≡ u .answer = answer-one (t .answer) (u .answer) (ap (λ (l : Offering). l .answer) e) in
+    let g = ap (λ (l : Offering). l .store .gate) e in (
       λ i. record { answer = n i; gate = g i },
-      ap (λ (l : Left). l .store .counters) e,
-      ap (λ (l : Left). l .store .keys) e,
-      ap (λ (l : Left). l .store .changes) e,
-      ap (λ (l : Left). l .store .words) e,
+      ap (λ (l : Offering). l .store .counters) e,
+      ap (λ (l : Offering). l .store .keys) e,
+      ap (λ (l : Offering). l .store .changes) e,
+      ap (λ (l : Offering). l .store .words) e,
     )

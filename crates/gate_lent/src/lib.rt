@@ -1,6 +1,6 @@
 // The gate for a host that keeps one record of five counters and lends it: they are counted up where they stand.
+use counters::Counters;
 use gate::Answer;
-use gate::Counters;
 use gate::Gate;
 ghost use mathlib.Core.Path.{_≡_};
 ghost use Rattle.gate.specs.Store.{storeOf, offered};

@@ -3,15 +3,15 @@
 use mathlib.Core.Path.{_≡_}
 use mathlib.Core.List.{List}
 use Prim.Native.Nat.{ℕ}
-use Rattle.watched.specs.declared.Opening.{Opening}
-use Rattle.watched.specs.declared.Opening.the-variants.{Opened}
+use Rattle.answers.specs.declared.Outcome.{Outcome}
+use Rattle.answers.specs.declared.Outcome.the-variants.{Done}
+use Rattle.counters.specs.declared.Counters.{Counters}
 use Rattle.gate.specs.declared.Gate.{Gate}
-use Rattle.gate.specs.declared.Counters.{Counters}
-use Rattle.host_gate.specs.declared.Held.{Held}
-use Rattle.host_gate.specs.Gates.{gateOf, countersOf, heldIn, wordsOf, wordsOpened}
+use Rattle.host_gate.specs.declared.words.Held.{Held}
+use Rattle.host_gate.specs.Words.{gateOf, countersOf, heldIn, wordsOf, wordsOpened}
 
 pub held-are : (w : List ℕ) (g : Gate) (c : Counters) → g ≡ gateOf w → c ≡ countersOf w → _≡_ {A = Held} (record { gate = g; counters = c }) (heldIn w)
 held-are w g c e f = λ i. record { gate = e i; counters = f i }
 
-pub all-written : (a : Opening) (g : Gate) (c : Counters) (w ws : List ℕ) → a ≡ Opened → ws ≡ wordsOf g c → ws ≡ wordsOpened a g c w
+pub all-written : (a : Outcome) (g : Gate) (c : Counters) (w ws : List ℕ) → a ≡ Done → ws ≡ wordsOf g c → ws ≡ wordsOpened a g c w
 all-written a g c w ws h e = rw h e

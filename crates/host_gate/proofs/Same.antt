@@ -6,7 +6,7 @@ use mathlib.Core.List.{List}
 use native.Mathlib.Omega.{arith}
 use lib.ListN.{length}
 use Rattle.host_words.proofs.Same.{word, none}
-use Rattle.host_gate.specs.Gates.{gateOf, countersOf, wordsAfter}
+use Rattle.host_gate.specs.Words.{gateOf, countersOf, wordsAfter}
 
 pub gate-same : (w : List ℕ) → length w ≡ 10 → wordsAfter w (gateOf w) (countersOf w) ≡ w
 gate-same w h =

@@ -2,22 +2,22 @@
 -- Assumes nothing.
 use mathlib.Core.Path.{_≡_, refl, sym, ap, _∙_}
 use mathlib.Core.Logic.{⊎-elim}
-use mathlib.Core.Bool.{Bool, true, false, cond, not, _&&_, _||_}
+use mathlib.Core.Bool.{Bool, true, false, cond, not, _&&_, _||_, or-false}
 use Prim.Native.Nat.{ℕ, suc, _+_, _-_, _/_, _%_, _≤_, _<_}
 use native.Mathlib.Nat.{add-zero}
 use native.Mathlib.Omega.{arith}
 use mathlib.Core.List.{List, [], _∷_}
-use lib.ListN.{length, getD, take, drop, replicate, set, length-drop, length-take, List·getD-eq-default}
+use lib.ListN.{length, getD, take, drop, replicate, set, length-drop, length-take, length-replicate, List·getD-eq-default}
 use lib.Seq.{getD-drop, getD-take, drop-drop}
 use lib.Dec.{leb, eqb}
 use borrow.Author.Tests.{eq-eqb, ne-eqb, le-leb, lt-leb, leb-true, not-true, not-false}
 use Rattle.laws.specs.Bits.{hasBit, addBit, addBits}
-use Rattle.laws.proofs.Bits.{length-addBits, among, InRoom, has-all}
+use Rattle.laws.proofs.Bits.{length-addBits, among, InRoom, has-all, has-none}
 use Rattle.laws.proofs.Tests.{and-true, and-none, lt-or-le}
 use Rattle.section.specs.Header.{byteAt, longForm, sectionLength, word16}
 use Rattle.pat.specs.declared.Pat.the-variants.{Readable, Unreadable}
 use Rattle.section.specs.Facts.{Bytes}
-use Rattle.pat.specs.Pat.{pidOf, programPids, groupsOf, readable, patOf, withPrograms, withGroup}
+use Rattle.pat.specs.Pat.{pidOf, programPids, groupsOf, listed, setN, readable, patOf, withPrograms, withGroup}
 
 -- four bytes and what follows them
 four : (t : List ℕ) → 4 ≤ length t → t ≡ getD t 0 0 ∷ getD t 1 0 ∷ getD t 2 0 ∷ getD t 3 0 ∷ drop 4 t
@@ -125,7 +125,17 @@ has-programs s n q l h = go (readable s)
     go true = has-all n (programPids (groupsOf s)) q (in-room n l (groupsOf s) (bytes-part 8 (length s - 12) s h))
     go false = refl
 
--- 01: a PAT with program 0 at 0x0010 and program 1 at 0x0100, transport stream 1
+-- the bits of the set are N
+listed-among : (q : ℕ) (ps : List ℕ) → among q ps ≡ listed q ps
+listed-among q [] = refl
+listed-among q (p ∷ ps) = ap (λ (b : Bool). eqb q p || b) (listed-among q ps)
+
+pub has-set-n : (s : List ℕ) (q : ℕ) → Bytes s → readable s ≡ true → hasBit (withPrograms s (replicate 128 0)) q ≡ setN s q
+has-set-n s q b r =
+    has-programs s (replicate 128 0) q (length-replicate {A = ℕ} 128 0) b
+    ∙ rw (r, has-none 128 q, listed-among q (programPids (groupsOf s))) (or-false (setN s q))
+
+-- a PAT with program 0 at 0x0010 and program 1 at 0x0100, transport stream 1
 abbrev pub patExample : List ℕ
 patExample =
     0x00 ∷ 0xB0 ∷ 0x11 ∷ 0x00 ∷ 0x01 ∷ 0xC1 ∷ 0x00 ∷ 0x00 ∷ 0x00 ∷ 0x00 ∷ 0xE0 ∷ 0x10 ∷ 0x00 ∷ 0x01 ∷ 0xE1 ∷ 0x00 ∷ 0x9E ∷ 0xA6 ∷ 0x64 ∷ 0x96 ∷ []

@@ -3,7 +3,7 @@
 -- reserved bits, PID (13).
 use Prim.Native.Nat.{ℕ, _+_, _-_, _%_}
 use mathlib.Core.List.{List, [], _∷_}
-use mathlib.Core.Bool.{Bool, cond, _&&_}
+use mathlib.Core.Bool.{Bool, false, cond, _&&_, _||_}
 use lib.ListN.{length, take, drop}
 use lib.Dec.{leb, eqb}
 use Rattle.laws.specs.Bits.{addBit, addBits}
@@ -26,6 +26,15 @@ programPids (a ∷ b ∷ c ∷ d ∷ groups) = cond (eqb (word16 a b) 0) (progra
 -- the bytes between the header and the CRC
 abbrev pub groupsOf : List ℕ → List ℕ
 groupsOf s = take (length s - 12) (drop 8 s)
+
+-- a PID is in a list of them
+abbrev pub listed : ℕ → List ℕ → Bool
+listed pid [] = false
+listed pid (p ∷ ps) = eqb pid p || listed pid ps
+
+-- the set N of a PAT: the PIDs of its programs other than 0
+abbrev pub setN : List ℕ → ℕ → Bool
+setN s pid = listed pid (programPids (groupsOf s))
 
 -- a PAT: at least 12 bytes, table_id 0, long form, as long as its section_length says, and no bytes left over beside the groups
 abbrev pub readable : List ℕ → Bool

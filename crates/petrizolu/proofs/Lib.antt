@@ -1,4 +1,3 @@
-pub mod GateLaws
 pub mod SetLaws
 pub mod EitLaws
 pub mod Refusals

@@ -9,29 +9,16 @@ use lib.ListN.{length}
 use lib.Dec.{ltb, eqb}
 use borrow.Author.Tests.{ne-eqb}
 use Rattle.host_words.specs.Answers as answers
-use Rattle.host_words.specs.Pids.{pidNumber, maybePid}
-use Rattle.host_gate.specs.Gates.{settingsOf, gateOf, countersOf}
+use Rattle.host_words.specs.Pids.{maybePid}
 use Rattle.host_sets.specs.Collectors.{setsOf}
 use Rattle.host_eit.specs.Eits.{eitOf, filterOf}
-use Rattle.host_gate.proofs.Same.{gate-same}
 use Rattle.host_sets.proofs.Same.{sets-same}
 use Rattle.host_eit.proofs.Same.{eit-same}
-use Rattle.ring.specs.Store.{stampOf, seenOf}
-use Rattle.section.specs.Key.{keyOf}
-use Rattle.section.specs.Judged.{judgedOf}
-use Rattle.section.specs.declared.header.Judged.{Judged}
-use Rattle.section.specs.declared.header.Judged.the-variants.{Short, Mismatch, Sound}
-use Rattle.watched.specs.Store.{allPids}
-use Rattle.gate.specs.Store.{answerNo, answerOf, emitsOf, hasRoom, begins, opened, wholeOf, anyFull, Store, storeOf, Left, seenBy, soundOf, judgedAs, consideredOf, offered}
-use Rattle.ring_index.specs.Store.{indexOf}
-use Rattle.ring_index.specs.Store.{seenBy as foundBy}
-use Rattle.gate_indexed.specs.Store as indexed
 use Rattle.rows.specs.Rows.{touched, withMark}
 use Rattle.berths.specs.Berths.{berthOf, tableCount, berthedUnits, tablesThere}
 use Rattle.berths.specs.declared.Berth.{Berth}
 use Rattle.sets.specs.Store as sets
 use Rattle.eit.specs.Store as eit
-use Rattle.gate.specs.declared.Settings.{Settings}
 use Rattle.sets.specs.declared.PushAnswer.the-variants.{Nothing, Set}
 use Rattle.sets.specs.declared.inner.Plan.{Plan}
 use Rattle.sets.specs.declared.inner.Plan.the-variants as plan
@@ -44,149 +31,9 @@ use Rattle.eit.specs.declared.inner.Plan.{Plan as EitPlan}
 use Rattle.eit.specs.declared.inner.Plan.the-variants as eit-plan
 use Rattle.eit.specs.declared.inner.Drop.{Drop}
 use Rattle.eit.specs.declared.inner.Drop.the-variants as drop
-use Rattle.petrizolu.specs.Gates.{begun, begunAs, gateOpened, left, leftAs, gateOffered, indexedBegun, indexedBegunAs, indexedOpened, indexedLeft, indexedLeftAs, indexedOffered}
 use Rattle.petrizolu.specs.Collectors as collectors
 use Rattle.petrizolu.specs.Eits as eits
 use Rattle.petrizolu.proofs.EitLaws.{push-number}
-
--- ---- the gate
-
--- 10, 11 and 12 are told of no section that is considered
-told : (emits : Bool) → answerNo (answerOf emits) < 10
-told true = omega arith
-told false = omega arith
-
-judged : (s : Store) (pid : ℕ) (section : List ℕ) (j : Judged) → (judgedAs s pid section j) .answer < 10
-unfolding judgedAs soundOf seenBy
-judged s pid section Short = omega arith
-judged s pid section (Mismatch a b) = omega arith
-judged s pid section (Sound p) =
-    told (emitsOf (s .gate) (seenOf (s .gate .ring) (s .keys) (s .changes) (keyOf pid (p .«table_id») (p .extension) (p .number)) (stampOf (p .version) (p .change))))
-
-considered : (s : Store) (pid : ℕ) (section : List ℕ) → (consideredOf s pid section) .answer < 10
-unfolding consideredOf
-considered s pid section = judged s pid section (judgedOf section)
-
-picked :
-    (s : Store) (l : Left) → l .answer < 10 → (whole full small : Bool) →
-    10 ≤ (cond whole (cond full (record { answer = 11; store = s }) (cond small l (record { answer = 12; store = s }))) (record { answer = 10; store = s })) .answer →
-    (cond whole (cond full (record { answer = 11; store = s }) (cond small l (record { answer = 12; store = s }))) (record { answer = 10; store = s })) .store ≡ s
-picked s l k false full small h = refl
-picked s l k true true small h = refl
-picked s l k true false false h = refl
-picked s l k true false true h = absurd (omega arith)
-
-pub offer-refused : (s : Store) (pid : ℕ) (section : List ℕ) → 10 ≤ (offered s pid section) .answer → (offered s pid section) .store ≡ s
-unfolding offered
-offer-refused s pid section h =
-    picked s (consideredOf s pid section) (considered s pid section)
-    (wholeOf (s .gate) (length (s .keys)) (length (s .changes)) (length (s .words)))
-    (anyFull (s .counters))
-    (ltb pid 8192)
-    h
-
--- 10, 11 and 12
-pub gate-offer-refused :
-    (gate keys changes watch : List ℕ) (pid : ℕ) (section : List ℕ) (answer : ℕ) → length gate ≡ 10 →
-    answer ≡ (gateOffered gate keys changes watch pid section) .answer → 10 ≤ answer →
-    gateOffered gate keys changes watch pid section ≡ left answer gate keys changes watch
-unfolding gateOffered
-gate-offer-refused gate keys changes watch pid section answer n e h =
-    let s : Store = storeOf (gateOf gate) (countersOf gate) keys changes watch in
-    let l : Left = offered s (pidNumber pid) section in
-    let k : 10 ≤ l .answer = rw (← e) h in
-    go l (offer-refused s (pidNumber pid) section k) e
-  where
-    go :
-        (l : Left) → l .store ≡ storeOf (gateOf gate) (countersOf gate) keys changes watch → answer ≡ l .answer →
-        leftAs gate l ≡ left answer gate keys changes watch
-    go l p e = rw (p, e, gate-same gate n)
-
--- 12 and 13
-pub gate-open-refused :
-    (gate : List ℕ) (capacity settings : ℕ) (extra keys changes watch : List ℕ) (answer : ℕ) →
-    answer ≡ (gateOpened gate capacity settings extra keys changes watch) .answer → (answer ≡ 7 → ⊥) →
-    gateOpened gate capacity settings extra keys changes watch ≡ begun answer gate watch
-unfolding gateOpened opened
-gate-open-refused gate capacity settings extra keys changes watch answer e h =
-    go (settingsOf capacity settings) _ (allPids extra) (hasRoom capacity (length keys) (length changes) (length watch)) e
-  where
-    go :
-        (s : Settings) (ws : List ℕ) (good room : Bool) →
-        answer ≡ (begunAs gate (cond good (cond room (begins 7 s ws) (begins 13 s watch)) (begins 12 s watch))) .answer →
-        begunAs gate (cond good (cond room (begins 7 s ws) (begins 13 s watch)) (begins 12 s watch)) ≡ begun answer gate watch
-    go s ws true true e = absurd (h e)
-    go s ws true false e = rw e
-    go s ws false room e = rw e
-
--- ---- the gate with an index
-
-judged-by : (s : indexed.Indexed) (pid : ℕ) (section : List ℕ) (j : Judged) → (indexed.judgedBy s pid section j) .answer < 10
-unfolding indexed.judgedBy indexed.soundBy seenBy
-judged-by s pid section Short = omega arith
-judged-by s pid section (Mismatch a b) = omega arith
-judged-by s pid section (Sound p) =
-    told
-    (emitsOf (s .store .gate)
-    (foundBy (s .store .gate .ring) (s .store .keys) (s .store .changes) (s .index) (keyOf pid (p .«table_id») (p .extension) (p .number)) (stampOf (p .version) (p .change))))
-
-considered-by : (s : indexed.Indexed) (pid : ℕ) (section : List ℕ) → (indexed.consideredBy s pid section) .answer < 10
-unfolding indexed.consideredBy
-considered-by s pid section = judged-by s pid section (judgedOf section)
-
-picked-by :
-    (s : indexed.Indexed) (l : indexed.Left) → l .answer < 10 → (whole full small : Bool) →
-    10 ≤ (cond whole (cond full (record { answer = 11; left = s }) (cond small l (record { answer = 12; left = s }))) (record { answer = 10; left = s })) .answer →
-    (cond whole (cond full (record { answer = 11; left = s }) (cond small l (record { answer = 12; left = s }))) (record { answer = 10; left = s })) .left ≡ s
-picked-by s l k false full small h = refl
-picked-by s l k true true small h = refl
-picked-by s l k true false false h = refl
-picked-by s l k true false true h = absurd (omega arith)
-
-offer-refused-by :
-    (s : indexed.Indexed) (pid : ℕ) (section : List ℕ) → 10 ≤ (indexed.offeredBy s pid section) .answer → (indexed.offeredBy s pid section) .left ≡ s
-unfolding indexed.offeredBy
-offer-refused-by s pid section h =
-    picked-by s (indexed.consideredBy s pid section) (considered-by s pid section)
-    (indexed.wholeBy (s .store .gate) (length (s .store .keys)) (length (s .store .changes)) (length (s .index .buckets)) (length (s .index .links)) (length (s .store .words)))
-    (anyFull (s .store .counters))
-    (ltb pid 8192)
-    h
-
--- 10, 11 and 12
-pub indexed-offer-refused :
-    (gate keys changes buckets links watch : List ℕ) (pid : ℕ) (section : List ℕ) (answer : ℕ) → length gate ≡ 10 →
-    answer ≡ (indexedOffered gate keys changes buckets links watch pid section) .answer → 10 ≤ answer →
-    indexedOffered gate keys changes buckets links watch pid section ≡ indexedLeft answer gate keys changes buckets links watch
-unfolding indexedOffered
-indexed-offer-refused gate keys changes buckets links watch pid section answer n e h =
-    let s : indexed.Indexed = indexed.indexedOf (gateOf gate) (countersOf gate) keys changes (indexOf buckets links) watch in
-    let l : indexed.Left = indexed.offeredBy s (pidNumber pid) section in
-    let k : 10 ≤ l .answer = rw (← e) h in
-    go l (offer-refused-by s (pidNumber pid) section k) e
-  where
-    go :
-        (l : indexed.Left) → l .left ≡ indexed.indexedOf (gateOf gate) (countersOf gate) keys changes (indexOf buckets links) watch → answer ≡ l .answer →
-        indexedLeftAs gate l ≡ indexedLeft answer gate keys changes buckets links watch
-    go l p e = rw (p, e, gate-same gate n)
-
--- 12 and 13
-pub indexed-open-refused :
-    (gate : List ℕ) (capacity settings : ℕ) (extra keys changes buckets links watch : List ℕ) (answer : ℕ) →
-    answer ≡ (indexedOpened gate capacity settings extra keys changes buckets links watch) .answer → (answer ≡ 7 → ⊥) →
-    indexedOpened gate capacity settings extra keys changes buckets links watch ≡ indexedBegun answer gate buckets watch
-unfolding indexedOpened indexed.openedBy
-indexed-open-refused gate capacity settings extra keys changes buckets links watch answer e h =
-    go (settingsOf capacity settings) _ _ (allPids extra) (indexed.hasRoomFor capacity (length keys) (length changes) (length buckets) (length links) (length watch)) e
-  where
-    go :
-        (s : Settings) (bs ws : List ℕ) (good room : Bool) →
-        answer ≡ (indexedBegunAs gate (cond good (cond room (indexed.begins 7 s bs ws) (indexed.begins 13 s buckets watch)) (indexed.begins 12 s buckets watch))) .answer →
-        indexedBegunAs gate (cond good (cond room (indexed.begins 7 s bs ws) (indexed.begins 13 s buckets watch)) (indexed.begins 12 s buckets watch))
-        ≡ indexedBegun answer gate buckets watch
-    go s bs ws true true e = absurd (h e)
-    go s bs ws true false e = rw e
-    go s bs ws false room e = rw e
 
 -- ---- opening a collector
 

@@ -6,7 +6,6 @@ use mathlib.Core.Path.{_≡_, ap}
 use mathlib.Core.List.{List}
 use Rattle.laws.proofs.Unique.{one-result}
 use Rattle.crc.specs.Crc.{crcOf}
-use Rattle.petrizolu.specs.Gates.{GateBegun, begun, gateOpened, GateLeft, left, gateOffered, watchAsked, IndexedBegun, indexedBegun, indexedOpened, IndexedLeft, indexedLeft, indexedOffered}
 use Rattle.host_words.specs.Answers.{Words, words}
 use Rattle.petrizolu.specs.Collectors.{setsOpened, setsCleared, SetsLeft, setsLeft, setsPushed, setsNext}
 use Rattle.petrizolu.specs.Eits.{eitOpened, eitCleared, EitLeft, eitLeft, eitPushed, EitDropped, eitDroppedTo, eitDropped, eitNext, eitNextIn}
@@ -15,56 +14,6 @@ use Rattle.petrizolu.specs.Eits.{eitOpened, eitCleared, EitLeft, eitLeft
 
 pub unique-crc : (bytes : List ℕ) (r s : ℕ) → r ≡ crcOf bytes → s ≡ crcOf bytes → r ≡ s
 unique-crc bytes r s = one-result (crcOf bytes)
-
--- ---- the gate and the watch
-
-pub unique-gate-open :
-    (gate : List ℕ) (capacity settings : ℕ) (extra keys changes watch : List ℕ) (r s : ℕ) (g h w x : List ℕ) →
-    begun r g w ≡ gateOpened gate capacity settings extra keys changes watch → begun s h x ≡ gateOpened gate capacity settings extra keys changes watch →
-    (r ≡ s) × (g ≡ h) × (w ≡ x)
-unique-gate-open gate capacity settings extra keys changes watch r s g h w x a b =
-    let e : begun r g w ≡ begun s h x = one-result (gateOpened gate capacity settings extra keys changes watch) a b in
-    (ap (λ (l : GateBegun). l .answer) e, ap (λ (l : GateBegun). l .gate) e, ap (λ (l : GateBegun). l .watch) e)
-
-pub unique-gate-offer :
-    (gate keys changes watch : List ℕ) (pid : ℕ) (section : List ℕ) (r s : ℕ) (g h k l m n w x : List ℕ) →
-    left r g k m w ≡ gateOffered gate keys changes watch pid section → left s h l n x ≡ gateOffered gate keys changes watch pid section →
-    (r ≡ s) × (g ≡ h) × (k ≡ l) × (m ≡ n) × (w ≡ x)
-unique-gate-offer gate keys changes watch pid section r s g h k l m n w x a b =
-    let e : left r g k m w ≡ left s h l n x = one-result (gateOffered gate keys changes watch pid section) a b in
-    (ap (λ (t : GateLeft). t .answer) e, ap (λ (t : GateLeft). t .gate) e, ap (λ (t : GateLeft). t .keys) e, ap (λ (t : GateLeft). t .changes) e, ap (λ (t : GateLeft). t .watch) e)
-
-pub unique-watch-ask : (watch : List ℕ) (pid r s : ℕ) → r ≡ watchAsked watch pid → s ≡ watchAsked watch pid → r ≡ s
-unique-watch-ask watch pid r s = one-result (watchAsked watch pid)
-
-pub unique-indexed-open :
-    (gate : List ℕ) (capacity settings : ℕ) (extra keys changes buckets links watch : List ℕ) (r s : ℕ) (g h b c w x : List ℕ) →
-    indexedBegun r g b w ≡ indexedOpened gate capacity settings extra keys changes buckets links watch →
-    indexedBegun s h c x ≡ indexedOpened gate capacity settings extra keys changes buckets links watch →
-    (r ≡ s) × (g ≡ h) × (b ≡ c) × (w ≡ x)
-unique-indexed-open gate capacity settings extra keys changes buckets links watch r s g h b c w x p q =
-    let e : indexedBegun r g b w ≡ indexedBegun s h c x = one-result (indexedOpened gate capacity settings extra keys changes buckets links watch) p q in (
-      ap (λ (t : IndexedBegun). t .answer) e,
-      ap (λ (t : IndexedBegun). t .gate) e,
-      ap (λ (t : IndexedBegun). t .buckets) e,
-      ap (λ (t : IndexedBegun). t .watch) e,
-    )
-
-pub unique-indexed-offer :
-    (gate keys changes buckets links watch : List ℕ) (pid : ℕ) (section : List ℕ) (r s : ℕ) (g h k l m n b c d i w x : List ℕ) →
-    indexedLeft r g k m b d w ≡ indexedOffered gate keys changes buckets links watch pid section →
-    indexedLeft s h l n c i x ≡ indexedOffered gate keys changes buckets links watch pid section →
-    (r ≡ s) × (g ≡ h) × (k ≡ l) × (m ≡ n) × (b ≡ c) × (d ≡ i) × (w ≡ x)
-unique-indexed-offer gate keys changes buckets links watch pid section r s g h k l m n b c d i w x p q =
-    let e : indexedLeft r g k m b d w ≡ indexedLeft s h l n c i x = one-result (indexedOffered gate keys changes buckets links watch pid section) p q in (
-      ap (λ (t : IndexedLeft). t .answer) e,
-      ap (λ (t : IndexedLeft). t .gate) e,
-      ap (λ (t : IndexedLeft). t .keys) e,
-      ap (λ (t : IndexedLeft). t .changes) e,
-      ap (λ (t : IndexedLeft). t .buckets) e,
-      ap (λ (t : IndexedLeft). t .links) e,
-      ap (λ (t : IndexedLeft). t .watch) e,
-    )
 
 -- ---- the set collector
 

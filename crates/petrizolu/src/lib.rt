@@ -1,9 +1,10 @@
 // The library for hosts in C and Rust: every public call as a C function over memory that the host lends. An array comes as a pointer, a slice as a
-// pointer and a count of its elements. Each function takes any content of what is lent, answers document 01's number, and leaves what its promise says.
+// pointer and a count of its elements. Each function takes any content of what is lent, answers the number that docs/RULES.md, "Answers", has, and leaves what its promise says.
 // `include/petrizolu.h` has the words of each array as structs.
 ghost use mathlib.Core.Path.{_≡_};
 ghost use Rattle.crc.specs.Crc.{crcOf};
-ghost use Rattle.petrizolu.specs.Gates.{begun, gateOpened, left, gateOffered, watchAsked, indexedBegun, indexedOpened, indexedLeft, indexedOffered};
+ghost use Rattle.host_gate.specs.Calls.{begun, gateOpened, left, gateOffered, watchAsked};
+ghost use Rattle.host_indexed.specs.Calls as indexed;
 ghost use Rattle.host_words.specs.Answers.{words};
 ghost use Rattle.petrizolu.specs.Collectors.{setsLeft, setsOpened, setsPushed, setsCleared, setsNext};
 ghost use Rattle.petrizolu.specs.Eits.{eitOpened, eitLeft, eitPushed, eitCleared, eitDroppedTo, eitDropped, eitNext, eitNextIn};
@@ -29,9 +30,7 @@ pub extern "C" fn petrizolu_gate_open(
 ) -> u8
     ensures { λ r. ⌜ begun r (now (gate .exit)) (now (watch .exit)) ≡ gateOpened (now (gate .entry)) capacity settings (now (extra .entry)) (now (keys .entry)) (now (changes .entry)) (now (watch .entry)) ⌝ }
 {
-    let asked = host_gate::settings(capacity, settings);
-    let opened = gate::open(asked, extra, keys, changes, watch);
-    host_gate::write_opened(gate, opened)
+    host_gate::open(gate, capacity, settings, extra, keys, changes, watch)
 }
 
 // Offers a section that came on a PID, watched or not: 1, 2, 3, 10, 11 or 12.
@@ -46,18 +45,7 @@ pub extern "C" fn petrizolu_gate_offer(
 ) -> u8
     ensures { λ r. ⌜ left r (now (gate .exit)) (now (keys .exit)) (now (changes .exit)) (now (watch .exit)) ≡ gateOffered (now (gate .entry)) (now (keys .entry)) (now (changes .entry)) (now (watch .entry)) pid (now (section .entry)) ⌝ }
 {
-    let held = host_gate::read(gate);
-    let number = host_words::pids::number(pid);
-    let offered = gate::offer(
-        held.gate,
-        held.counters,
-        keys,
-        changes,
-        watch,
-        number,
-        section,
-    );
-    host_gate::write_offered(gate, offered)
+    host_gate::offer(gate, keys, changes, watch, pid, section)
 }
 
 // Whether a PID is watched: 8, 9, 10 or 12.
@@ -65,7 +53,7 @@ pub extern "C" fn petrizolu_gate_offer(
 pub extern "C" fn petrizolu_watch_ask(watch: &[u64], pid: u32) -> u8
     ensures { λ r. ⌜ r ≡ watchAsked (now (watch .entry)) pid ⌝ }
 {
-    watched::ask(watch, host_words::pids::number(pid)).number()
+    host_gate::ask(watch, pid)
 }
 
 // `petrizolu_gate_open` for a gate with an index over its rows: also the buckets are written.
@@ -81,11 +69,19 @@ pub extern "C" fn petrizolu_indexed_open(
     links: &[u64],
     watch: &mut [u64],
 ) -> u8
-    ensures { λ r. ⌜ indexedBegun r (now (gate .exit)) (now (buckets .exit)) (now (watch .exit)) ≡ indexedOpened (now (gate .entry)) capacity settings (now (extra .entry)) (now (keys .entry)) (now (changes .entry)) (now (buckets .entry)) (now (links .entry)) (now (watch .entry)) ⌝ }
+    ensures { λ r. ⌜ indexed.begun r (now (gate .exit)) (now (buckets .exit)) (now (watch .exit)) ≡ indexed.gateOpened (now (gate .entry)) capacity settings (now (extra .entry)) (now (keys .entry)) (now (changes .entry)) (now (buckets .entry)) (now (links .entry)) (now (watch .entry)) ⌝ }
 {
-    let asked = host_gate::settings(capacity, settings);
-    let opened = gate_indexed::open(asked, extra, keys, changes, buckets, links, watch);
-    host_gate::write_opened(gate, opened)
+    host_indexed::open(
+        gate,
+        capacity,
+        settings,
+        extra,
+        keys,
+        changes,
+        buckets,
+        links,
+        watch,
+    )
 }
 
 // `petrizolu_gate_offer` through the index.
@@ -100,22 +96,9 @@ pub extern "C" fn petrizolu_indexed_offer(
     pid: u32,
     section: &[u8],
 ) -> u8
-    ensures { λ r. ⌜ indexedLeft r (now (gate .exit)) (now (keys .exit)) (now (changes .exit)) (now (buckets .exit)) (now (links .exit)) (now (watch .exit)) ≡ indexedOffered (now (gate .entry)) (now (keys .entry)) (now (changes .entry)) (now (buckets .entry)) (now (links .entry)) (now (watch .entry)) pid (now (section .entry)) ⌝ }
+    ensures { λ r. ⌜ indexed.left r (now (gate .exit)) (now (keys .exit)) (now (changes .exit)) (now (buckets .exit)) (now (links .exit)) (now (watch .exit)) ≡ indexed.gateOffered (now (gate .entry)) (now (keys .entry)) (now (changes .entry)) (now (buckets .entry)) (now (links .entry)) (now (watch .entry)) pid (now (section .entry)) ⌝ }
 {
-    let held = host_gate::read(gate);
-    let number = host_words::pids::number(pid);
-    let offered = gate_indexed::offer(
-        held.gate,
-        held.counters,
-        keys,
-        changes,
-        buckets,
-        links,
-        watch,
-        number,
-        section,
-    );
-    host_gate::write_offered(gate, offered)
+    host_indexed::offer(gate, keys, changes, buckets, links, watch, pid, section)
 }
 
 // Opens a set collector: 7 or 13. A refusal leaves the words as they were; nothing else lent is written.

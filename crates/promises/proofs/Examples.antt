@@ -10,10 +10,13 @@ use Rattle.rules_shared.specs.Slots.{isHeld, present}
 use Rattle.rules_shared.specs.Touch.{oldestGone, room, leaves, count, find, remove, others, evicts, untouched, aside, newest}
 use Rattle.rules_shared.specs.Row.{fresh, fits, start, slotOf, keep, marked, putOver, put}
 use Rattle.laws.specs.Runs.{storeAfter}
+use Rattle.section.specs.Ids.{originOf}
 use Rattle.section.specs.Key.{keyOf}
+use Rattle.watched.specs.Rules.{Watch}
 use Rattle.section.specs.Judged.{judgedOf}
 use Rattle.section.specs.declared.header.Judged.{Judged}
-use Rattle.section.proofs.Examples.{key-small, key-largest, cut-off, all-ones}
+use Rattle.section.proofs.Keys.{key-small, key-largest}
+use Rattle.section.proofs.Examples.{cut-off, all-ones}
 use Rattle.eit_section.proofs.Segment.{as-sent, counted-within, past-last, no-wrap}
 use Rattle.pat.proofs.Laws.{example-pids}
 use Rattle.ring.specs.Rules.{Row, offeredTo, later, atCapacity}
@@ -24,28 +27,28 @@ use Rattle.promises.specs.Examples.{freshGate, heldAfter, gateKeys, coll
 
 -- ---- the gate
 
-says : (m : Manner) (watch : List ℕ) (pid : ℕ) (section : List ℕ) (j : Judged) → pid < 8192 → judgedOf section ≡ j
-    → told m (freshGate watch) (record { pid = pid; section = section }) ≡ judgedIn m (freshGate watch) pid section j
+says : (m : Manner) (watch : Watch) (pid : ℕ) (section : List ℕ) (j : Judged) → pid < 8192 → judgedOf section ≡ j
+    → told m (freshGate watch) (record { pid = pid; section = section }) ≡ judgedIn m (freshGate watch) (originOf pid) section j
 unfolding told
-says m watch pid section j h e = ap (λ (b : Bool). cond b (judgedIn m (freshGate watch) pid section (judgedOf section)) (record { answer = 12; held = freshGate watch })) (lt-ltb pid 8192 h)
-    ∙ ap (judgedIn m (freshGate watch) pid section) e
+says m watch pid section j h e = ap (λ (b : Bool). cond b (judgedIn m (freshGate watch) (originOf pid) section (judgedOf section)) (record { answer = 12; held = freshGate watch })) (lt-ltb pid 8192 h)
+    ∙ ap (judgedIn m (freshGate watch) (originOf pid) section) e
 
 abbrev ones : List ℕ
 ones = 0xFF ∷ 0xFF ∷ 0xFF ∷ 0xFF ∷ []
 
-emitted : (m : Manner) (watch : List ℕ) (pid : ℕ) → pid < 8192 → tells m (freshGate watch) (record { pid = pid; section = ones }) ≡ 1
+emitted : (m : Manner) (watch : Watch) (pid : ℕ) → pid < 8192 → tells m (freshGate watch) (record { pid = pid; section = ones }) ≡ 1
 unfolding tells judgedIn admitted
 emitted m watch pid h = ap (λ (t : Told). t .answer) (says m watch pid ones _ h all-ones)
 
-held : (m : Manner) (watch : List ℕ) (pid : ℕ) → pid < 8192 → map (λ (r : Row). r .key) ((acts m (freshGate watch) (record { pid = pid; section = ones })) .rows) ≡ keyOf pid 0xFF 0 0 ∷ []
+held : (m : Manner) (watch : Watch) (pid : ℕ) → pid < 8192 → map (λ (r : Row). r .key) ((acts m (freshGate watch) (record { pid = pid; section = ones })) .rows) ≡ keyOf (originOf pid) 0xFF 0 0 ∷ []
 unfolding acts judgedIn admitted offeredTo
 held m watch pid h = ap (λ (t : Told). map (λ (r : Row). r .key) (t .held .rows)) (says m watch pid ones _ h all-ones) ∙ go (atCapacity (m .capacity) [])
   where
-    go : (b : Bool) → map (λ (r : Row). r .key) (cond b (later []) [] ++ (record { key = keyOf pid 0xFF 0 0; version = 0; change = 0 } ∷ [])) ≡ keyOf pid 0xFF 0 0 ∷ []
+    go : (b : Bool) → map (λ (r : Row). r .key) (cond b (later []) [] ++ (record { key = keyOf (originOf pid) 0xFF 0 0; version = 0; change = 0 } ∷ [])) ≡ keyOf (originOf pid) 0xFF 0 0 ∷ []
     go true = refl
     go false = refl
 
-fails : (m : Manner) (watch : List ℕ) (pid : ℕ) → pid < 8192 → tells m (freshGate watch) (record { pid = pid; section = 0x02 ∷ 0xB0 ∷ 0x00 ∷ [] }) ≡ 3
+fails : (m : Manner) (watch : Watch) (pid : ℕ) → pid < 8192 → tells m (freshGate watch) (record { pid = pid; section = 0x02 ∷ 0xB0 ∷ 0x00 ∷ [] }) ≡ 3
 unfolding tells judgedIn
 fails m watch pid h = ap (λ (t : Told). t .answer) (says m watch pid (0x02 ∷ 0xB0 ∷ 0x00 ∷ []) _ h cut-off)
 

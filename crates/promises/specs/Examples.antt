@@ -9,18 +9,20 @@ use lib.ListN.{replicate}
 use Rattle.rules_shared.specs.Touch.{Entry}
 use Rattle.rules_shared.specs.Cells.{Settings}
 use Rattle.laws.specs.Runs.{storeAfter}
+use Rattle.section.specs.Ids.{originOf}
 use Rattle.section.specs.Key.{keyOf}
 use Rattle.eit_section.specs.Segment.{segmentEnd}
 use Rattle.pat.specs.Pat.{groupsOf, programPids}
 use Rattle.ring.specs.Rules.{Row, offeredTo}
-use Rattle.gate.specs.Store.{zeroes}
+use Rattle.watched.specs.Rules.{Watch}
+use Rattle.counters.specs.Counters.{zeroes}
 use Rattle.gate.specs.Rules.{Manner, Held, tells, acts}
 use Rattle.rules_sets.specs.Rules.{Key, SetRow, Call, offer, opened}
 use Rattle.rules_sets.specs.Rules.{acts as collects}
 
 -- a gate that was offered nothing yet, with any watch
-abbrev pub freshGate : List ℕ → Held
-freshGate watch = record { rows = []; counters = zeroes; words = watch }
+abbrev pub freshGate : Watch → Held
+freshGate watch = record { rows = []; counters = zeroes; watch = watch }
 
 -- the keys that a gate of this capacity holds in the end, offered these keys one after another
 abbrev pub rowOf : ℕ → Row
@@ -54,20 +56,20 @@ pat =
 
 pub record CheckedExamples : Type 0 where
   -- "PID 0x12, table 0x4E, extension 1, section 0: key 2,736,146"
-  pub key-small : keyOf 0x12 0x4E 1 0 ≡ 2736146
+  pub key-small : keyOf (originOf 0x12) 0x4E 1 0 ≡ 2736146
   -- "all fields largest: 2^45 − 1"
-  pub key-largest : keyOf 8191 255 65535 255 ≡ 2 ^ 45 - 1
+  pub key-largest : keyOf (originOf 8191) 255 65535 255 ≡ 2 ^ 45 - 1
   -- "segment end (start, number, last): (8, 11, 20) 11; (8, 3, 20) 11; (16, 23, 17) 17; (248, 255, 255) 255"
   pub segment-as-sent : segmentEnd 8 11 20 ≡ 11
   pub segment-counted-within : segmentEnd 8 3 20 ≡ 11
   pub segment-past-last : segmentEnd 16 23 17 ≡ 17
   pub segment-at-248 : segmentEnd 248 255 255 ≡ 255
   -- "offering FF FF FF FF first: emitted, key with extension 0 and section 0", on any PID and with any settings
-  pub all-ones-emitted : (m : Manner) (watch : List ℕ) (pid : ℕ) → pid < 8192 → tells m (freshGate watch) (record { pid = pid; section = 0xFF ∷ 0xFF ∷ 0xFF ∷ 0xFF ∷ [] }) ≡ 1
-  pub all-ones-key : (m : Manner) (watch : List ℕ) (pid : ℕ) → pid < 8192
-      → map (λ (r : Row). r .key) ((acts m (freshGate watch) (record { pid = pid; section = 0xFF ∷ 0xFF ∷ 0xFF ∷ 0xFF ∷ [] })) .rows) ≡ keyOf pid 0xFF 0 0 ∷ []
+  pub all-ones-emitted : (m : Manner) (watch : Watch) (pid : ℕ) → pid < 8192 → tells m (freshGate watch) (record { pid = pid; section = 0xFF ∷ 0xFF ∷ 0xFF ∷ 0xFF ∷ [] }) ≡ 1
+  pub all-ones-key : (m : Manner) (watch : Watch) (pid : ℕ) → pid < 8192
+      → map (λ (r : Row). r .key) ((acts m (freshGate watch) (record { pid = pid; section = 0xFF ∷ 0xFF ∷ 0xFF ∷ 0xFF ∷ [] })) .rows) ≡ keyOf (originOf pid) 0xFF 0 0 ∷ []
   -- "02 B0 00: CRC failure"
-  pub cut-off-fails : (m : Manner) (watch : List ℕ) (pid : ℕ) → pid < 8192 → tells m (freshGate watch) (record { pid = pid; section = 0x02 ∷ 0xB0 ∷ 0x00 ∷ [] }) ≡ 3
+  pub cut-off-fails : (m : Manner) (watch : Watch) (pid : ℕ) → pid < 8192 → tells m (freshGate watch) (record { pid = pid; section = 0x02 ∷ 0xB0 ∷ 0x00 ∷ [] }) ≡ 3
   -- "capacity 2, keys A, B, A, C: the gate loses A"; 10, 11 and 12 stand for A, B and C
   pub gate-loses-A : gateKeys 2 (10 ∷ 11 ∷ 10 ∷ 12 ∷ []) ≡ 11 ∷ 12 ∷ []
   -- "the collector with limit 2 loses B"

@@ -4,7 +4,9 @@ use Prim.Native.Nat.{ℕ}
 use mathlib.Core.Path.{_≡_, refl}
 use mathlib.Core.List.{List, [], _∷_}
 use Rattle.ring.specs.Store.{renewed, arrived, seenOf, keysAfter, changesAfter}
-use Rattle.ring.specs.Rules.{Row, offeredTo, Memory, memoryAfter, inOrder, emptyRing}
+use Rattle.ring.specs.Rules.{Row, offeredTo}
+use Rattle.ring.specs.View.{Memory, memoryAfter, inOrder}
+use Rattle.ring.specs.Store.{emptyRing}
 
 -- keys 7, 8 and 9 stand for A, B and C
 abbrev row : ℕ → Row

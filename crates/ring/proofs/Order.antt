@@ -12,7 +12,9 @@ use native.Mathlib.Nat.{mod-lt}
 use native.Mathlib.Numerals.{add-one}
 use native.Mathlib.Omega.{arith}
 use Rattle.ring.specs.Store.{roomOf, Whole, stampOf, rowFor, isKnown, hasFree, freeRow, ringWith, renewed, arrived, seenOf, keysAfter, changesAfter}
-use Rattle.ring.specs.Rules.{Row, holds, has, updated, later, changed, atCapacity, evicts, offeredTo, Memory, memoryAfter, rowAt, rowsOf, turned, inOrder, countKey, Reached, emptyRing}
+use Rattle.ring.specs.Rules.{Row, holds, has, updated, later, changed, atCapacity, evicts, offeredTo, countKey}
+use Rattle.ring.specs.View.{Memory, memoryAfter, rowAt, rowsOf, turned, inOrder, Reached}
+use Rattle.ring.specs.Store.{emptyRing}
 use Rattle.ring.specs.declared.Seen.{Seen}
 use Rattle.ring.proofs.Rows.{count-turned, holds-turned, has-turned, updated-turned, length-turned, count-updated, held-row, has-row, update-row, stamp-row, length-rows, rows-last, rows-set, replace-row, count-later, count-last, held-none, has-none}
 

@@ -14,7 +14,8 @@ use lib.Dec.{ltb, leb, eqb, leb·suc-suc}
 use borrow.Author.Tests.{lt-ltb, eqb-true, eqb-false, eq-eqb, ne-eqb}
 use native.Mathlib.Omega.{arith}
 use Rattle.ring.specs.Store.{rowOf, stampOf}
-use Rattle.ring.specs.Rules.{Row, holds, has, updated, rowAt, rowsOf, turned, later, countKey}
+use Rattle.ring.specs.Rules.{Row, holds, has, updated, later, countKey}
+use Rattle.ring.specs.View.{rowAt, rowsOf, turned}
 
 -- true is not false
 no-way {ℓ} : {A : Type ℓ} → true ≡ false → A

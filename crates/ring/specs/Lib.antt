@@ -1,2 +1,3 @@
-pub mod Store
 pub mod Rules
+pub mod Store
+pub mod View

@@ -1,14 +1,10 @@
--- The gate's memory as document 01 ("Gate") has it: the held keys in order of first arrival, each with its last version and change number.
--- A plain list, with no ring and no room. And the list that a ring over lent memory stands for.
-use Prim.Native.Nat.{ℕ, suc, _/_, _%_, _^_, _<_, _≤_}
-use mathlib.Core.Path.{_≡_}
+-- The gate's memory (docs/RULES.md, "Gate"): the held keys in order of first arrival, each with its last version and change number.
+-- A plain list, with no ring and no room.
+use Prim.Native.Nat.{ℕ, suc}
 use mathlib.Core.List.{List, [], _∷_, _++_}
-use mathlib.Core.Bool.{Bool, true, false, cond, not, _&&_, _||_}
-use lib.ListN.{length, take, drop}
+use mathlib.Core.Bool.{Bool, false, cond, not, _&&_, _||_}
+use lib.ListN.{length}
 use lib.Dec.{ltb, leb, eqb}
-use Rattle.ring.specs.Store.{roomOf, Whole, stampOf, seenOf, keysAfter, changesAfter}
-use Rattle.ring.specs.declared.Ring.{Ring}
-use Rattle.ring.specs.declared.Seen.{Seen}
 
 -- a key with the version and the change number that it came with last
 pub record Row : Type 0 where
@@ -52,50 +48,7 @@ evicts capacity n rows = not (holds (n .key) rows) && atCapacity capacity rows
 unfoldable pub offeredTo : ℕ → Row → List Row → List Row
 offeredTo capacity n rows = cond (holds (n .key) rows) (updated n rows) (cond (atCapacity capacity rows) (later rows) rows ++ (n ∷ []))
 
--- ---- what a ring stands for
-
--- a ring with the words of its lent slices
-pub record Memory : Type 0 where
-  pub ring : Ring
-  pub keys : List ℕ
-  pub changes : List ℕ
-
--- the memory after an offer
-unfoldable pub memoryAfter : Memory → Row → Memory
-memoryAfter m n =
-    record {
-      ring = (seenOf (m .ring) (m .keys) (m .changes) (n .key) (stampOf (n .version) (n .change))) .ring;
-      keys = keysAfter (m .ring) (m .keys) (n .key);
-      changes = changesAfter (m .ring) (m .keys) (m .changes) (n .key) (stampOf (n .version) (n .change));
-    }
-
--- the row that a key and a stored number stand for
-abbrev pub rowAt : ℕ → ℕ → Row
-rowAt k m = record { key = k; version = m / 4294967296; change = m % 4294967296 }
-
-abbrev pub rowsOf : List ℕ → List ℕ → List Row
-rowsOf [] ms = []
-rowsOf (k ∷ ks) [] = []
-rowsOf (k ∷ ks) (m ∷ ms) = rowAt k m ∷ rowsOf ks ms
-
-abbrev pub turned : ℕ → List Row → List Row
-turned first rows = drop first rows ++ take first rows
-
--- the rows in use, from the first in order round
-abbrev pub inOrder : Memory → List Row
-inOrder m = turned (m .ring .first) (rowsOf (take (m .ring .used) (m .keys)) (take (m .ring .used) (m .changes)))
-
 -- how many rows have the key
 abbrev pub countKey : ℕ → List Row → ℕ
 countKey k [] = 0
 countKey k (r ∷ rows) = cond (eqb (r .key) k) (suc (countKey k rows)) (countKey k rows)
-
--- what every memory that came from an opened one has
-pub record Reached (m : Memory) : Type 0 where
-  pub whole : Whole (m .ring) (length (m .keys)) (length (m .changes))
-  pub young : m .ring .used < roomOf (m .ring .capacity) → m .ring .first ≡ 0
-  pub once : (k : ℕ) → countKey k (inOrder m) ≤ 1
-
--- a ring as opening leaves it: no rows
-abbrev pub emptyRing : ℕ → Ring
-emptyRing capacity = record { capacity = capacity; used = 0; first = 0 }

@@ -8,7 +8,7 @@ use lib.Dec.{ltb, leb, eqb}
 use Rattle.ring.specs.declared.Ring.{Ring}
 use Rattle.ring.specs.declared.Seen.{Seen}
 
--- capacity 0 acts as 1 (document 01, "Gate")
+-- capacity 0 acts as 1 (docs/RULES.md, "Gate")
 abbrev pub roomOf : ℕ → ℕ
 roomOf capacity = max 1 capacity
 
@@ -76,3 +76,7 @@ keysAfter g keys key = cond (isKnown g keys key) keys (set keys (freeRow g) key)
 
 unfoldable pub changesAfter : Ring → List ℕ → List ℕ → ℕ → ℕ → List ℕ
 changesAfter g keys changes key number = set changes (cond (isKnown g keys key) (rowFor g keys key) (freeRow g)) number
+
+-- a ring as opening leaves it: no rows
+abbrev pub emptyRing : ℕ → Ring
+emptyRing capacity = record { capacity = capacity; used = 0; first = 0 }

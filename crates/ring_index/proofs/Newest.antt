@@ -14,7 +14,8 @@ use native.Mathlib.Decide.{decLt}
 use native.Mathlib.Omega.{arith}
 use borrow.Author.Tests.{eqb-true, eqb-false, eq-eqb, ne-eqb}
 use Rattle.ring.specs.Store.{rowOf}
-use Rattle.ring.specs.Rules.{rowsOf, countKey}
+use Rattle.ring.specs.Rules.{countKey}
+use Rattle.ring.specs.View.{rowsOf}
 use Rattle.ring_index.specs.Store.{bucketOf}
 use Rattle.ring_index.proofs.Chains.{All, none, more, Lacks, all-append, all-left, all-right, chain, pickOf}
 

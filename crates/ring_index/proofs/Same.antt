@@ -11,7 +11,9 @@ use native.Mathlib.Nat.{mod-lt}
 use native.Mathlib.Omega.{arith}
 use borrow.Author.Tests.{ltb-true, ltb-false, lt-ltb, le-ltb}
 use Rattle.ring.specs.Store.{roomOf, stampOf, rowFor, isKnown, hasFree, ringWith, seenOf, keysAfter, changesAfter}
-use Rattle.ring.specs.Rules.{Row, Memory, memoryAfter, rowsOf, countKey, Reached, emptyRing}
+use Rattle.ring.specs.Rules.{Row, countKey}
+use Rattle.ring.specs.View.{Memory, memoryAfter, rowsOf, Reached}
+use Rattle.ring.specs.Store.{emptyRing}
 use Rattle.ring.specs.declared.Ring.{Ring}
 use Rattle.ring.proofs.Rows.{count-turned}
 use Rattle.ring.proofs.Order.{step, known-memory, more-memory, full-memory, opened-reached}

@@ -2,7 +2,9 @@
 use Prim.Native.Nat.{ℕ, _^_, _<_}
 use mathlib.Core.List.{List, [], _∷_}
 use Rattle.ring.specs.Store.{roomOf, stampOf, seenOf}
-use Rattle.ring.specs.Rules.{Row, Memory, memoryAfter, emptyRing}
+use Rattle.ring.specs.Rules.{Row}
+use Rattle.ring.specs.View.{Memory, memoryAfter}
+use Rattle.ring.specs.Store.{emptyRing}
 use Rattle.ring.specs.declared.Seen.{Seen}
 use Rattle.ring_index.specs.Store.{Index, indexOf, clearedBy, seenBy, keysBy, changesBy, indexBy}
 

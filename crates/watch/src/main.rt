@@ -1,12 +1,13 @@
 // Reads standard input, records of a PID (two bytes, high byte first) and a section, and says of each what the gate makes of it: a line for each
 // record, and the totals last. Default settings but a gate of 512 keys. It holds one record at a time, so an input may be of any length.
+use answers::Refusal;
+use answers::Reply;
+use counters::Counters;
 use gate::Answer;
-use gate::Counters;
 use gate::Gate;
 use gate::Settings;
 use libc::STDIN_FILENO;
 use libc::STDOUT_FILENO;
-use watched::Asked;
 ghost use mathlib.Core.Path.{_≡_};
 ghost use Prim.Native.Nat.{_+_, _≤_, _<_};
 ghost use lib.ListN.{length};
@@ -97,7 +98,15 @@ fn say_totals(c: Counters) -> bool {
     io::write_all(STDOUT_FILENO, b"\n")
 }
 
-// The line of a section that was offered. A gate that was opened here answers neither 10 nor 11; if it did, the run would end.
+// The line of a refused PID. A gate that was opened here refuses nothing else; if it did, the run would end.
+fn say_refusal(refusal: Refusal, pid: u16) -> bool {
+    match refusal {
+        Refusal::BadPid => say_pid(b"badpid ", pid),
+        _ => false,
+    }
+}
+
+// The line of a section that was offered.
 fn say_answer(answer: Answer, pid: u16, section: &[u8]) -> bool
     requires { ⌜ (3 ≤ length (now section)) × (length (now section) ≤ 4098) ⌝ }
 {
@@ -105,9 +114,7 @@ fn say_answer(answer: Answer, pid: u16, section: &[u8]) -> bool
         Answer::Emitted => say_section(b"emitted ", pid, section),
         Answer::Suppressed => say_section(b"suppressed ", pid, section),
         Answer::CrcFailure => say_section(b"crc ", pid, section),
-        Answer::BadPid => say_pid(b"badpid ", pid),
-        Answer::NotWhole => false,
-        Answer::CounterFull => false,
+        Answer::Refused(refusal) => say_refusal(refusal, pid),
     }
 }
 
@@ -130,10 +137,9 @@ fn judge(
     requires { ⌜ (3 ≤ length (now section)) × (length (now section) ≤ 4098) ⌝ }
 {
     match watched::ask(words, pid) {
-        Asked::Yes => offer(gate, counters, keys, changes, words, pid, section),
-        Asked::No => leave(say_pid(b"unwatched ", pid), gate, counters),
-        Asked::BadPid => leave(say_pid(b"badpid ", pid), gate, counters),
-        Asked::NotWhole => leave(false, gate, counters),
+        Reply::Yes => offer(gate, counters, keys, changes, words, pid, section),
+        Reply::No => leave(say_pid(b"unwatched ", pid), gate, counters),
+        Reply::Refused(refusal) => leave(say_refusal(refusal, pid), gate, counters),
     }
 }
 

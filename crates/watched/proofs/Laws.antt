@@ -22,9 +22,12 @@ use Rattle.section.specs.Ids.{knownPids, pidMade}
 use Rattle.section.specs.declared.ids.Pid.{Pid}
 use Rattle.section.specs.declared.ids.Made.{Made}
 use Rattle.section.specs.declared.ids.Made.the-variants.{One, TooLarge}
-use Rattle.watched.specs.declared.Opening.the-variants.{Opened, BadPid, TooLittle}
-use Rattle.watched.specs.declared.Asked.{Asked}
-use Rattle.watched.specs.Store.{allPids, watchedOf, protectedOf, followedOf, laid, noPids, protectedPids, filled, droppedBy, renewedWord, renewed, following, left, opened, asked, askedNo, answerOf}
+use Rattle.answers.specs.Answers.{replyNo}
+use Rattle.answers.specs.declared.Refusal.the-variants.{NotWhole, BadPid, TooLittle}
+use Rattle.answers.specs.declared.Outcome.the-variants as outcome
+use Rattle.answers.specs.declared.Reply.{Reply}
+use Rattle.answers.specs.declared.Reply.the-variants as reply
+use Rattle.watched.specs.Store.{allPids, watchedOf, protectedOf, followedOf, laid, noPids, protectedPids, filled, droppedBy, renewedWord, renewed, following, openingBy, opened, asked, replyOf}
 
 -- ---- PIDs one by one
 
@@ -181,27 +184,27 @@ fill-opened words on extra s n h es en =
 -- ---- the ways out of opening and of the question
 
 module _ (words : List ℕ) (on : Bool) (extra : List ℕ) (b : Bool) (e : b ≡ allPids extra) where
-  pub open-bad : not b ≡ true → left BadPid words ≡ opened words on extra
+  pub open-bad : not b ≡ true → openingBy (outcome.Refused BadPid) words ≡ opened words on extra
   unfolding opened
   open-bad h = rw (← e, not-true b h)
 
-  pub open-little : not b ≡ false → length words < 384 → left TooLittle words ≡ opened words on extra
+  pub open-little : not b ≡ false → length words < 384 → openingBy (outcome.Refused TooLittle) words ≡ opened words on extra
   unfolding opened
   open-little h l = rw (← e, not-false b h, lt-leb 384 (length words) l)
 
-  pub open-good : (w : List ℕ) → not b ≡ false → 384 ≤ length words → w ≡ filled words on extra → left Opened w ≡ opened words on extra
+  pub open-good : (w : List ℕ) → not b ≡ false → 384 ≤ length words → w ≡ filled words on extra → openingBy outcome.Done w ≡ opened words on extra
   unfolding opened
   open-good w h l f = rw (← e, not-false b h, le-leb 384 (length words) l, f)
 
   pub open-judged : not b ≡ false → allPids extra ≡ true
   open-judged h = sym e ∙ not-false b h
 
-pub ask-short : (words : List ℕ) (pid : ℕ) → length words < 384 → 10 ≡ asked words pid
+pub ask-short : (words : List ℕ) (pid : ℕ) → length words < 384 → replyNo (reply.Refused NotWhole) ≡ asked words pid
 unfolding asked
 ask-short words pid h = rw (lt-leb 384 (length words) h)
 
 module _ (words : List ℕ) (pid : ℕ) (m : Made) (h : 384 ≤ length words) (e : m ≡ pidMade pid) where
-  pub ask-bad : m ≡ TooLarge → 12 ≡ asked words pid
+  pub ask-bad : m ≡ TooLarge → replyNo (reply.Refused BadPid) ≡ asked words pid
   unfolding asked
   ask-bad f = rw (le-leb 384 (length words) h, le-ltb pid 8192 (made-none pid m e f))
 
@@ -209,13 +212,13 @@ module _ (words : List ℕ) (pid : ℕ) (m : Made) (h : 384 ≤ length words) (e
     pub ask-room : p .0 / 64 < length words
     ask-room = let g = made-one pid m e p f in omega arith
 
-    pub ask-has : (b : Bool) (a : Asked) → b ≡ hasBit words (p .0) → a ≡ answerOf b → askedNo a ≡ asked words pid
+    pub ask-has : (b : Bool) (a : Reply) → b ≡ hasBit words (p .0) → a ≡ replyOf b → replyNo a ≡ asked words pid
     unfolding asked
     ask-has b a eb ea =
         let g = made-one pid m e p f in
         let s : hasBit (watchedOf words) pid ≡ b = has-first words 128 pid (omega arith) ∙ rw (← g .0) (sym eb) in
         rw (ea, le-leb 384 (length words) h, lt-ltb pid 8192 (g .1), s) (number b)
       where
-        number : (b : Bool) → askedNo (answerOf b) ≡ cond b 8 9
+        number : (b : Bool) → replyNo (replyOf b) ≡ cond b 8 9
         number true = refl
         number false = refl

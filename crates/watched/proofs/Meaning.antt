@@ -3,20 +3,25 @@
 -- Assumes nothing.
 use mathlib.Core.Path.{_≡_, refl, sym, _∙_}
 use mathlib.Core.Bool.{Bool, true, false, _||_, or-false}
-use Prim.Native.Nat.{ℕ, _≤_, _<_}
+use mathlib.Core.Logic.{⊎-elim}
+use Prim.Native.Nat.{ℕ, _/_, _≤_, _<_}
 use native.Mathlib.Omega.{arith}
 use mathlib.Core.List.{List, [], _∷_, _++_, append-assoc}
-use lib.ListN.{length, drop, length-append, length-drop}
+use lib.ListN.{length, drop, length-append, length-drop, List·getD-eq-default}
 use lib.Seq.{take-at, drop-at}
 use lib.Dec.{ltb}
 use borrow.Author.Tests.{ltb-true}
 use Rattle.laws.specs.Bits.{hasBit, addBits, union, less}
 use Rattle.laws.proofs.Bits.{among, InRoom, has-all, has-none, has-union, has-less}
-use Rattle.laws.proofs.Tests.{and-true}
+use Rattle.laws.proofs.Tests.{and-true, lt-or-le}
 use Rattle.section.specs.Ids.{knownPids}
 use Rattle.watched.specs.Store.{watchedOf, protectedOf, followedOf, laid, noPids, allPids, protectedPids, filled, droppedBy, renewed, following}
-use Rattle.watched.specs.Rules.{staysWatched, InStep}
+use Rattle.watched.specs.Rules.{Watch, staysWatched, followedBy}
+use Rattle.watched.specs.View.{watchIn, InStep}
 use Rattle.watched.proofs.Laws.{length-watched, length-protected, length-followed, length-union, length-dropped, length-less, length-renewed, length-protecting, known-good}
+
+has-past : (w : List ℕ) (q : ℕ) → length w ≤ q / 64 → hasBit w q ≡ false
+has-past w q h = rw (List·getD-eq-default w 0 h) (has-none 0 q)
 
 -- ---- three sets that were laid are there
 
@@ -113,10 +118,10 @@ module _ (words n : List ℕ) (h : 384 ≤ length words) (l : length n ≡ 128) 
   length-following = length-laid (renewed words n) (protectedOf words) n words (length-renewed words n h l) (length-protected words h) l h
 
   -- watched after it: former watched minus (former N that is neither in N nor protected), plus N
-  pub following-watched : (q : ℕ) → q < 8192
+  watched-below : (q : ℕ) → q < 8192
       → hasBit (watchedOf (following words n)) q ≡ staysWatched (hasBit (watchedOf words) q) (hasBit (followedOf words) q) (hasBit n q) (hasBit (protectedOf words) q)
   unfolding following renewed
-  following-watched q b =
+  watched-below q b =
       let w = watchedOf words in
       let p = protectedOf words in
       let f = followedOf words in
@@ -135,9 +140,27 @@ module _ (words n : List ℕ) (h : 384 ≤ length words) (l : length n ≡ 128) 
         has-union n p q (l ∙ sym lp) (omega arith),
       )
 
+  -- past the last PID no set has a bit
+  pub following-watched : (q : ℕ)
+      → hasBit (watchedOf (following words n)) q ≡ staysWatched (hasBit (watchedOf words) q) (hasBit (followedOf words) q) (hasBit n q) (hasBit (protectedOf words) q)
+  following-watched q =
+      ⊎-elim
+      (λ (b : q < 8192). watched-below q b)
+      (λ (b : 8192 ≤ q).
+      rw (
+        has-past (watchedOf (following words n)) q (rw (length-watched (following words n) (rw length-following h)) (omega arith)),
+        has-past (watchedOf words) q (rw (length-watched words h) (omega arith)),
+        has-past n q (rw l (omega arith)),
+      ))
+      (lt-or-le q 8192)
+
+  -- the words then stand for what the rule says
+  pub following-shown : watchIn (following words n) ≡ followedBy (hasBit n) (watchIn words)
+  following-shown = λ i. record { watched = λ q. following-watched q i; protected = λ q. hasBit (following-protected i) q; followed = λ q. hasBit (following-followed i) q }
+
   pub following-in-step : InStep words → InStep (following words n)
   following-in-step s q b =
-      rw (following-watched q b, following-protected, following-followed, s q b)
+      rw (following-watched q, following-protected, following-followed, s q b)
       (still (hasBit (protectedOf words) q) (hasBit (followedOf words) q) (hasBit n q))
     where
       still : (p f n : Bool) → staysWatched (p || f) f n p ≡ p || n

@@ -1,4 +1,4 @@
--- The three sets in the 384 lent words, and exactly what each call answers and leaves, for every content (01, "Watched PIDs").
+-- The three sets in the 384 lent words, and exactly what each call answers and leaves, for every content (docs/RULES.md, "Watched PIDs").
 -- `cond test a b` is a where the test is true, else b. A set is 128 words: PID p is bit p % 64 of word p / 64.
 use Prim.Native.Nat.{ℕ}
 use mathlib.Core.List.{List, [], _∷_, _++_}
@@ -8,22 +8,10 @@ use lib.Dec.{ltb, leb}
 use lib.Bits.{bitOr}
 use Rattle.laws.specs.Bits.{hasBit, addBits, union, without, less}
 use Rattle.section.specs.Ids.{knownPids}
-use Rattle.watched.specs.declared.Opening.{Opening}
-use Rattle.watched.specs.declared.Opening.the-variants.{Opened, BadPid, TooLittle}
-use Rattle.watched.specs.declared.Asked.{Asked}
-use Rattle.watched.specs.declared.Asked.the-variants.{Yes, No, NotWhole, BadPid as BadPidAsked}
-
--- 01's number of each answer
-abbrev pub openingNo : Opening → ℕ
-openingNo Opened = 7
-openingNo BadPid = 12
-openingNo TooLittle = 13
-
-abbrev pub askedNo : Asked → ℕ
-askedNo Yes = 8
-askedNo No = 9
-askedNo NotWhole = 10
-askedNo BadPidAsked = 12
+use Rattle.answers.specs.Answers.{outcomeNo}
+use Rattle.answers.specs.declared.Outcome.{Outcome}
+use Rattle.answers.specs.declared.Reply.{Reply}
+use Rattle.answers.specs.declared.Reply.the-variants.{Yes, No}
 
 -- the sets in the words
 abbrev pub watchedOf : List ℕ → List ℕ
@@ -57,16 +45,16 @@ unfoldable pub filled : List ℕ → Bool → List ℕ → List ℕ
 filled words wellKnown extra =
     laid (addBits noPids (protectedPids wellKnown extra)) (addBits noPids (protectedPids wellKnown extra)) noPids words
 
--- an answer's number, and the words as the call left them
-pub record Left : Type 0 where
+-- the number that an opening answers, and the words as it leaves them
+pub record Opening : Type 0 where
   pub answer : ℕ
   pub words : List ℕ
 
-abbrev pub left : Opening → List ℕ → Left
-left r words = record { answer = openingNo r; words = words }
+abbrev pub openingBy : Outcome → List ℕ → Opening
+openingBy r words = record { answer = outcomeNo r; words = words }
 
 -- opening: 12, then 13, each with the words as before; else 7
-unfoldable pub opened : List ℕ → Bool → List ℕ → Left
+unfoldable pub opened : List ℕ → Bool → List ℕ → Opening
 opened words wellKnown extra =
     cond (allPids extra)
     (cond (leb 384 (length words))
@@ -79,8 +67,8 @@ unfoldable pub asked : List ℕ → ℕ → ℕ
 asked words pid = cond (leb 384 (length words)) (cond (ltb pid 8192) (cond (hasBit (watchedOf words) pid) 8 9) 12) 10
 
 -- yes where the PID is watched
-abbrev pub answerOf : Bool → Asked
-answerOf watched = cond watched Yes No
+abbrev pub replyOf : Bool → Reply
+replyOf watched = cond watched Yes No
 
 -- following n drops what was followed and is neither in n nor protected
 abbrev pub droppedBy : List ℕ → List ℕ → List ℕ

@@ -1,22 +1,22 @@
-use Rattle.gate.proofs.Laws.{fits, can-count, offered-broken, offered-full, offered-pid, offered-considered}
+use Rattle.gate.proofs.Laws.{fits, offered-broken, offered-full, offered-pid, offered-considered}
 use borrow.Author.Needs.{needs}
 use Rattle.gate.proofs.offer.Statement.{statement}
 use Rattle.gate.proofs.offer.Tie as tie
 use Rattle.gate.proofs.offer.Reads as reads
 use Rattle.gate.proofs.offer.Lts as lts
-use Rattle.gate.proofs.inner.any_full.Reads as any-full-reads
+use Rattle.counters.proofs.any_full.Reads as any-full-reads
 use Rattle.gate.proofs.inner.consider.Reads as consider-reads
 use Rattle.gate.proofs.inner.is_whole.Reads as is-whole-reads
-use Rattle.gate.proofs.inner.unchanged.Reads as unchanged-reads
-use Rattle.section.proofs.ids.Pid.make.Reads as make-reads
+use Rattle.gate.proofs.inner.refuse.Reads as refuse-reads
+use Rattle.section.proofs.ids.Origin.make.Reads as make-reads
 
 -- src/lib.rt:103:9
 is-whole-requires : tie.Need-is-whole-requires
 is-whole-requires c κs = search needs
 
 -- src/lib.rt:104:9
-unchanged-requires : tie.Need-unchanged-requires
-unchanged-requires c κs = search needs
+refuse-requires : tie.Need-refuse-requires
+refuse-requires c κs = search needs
 
 -- src/lib.rt:104:9
 returns : tie.Need-returns
@@ -27,8 +27,8 @@ any-full-requires : tie.Need-any-full-requires
 any-full-requires c κs = search needs
 
 -- src/lib.rt:107:9
-unchanged-requires-2 : tie.Need-unchanged-requires-2
-unchanged-requires-2 c κs = search needs
+refuse-requires-2 : tie.Need-refuse-requires-2
+refuse-requires-2 c κs = search needs
 
 -- src/lib.rt:107:9
 returns-2 : tie.Need-returns-2
@@ -39,20 +39,20 @@ make-requires : tie.Need-make-requires
 make-requires c κs = search needs
 
 -- src/lib.rt:110:19
-enum-known-p : tie.Need-enum-known-p
-enum-known-p c = search needs
+enum-known-from : tie.Need-enum-known-from
+enum-known-from c = search needs
 
 -- src/lib.rt:110:25
 consider-requires : tie.Need-consider-requires
-consider-requires c κs = (search can-count, fits (c .before .before .before .before .before .before .before .before .before .before .before .before .before .before .before .args .gate) _ _ _ _ (c .before .before .before .before .before .before .before .before .before .before .is-whole .ensures) (c .before .before .before .before .before .before .before .before .before .if1 .left))
+consider-requires c κs = (c .before .before .before .before .before .before .before .before .any-full .ensures .1 (c .before .before .before .before .before .before .before .if2 .left), fits (c .before .before .before .before .before .before .before .before .before .before .before .before .before .before .before .args .gate) _ _ _ _ (c .before .before .before .before .before .before .before .before .before .before .is-whole .ensures) (c .before .before .before .before .before .before .before .before .before .if1 .left))
 
 -- src/lib.rt:111:44
 enum-told : tie.Need-enum-told
 enum-told c = search needs
 
 -- src/lib.rt:111:27
-unchanged-requires-3 : tie.Need-unchanged-requires-3
-unchanged-requires-3 c κs = search needs
+refuse-requires-3 : tie.Need-refuse-requires-3
+refuse-requires-3 c κs = search needs
 
 -- src/lib.rt:92:1
 same-length : tie.Need-same-length
@@ -79,16 +79,16 @@ offer-spec =
     tie.close
     (tie.spec
     is-whole-requires
-    unchanged-requires
+    refuse-requires
     returns
     any-full-requires
-    unchanged-requires-2
+    refuse-requires-2
     returns-2
     make-requires
-    enum-known-p
+    enum-known-from
     consider-requires
     enum-told
-    unchanged-requires-3
+    refuse-requires-3
     same-length
     same-length-2
     same-length-3

@@ -1,24 +1,23 @@
 use Rattle.ring_index.specs.Store.{indexOf}
-use Rattle.gate.proofs.Laws.{can-count}
 use Rattle.gate_indexed.proofs.Laws.{fits-by, offered-broken, offered-full, offered-pid, offered-considered}
 use borrow.Author.Needs.{needs}
 use Rattle.gate_indexed.proofs.offer.Statement.{statement}
 use Rattle.gate_indexed.proofs.offer.Tie as tie
 use Rattle.gate_indexed.proofs.offer.Reads as reads
 use Rattle.gate_indexed.proofs.offer.Lts as lts
-use Rattle.gate.proofs.inner.any_full.Reads as any-full-reads
-use Rattle.gate.proofs.inner.unchanged.Reads as unchanged-reads
+use Rattle.counters.proofs.any_full.Reads as any-full-reads
+use Rattle.gate.proofs.inner.refuse.Reads as refuse-reads
 use Rattle.gate_indexed.proofs.inner.consider.Reads as consider-reads
 use Rattle.gate_indexed.proofs.inner.is_whole.Reads as is-whole-reads
-use Rattle.section.proofs.ids.Pid.make.Reads as make-reads
+use Rattle.section.proofs.ids.Origin.make.Reads as make-reads
 
 -- src/lib.rt:57:9
 is-whole-requires : tie.Need-is-whole-requires
 is-whole-requires c κs = search needs
 
 -- src/lib.rt:58:9
-unchanged-requires : tie.Need-unchanged-requires
-unchanged-requires c κs = search needs
+refuse-requires : tie.Need-refuse-requires
+refuse-requires c κs = search needs
 
 -- src/lib.rt:58:9
 returns : tie.Need-returns
@@ -29,8 +28,8 @@ any-full-requires : tie.Need-any-full-requires
 any-full-requires c κs = search needs
 
 -- src/lib.rt:61:9
-unchanged-requires-2 : tie.Need-unchanged-requires-2
-unchanged-requires-2 c κs = search needs
+refuse-requires-2 : tie.Need-refuse-requires-2
+refuse-requires-2 c κs = search needs
 
 -- src/lib.rt:61:9
 returns-2 : tie.Need-returns-2
@@ -41,20 +40,20 @@ make-requires : tie.Need-make-requires
 make-requires c κs = search needs
 
 -- src/lib.rt:64:19
-enum-known-p : tie.Need-enum-known-p
-enum-known-p c = search needs
+enum-known-from : tie.Need-enum-known-from
+enum-known-from c = search needs
 
 -- src/lib.rt:64:25
 consider-requires : tie.Need-consider-requires
-consider-requires c κs = (search (can-count, c .before .before .before .before .before .before .before .before .before .before .before .before .before .before .before .before .before .before .before .good .1 .0), fits-by (c .before .before .before .before .before .before .before .before .before .before .before .before .before .before .before .before .before .before .before .args .gate) _ _ _ _ _ _ (c .before .before .before .before .before .before .before .before .before .before .before .before .is-whole .ensures) (c .before .before .before .before .before .before .before .before .before .before .before .if1 .left))
+consider-requires c κs = (c .before .before .before .before .before .before .before .before .before .before .any-full .ensures .1 (c .before .before .before .before .before .before .before .before .before .if2 .left), fits-by (c .before .before .before .before .before .before .before .before .before .before .before .before .before .before .before .before .before .before .before .args .gate) _ _ _ _ _ _ (c .before .before .before .before .before .before .before .before .before .before .before .before .is-whole .ensures) (c .before .before .before .before .before .before .before .before .before .before .before .if1 .left))
 
 -- src/lib.rt:65:50
 enum-told : tie.Need-enum-told
 enum-told c = search needs
 
 -- src/lib.rt:65:27
-unchanged-requires-3 : tie.Need-unchanged-requires-3
-unchanged-requires-3 c κs = search needs
+refuse-requires-3 : tie.Need-refuse-requires-3
+refuse-requires-3 c κs = search needs
 
 -- src/lib.rt:44:1
 same-length : tie.Need-same-length
@@ -79,7 +78,7 @@ same-length-5 c = search needs
 -- src/lib.rt:44:1
 returns-3 : tie.Need-returns-3
 returns-3 c = let a = c .before .before .before .before .before .before .before .before .before .before .before .before .before .before .before .before .before .before .before .before .before .before .before .before .before .before .before .before .before .before .args in
-    search (offered-considered (a .gate) (a .counters) (a .keys .now) (a .changes .now) (indexOf (a .buckets .now) (a .links .now)) (a .words .now) (a .pid) (a .section .now) (c .before .before .before .before .before .before .before .before .before .before .before .before .before .before .before .before .before .before .before .before .before .before .before .is-whole .result) (c .before .before .before .before .before .before .before .before .before .before .before .before .before .before .before .before .before .before .before .before .before .before .before .is-whole .ensures) (c .before .before .before .before .before .before .before .before .before .before .before .before .before .before .before .before .before .before .before .before .before .before .if1 .left) (c .before .before .before .before .before .before .before .before .before .before .before .before .before .before .before .before .before .before .before .before .before .any-full .result) (c .before .before .before .before .before .before .before .before .before .before .before .before .before .before .before .before .before .before .before .before .before .any-full .ensures) (c .before .before .before .before .before .before .before .before .before .before .before .before .before .before .before .before .before .before .before .before .if2 .left) (c .before .before .before .before .before .before .before .before .before .before .before .before .before .before .before .before .before .before .before .make .result) (c .before .before .before .before .before .before .before .before .before .before .before .before .before .before .before .before .before .before .before .make .ensures), c .before .before .before .before .before .before .before .before .before .before .before .before .before .before .before .before .known-told .given, c .before .before .before .before .before .before .before .before .before .before .consider .ensures)
+    search (offered-considered (a .gate) (a .counters) (a .keys .now) (a .changes .now) (indexOf (a .buckets .now) (a .links .now)) (a .words .now) (a .pid) (a .section .now) (c .before .before .before .before .before .before .before .before .before .before .before .before .before .before .before .before .before .before .before .before .before .before .before .is-whole .result) (c .before .before .before .before .before .before .before .before .before .before .before .before .before .before .before .before .before .before .before .before .before .before .before .is-whole .ensures) (c .before .before .before .before .before .before .before .before .before .before .before .before .before .before .before .before .before .before .before .before .before .before .if1 .left) (c .before .before .before .before .before .before .before .before .before .before .before .before .before .before .before .before .before .before .before .before .before .any-full .result) (c .before .before .before .before .before .before .before .before .before .before .before .before .before .before .before .before .before .before .before .before .before .any-full .ensures .0) (c .before .before .before .before .before .before .before .before .before .before .before .before .before .before .before .before .before .before .before .before .if2 .left) (c .before .before .before .before .before .before .before .before .before .before .before .before .before .before .before .before .before .before .before .make .result) (c .before .before .before .before .before .before .before .before .before .before .before .before .before .before .before .before .before .before .before .make .ensures), c .before .before .before .before .before .before .before .before .before .before .before .before .before .before .before .before .known-told .given, c .before .before .before .before .before .before .before .before .before .before .consider .ensures)
 
 -- src/lib.rt:44:1
 returns-4 : tie.Need-returns-4
@@ -90,16 +89,16 @@ offer-spec =
     tie.close
     (tie.spec
     is-whole-requires
-    unchanged-requires
+    refuse-requires
     returns
     any-full-requires
-    unchanged-requires-2
+    refuse-requires-2
     returns-2
     make-requires
-    enum-known-p
+    enum-known-from
     consider-requires
     enum-told
-    unchanged-requires-3
+    refuse-requires-3
     same-length
     same-length-2
     same-length-3

@@ -44,13 +44,13 @@ use denote.Triple.Clauses.{ensured, lasts}
 use denote.Exit.{yes}
 use Rattle.gate.specs.Store.{storeOf, leftBy, offered}
 use Rattle.gate.specs.declared.Gate.{Gate}
-use Rattle.gate.specs.declared.Counters.{Counters}
+use Rattle.counters.specs.declared.Counters.{Counters}
 use Rattle.gate.specs.declared.Offered.{Offered}
 use Rattle.gate.proofs.Answer.Laws as R′
 use Rattle.gate.proofs.Gate as G
 use Rattle.gate.proofs.Gate.Laws as G′
-use Rattle.gate.proofs.Counters as N
-use Rattle.gate.proofs.Counters.Laws as N′
+use Rattle.counters.proofs.Counters as N
+use Rattle.counters.proofs.Counters.Laws as N′
 use Rattle.gate.proofs.Offered as O
 use Rattle.gate.proofs.Offered.Laws as O′
 use Rattle.gate.proofs.offer as by-value

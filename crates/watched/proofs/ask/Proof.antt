@@ -19,8 +19,8 @@ enum-known-p c = search needs
 has-requires : tie.Need-has-requires
 has-requires c κs = search ask-room
 
-of-requires : tie.Need-of-requires
-of-requires c κs = search needs
+reply-requires : tie.Need-reply-requires
+reply-requires c κs = search needs
 
 returns-2 : tie.Need-returns-2
 returns-2 c = search ask-bad
@@ -37,6 +37,6 @@ ask-spec =
     enum-told
     enum-known-p
     has-requires
-    of-requires
+    reply-requires
     returns-2
     returns-3)

@@ -40,7 +40,7 @@ same-length-3 c = search needs
 -- src/inner.rt:143:1
 returns : tie.Need-returns
 returns c = let a = c .before .before .before .before .before .before .before .before .before .before .before .before .before .before .before .before .before .before .before .before .before .args in
-    sound-told (a .gate) (a .counters) (a .keys .now) (a .changes .now) (a .words .now) (a .pid .0) (a .section .now) (a .parts) _ _ _ _ _ _ (c .before .before .before .before .before .before .before .before .before .before .before .before .before .before .before .before .before .before .before .before .before .pre .1 .1)
+    sound-told (a .gate) (a .counters) (a .keys .now) (a .changes .now) (a .words .now) (a .from) (a .section .now) (a .parts) _ _ _ _ _ _ (c .before .before .before .before .before .before .before .before .before .before .before .before .before .before .before .before .before .before .before .before .before .pre .1 .1)
     (c .before .before .before .before .before .before .before .before .before .before .before .before .before .before .before .key .ensures) (c .before .before .before .before .before .before .before .before .before .before .before .before .admit .ensures .0) (c .before .before .before .before .before .before .before .before .before .before .before .before .admit .ensures .1 .0) (c .before .before .before .before .before .before .before .before .before .before .before .before .admit .ensures .1 .1) (c .before .before .before .follow-where .ensures) (c .tell .ensures)
 
 pub admit-spec : {M : Type 1} → statement M

@@ -5,7 +5,7 @@ use Rattle.gate.proofs.inner.tell.Tie as tie
 use Rattle.gate.proofs.inner.tell.Reads as reads
 use Rattle.gate.proofs.inner.tell.Lts as lts
 use Rattle.gate.proofs.inner.answered.Reads as answered-reads
-use Rattle.gate.proofs.inner.counted.Reads as counted-reads
+use Rattle.counters.proofs.counted.Reads as counted-reads
 
 -- src/inner.rt:109:17
 answered-requires : tie.Need-answered-requires

@@ -49,7 +49,7 @@ same-length-5 c = search needs
 -- src/inner.rt:33:1
 returns : tie.Need-returns
 returns c = let a = c .before .before .before .before .before .before .before .before .before .before .before .before .before .before .before .before .before .before .before .before .before .before .before .before .before .before .before .before .before .args in
-    sound-told (a .gate) (a .counters) (a .keys .now) (a .changes .now) (indexOf (a .buckets .now) (a .links .now)) (a .words .now) (a .pid .0) (a .section .now) (a .parts) _ _ _ _ _ _ _ (c .before .before .before .before .before .before .before .before .before .before .before .before .before .before .before .before .before .before .before .before .before .before .before .before .before .before .before .before .before .pre .1 .1) (c .before .before .before .before .before .before .before .before .before .before .before .before .before .before .before .before .before .before .before .before .before .key .ensures) (c .before .before .before .before .before .before .before .before .before .before .before .before .before .before .before .before .admit .ensures .0) (c .before .before .before .before .before .before .before .before .before .before .before .before .before .before .before .before .admit .ensures .1 .0) (c .before .before .before .before .before .before .before .before .before .before .before .before .before .before .before .before .admit .ensures .1 .1 .0) (c .before .before .before .before .before .before .before .before .before .before .before .before .before .before .before .before .admit .ensures .1 .1 .1) (c .before .before .before .follow-where .ensures) (c .tell .ensures)
+    sound-told (a .gate) (a .counters) (a .keys .now) (a .changes .now) (indexOf (a .buckets .now) (a .links .now)) (a .words .now) (a .from) (a .section .now) (a .parts) _ _ _ _ _ _ _ (c .before .before .before .before .before .before .before .before .before .before .before .before .before .before .before .before .before .before .before .before .before .before .before .before .before .before .before .before .before .pre .1 .1) (c .before .before .before .before .before .before .before .before .before .before .before .before .before .before .before .before .before .before .before .before .before .key .ensures) (c .before .before .before .before .before .before .before .before .before .before .before .before .before .before .before .before .admit .ensures .0) (c .before .before .before .before .before .before .before .before .before .before .before .before .before .before .before .before .admit .ensures .1 .0) (c .before .before .before .before .before .before .before .before .before .before .before .before .before .before .before .before .admit .ensures .1 .1 .0) (c .before .before .before .before .before .before .before .before .before .before .before .before .before .before .before .before .admit .ensures .1 .1 .1) (c .before .before .before .follow-where .ensures) (c .tell .ensures)
 
 pub admit-spec : {M : Type 1} → statement M
 admit-spec =

@@ -1,0 +1,31 @@
+-- What a gate over lent memory stands for, and its calls one after another.
+use Prim.Native.Nat.{ℕ, _≤_}
+use lib.ListN.{length}
+use Rattle.ring.specs.View.{Memory, inOrder, Reached}
+use Rattle.watched.specs.View.{watchIn}
+use Rattle.gate.specs.Rules.{Offer, Manner, Held, Told}
+use Rattle.gate.specs.Store.{Store, Offering, offered}
+use Rattle.gate.specs.declared.Gate.{Gate}
+
+abbrev pub mannerOf : Gate → Manner
+mannerOf g = record { capacity = g .ring .capacity; repeats = g .repeats; follow = g .follow }
+
+abbrev pub memoryOf : Store → Memory
+memoryOf s = record { ring = s .gate .ring; keys = s .keys; changes = s .changes }
+
+abbrev pub heldBy : Store → Held
+heldBy s = record { rows = inOrder (memoryOf s); counters = s .counters; watch = watchIn (s .words) }
+
+abbrev pub shownBy : Offering → Told
+shownBy l = record { answer = l .answer; held = heldBy (l .store) }
+
+-- what every store has that came from an opened one
+pub record Opened (s : Store) : Type 0 where
+  pub reached : Reached (memoryOf s)
+  pub watch : 384 ≤ length (s .words)
+
+unfoldable pub storeTells : Store → Offer → ℕ
+storeTells s o = (offered s (o .pid) (o .section)) .answer
+
+unfoldable pub storeActs : Store → Offer → Store
+storeActs s o = (offered s (o .pid) (o .section)) .store

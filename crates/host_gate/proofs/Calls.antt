@@ -1,0 +1,57 @@
+-- What each call of the gate and of the watch leaves, from what its parts leave.
+-- Assumes nothing.
+use Prim.Native.Nat.{ℕ, _≤_}
+use mathlib.Core.Path.{_≡_, refl, sym, ap}
+use mathlib.Core.List.{List}
+use mathlib.Core.Bool.{cond}
+use native.Mathlib.Omega.{arith}
+use lib.ListN.{length}
+use lib.Dec.{eqb}
+use borrow.Author.Tests.{ltb-false, ne-eqb}
+use Rattle.answers.specs.Answers.{refusalNo, outcomeNo, replyNo}
+use Rattle.answers.specs.declared.Outcome.{Outcome}
+use Rattle.answers.specs.declared.Outcome.the-variants as outcome
+use Rattle.answers.specs.declared.Reply.{Reply}
+use Rattle.answers.proofs.Laws.{refused-from-10}
+use Rattle.counters.specs.declared.Counters.{Counters}
+use Rattle.watched.specs.Store.{asked}
+use Rattle.gate.specs.Store.{begunBy, opened, leftBy, storeOf, offered}
+use Rattle.gate.specs.declared.Settings.{Settings}
+use Rattle.gate.specs.declared.Gate.{Gate}
+use Rattle.gate.specs.declared.Opened.{Opened}
+use Rattle.gate.specs.declared.Offered.{Offered}
+use Rattle.host_words.specs.Pids.{pidNumber}
+use Rattle.host_words.specs.Answers.{Words, words}
+use Rattle.host_gate.specs.Words.{settingsOf, heldIn, wordsOf, wordsOpened, tellsOpened, tellsOffered}
+use Rattle.host_gate.specs.Calls.{begun, gateOpened, left, gateOffered, watchAsked}
+use Rattle.host_gate.specs.declared.words.Held.{Held}
+
+pub opened-words : (a : Outcome) (g : Gate) (c : Counters) (w : List ℕ) → wordsOpened a g c w ≡ cond (eqb (outcomeNo a) 7) (wordsOf g c) w
+opened-words outcome.Done g c w = refl
+opened-words (outcome.Refused r) g c w =
+    let h : 10 ≤ refusalNo r = ltb-false (refusalNo r) 10 (refused-from-10 r) in
+    rw (ne-eqb (refusalNo r) 7 (omega arith))
+
+pub gate-opened :
+    (gate : List ℕ) (capacity settings : ℕ) (extra keys changes watch : List ℕ) (s : Settings) (o : Opened) (ws gs : List ℕ) (r : ℕ) →
+    s ≡ settingsOf capacity settings →
+    begunBy o ws ≡ opened s extra (length keys) (length changes) watch →
+    words r gs ≡ tellsOpened o gate →
+    begun r gs ws ≡ gateOpened gate capacity settings extra keys changes watch
+unfolding gateOpened
+gate-opened gate capacity settings extra keys changes watch s o ws gs r e f t =
+    rw (← e, ← f, ap (λ (x : Words). x .answer) t, ap (λ (x : Words). x .now) t, opened-words (o .answer) (o .gate) (o .counters) gate)
+
+pub gate-offered :
+    (gate keys changes watch : List ℕ) (pid : ℕ) (section : List ℕ) (h : Held) (p : ℕ) (o : Offered) (ks ms ws gs : List ℕ) (r : ℕ) →
+    h ≡ heldIn gate → p ≡ pidNumber pid →
+    leftBy o ks ms ws ≡ offered (storeOf (h .gate) (h .counters) keys changes watch) p section →
+    words r gs ≡ tellsOffered o gate →
+    left r gs ks ms ws ≡ gateOffered gate keys changes watch pid section
+unfolding gateOffered
+gate-offered gate keys changes watch pid section h p o ks ms ws gs r d e f t =
+    rw (ap (λ (x : Held). x .gate) (sym d), ap (λ (x : Held). x .counters) (sym d), ← e, ← f, ap (λ (x : Words). x .answer) t, ap (λ (x : Words). x .now) t)
+
+pub watch-asked : (watch : List ℕ) (pid p : ℕ) (a : Reply) (r : ℕ) → p ≡ pidNumber pid → replyNo a ≡ asked watch p → r ≡ replyNo a → r ≡ watchAsked watch pid
+unfolding watchAsked
+watch-asked watch pid p a r e f n = rw (← e, ← f) n

@@ -1,0 +1,92 @@
+-- A refusal leaves every word that is lent as it was, whatever the words hold. An array of n words is a list of length n.
+-- Assumes nothing.
+use Prim.Native.Nat.{ℕ, _≤_, _<_}
+use mathlib.Core.Path.{_≡_, refl}
+use mathlib.Core.List.{List}
+use mathlib.Core.Bool.{Bool, true, false, cond}
+use native.Mathlib.Omega.{arith}
+use lib.ListN.{length}
+use lib.Dec.{ltb}
+use Rattle.ring.specs.Store.{stampOf, seenOf}
+use Rattle.section.specs.Ids.{originOf}
+use Rattle.section.specs.Key.{keyOf}
+use Rattle.section.specs.Judged.{judgedOf}
+use Rattle.section.specs.declared.ids.Origin.{Origin}
+use Rattle.section.specs.declared.header.Judged.{Judged}
+use Rattle.section.specs.declared.header.Judged.the-variants.{Short, Mismatch, Sound}
+use Rattle.watched.specs.Store.{allPids}
+use Rattle.counters.specs.Counters.{anyFull}
+use Rattle.gate.specs.Store.{answerNo, answerOf, emitsOf, hasRoom, begins, opened, wholeOf, Store, storeOf, Offering, seenBy, soundOf, judgedAs, consideredOf, offered}
+use Rattle.gate.specs.declared.Settings.{Settings}
+use Rattle.host_words.specs.Pids.{pidNumber}
+use Rattle.host_gate.specs.Words.{settingsOf, gateOf, countersOf}
+use Rattle.host_gate.specs.Calls.{begun, begunAs, gateOpened, left, leftAs, gateOffered}
+use Rattle.host_gate.proofs.Same.{gate-same}
+
+-- 10, 11 and 12 are told of no section that is considered
+pub told : (emits : Bool) → answerNo (answerOf emits) < 10
+told true = omega arith
+told false = omega arith
+
+judged : (s : Store) (from : Origin) (section : List ℕ) (j : Judged) → (judgedAs s from section j) .answer < 10
+unfolding judgedAs soundOf seenBy
+judged s from section Short = omega arith
+judged s from section (Mismatch a b) = omega arith
+judged s from section (Sound p) =
+    told (emitsOf (s .gate) (seenOf (s .gate .ring) (s .keys) (s .changes) (keyOf from (p .«table_id») (p .extension) (p .number)) (stampOf (p .version) (p .change))))
+
+considered : (s : Store) (from : Origin) (section : List ℕ) → (consideredOf s from section) .answer < 10
+unfolding consideredOf
+considered s from section = judged s from section (judgedOf section)
+
+picked :
+    (s : Store) (l : Offering) → l .answer < 10 → (whole full small : Bool) →
+    10 ≤ (cond whole (cond full (record { answer = 11; store = s }) (cond small l (record { answer = 12; store = s }))) (record { answer = 10; store = s })) .answer →
+    (cond whole (cond full (record { answer = 11; store = s }) (cond small l (record { answer = 12; store = s }))) (record { answer = 10; store = s })) .store ≡ s
+picked s l k false full small h = refl
+picked s l k true true small h = refl
+picked s l k true false false h = refl
+picked s l k true false true h = absurd (omega arith)
+
+pub offer-refused : (s : Store) (pid : ℕ) (section : List ℕ) → 10 ≤ (offered s pid section) .answer → (offered s pid section) .store ≡ s
+unfolding offered
+offer-refused s pid section h =
+    picked s (consideredOf s (originOf pid) section) (considered s (originOf pid) section)
+    (wholeOf (s .gate) (length (s .keys)) (length (s .changes)) (length (s .words)))
+    (anyFull (s .counters))
+    (ltb pid 8192)
+    h
+
+-- 10, 11 and 12
+pub gate-offer-refused :
+    (gate keys changes watch : List ℕ) (pid : ℕ) (section : List ℕ) (answer : ℕ) → length gate ≡ 10 →
+    answer ≡ (gateOffered gate keys changes watch pid section) .answer → 10 ≤ answer →
+    gateOffered gate keys changes watch pid section ≡ left answer gate keys changes watch
+unfolding gateOffered
+gate-offer-refused gate keys changes watch pid section answer n e h =
+    let s : Store = storeOf (gateOf gate) (countersOf gate) keys changes watch in
+    let l : Offering = offered s (pidNumber pid) section in
+    let k : 10 ≤ l .answer = rw (← e) h in
+    go l (offer-refused s (pidNumber pid) section k) e
+  where
+    go :
+        (l : Offering) → l .store ≡ storeOf (gateOf gate) (countersOf gate) keys changes watch → answer ≡ l .answer →
+        leftAs gate l ≡ left answer gate keys changes watch
+    go l p e = rw (p, e, gate-same gate n)
+
+-- 12 and 13
+pub gate-open-refused :
+    (gate : List ℕ) (capacity settings : ℕ) (extra keys changes watch : List ℕ) (answer : ℕ) →
+    answer ≡ (gateOpened gate capacity settings extra keys changes watch) .answer → (answer ≡ 7 → ⊥) →
+    gateOpened gate capacity settings extra keys changes watch ≡ begun answer gate watch
+unfolding gateOpened opened
+gate-open-refused gate capacity settings extra keys changes watch answer e h =
+    go (settingsOf capacity settings) _ (allPids extra) (hasRoom capacity (length keys) (length changes) (length watch)) e
+  where
+    go :
+        (s : Settings) (ws : List ℕ) (good room : Bool) →
+        answer ≡ (begunAs gate (cond good (cond room (begins 7 s ws) (begins 13 s watch)) (begins 12 s watch))) .answer →
+        begunAs gate (cond good (cond room (begins 7 s ws) (begins 13 s watch)) (begins 12 s watch)) ≡ begun answer gate watch
+    go s ws true true e = absurd (h e)
+    go s ws true false e = rw e
+    go s ws false room e = rw e

@@ -1,0 +1,27 @@
+-- Each call has one answer and one content of each array and slice that is lent, for every input: two answers and exit contents that meet its
+-- promise are equal.
+-- Assumes nothing.
+use Prim.Native.Nat.{ℕ}
+use mathlib.Core.Path.{_≡_, ap}
+use mathlib.Core.List.{List}
+use Rattle.laws.proofs.Unique.{one-result}
+use Rattle.host_gate.specs.Calls.{GateBegun, begun, gateOpened, GateLeft, left, gateOffered, watchAsked}
+
+pub unique-gate-open :
+    (gate : List ℕ) (capacity settings : ℕ) (extra keys changes watch : List ℕ) (r s : ℕ) (g h w x : List ℕ) →
+    begun r g w ≡ gateOpened gate capacity settings extra keys changes watch → begun s h x ≡ gateOpened gate capacity settings extra keys changes watch →
+    (r ≡ s) × (g ≡ h) × (w ≡ x)
+unique-gate-open gate capacity settings extra keys changes watch r s g h w x a b =
+    let e : begun r g w ≡ begun s h x = one-result (gateOpened gate capacity settings extra keys changes watch) a b in
+    (ap (λ (l : GateBegun). l .answer) e, ap (λ (l : GateBegun). l .gate) e, ap (λ (l : GateBegun). l .watch) e)
+
+pub unique-gate-offer :
+    (gate keys changes watch : List ℕ) (pid : ℕ) (section : List ℕ) (r s : ℕ) (g h k l m n w x : List ℕ) →
+    left r g k m w ≡ gateOffered gate keys changes watch pid section → left s h l n x ≡ gateOffered gate keys changes watch pid section →
+    (r ≡ s) × (g ≡ h) × (k ≡ l) × (m ≡ n) × (w ≡ x)
+unique-gate-offer gate keys changes watch pid section r s g h k l m n w x a b =
+    let e : left r g k m w ≡ left s h l n x = one-result (gateOffered gate keys changes watch pid section) a b in
+    (ap (λ (t : GateLeft). t .answer) e, ap (λ (t : GateLeft). t .gate) e, ap (λ (t : GateLeft). t .keys) e, ap (λ (t : GateLeft). t .changes) e, ap (λ (t : GateLeft). t .watch) e)
+
+pub unique-watch-ask : (watch : List ℕ) (pid r s : ℕ) → r ≡ watchAsked watch pid → s ≡ watchAsked watch pid → r ≡ s
+unique-watch-ask watch pid r s = one-result (watchAsked watch pid)

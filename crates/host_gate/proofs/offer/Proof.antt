@@ -1,0 +1,55 @@
+use Rattle.host_gate.proofs.Calls.{gate-offered}
+use borrow.Author.Needs.{needs}
+use Rattle.host_gate.proofs.offer.Statement.{statement}
+use Rattle.host_gate.proofs.offer.Tie as tie
+use Rattle.host_gate.proofs.offer.Reads as reads
+use Rattle.host_gate.proofs.offer.Lts as lts
+use Rattle.host_gate.proofs.words.read.Reads as read-reads
+use Rattle.host_gate.proofs.words.write_offered.Reads as write-offered-reads
+use Rattle.host_words.proofs.pids.number.Reads as number-reads
+use Rattle.gate.proofs.offer.Reads as offer-reads
+
+-- src/lib.rt:40:9
+read-requires : tie.Need-read-requires
+read-requires c κs = search needs
+
+-- src/lib.rt:41:9
+number-requires : tie.Need-number-requires
+number-requires c κs = search needs
+
+-- src/lib.rt:42:9
+offer-requires : tie.Need-offer-requires
+offer-requires c κs = search needs
+
+-- src/lib.rt:51:5
+write-offered-requires : tie.Need-write-offered-requires
+write-offered-requires c κs = search needs
+
+-- src/lib.rt:29:1
+same-length : tie.Need-same-length
+same-length c = search needs
+
+-- src/lib.rt:29:1
+same-length-2 : tie.Need-same-length-2
+same-length-2 c = search needs
+
+-- src/lib.rt:29:1
+same-length-3 : tie.Need-same-length-3
+same-length-3 c = search needs
+
+-- src/lib.rt:29:1
+returns : tie.Need-returns
+returns c = search gate-offered
+
+pub offer-spec : {M : Type 1} → statement M
+offer-spec =
+    tie.close
+    (tie.spec
+    read-requires
+    number-requires
+    offer-requires
+    write-offered-requires
+    same-length
+    same-length-2
+    same-length-3
+    returns)

@@ -1,0 +1,33 @@
+use Rattle.host_gate.proofs.Calls.{gate-opened}
+use borrow.Author.Needs.{needs}
+use Rattle.host_gate.proofs.open.Statement.{statement}
+use Rattle.host_gate.proofs.open.Tie as tie
+use Rattle.host_gate.proofs.open.Reads as reads
+use Rattle.host_gate.proofs.open.Lts as lts
+use Rattle.host_gate.proofs.words.settings.Reads as settings-reads
+use Rattle.host_gate.proofs.words.write_opened.Reads as write-opened-reads
+use Rattle.gate.proofs.open.Reads as open-reads
+
+-- src/lib.rt:23:9
+settings-requires : tie.Need-settings-requires
+settings-requires c κs = search needs
+
+-- src/lib.rt:24:9
+open-requires : tie.Need-open-requires
+open-requires c κs = search needs
+
+-- src/lib.rt:25:5
+write-opened-requires : tie.Need-write-opened-requires
+write-opened-requires c κs = search needs
+
+-- src/lib.rt:11:1
+same-length : tie.Need-same-length
+same-length c = search needs
+
+-- src/lib.rt:11:1
+returns : tie.Need-returns
+returns c = search gate-opened
+
+pub open-spec : {M : Type 1} → statement M
+open-spec =
+    tie.close (tie.spec settings-requires open-requires write-opened-requires same-length returns)

@@ -1,0 +1,57 @@
+-- What the calls of the gate and of the watch answer and leave in the words that a host lends: what gate/specs/Store.antt and
+-- watched/specs/Store.antt say of the gate that the words hold.
+use Prim.Native.Nat.{ℕ}
+use mathlib.Core.List.{List}
+use mathlib.Core.Bool.{cond}
+use lib.ListN.{length}
+use lib.Dec.{eqb}
+use Rattle.host_words.specs.Pids.{pidNumber}
+use Rattle.host_gate.specs.Words.{settingsOf, gateOf, countersOf, wordsOf, wordsAfter}
+use Rattle.watched.specs.Store.{asked}
+use Rattle.gate.specs.Store.{Begun, opened, Offering, storeOf, offered}
+
+-- ---- opening
+
+-- an answer, the gate's ten words and the words of the watch
+pub record GateBegun : Type 0 where
+  pub answer : ℕ
+  pub gate : List ℕ
+  pub watch : List ℕ
+
+abbrev pub begun : ℕ → List ℕ → List ℕ → GateBegun
+begun answer gate watch = record { answer = answer; gate = gate; watch = watch }
+
+-- 7 writes all ten words; a refused opening leaves them as they were
+abbrev pub begunAs : List ℕ → Begun → GateBegun
+begunAs gate b = begun (b .answer) (cond (eqb (b .answer) 7) (wordsOf (b .gate) (b .counters)) gate) (b .words)
+
+unfoldable pub gateOpened : List ℕ → ℕ → ℕ → List ℕ → List ℕ → List ℕ → List ℕ → GateBegun
+gateOpened gate capacity settings extra keys changes watch =
+    begunAs gate (opened (settingsOf capacity settings) extra (length keys) (length changes) watch)
+
+-- ---- offering
+
+-- an answer, the gate's ten words, and the words of the three lent slices
+pub record GateLeft : Type 0 where
+  pub answer : ℕ
+  pub gate : List ℕ
+  pub keys : List ℕ
+  pub changes : List ℕ
+  pub watch : List ℕ
+
+abbrev pub left : ℕ → List ℕ → List ℕ → List ℕ → List ℕ → GateLeft
+left answer gate keys changes watch = record { answer = answer; gate = gate; keys = keys; changes = changes; watch = watch }
+
+-- words 3 to 9 are written; where the gate and its counters stay as they were, all ten do
+abbrev pub leftAs : List ℕ → Offering → GateLeft
+leftAs gate l = left (l .answer) (wordsAfter gate (l .store .gate) (l .store .counters)) (l .store .keys) (l .store .changes) (l .store .words)
+
+unfoldable pub gateOffered : List ℕ → List ℕ → List ℕ → List ℕ → ℕ → List ℕ → GateLeft
+gateOffered gate keys changes watch pid section =
+    leftAs gate (offered (storeOf (gateOf gate) (countersOf gate) keys changes watch) (pidNumber pid) section)
+
+-- ---- the watch
+
+-- a number of 8192 or more answers 12, also one of more than 16 bits
+unfoldable pub watchAsked : List ℕ → ℕ → ℕ
+watchAsked watch pid = asked watch (pidNumber pid)

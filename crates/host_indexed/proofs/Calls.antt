@@ -1,0 +1,38 @@
+-- What each call leaves, from what its parts leave.
+-- Assumes nothing.
+use Prim.Native.Nat.{ℕ}
+use mathlib.Core.Path.{_≡_, sym, ap}
+use mathlib.Core.List.{List}
+use lib.ListN.{length}
+use Rattle.gate.specs.declared.Settings.{Settings}
+use Rattle.gate.specs.declared.Opened.{Opened}
+use Rattle.gate.specs.declared.Offered.{Offered}
+use Rattle.ring_index.specs.Store.{indexOf}
+use Rattle.gate_indexed.specs.Store as indexed
+use Rattle.host_words.specs.Pids.{pidNumber}
+use Rattle.host_words.specs.Answers.{Words, words}
+use Rattle.host_gate.specs.Words.{settingsOf, heldIn, tellsOpened, tellsOffered}
+use Rattle.host_gate.specs.declared.words.Held.{Held}
+use Rattle.host_gate.proofs.Calls.{opened-words}
+use Rattle.host_indexed.specs.Calls.{begun, gateOpened, left, gateOffered}
+
+pub gate-opened :
+    (gate : List ℕ) (capacity settings : ℕ) (extra keys changes buckets links watch : List ℕ) (s : Settings) (o : Opened) (bs ws gs : List ℕ) (r : ℕ) →
+    s ≡ settingsOf capacity settings →
+    indexed.begunBy o bs ws ≡ indexed.openedBy s extra (length keys) (length changes) (length links) buckets watch →
+    words r gs ≡ tellsOpened o gate →
+    begun r gs bs ws ≡ gateOpened gate capacity settings extra keys changes buckets links watch
+unfolding gateOpened
+gate-opened gate capacity settings extra keys changes buckets links watch s o bs ws gs r e f t =
+    rw (← e, ← f, ap (λ (x : Words). x .answer) t, ap (λ (x : Words). x .now) t, opened-words (o .answer) (o .gate) (o .counters) gate)
+
+pub gate-offered :
+    (gate keys changes buckets links watch : List ℕ) (pid : ℕ) (section : List ℕ) (h : Held) (p : ℕ) (o : Offered)
+    (ks ms bs ls ws gs : List ℕ) (r : ℕ) →
+    h ≡ heldIn gate → p ≡ pidNumber pid →
+    indexed.leftBy o ks ms (indexOf bs ls) ws ≡ indexed.offeredBy (indexed.indexedOf (h .gate) (h .counters) keys changes (indexOf buckets links) watch) p section →
+    words r gs ≡ tellsOffered o gate →
+    left r gs ks ms bs ls ws ≡ gateOffered gate keys changes buckets links watch pid section
+unfolding gateOffered
+gate-offered gate keys changes buckets links watch pid section h p o ks ms bs ls ws gs r d e f t =
+    rw (ap (λ (x : Held). x .gate) (sym d), ap (λ (x : Held). x .counters) (sym d), ← e, ← f, ap (λ (x : Words). x .answer) t, ap (λ (x : Words). x .now) t)

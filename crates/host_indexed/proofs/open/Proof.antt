@@ -1,0 +1,44 @@
+use Rattle.host_indexed.proofs.Calls.{gate-opened}
+use borrow.Author.Needs.{needs}
+use Rattle.host_indexed.proofs.open.Statement.{statement}
+use Rattle.host_indexed.proofs.open.Tie as tie
+use Rattle.host_indexed.proofs.open.Reads as reads
+use Rattle.host_indexed.proofs.open.Lts as lts
+use Rattle.host_gate.proofs.words.settings.Reads as settings-reads
+use Rattle.host_gate.proofs.words.write_opened.Reads as write-opened-reads
+use Rattle.gate_indexed.proofs.open.Reads as open-reads
+
+-- src/lib.rt:77:9
+settings-requires : tie.Need-settings-requires
+settings-requires c κs = search needs
+
+-- src/lib.rt:78:9
+open-requires : tie.Need-open-requires
+open-requires c κs = search needs
+
+-- src/lib.rt:79:5
+write-opened-requires : tie.Need-write-opened-requires
+write-opened-requires c κs = search needs
+
+-- src/lib.rt:63:1
+same-length : tie.Need-same-length
+same-length c = search needs
+
+-- src/lib.rt:63:1
+same-length-2 : tie.Need-same-length-2
+same-length-2 c = search needs
+
+-- src/lib.rt:63:1
+returns : tie.Need-returns
+returns c = search gate-opened
+
+pub open-spec : {M : Type 1} → statement M
+open-spec =
+    tie.close
+    (tie.spec
+    settings-requires
+    open-requires
+    write-opened-requires
+    same-length
+    same-length-2
+    returns)

@@ -1,0 +1,57 @@
+-- What the calls of the gate with an index answer and leave in the words that a host lends: what gate_indexed/specs/Store.antt says of the gate that the
+-- words hold.
+use Prim.Native.Nat.{ℕ}
+use mathlib.Core.List.{List}
+use mathlib.Core.Bool.{cond}
+use lib.ListN.{length}
+use lib.Dec.{eqb}
+use Rattle.host_words.specs.Pids.{pidNumber}
+use Rattle.host_gate.specs.Words.{settingsOf, gateOf, countersOf, wordsOf, wordsAfter}
+use Rattle.ring_index.specs.Store.{indexOf}
+use Rattle.gate_indexed.specs.Store as indexed
+
+-- an answer, the gate's ten words, the buckets, and the words of the watch
+pub record GateBegun : Type 0 where
+  pub answer : ℕ
+  pub gate : List ℕ
+  pub buckets : List ℕ
+  pub watch : List ℕ
+
+abbrev pub begun : ℕ → List ℕ → List ℕ → List ℕ → GateBegun
+begun answer gate buckets watch = record { answer = answer; gate = gate; buckets = buckets; watch = watch }
+
+abbrev pub begunAs : List ℕ → indexed.Begun → GateBegun
+begunAs gate b =
+    begun (b .answer) (cond (eqb (b .answer) 7) (wordsOf (b .gate) (b .counters)) gate) (b .buckets) (b .words)
+
+unfoldable pub gateOpened : List ℕ → ℕ → ℕ → List ℕ → List ℕ → List ℕ → List ℕ → List ℕ → List ℕ → GateBegun
+gateOpened gate capacity settings extra keys changes buckets links watch =
+    begunAs gate (indexed.openedBy (settingsOf capacity settings) extra (length keys) (length changes) (length links) buckets watch)
+
+-- an answer, the gate's ten words, and the words of the five lent slices
+pub record GateLeft : Type 0 where
+  pub answer : ℕ
+  pub gate : List ℕ
+  pub keys : List ℕ
+  pub changes : List ℕ
+  pub buckets : List ℕ
+  pub links : List ℕ
+  pub watch : List ℕ
+
+abbrev pub left : ℕ → List ℕ → List ℕ → List ℕ → List ℕ → List ℕ → List ℕ → GateLeft
+left answer gate keys changes buckets links watch =
+    record { answer = answer; gate = gate; keys = keys; changes = changes; buckets = buckets; links = links; watch = watch }
+
+abbrev pub leftAs : List ℕ → indexed.Offering → GateLeft
+leftAs gate l =
+    left (l .answer)
+    (wordsAfter gate (l .left .store .gate) (l .left .store .counters))
+    (l .left .store .keys)
+    (l .left .store .changes)
+    (l .left .index .buckets)
+    (l .left .index .links)
+    (l .left .store .words)
+
+unfoldable pub gateOffered : List ℕ → List ℕ → List ℕ → List ℕ → List ℕ → List ℕ → ℕ → List ℕ → GateLeft
+gateOffered gate keys changes buckets links watch pid section =
+    leftAs gate (indexed.offeredBy (indexed.indexedOf (gateOf gate) (countersOf gate) keys changes (indexOf buckets links) watch) (pidNumber pid) section)

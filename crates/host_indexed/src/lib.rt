@@ -1,0 +1,51 @@
+// The gate with an index for a host in another language: `host_gate` with a bucket and a link for each row.
+ghost use mathlib.Core.Path.{_≡_};
+ghost use Rattle.host_indexed.specs.Calls.{begun, gateOpened, left, gateOffered};
+
+// `petrizolu_gate_open` for a gate with an index over its rows: also the buckets are written.
+pub fn open(
+    gate: &mut [u64; 10],
+    capacity: u64,
+    settings: u32,
+    extra: &[u16],
+    keys: &[u64],
+    changes: &[u64],
+    buckets: &mut [u64],
+    links: &[u64],
+    watch: &mut [u64],
+) -> u8
+    ensures { λ r. ⌜ begun r (now (gate .exit)) (now (buckets .exit)) (now (watch .exit)) ≡ gateOpened (now (gate .entry)) capacity settings (now (extra .entry)) (now (keys .entry)) (now (changes .entry)) (now (buckets .entry)) (now (links .entry)) (now (watch .entry)) ⌝ }
+{
+    let asked = host_gate::words::settings(capacity, settings);
+    let opened = gate_indexed::open(asked, extra, keys, changes, buckets, links, watch);
+    host_gate::words::write_opened(gate, opened)
+}
+
+// `petrizolu_gate_offer` through the index.
+pub fn offer(
+    gate: &mut [u64; 10],
+    keys: &mut [u64],
+    changes: &mut [u64],
+    buckets: &mut [u64],
+    links: &mut [u64],
+    watch: &mut [u64],
+    pid: u32,
+    section: &[u8],
+) -> u8
+    ensures { λ r. ⌜ left r (now (gate .exit)) (now (keys .exit)) (now (changes .exit)) (now (buckets .exit)) (now (links .exit)) (now (watch .exit)) ≡ gateOffered (now (gate .entry)) (now (keys .entry)) (now (changes .entry)) (now (buckets .entry)) (now (links .entry)) (now (watch .entry)) pid (now (section .entry)) ⌝ }
+{
+    let held = host_gate::words::read(gate);
+    let number = host_words::pids::number(pid);
+    let offered = gate_indexed::offer(
+        held.gate,
+        held.counters,
+        keys,
+        changes,
+        buckets,
+        links,
+        watch,
+        number,
+        section,
+    );
+    host_gate::words::write_offered(gate, offered)
+}
