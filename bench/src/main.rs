@@ -253,8 +253,7 @@ fn full_guide(rounds: usize) {
     let count = usize::from(SERVICES) * usize::from(TABLES);
     head("EIT collector: a full guide, 150 services of 8 tables, from nothing", "sets", &["port"]);
     for size in [64, 1000, 4000] {
-        let all: Vec<Vec<u8>> =
-            (0..TABLES).flat_map(|t| (0..SERVICES).map(move |s| eit(0x50 + t, s, 0x50 + TABLES - 1, size))).collect();
+        let all: Vec<Vec<u8>> = (0..TABLES).flat_map(|t| (0..SERVICES).map(move |s| eit(0x50 + t, s, 0x50 + TABLES - 1, size))).collect();
         let mut port_eit = Eit::open(count, size, count).expect("opens");
         let mut collector = EitCollector::new().with_max_logical_keys(count);
         let mut port: [Side; 1] = [Box::new(|| {
@@ -301,7 +300,9 @@ fn check_of_the_store(rounds: usize) {
 
 fn main() {
     let rounds = if std::env::args().any(|a| a == "quick") { 3 } else { 9 };
-    println!("Nanoseconds a section, best of {rounds} rounds (two at thousands of rows). Ratios: to the original over one table, then over eight.");
+    println!(
+        "Nanoseconds a section, best of {rounds} rounds (two at thousands of rows). Ratios: to the original over one table, then over eight."
+    );
     crc(rounds);
     gate(rounds);
     gate_new_keys(rounds);

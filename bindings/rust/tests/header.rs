@@ -92,7 +92,8 @@ fn structs() {
     let pairs = [("gate", "GateState"), ("sets", "SetsState"), ("eit", "EitState"), ("section", "Place"), ("filter", "Filter")];
     for (c, rust) in pairs {
         let of_c = fields(&header(), &format!("typedef struct petrizolu_{c} {{"), |line| Some(line.strip_prefix("uint64_t ")?.into()));
-        let of_rust = fields(CALLS, &format!("pub struct {rust} {{"), |line| Some(line.strip_prefix("pub ")?.strip_suffix(": u64")?.into()));
+        let of_rust =
+            fields(CALLS, &format!("pub struct {rust} {{"), |line| Some(line.strip_prefix("pub ")?.strip_suffix(": u64")?.into()));
         assert!(!of_c.is_empty());
         assert_eq!(of_c, of_rust, "{c}");
     }

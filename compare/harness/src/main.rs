@@ -30,7 +30,7 @@ const USAGE: &str = "usage: compare/run [SEEDS] [COMMANDS]             scripts i
        compare/run --faults [SEEDS] [COMMANDS]    the same, with each fault in turn in the second implementation
        compare/run --script FILE                  a script of your own
        compare/run --tape DOMAIN SEED COMMANDS    writes the script of a seed as a tape (inside, damaged or cells)
-       compare/run --store                        makes the stored tapes of tests/tapes anew";
+       compare/run --store                        makes the tapes of tests/tapes and the output of examples_run anew";
 
 fn main() -> ExitCode {
     let root = PathBuf::from(env!("CARGO_MANIFEST_DIR")).join("../..");

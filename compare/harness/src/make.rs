@@ -452,7 +452,7 @@ fn collector_run(dice: &mut Dice, length: usize, domain: Domain, part: Part) -> 
             15..=18 => dice.of(&numbers),
             _ => dice.below(usize::from(table.head.last) + 1) as u8,
         };
-        let carousel_is_round = table.next > 0 && table.next % numbers.len() == 0;
+        let carousel_is_round = table.next > 0 && table.next.is_multiple_of(numbers.len());
         let variant = if dice.once_in(40) { 1 } else { 0 };
         let mut section = table.section(number, variant, eit, largest);
         wrong(dice, &mut section, eit);

@@ -25,7 +25,9 @@ impl Side {
     fn begin(self) -> Running {
         match self {
             Side::Original => Running::Original(Box::new(Original::new())),
-            Side::Second { as_original, fault } => Running::Second(Second::new(Reading { as_original, fault, ..Reading::default() })),
+            Side::Second { as_original, fault } => {
+                Running::Second(Box::new(Second::new(Reading { as_original, fault, ..Reading::default() })))
+            }
             Side::Port => Running::Port(Box::new(Port::begin())),
         }
     }
@@ -61,7 +63,7 @@ fn line(told: &Told) -> String {
 /// A side in the middle of a script.
 enum Running {
     Original(Box<Original>),
-    Second(Second),
+    Second(Box<Second>),
     Port(Box<Port>),
 }
 

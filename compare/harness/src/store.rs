@@ -1,8 +1,10 @@
-//! The stored tapes of tests/tapes, with the lines that they print.
+//! The stored tapes of tests/tapes with the lines that they print, and the stored output of the program `examples_run`.
 use crate::make::{self, Domain};
 use crate::pairs::{Side, differing, smallest};
 use crate::report::Report;
+use crate::second::{Reading, Second};
 use crate::written::Written;
+use player::answer::{Answer, Out, hex};
 use player::command::Command;
 use player::tape::tape_of;
 use std::fs;
@@ -19,12 +21,23 @@ pub fn store(root: &Path) -> bool {
     let by_hand = Written::all(root, "scripts").into_iter().flat_map(|script| script.commands);
     let inside: Vec<Command> = by_hand.chain(seeds(Domain::Inside)).collect();
     let outside: Vec<Command> = seeds(Domain::Damaged).chain(seeds(Domain::CellBound)).collect();
-    store_tape(root, "domain", Side::Original, &without_named(inside)) && store_tape(root, "damaged", Side::RULES, &outside)
+    store_tape(root, "domain", Side::Original, &without_named(inside))
+        && store_tape(root, "damaged", Side::RULES, &outside)
+        && store_examples(root)
+}
+
+/// Whether all sides agree on a script; says where they do not.
+fn agreed(script: &[Command]) -> bool {
+    let found = differing(script, &mut Report::default());
+    if let Some(found) = found {
+        println!("a difference at command {}; the smallest script found:\n{}", found.line + 1, smallest(found));
+        return false;
+    }
+    true
 }
 
 fn store_tape(root: &Path, name: &str, side: Side, script: &[Command]) -> bool {
-    if let Some(found) = differing(script, &mut Report::default()) {
-        println!("a difference at command {}; the smallest script found:\n{}", found.line + 1, smallest(found));
+    if !agreed(script) {
         return false;
     }
     let file = |end: &str| root.join("tests/tapes").join(format!("{name}.{end}"));
@@ -40,4 +53,29 @@ fn without_named(script: Vec<Command>) -> Vec<Command> {
     let [original, rules] = [Side::Original, Side::RULES].map(|side| side.lines(&script));
     let alike = original.iter().zip(&rules).map(|(one, other)| one == other);
     script.into_iter().zip(alike).filter_map(|(command, alike)| alike.then_some(command)).collect()
+}
+
+/// The program prints the number that each command is answered with, and after it each section that goes out.
+fn store_examples(root: &Path) -> bool {
+    let script = Written::read(&root.join("compare/examples.txt")).commands;
+    if !agreed(&script) {
+        return false;
+    }
+    let mut second = Second::new(Reading::default());
+    let text: String = script.iter().map(|command| example_lines(&second.answer(command))).collect();
+    fs::write(root.join("crates/examples_run/stdout"), text).expect("the project's folder can be written");
+    println!("crates/examples_run: {} commands, answered by {}", script.len(), Side::RULES);
+    true
+}
+
+fn example_lines(answer: &Answer) -> String {
+    let (part, number) = answer.number().expect("the examples are of the collectors");
+    let sets = match answer {
+        Answer::Collected(_, _, Out::Set(set)) => std::slice::from_ref(set),
+        Answer::Collected(_, _, Out::Schedule { sets, .. }) => sets,
+        _ => &[],
+    };
+    let sections = sets.iter().flat_map(|set| &set.sections);
+    let read: String = sections.map(|section| format!(" section {} {}\n", section[6], hex(section))).collect();
+    format!("{part} {number}\n{read}")
 }

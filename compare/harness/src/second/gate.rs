@@ -66,10 +66,11 @@ impl Gate {
         let changed = self.admit(reading, kept(reading, pid, section));
         let emitted = changed || self.repeats;
         let follows = if reading.has(Fault::RepeatFollowed) { emitted } else { changed };
-        if follows && self.follow {
-            if let Some(programs) = programs(reading, section) {
-                self.follow_pat(reading, BTreeSet::from_iter(programs));
-            }
+        if follows
+            && self.follow
+            && let Some(programs) = programs(reading, section)
+        {
+            self.follow_pat(reading, BTreeSet::from_iter(programs));
         }
         self.counters[if emitted { EMITTED } else { SUPPRESSED }] += 1;
         if emitted { 1 } else { 2 }

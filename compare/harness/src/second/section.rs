@@ -49,7 +49,7 @@ pub fn programs(reading: &mut Reading, section: &[u8]) -> Option<Vec<u16>> {
         return None;
     }
     let groups = &section[8..section.len() - 4];
-    if groups.len() % 4 != 0 && !reading.has(Fault::PatRemainderRead) {
+    if !groups.len().is_multiple_of(4) && !reading.has(Fault::PatRemainderRead) {
         return None;
     }
     if !long_form(section) && !reading.differs(Difference::ShortFormPat) {

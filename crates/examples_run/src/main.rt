@@ -1,0 +1,266 @@
+// Examples of docs/RULES.md that no theorem has: a last_table_id past the kind never lets a schedule go out. Before it a set, an EIT set and a
+// schedule are collected and read out section by section. What is printed is held to what the second implementation says of the same sections
+// (compare/examples.txt).
+use eit::Eit;
+use eit::PushAnswer;
+use section::ids::MaybePid;
+use sets::Sets;
+ghost use Prim.Native.Nat.{_≤_};
+ghost use lib.ListN.{length};
+
+mod lines;
+
+// ---- the set collector
+
+// Each section of the set in a row; there are at most 256.
+fn read_set(sets: Sets, heads: &[u64], slots: &[u32], cells: &[u8], row: usize) {
+    let mut from = 0;
+    let mut left = 256u64;
+    while left > 0 {
+        let next = sets::next_section(sets, heads, slots, cells, row, from);
+        let answer = next.answer;
+        if answer.number() != 8 {
+            return;
+        }
+        lines::say_section(
+            next.number,
+            sets::section_part(cells, next.start, next.length),
+        );
+        from = std::num::wrapping_add_usize(next.number, 1);
+        left -= 1;
+    }
+}
+
+fn collect(
+    sets: Sets,
+    heads: &mut [u64],
+    slots: &mut [u32],
+    cells: &mut [u8],
+    section: &[u8],
+) -> Sets {
+    let pushed = sets::push(sets, heads, slots, cells, MaybePid::Some(0x0011), section);
+    let answer = pushed.answer;
+    let then = pushed.sets;
+    lines::say_line(b"sets ", answer.number() as u64);
+    if let sets::PushAnswer::Set(row) = answer {
+        read_set(then, heads, slots, cells, row);
+    }
+    then
+}
+
+// A set of two sections.
+fn set_of_two(heads: &mut [u64], slots: &mut [u32], cells: &mut [u8]) {
+    let opened = sets::open(1, 64, 2, heads, slots, cells);
+    let answer = opened.answer;
+    let begun = opened.sets;
+    lines::say_line(b"sets ", answer.number() as u64);
+    let first = b"\x42\xB0\x0A\x00\x01\xC1\x00\x01\xAA\x83\x15\x53\xFC";
+    let second = b"\x42\xB0\x0B\x00\x01\xC1\x01\x01\xBB\xBB\xA2\xED\x60\x9A";
+    let sets = collect(begun, heads, slots, cells, first);
+    collect(sets, heads, slots, cells, second);
+}
+
+// ---- the EIT collector
+
+// The row of the set that goes out; a row past all others where none does.
+fn set_row(out: PushAnswer) -> usize {
+    if let PushAnswer::Set(row) = out {
+        return row;
+    }
+    usize::MAX
+}
+
+// The same of a schedule.
+fn schedule_row(out: PushAnswer) -> usize {
+    if let PushAnswer::Schedule(row) = out {
+        return row;
+    }
+    usize::MAX
+}
+
+// Each section of the set in a row.
+fn read_eit_set(
+    eit: Eit,
+    heads: &[u64],
+    slots: &[u32],
+    cells: &[u8],
+    schedule_heads: &[u64],
+    units: &[u32],
+    row: usize,
+) {
+    let mut from = 0;
+    let mut left = 256u64;
+    while left > 0 {
+        let next = eit::next_section(eit, heads, slots, cells, schedule_heads, units, row, from);
+        let answer = next.answer;
+        if answer.number() != 8 {
+            return;
+        }
+        lines::say_section(
+            next.number,
+            eit::section_part(cells, next.start, next.length),
+        );
+        from = std::num::wrapping_add_usize(next.number, 1);
+        left -= 1;
+    }
+}
+
+// Each section of a table of the schedule in a row; tables are counted from the first of the kind.
+fn read_table(
+    eit: Eit,
+    heads: &[u64],
+    slots: &[u32],
+    cells: &[u8],
+    schedule_heads: &[u64],
+    units: &[u32],
+    row: usize,
+    table: usize,
+) {
+    let mut from = 0;
+    let mut left = 256u64;
+    while left > 0 {
+        let next = eit::next_in_schedule(
+            eit,
+            heads,
+            slots,
+            cells,
+            schedule_heads,
+            units,
+            row,
+            table,
+            from,
+        );
+        let answer = next.answer;
+        if answer.number() != 8 {
+            return;
+        }
+        lines::say_section(
+            next.number,
+            eit::section_part(cells, next.start, next.length),
+        );
+        from = std::num::wrapping_add_usize(next.number, 1);
+        left -= 1;
+    }
+}
+
+// Says the answer, and reads out what goes out; the examples' schedules have two tables.
+fn read_out(
+    out: PushAnswer,
+    eit: Eit,
+    heads: &[u64],
+    slots: &[u32],
+    cells: &[u8],
+    schedule_heads: &[u64],
+    units: &[u32],
+) {
+    lines::say_line(b"eit ", out.number() as u64);
+    let set = set_row(out);
+    let schedule = schedule_row(out);
+    read_eit_set(eit, heads, slots, cells, schedule_heads, units, set);
+    read_table(eit, heads, slots, cells, schedule_heads, units, schedule, 0);
+    read_table(eit, heads, slots, cells, schedule_heads, units, schedule, 1);
+}
+
+fn collect_eit(
+    eit: Eit,
+    heads: &mut [u64],
+    slots: &mut [u32],
+    cells: &mut [u8],
+    schedule_heads: &mut [u64],
+    units: &mut [u32],
+    section: &[u8],
+) -> Eit {
+    let pushed = eit::push(
+        eit,
+        heads,
+        slots,
+        cells,
+        schedule_heads,
+        units,
+        MaybePid::Some(0x0012),
+        section,
+    );
+    let answer = pushed.answer;
+    let then = pushed.eit;
+    read_out(answer, then, heads, slots, cells, schedule_heads, units);
+    then
+}
+
+// At most five sections of 18 bytes each, one after another, to a collector of three sets, three schedules and eight cells.
+fn collect_all(
+    heads: &mut [u64],
+    slots: &mut [u32],
+    cells: &mut [u8],
+    schedule_heads: &mut [u64],
+    units: &mut [u32],
+    sections: &[u8],
+)
+    requires { ⌜ length (now sections) ≤ 90 ⌝ }
+{
+    let opened = eit::open(3, 64, 8, heads, slots, cells, schedule_heads, units);
+    let answer = opened.answer;
+    lines::say_line(b"eit ", answer.number() as u64);
+    let mut eit = opened.eit;
+    let mut at = 0;
+    while sections.len() - at >= 18 {
+        let section = &sections[at..at + 18];
+        eit = collect_eit(eit, heads, slots, cells, schedule_heads, units, section);
+        at += 18;
+    }
+}
+
+// A present/following set of two sections; a schedule of two tables, the first of which has two segments of one section. Then last_table_id 0x60
+// on schedule actual: no table past 0x5F is of the kind, so the schedule never goes out.
+fn guides(
+    heads: &mut [u64],
+    slots: &mut [u32],
+    cells: &mut [u8],
+    schedule_heads: &mut [u64],
+    units: &mut [u32],
+) {
+    let whole = b"\
+        \x4E\xB0\x0F\x00\x01\xC1\x00\x01\x00\x01\x00\x01\x01\x4E\x51\xC1\x2E\x43\
+        \x4E\xB0\x0F\x00\x01\xC1\x01\x01\x00\x01\x00\x01\x01\x4E\x0A\x60\xF2\x89\
+        \x50\xB0\x0F\x00\x01\xC1\x00\x08\x00\x01\x00\x01\x00\x51\x05\x5D\xF6\x3E\
+        \x50\xB0\x0F\x00\x01\xC1\x08\x08\x00\x01\x00\x01\x08\x51\x5B\x99\x68\x52\
+        \x51\xB0\x0F\x00\x01\xC1\x00\x00\x00\x01\x00\x01\x00\x51\x31\x93\x43\x19";
+    collect_all(heads, slots, cells, schedule_heads, units, whole);
+    let past_the_kind = b"\
+        \x50\xB0\x0F\x00\x01\xC1\x00\x00\x00\x01\x00\x01\x00\x60\xA6\x97\xFD\xFF\
+        \x51\xB0\x0F\x00\x01\xC1\x00\x00\x00\x01\x00\x01\x00\x60\xE1\x60\x33\x3E\
+        \x5F\xB0\x0F\x00\x01\xC1\x00\x00\x00\x01\x00\x01\x00\x60\x43\xAD\xC5\x69";
+    collect_all(heads, slots, cells, schedule_heads, units, past_the_kind);
+}
+
+// What is lent: three rows, three schedules and eight cells of 64 bytes.
+fn heads() -> [u64; 36] {
+    [0; 36]
+}
+
+fn slots() -> [u32; 864] {
+    [0; 864]
+}
+
+fn cells() -> [u8; 512] {
+    [0; 512]
+}
+
+fn units() -> [u32; 13824] {
+    [0; 13824]
+}
+
+fn main() {
+    let mut set_heads = heads();
+    let mut set_slots = slots();
+    let mut set_cells = cells();
+    let mut schedule_heads = heads();
+    let mut tables = units();
+    set_of_two(&mut set_heads, &mut set_slots, &mut set_cells);
+    guides(
+        &mut set_heads,
+        &mut set_slots,
+        &mut set_cells,
+        &mut schedule_heads,
+        &mut tables,
+    );
+}
