@@ -3,7 +3,7 @@
 use Prim.Native.Nat.{ℕ, _≤_}
 use mathlib.Core.Path.{_≡_, refl, sym, ap, _∙_}
 use mathlib.Core.List.{List}
-use mathlib.Core.Bool.{Bool, true, false, cond, not, _&&_, _||_}
+use mathlib.Core.Bool.{Bool, true, false, cond, not, _&&_, true≢false}
 use lib.ListN.{length, replicate}
 use lib.Dec.{ltb, leb, eqb}
 use native.Mathlib.Omega.{arith}
@@ -71,42 +71,38 @@ module _ (words section : List ℕ) where
   unfolding followedPat patOf
   pat-unread r e h = rw (read-no (readable section) (sym h ∙ e))
 
-  pub follow-yes : (f : Bool) (ws : List ℕ) → f ≡ true → ws ≡ followedPat words section → ws ≡ watchAfter f words section
-  follow-yes f ws h j = rw h j
-
-  pub follow-no : (f : Bool) → f ≡ false → words ≡ watchAfter f words section
-  follow-no f h = rw h
-
   -- no PAT has another table_id than 0
   no-pat : (tableId section ≡ 0 → ⊥) → followedPat words section ≡ words
   unfolding followedPat
   no-pat h = rw (unreadable section (ne-eqb (tableId section) 0 h))
 
-  pub watch-sound :
-      (t : ℕ) (a b : Bool) (ws : List ℕ) → t ≡ tableId section → ws ≡ watchAfter (a && b && eqb t 0) words section → ws ≡ watchAfter (a && b) words section
-  watch-sound t a b ws e j = go (a && b) (eqb t 0) refl j
-    where
-      go : (c d : Bool) → d ≡ eqb t 0 → ws ≡ watchAfter (c && d) words section → ws ≡ watchAfter c words section
-      go true true p j = j
-      go true false p j = j ∙ sym (no-pat (λ z. eqb-false t 0 (sym p) (e ∙ z)))
-      go false d p j = j
+  -- the ways out of following: a is whether the section is changed, b whether following is on, t its table_id
+  module _ (t : ℕ) (a b : Bool) (e : t ≡ tableId section) where
+    pub follow-yes : (ws : List ℕ) → (a && b && eqb t 0) ≡ true → ws ≡ followedPat words section → ws ≡ watchAfter (a && b) words section
+    follow-yes ws h j = rw (and-true (a && b) (eqb t 0) h .0) j
+
+    pub follow-no : (a && b && eqb t 0) ≡ false → words ≡ watchAfter (a && b) words section
+    follow-no h = go (a && b) (eqb t 0) refl h
+      where
+        go : (c d : Bool) → d ≡ eqb t 0 → (c && d) ≡ false → words ≡ watchAfter c words section
+        go true true p q = absurd (true≢false q)
+        go true false p q = sym (no-pat (λ z. eqb-false t 0 (sym p) (e ∙ z)))
+        go false d p q = refl
 
 -- ---- the ways out of an offer
 
 module _ (g : Gate) (c : Counters) (keys changes words : List ℕ) (from : Origin) (section : List ℕ) where
   pub sound-told :
-      (p : Parts) (key : ℕ) (seen : Seen) (ks ms ws : List ℕ) (o : Offered) → p .«table_id» ≡ tableId section →
+      (p : Parts) (key : ℕ) (seen : Seen) (ks ms ws : List ℕ) (o : Offered) →
       key ≡ keyOf from (p .«table_id») (p .extension) (p .number) →
       seen ≡ seenOf (g .ring) keys changes key (stampOf (p .version) (p .change)) →
       ks ≡ keysAfter (g .ring) keys key →
       ms ≡ changesAfter (g .ring) keys changes key (stampOf (p .version) (p .change)) →
-      ws ≡ watchAfter (seen .changed && g .follow && eqb (p .«table_id») 0) words section →
+      ws ≡ watchAfter (seen .changed && g .follow) words section →
       o ≡ seenBy g c seen →
       leftBy o ks ms ws ≡ soundOf (storeOf g c keys changes words) from section p
   unfolding soundOf
-  sound-told p key seen ks ms ws o t e f k m w j =
-      let q : ws ≡ watchAfter (seen .changed && g .follow) words section = watch-sound words section (p .«table_id») (seen .changed) (g .follow) ws t w in
-      rw (← e, ← f, ← k, ← m, ← q, ← j)
+  sound-told p key seen ks ms ws o e f k m w j = rw (← e, ← f, ← k, ← m, ← w, ← j)
 
   module _ (v : Judged) (e : v ≡ judgedOf section) where
     pub considered-short : (o : Offered) → v ≡ Short → o ≡ failure g c → leftBy o keys changes words ≡ consideredOf (storeOf g c keys changes words) from section

@@ -13,7 +13,7 @@ use section::header::Judged;
 use section::header::Parts;
 use section::ids::Origin;
 ghost use mathlib.Core.Path.{_≡_};
-ghost use mathlib.Core.Bool.{Bool, true, false};
+ghost use mathlib.Core.Bool.{Bool, true, false, _&&_};
 ghost use Prim.Native.Nat.{_<_, _≤_};
 ghost use lib.ListN.{length};
 ghost use Rattle.ring.specs.Store.{Whole, keysAfter, changesAfter, stampOf};
@@ -120,12 +120,13 @@ fn follow_pat(words: &mut [u64], section: &[u8])
     }
 }
 
-// A PAT emitted only because repeats are on is not followed.
-pub fn follow_where(follows: bool, words: &mut [u64], section: &[u8])
+// A changed PAT is followed where following is on. One that is emitted only because repeats are on is not.
+pub fn follow(gate: Gate, seen: Seen, table_id: u8, words: &mut [u64], section: &[u8])
     requires { ⌜ 384 ≤ length (now words) ⌝ }
-    ensures { λ _. ⌜ now (words .exit) ≡ watchAfter follows (now (words .entry)) (now (section .entry)) ⌝ }
+    requires { ⌜ «table_id» ≡ tableId (now section) ⌝ }
+    ensures { λ _. ⌜ now (words .exit) ≡ watchAfter (seen .changed && gate .follow) (now (words .entry)) (now (section .entry)) ⌝ }
 {
-    if follows {
+    if seen.changed & gate.follow & (table_id == 0) {
         follow_pat(words, section);
     }
 }
@@ -149,11 +150,7 @@ fn admit(
     let ring = gate.ring;
     let key = section::header::key(from, parts.table_id, parts.extension, parts.number);
     let seen = ring::admit(ring, keys, changes, key, parts.version, parts.change);
-    follow_where(
-        seen.changed & gate.follow & (parts.table_id == 0),
-        words,
-        section,
-    );
+    follow(gate, seen, parts.table_id, words, section);
     tell(gate, counters, seen)
 }
 

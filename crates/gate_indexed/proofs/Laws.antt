@@ -5,7 +5,7 @@ use mathlib.Core.Path.{_≡_, refl, sym, ap, _∙_}
 use mathlib.Core.List.{List}
 use mathlib.Core.Bool.{Bool, true, false, cond, not, _&&_}
 use lib.ListN.{length}
-use lib.Dec.{ltb, leb, eqb}
+use lib.Dec.{ltb, leb}
 use borrow.Author.Tests.{leb-true, lt-ltb, le-ltb, not-true, not-false}
 use Rattle.laws.proofs.Tests.{and-true}
 use Rattle.ring.specs.Store.{roomOf, stampOf}
@@ -33,7 +33,7 @@ use Rattle.gate.specs.declared.Gate.{Gate}
 use Rattle.gate.specs.declared.Offered.{Offered}
 use Rattle.gate.specs.declared.Settings.{Settings}
 use Rattle.gate.specs.declared.Opened.{Opened}
-use Rattle.gate.proofs.Laws.{fits, watch-sound}
+use Rattle.gate.proofs.Laws.{fits}
 use Rattle.gate_indexed.specs.Store.{hasRoomFor, begunBy, openedBy, wholeBy, FitsBy, indexedOf, Offering, leftBy, soundBy, judgedBy, consideredBy, offeredBy}
 
 -- not 10
@@ -52,19 +52,17 @@ fits-by g keys changes buckets links words w e h =
 
 module _ (g : Gate) (c : Counters) (keys changes : List ℕ) (x : Index) (words : List ℕ) (from : Origin) (section : List ℕ) where
   pub sound-told :
-      (p : Parts) (key : ℕ) (seen : Seen) (ks ms : List ℕ) (y : Index) (ws : List ℕ) (o : Offered) → p .«table_id» ≡ tableId section →
+      (p : Parts) (key : ℕ) (seen : Seen) (ks ms : List ℕ) (y : Index) (ws : List ℕ) (o : Offered) →
       key ≡ keyOf from (p .«table_id») (p .extension) (p .number) →
       seen ≡ seenBy (g .ring) keys changes x key (stampOf (p .version) (p .change)) →
       ks ≡ keysBy (g .ring) keys x key →
       ms ≡ changesBy (g .ring) keys changes x key (stampOf (p .version) (p .change)) →
       y ≡ indexBy (g .ring) keys x key →
-      ws ≡ watchAfter (seen .changed && g .follow && eqb (p .«table_id») 0) words section →
+      ws ≡ watchAfter (seen .changed && g .follow) words section →
       o ≡ answeredBy g c seen →
       leftBy o ks ms y ws ≡ soundBy (indexedOf g c keys changes x words) from section p
   unfolding soundBy
-  sound-told p key seen ks ms y ws o t e f k m d w j =
-      let q : ws ≡ watchAfter (seen .changed && g .follow) words section = watch-sound words section (p .«table_id») (seen .changed) (g .follow) ws t w in
-      rw (← e, ← f, ← k, ← m, ← d, ← q, ← j)
+  sound-told p key seen ks ms y ws o e f k m d w j = rw (← e, ← f, ← k, ← m, ← d, ← w, ← j)
 
   module _ (v : Judged) (e : v ≡ judgedOf section) where
     pub considered-short :

@@ -73,11 +73,7 @@ fn admit(
         parts.version,
         parts.change,
     );
-    gate::inner::follow_where(
-        seen.changed & gate.follow & (parts.table_id == 0),
-        words,
-        section,
-    );
+    gate::inner::follow(gate, seen, parts.table_id, words, section);
     gate::inner::tell(gate, counters, seen)
 }
 

@@ -20,7 +20,9 @@ refuse-requires c κs = search needs
 
 -- src/lib.rt:104:9
 returns : tie.Need-returns
-returns c = search offered-broken
+returns c =
+    let a = c .before .before .before .before .before .before .before .args in
+    offered-broken (a .gate) (a .counters) (a .keys .now) (a .changes .now) (a .words .now) (a .pid) (a .section .now) _ (c .before .before .is-whole .ensures) _ (c .before .if1 .taken) (c .refuse .ensures)
 
 -- src/lib.rt:106:8
 any-full-requires : tie.Need-any-full-requires
@@ -32,7 +34,9 @@ refuse-requires-2 c κs = search needs
 
 -- src/lib.rt:107:9
 returns-2 : tie.Need-returns-2
-returns-2 c = search offered-full
+returns-2 c =
+    let a = c .before .before .before .before .before .before .before .before .before .args in
+    offered-full (a .gate) (a .counters) (a .keys .now) (a .changes .now) (a .words .now) (a .pid) (a .section .now) _ (c .before .before .before .before .is-whole .ensures) (c .before .before .before .if1 .left) _ (c .before .before .any-full .ensures .0) _ (c .before .if2 .taken) (c .refuse2 .ensures)
 
 -- src/lib.rt:109:11
 make-requires : tie.Need-make-requires
@@ -68,11 +72,15 @@ same-length-3 c = search needs
 
 -- src/lib.rt:92:1
 returns-3 : tie.Need-returns-3
-returns-3 c = search offered-considered
+returns-3 c =
+    let a = c .before .before .before .before .before .before .before .before .before .before .before .before .before .before .before .before .before .before .before .before .before .before .args in
+    search (offered-considered (a .gate) (a .counters) (a .keys .now) (a .changes .now) (a .words .now) (a .pid) (a .section .now) _ (c .before .before .before .before .before .before .before .before .before .before .before .before .before .before .before .before .before .is-whole .ensures) (c .before .before .before .before .before .before .before .before .before .before .before .before .before .before .before .before .if1 .left) _ (c .before .before .before .before .before .before .before .before .before .before .before .before .before .before .before .any-full .ensures .0) (c .before .before .before .before .before .before .before .before .before .before .before .before .before .before .if2 .left) _ (c .before .before .before .before .before .before .before .before .before .before .before .before .before .make .ensures), c .before .before .before .before .before .before .before .before .before .before .known-told .given, c .before .before .before .before .before .before .consider .ensures)
 
 -- src/lib.rt:92:1
 returns-4 : tie.Need-returns-4
-returns-4 c = search offered-pid
+returns-4 c =
+    let a = c .before .before .before .before .before .before .before .before .before .before .before .before .args in
+    offered-pid (a .gate) (a .counters) (a .keys .now) (a .changes .now) (a .words .now) (a .pid) (a .section .now) _ (c .before .before .before .before .before .before .before .is-whole .ensures) (c .before .before .before .before .before .before .if1 .left) _ (c .before .before .before .before .before .any-full .ensures .0) (c .before .before .before .before .if2 .left) _ (c .before .before .before .make .ensures) _ (c .before .enum-told .given .1) (c .refuse3 .ensures)
 
 pub offer-spec : {M : Type 1} → statement M
 offer-spec =

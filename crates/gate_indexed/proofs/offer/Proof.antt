@@ -21,7 +21,9 @@ refuse-requires c κs = search needs
 
 -- src/lib.rt:58:9
 returns : tie.Need-returns
-returns c = search offered-broken
+returns c =
+    let a = c .before .before .before .before .before .before .before .before .before .args in
+    offered-broken (a .gate) (a .counters) (a .keys .now) (a .changes .now) (indexOf (a .buckets .now) (a .links .now)) (a .words .now) (a .pid) (a .section .now) _ (c .before .before .is-whole .ensures) _ (c .before .if1 .taken) (c .refuse .ensures)
 
 -- src/lib.rt:60:8
 any-full-requires : tie.Need-any-full-requires
@@ -33,7 +35,9 @@ refuse-requires-2 c κs = search needs
 
 -- src/lib.rt:61:9
 returns-2 : tie.Need-returns-2
-returns-2 c = search offered-full
+returns-2 c =
+    let a = c .before .before .before .before .before .before .before .before .before .before .before .args in
+    offered-full (a .gate) (a .counters) (a .keys .now) (a .changes .now) (indexOf (a .buckets .now) (a .links .now)) (a .words .now) (a .pid) (a .section .now) _ (c .before .before .before .before .is-whole .ensures) (c .before .before .before .if1 .left) _ (c .before .before .any-full .ensures .0) _ (c .before .if2 .taken) (c .refuse2 .ensures)
 
 -- src/lib.rt:63:11
 make-requires : tie.Need-make-requires
@@ -77,12 +81,15 @@ same-length-5 c = search needs
 
 -- src/lib.rt:44:1
 returns-3 : tie.Need-returns-3
-returns-3 c = let a = c .before .before .before .before .before .before .before .before .before .before .before .before .before .before .before .before .before .before .before .before .before .before .before .before .before .before .before .before .before .before .args in
-    search (offered-considered (a .gate) (a .counters) (a .keys .now) (a .changes .now) (indexOf (a .buckets .now) (a .links .now)) (a .words .now) (a .pid) (a .section .now) (c .before .before .before .before .before .before .before .before .before .before .before .before .before .before .before .before .before .before .before .before .before .before .before .is-whole .result) (c .before .before .before .before .before .before .before .before .before .before .before .before .before .before .before .before .before .before .before .before .before .before .before .is-whole .ensures) (c .before .before .before .before .before .before .before .before .before .before .before .before .before .before .before .before .before .before .before .before .before .before .if1 .left) (c .before .before .before .before .before .before .before .before .before .before .before .before .before .before .before .before .before .before .before .before .before .any-full .result) (c .before .before .before .before .before .before .before .before .before .before .before .before .before .before .before .before .before .before .before .before .before .any-full .ensures .0) (c .before .before .before .before .before .before .before .before .before .before .before .before .before .before .before .before .before .before .before .before .if2 .left) (c .before .before .before .before .before .before .before .before .before .before .before .before .before .before .before .before .before .before .before .make .result) (c .before .before .before .before .before .before .before .before .before .before .before .before .before .before .before .before .before .before .before .make .ensures), c .before .before .before .before .before .before .before .before .before .before .before .before .before .before .before .before .known-told .given, c .before .before .before .before .before .before .before .before .before .before .consider .ensures)
+returns-3 c =
+    let a = c .before .before .before .before .before .before .before .before .before .before .before .before .before .before .before .before .before .before .before .before .before .before .before .before .before .before .before .before .before .before .args in
+    search (offered-considered (a .gate) (a .counters) (a .keys .now) (a .changes .now) (indexOf (a .buckets .now) (a .links .now)) (a .words .now) (a .pid) (a .section .now) _ (c .before .before .before .before .before .before .before .before .before .before .before .before .before .before .before .before .before .before .before .before .before .before .before .is-whole .ensures) (c .before .before .before .before .before .before .before .before .before .before .before .before .before .before .before .before .before .before .before .before .before .before .if1 .left) _ (c .before .before .before .before .before .before .before .before .before .before .before .before .before .before .before .before .before .before .before .before .before .any-full .ensures .0) (c .before .before .before .before .before .before .before .before .before .before .before .before .before .before .before .before .before .before .before .before .if2 .left) _ (c .before .before .before .before .before .before .before .before .before .before .before .before .before .before .before .before .before .before .before .make .ensures), c .before .before .before .before .before .before .before .before .before .before .before .before .before .before .before .before .known-told .given, c .before .before .before .before .before .before .before .before .before .before .consider .ensures)
 
 -- src/lib.rt:44:1
 returns-4 : tie.Need-returns-4
-returns-4 c = search offered-pid
+returns-4 c =
+    let a = c .before .before .before .before .before .before .before .before .before .before .before .before .before .before .args in
+    offered-pid (a .gate) (a .counters) (a .keys .now) (a .changes .now) (indexOf (a .buckets .now) (a .links .now)) (a .words .now) (a .pid) (a .section .now) _ (c .before .before .before .before .before .before .before .is-whole .ensures) (c .before .before .before .before .before .before .if1 .left) _ (c .before .before .before .before .before .any-full .ensures .0) (c .before .before .before .before .if2 .left) _ (c .before .before .before .make .ensures) _ (c .before .enum-told .given .1) (c .refuse3 .ensures)
 
 pub offer-spec : {M : Type 1} → statement M
 offer-spec =

@@ -30,7 +30,9 @@ same-length-2 c = search needs
 
 -- src/lib.rt:63:1
 returns : tie.Need-returns
-returns c = search gate-opened
+returns c =
+    let a = c .before .before .before .before .before .before .before .before .before .before .before .before .before .before .before .before .args in
+    gate-opened (a .gate .now) (a .capacity) (a .settings) (a .extra .now) (a .keys .now) (a .changes .now) (a .buckets .now) (a .links .now) (a .watch .now) _ (c .before .before .before .before .before .before .«open» .result) _ _ _ _ (c .before .before .before .before .before .before .before .before .before .settings .ensures) (c .before .before .before .before .before .before .«open» .ensures) (c .write-opened .ensures)
 
 pub open-spec : {M : Type 1} → statement M
 open-spec =

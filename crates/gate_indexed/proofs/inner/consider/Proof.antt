@@ -1,3 +1,4 @@
+use Rattle.ring_index.specs.Store.{indexOf}
 use Rattle.gate_indexed.proofs.Laws.{considered-short, considered-mismatch, considered-sound, sound-table}
 use borrow.Author.Needs.{needs}
 use Rattle.gate_indexed.proofs.inner.consider.Statement.{statement}
@@ -38,7 +39,9 @@ admit-requires c κs = (search needs, (search needs, search sound-table))
 
 -- src/inner.rt:62:1
 returns : tie.Need-returns
-returns c = search considered-short
+returns c =
+    let a = c .before .before .before .before .before .before .before .before .before .before .args in
+    considered-short (a .gate) (a .counters) (a .keys .now) (a .changes .now) (indexOf (a .buckets .now) (a .links .now)) (a .words .now) (a .from) (a .section .now) _ (c .before .before .before .judge .ensures) _ (c .before .enum-told .given .1) (c .fail .ensures)
 
 -- src/inner.rt:62:1
 returns-2 : tie.Need-returns-2
@@ -66,7 +69,9 @@ same-length-5 c = search needs
 
 -- src/inner.rt:62:1
 returns-3 : tie.Need-returns-3
-returns-3 c = search considered-sound
+returns-3 c =
+    let a = c .before .before .before .before .before .before .before .before .before .before .before .before .before .before .before .before .before .before .before .before .before .before .before .before .before .before .args in
+    search (considered-sound (a .gate) (a .counters) (a .keys .now) (a .changes .now) (indexOf (a .buckets .now) (a .links .now)) (a .words .now) (a .from) (a .section .now) _ (c .before .before .before .before .before .before .before .before .before .before .before .before .before .before .before .before .before .before .before .judge .ensures), c .before .before .before .before .before .before .before .before .before .before .before .before .before .before .before .before .known-told .given, c .before .before .before .before .before .before .before .before .before .before .admit .ensures)
 
 pub consider-spec : {M : Type 1} → statement M
 consider-spec =
