@@ -129,7 +129,7 @@ fn entry_of(key: Key, h: Header) -> Entry
     }
 }
 
-fn kind_number(kind: Kind) -> u64
+pub fn kind_number(kind: Kind) -> u64
     ensures { λ r. ⌜ r ≡ kindNumber kind ⌝ }
 {
     match kind {

@@ -1,7 +1,4 @@
-pub mod Whole
-pub mod Plans
-pub mod Doing
-pub mod May
+pub mod Calls
 pub mod Questions
 pub mod Unique
-pub mod Drops
+pub mod Refusals

@@ -1,143 +1,29 @@
-// The EIT collector: EIT sections in, complete present/following sets and complete schedules out (document 01, "Collectors"; EN 300 468, 5.2.4).
+// The EIT collector: EIT sections in, complete present/following sets and complete schedules out (docs/RULES.md, "Collectors"; EN 300 468, 5.2.4).
 // The host keeps an `Eit` by value and lends five slices at every call: heads (12 words a set) and slots (288 words a set), cells,
 // schedule_heads (12 words a schedule) and units (16 * 288 words a schedule). Every call takes any content of them and has one answer; a
 // refusal leaves them as they were, but 22, which touches the key, and 23, which keeps the section.
-use filter::Wanted;
+use answers::Outcome;
+use answers::Refusal;
+use answers::Reply;
+use arrivals::Arrival;
+use arrivals::EitArrival;
+use eit_drop::Drop;
+use eit_drop::Filter;
+use eit_state::Eit;
+use eit_state::PushAnswer;
+use eit_state::Pushed;
+use eit_state::Turned;
+use readers::Next;
 use section::ids::MaybePid;
-use sets::ClearAnswer;
-use sets::Next;
-use sets::NextAnswer;
-use sets::OpenAnswer;
+use store::Sets;
 ghost use mathlib.Core.Path.{_≡_};
-ghost use Prim.Native.Nat.{ℕ};
+ghost use Prim.Native.Nat.{ℕ, _+_, _*_, _≤_};
 ghost use lib.ListN.{length};
-ghost use Rattle.cells.specs.Cells.{partOf};
-ghost use Rattle.sets.specs.Store.{questionOf};
-ghost use Rattle.eit.specs.Store.{nextOf, nextInOf};
-ghost use Rattle.eit.specs.Store.{store, asked, pushNumber, leftOpened, leftPushed, leftCleared, openedOf, pushedOf, clearedOf};
-ghost use Rattle.eit.specs.Store.{dropNumber, leftDropped, droppedOf};
-
-pub mod inner;
-
-// Settings and counts. `limit` sets at most, and as many schedules; `count` cells of `size` bytes; sets 0 to used - 1 and schedules 0 to
-// schedules - 1 are in use.
-pub struct Eit {
-    pub limit: usize,
-    pub size: usize,
-    pub count: usize,
-    pub used: usize,
-    pub evictions: u64,
-    pub schedules: usize,
-    pub schedule_evictions: u64,
-}
-
-impl Eit {
-    // The key limit of a collector for which none is asked.
-    pub const DEFAULT_LIMIT: usize = 256;
-}
-
-pub struct Opened {
-    pub answer: OpenAnswer,
-    pub eit: Eit,
-}
-
-// What a section leads to. A set or a schedule that goes out is in the row told, until the next call that is no question.
-pub enum PushAnswer {
-    Nothing,
-    Set(usize),
-    Schedule(usize),
-    NotWhole,
-    CounterFull,
-    PidTooLarge,
-    Malformed,
-    ShortForm,
-    BadNumber,
-    BadCrc,
-    NotEit,
-    Broken,
-    TooLong,
-    NoCell,
-    Conflict,
-    Range,
-}
-
-pub struct Pushed {
-    pub answer: PushAnswer,
-    pub eit: Eit,
-}
-
-pub struct Cleared {
-    pub answer: ClearAnswer,
-    pub eit: Eit,
-}
-
-// The PID that a filter wants: free, exactly none, or exactly a number.
-pub enum WantedPid {
-    Any,
-    Without,
-    Exactly(u16),
-}
-
-// Which sets and schedules a drop takes: each field is free or exact. Kinds are 0 and 1 for present/following actual and other, 2 and 3 for
-// schedule actual and other; current_next is 0 or 1.
-pub struct Filter {
-    pub pid: WantedPid,
-    pub kind: Wanted,
-    pub service_id: Wanted,
-    pub transport_stream_id: Wanted,
-    pub original_network_id: Wanted,
-    pub current_next: Wanted,
-}
-
-pub enum DropAnswer {
-    Dropped,
-    NotWhole,
-    PidTooLarge,
-}
-
-pub struct Dropped {
-    pub answer: DropAnswer,
-    pub eit: Eit,
-}
-
-impl DropAnswer {
-    // Document 01's number of the answer.
-    pub fn number(self) -> u8
-        ensures { λ r. ⌜ r ≡ dropNumber self ⌝ }
-    {
-        match self {
-            DropAnswer::Dropped => 7,
-            DropAnswer::NotWhole => 10,
-            DropAnswer::PidTooLarge => 12,
-        }
-    }
-}
-
-impl PushAnswer {
-    // Document 01's number of the answer.
-    pub fn number(self) -> u8
-        ensures { λ r. ⌜ r ≡ pushNumber self ⌝ }
-    {
-        match self {
-            PushAnswer::Nothing => 4,
-            PushAnswer::Set(_) => 5,
-            PushAnswer::Schedule(_) => 6,
-            PushAnswer::NotWhole => 10,
-            PushAnswer::CounterFull => 11,
-            PushAnswer::PidTooLarge => 12,
-            PushAnswer::Malformed => 14,
-            PushAnswer::ShortForm => 15,
-            PushAnswer::BadNumber => 16,
-            PushAnswer::BadCrc => 17,
-            PushAnswer::NotEit => 18,
-            PushAnswer::Broken => 19,
-            PushAnswer::TooLong => 20,
-            PushAnswer::NoCell => 21,
-            PushAnswer::Conflict => 22,
-            PushAnswer::Range => 23,
-        }
-    }
-}
+ghost use Rattle.arrivals.specs.Arrivals.{Numbered};
+ghost use Rattle.eit_state.specs.State.{store, asked, Whole, CanCount};
+ghost use Rattle.eit_settle.specs.Settle.{step};
+ghost use Rattle.eit.specs.Store.{turned, pushed, openedOf, clearedOf, droppedOf, pushedOf};
+ghost use Rattle.eit.specs.Store.{admitted, Admitted, pushedWhole, dropOf, DropOk, nextOf, unitNext, nextInOf};
 
 // Opens a collector: no rows, counts 0. Nothing lent is written; a refusal gives back the settings that were asked for.
 pub fn open(
@@ -149,19 +35,22 @@ pub fn open(
     cells: &[u8],
     schedule_heads: &[u64],
     units: &[u32],
-) -> Opened
-    ensures { λ r. ⌜ leftOpened r (now (heads .entry)) (now (slots .entry)) (now (cells .entry)) (now («schedule_heads» .entry)) (now (units .entry)) ≡ openedOf (store (asked limit size count) (now (heads .entry)) (now (slots .entry)) (now (cells .entry)) (now («schedule_heads» .entry)) (now (units .entry))) ⌝ }
+) -> Turned
+    ensures { λ r. ⌜ turned r (now (heads .entry)) (now (slots .entry)) (now (cells .entry)) (now («schedule_heads» .entry)) (now (units .entry)) ≡ openedOf (store (asked limit size count) (now (heads .entry)) (now (slots .entry)) (now (cells .entry)) (now («schedule_heads» .entry)) (now (units .entry))) ⌝ }
 {
-    let eit = Eit {
+    let sets = Sets {
         limit,
         size,
         count,
         used: 0,
         evictions: 0,
+    };
+    let eit = Eit {
+        sets,
         schedules: 0,
         schedule_evictions: 0,
     };
-    if inner::settings_fit(
+    if eit_state::settings_fit(
         eit,
         heads.len(),
         slots.len(),
@@ -169,15 +58,14 @@ pub fn open(
         schedule_heads.len(),
         units.len(),
     ) {
-        Opened {
-            answer: OpenAnswer::Opened,
+        return Turned {
+            answer: Outcome::Done,
             eit,
-        }
-    } else {
-        Opened {
-            answer: OpenAnswer::TooLittle,
-            eit,
-        }
+        };
+    }
+    Turned {
+        answer: Outcome::Refused(Refusal::TooLittle),
+        eit,
     }
 }
 
@@ -192,13 +80,63 @@ pub fn push(
     pid: MaybePid,
     bytes: &[u8],
 ) -> Pushed
-    ensures { λ r. ⌜ leftPushed r (now (heads .exit)) (now (slots .exit)) (now (cells .exit)) (now («schedule_heads» .exit)) (now (units .exit)) ≡ pushedOf (store eit (now (heads .entry)) (now (slots .entry)) (now (cells .entry)) (now («schedule_heads» .entry)) (now (units .entry))) pid (now (bytes .entry)) ⌝ }
+    ensures { λ r. ⌜ pushed r (now (heads .exit)) (now (slots .exit)) (now (cells .exit)) (now («schedule_heads» .exit)) (now (units .exit)) ≡ pushedOf (store eit (now (heads .entry)) (now (slots .entry)) (now (cells .entry)) (now («schedule_heads» .entry)) (now (units .entry))) pid (now (bytes .entry)) ⌝ }
 {
-    let plan = inner::decide(eit, heads, slots, cells, schedule_heads, units, pid, bytes);
-    inner::carry(eit, heads, slots, cells, schedule_heads, units, bytes, plan)
+    match admit(eit, heads, slots, cells, schedule_heads, units, pid, bytes) {
+        EitArrival::Refused(refusal) => Pushed {
+            answer: PushAnswer::Refused(refusal),
+            eit,
+        },
+        EitArrival::Arrived(a) => {
+            push_whole(eit, heads, slots, cells, schedule_heads, units, bytes, a)
+        }
+    }
 }
 
-// No set and no schedule is in use then. The counts of evictions stay.
+// 10, then 11, then what the section's bytes and its PID say (12, 14 to 19).
+fn admit(
+    eit: Eit,
+    heads: &[u64],
+    slots: &[u32],
+    cells: &[u8],
+    schedule_heads: &[u64],
+    units: &[u32],
+    pid: MaybePid,
+    bytes: &[u8],
+) -> EitArrival
+    ensures { λ r. ⌜ r ≡ admitted (store eit (now (heads .entry)) (now (slots .entry)) (now (cells .entry)) (now («schedule_heads» .entry)) (now (units .entry))) pid (now (bytes .entry)) ⌝ }
+    ensures { λ r. ⌜ Admitted (store eit (now (heads .entry)) (now (slots .entry)) (now (cells .entry)) (now («schedule_heads» .entry)) (now (units .entry))) r ⌝ }
+{
+    if eit_state::is_whole(eit, heads, slots, cells, schedule_heads, units) {
+        if eit_state::counters_full(eit) {
+            return EitArrival::Refused(Refusal::CounterFull);
+        }
+        return arrivals::eit_arrival(pid, bytes);
+    }
+    EitArrival::Refused(Refusal::NotWhole)
+}
+
+// A section that arrived, offered to a store that is whole and can count.
+pub fn push_whole(
+    eit: Eit,
+    heads: &mut [u64],
+    slots: &mut [u32],
+    cells: &mut [u8],
+    schedule_heads: &mut [u64],
+    units: &mut [u32],
+    bytes: &[u8],
+    a: Arrival,
+) -> Pushed
+    requires { ⌜ Whole (store eit (now heads) (now slots) (now cells) (now «schedule_heads») (now units)) ⌝ }
+    requires { ⌜ Numbered (a .entry) ⌝ }
+    requires { ⌜ CanCount eit ⌝ }
+    ensures { λ r. ⌜ step r (now (heads .exit)) (now (slots .exit)) (now (cells .exit)) (now («schedule_heads» .exit)) (now (units .exit)) ≡ pushedWhole (store eit (now (heads .entry)) (now (slots .entry)) (now (cells .entry)) (now («schedule_heads» .entry)) (now (units .entry))) (now (bytes .entry)) a ⌝ }
+{
+    let plan = eit_plan::plan_section(eit, heads, slots, cells, schedule_heads, units, bytes, a);
+    eit_settle::carry(eit, heads, slots, cells, schedule_heads, units, bytes, plan)
+}
+
+// Every set and every schedule leaves. The counts of evictions stay.
 pub fn clear(
     eit: Eit,
     heads: &[u64],
@@ -206,31 +144,24 @@ pub fn clear(
     cells: &[u8],
     schedule_heads: &[u64],
     units: &[u32],
-) -> Cleared
-    ensures { λ r. ⌜ leftCleared r (now (heads .entry)) (now (slots .entry)) (now (cells .entry)) (now («schedule_heads» .entry)) (now (units .entry)) ≡ clearedOf (store eit (now (heads .entry)) (now (slots .entry)) (now (cells .entry)) (now («schedule_heads» .entry)) (now (units .entry))) ⌝ }
+) -> Turned
+    ensures { λ r. ⌜ turned r (now (heads .entry)) (now (slots .entry)) (now (cells .entry)) (now («schedule_heads» .entry)) (now (units .entry)) ≡ clearedOf (store eit (now (heads .entry)) (now (slots .entry)) (now (cells .entry)) (now («schedule_heads» .entry)) (now (units .entry))) ⌝ }
 {
-    if inner::is_whole(eit, heads, slots, cells, schedule_heads, units) {
-        Cleared {
-            answer: ClearAnswer::Cleared,
-            eit: Eit {
-                limit: eit.limit,
-                size: eit.size,
-                count: eit.count,
-                used: 0,
-                evictions: eit.evictions,
-                schedules: 0,
-                schedule_evictions: eit.schedule_evictions,
-            },
-        }
-    } else {
-        Cleared {
-            answer: ClearAnswer::NotWhole,
-            eit,
-        }
+    if eit_state::is_whole(eit, heads, slots, cells, schedule_heads, units) {
+        let sets = eit.sets;
+        let then = eit_state::with_sets(eit, 0, sets.evictions);
+        return Turned {
+            answer: Outcome::Done,
+            eit: eit_state::with_schedules(then, 0, eit.schedule_evictions),
+        };
+    }
+    Turned {
+        answer: Outcome::Refused(Refusal::NotWhole),
+        eit,
     }
 }
 
-// The sets and the schedules that match the filter are no longer in use. The order of the others stays, and so do the counts of evictions.
+// The sets and the schedules that match the filter leave. The order of the others stays, and so do the counts of evictions.
 pub fn drop(
     eit: Eit,
     heads: &mut [u64],
@@ -239,11 +170,41 @@ pub fn drop(
     schedule_heads: &mut [u64],
     units: &mut [u32],
     filter: Filter,
-) -> Dropped
-    ensures { λ r. ⌜ leftDropped r (now (heads .exit)) (now (slots .exit)) (now (cells .entry)) (now («schedule_heads» .exit)) (now (units .exit)) ≡ droppedOf (store eit (now (heads .entry)) (now (slots .entry)) (now (cells .entry)) (now («schedule_heads» .entry)) (now (units .entry))) filter ⌝ }
+) -> Turned
+    ensures { λ r. ⌜ turned r (now (heads .exit)) (now (slots .exit)) (now (cells .entry)) (now («schedule_heads» .exit)) (now (units .exit)) ≡ droppedOf (store eit (now (heads .entry)) (now (slots .entry)) (now (cells .entry)) (now («schedule_heads» .entry)) (now (units .entry))) filter ⌝ }
 {
-    let drop = inner::decide_drop(eit, heads, slots, cells, schedule_heads, units, filter);
-    inner::carry_drop(eit, heads, slots, schedule_heads, units, drop)
+    match admit_filter(eit, heads, slots, cells, schedule_heads, units, filter) {
+        Drop::Refuse(refusal) => Turned {
+            answer: Outcome::Refused(refusal),
+            eit,
+        },
+        Drop::Matching(f) => {
+            let then = eit_drop::drop_matching(eit, heads, slots, schedule_heads, units, f);
+            Turned {
+                answer: Outcome::Done,
+                eit: then,
+            }
+        }
+    }
+}
+
+// 10, then 12, then what is to leave.
+fn admit_filter(
+    eit: Eit,
+    heads: &[u64],
+    slots: &[u32],
+    cells: &[u8],
+    schedule_heads: &[u64],
+    units: &[u32],
+    filter: Filter,
+) -> Drop
+    ensures { λ r. ⌜ r ≡ dropOf (store eit (now (heads .entry)) (now (slots .entry)) (now (cells .entry)) (now («schedule_heads» .entry)) (now (units .entry))) filter ⌝ }
+    ensures { λ r. ⌜ DropOk (store eit (now (heads .entry)) (now (slots .entry)) (now (cells .entry)) (now («schedule_heads» .entry)) (now (units .entry))) r ⌝ }
+{
+    if eit_state::is_whole(eit, heads, slots, cells, schedule_heads, units) {
+        return eit_drop::read_filter(filter);
+    }
+    Drop::Refuse(Refusal::NotWhole)
 }
 
 // Has the set in a row another section? The first filled slot at or after `from`: its number, and where its bytes are in the cells.
@@ -257,15 +218,16 @@ pub fn next_section(
     row: usize,
     from: usize,
 ) -> Next
-    ensures { λ r. ⌜ questionOf r ≡ nextOf (store eit (now (heads .entry)) (now (slots .entry)) (now (cells .entry)) (now («schedule_heads» .entry)) (now (units .entry))) row from ⌝ }
+    ensures { λ r. ⌜ r ≡ nextOf (store eit (now (heads .entry)) (now (slots .entry)) (now (cells .entry)) (now («schedule_heads» .entry)) (now (units .entry))) row from ⌝ }
 {
-    if inner::is_whole(eit, heads, slots, cells, schedule_heads, units) {
-        if row < eit.used {
-            return sets::inner::next_slot(rows::row_slots(heads, slots, row), eit.size, from);
+    let sets = eit.sets;
+    if eit_state::is_whole(eit, heads, slots, cells, schedule_heads, units) {
+        if row < sets.used {
+            return readers::next_slot(rows::row_slots(heads, slots, row), sets.size, from);
         }
-        return sets::inner::no_section(NextAnswer::No);
+        return readers::no_section(Reply::No);
     }
-    sets::inner::no_section(NextAnswer::NotWhole)
+    readers::no_section(Reply::Refused(Refusal::NotWhole))
 }
 
 // Has that table of the schedule in a row another section? Tables count from the first of the kind, 0x50 or 0x60, on.
@@ -280,23 +242,28 @@ pub fn next_in_schedule(
     table: usize,
     from: usize,
 ) -> Next
-    ensures { λ r. ⌜ questionOf r ≡ nextInOf (store eit (now (heads .entry)) (now (slots .entry)) (now (cells .entry)) (now («schedule_heads» .entry)) (now (units .entry))) row table from ⌝ }
+    ensures { λ r. ⌜ r ≡ nextInOf (store eit (now (heads .entry)) (now (slots .entry)) (now (cells .entry)) (now («schedule_heads» .entry)) (now (units .entry))) row table from ⌝ }
 {
-    if inner::is_whole(eit, heads, slots, cells, schedule_heads, units) {
+    let sets = eit.sets;
+    if eit_state::is_whole(eit, heads, slots, cells, schedule_heads, units) {
         if eit.schedules <= row {
-            return sets::inner::no_section(NextAnswer::No);
+            return readers::no_section(Reply::No);
         }
         if schedules::tables_of(schedule_heads, row) <= table {
-            return sets::inner::no_section(NextAnswer::No);
+            return readers::no_section(Reply::No);
         }
-        return inner::next_in_unit(units, eit.size, row * 16 + table, from);
+        return next_in_unit(units, sets.size, row * schedules::TABLES + table, from);
     }
-    sets::inner::no_section(NextAnswer::NotWhole)
+    readers::no_section(Reply::Refused(Refusal::NotWhole))
 }
 
-// The bytes of a section, by what a question told of it: exactly the kept ones, or an empty part where the cells have not that many.
-pub fn section_part<'a>(cells: &'a [u8], start: usize, length: usize) -> &'a [u8]
-    ensures { λ r. ⌜ now r ≡ partOf (now (cells .entry)) start length ⌝ }
+// The first filled slot at or after `from` of unit u, where the unit is present.
+fn next_in_unit(units: &[u32], size: usize, u: usize, from: usize) -> Next
+    requires { ⌜ (u * 288 + 288 ≤ length (now units)) × (size ≤ 4096) ⌝ }
+    ensures { λ r. ⌜ r ≡ unitNext size (now (units .entry)) u from ⌝ }
 {
-    cells::part(cells, start, length)
+    if units::is_present(units, u) {
+        return readers::next_slot(units::unit_slots(units, u), size, from);
+    }
+    readers::no_section(Reply::No)
 }

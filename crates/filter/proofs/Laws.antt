@@ -11,44 +11,32 @@ use lib.Dec.{eqb}
 use lib.ListN.{length, getD, take, drop, set, length-drop}
 use lib.Seq.{paste, getD-take, getD-drop, length-take-le}
 use Rattle.laws.proofs.Lists.{paste-past, paste-turn, paste-end}
+use Rattle.eit_section.specs.Eit.{kindOf}
+use Rattle.eit_section.specs.declared.Kind.{Kind}
+use Rattle.eit_section.specs.declared.Kind.the-variants as kind
+use Rattle.arrivals.specs.Arrivals.{kindNumber}
 use Rattle.rows.specs.declared.Key.{Key}
 use Rattle.rows.specs.Rows.{keyAt, ageOf, withAge}
-use Rattle.ages.specs.Order.{younger}
 use Rattle.filter.specs.declared.Wanted.{Wanted}
 use Rattle.filter.specs.declared.Wanted.the-variants as wanted
 use Rattle.filter.specs.declared.Fields.{Fields}
 use Rattle.filter.specs.declared.Of.{Of}
 use Rattle.filter.specs.declared.Of.the-variants as of
-use Rattle.filter.specs.Drops.{matches, wants, kindWord, kindIn, widthOf, movedTo, youngered, removedHeads, removedWords, Rest, rest, removed, droppedRow, droppedRows, Fits}
+use Rattle.filter.specs.Drops.{younger, matches, wants, kindWord, kindIn, widthOf, movedTo, youngered, removedHeads, removedWords, Rest, rest, removed, droppedRow, droppedRows, Fits}
 
 before : (n : ℕ) → 0 < n → n ≡ suc (n - 1)
 before n h = omega arith
 
 -- ---- which rows match
 
-module _ (t : ℕ) where
-  pub kind-0 : t ≡ 0x4E → 0 ≡ kindWord t
-  kind-0 e = simp (eq-eqb t 0x4E e)
+pub kind-byte : (t r : ℕ) (k : Kind) → k ≡ kindOf t → r ≡ kindNumber k → r ≡ kindWord t
+kind-byte t r k e f = f ∙ ap kindNumber e
 
-  pub kind-1 : t ≡ 0x4F → 1 ≡ kindWord t
-  kind-1 e = simp (ne-eqb t 0x4E (omega arith), eq-eqb t 0x4F e)
-
-  pub kind-2 : 0x50 ≤ t → t ≤ 0x5F → 2 ≡ kindWord t
-  kind-2 a b = simp (ne-eqb t 0x4E (omega arith), ne-eqb t 0x4F (omega arith), le-leb 0x50 t a, le-leb t 0x5F b)
-
-  pub kind-3 : 0x60 ≤ t → t ≤ 0x6F → 3 ≡ kindWord t
-  kind-3 a b =
-      let c : 0x50 ≤ t = omega arith in
-      simp (ne-eqb t 0x4E (omega arith), ne-eqb t 0x4F (omega arith), le-leb 0x50 t c, lt-leb t 0x5F (omega arith), le-leb 0x60 t a, le-leb t 0x6F b)
-
-  pub kind-below : t < 0x4E → 4 ≡ kindWord t
-  kind-below a = simp (ne-eqb t 0x4E (omega arith), ne-eqb t 0x4F (omega arith), lt-leb 0x50 t (omega arith), lt-leb 0x60 t (omega arith))
-
-  pub kind-above : 0x6F < t → 4 ≡ kindWord t
-  kind-above a =
-      let c : 0x50 ≤ t = omega arith in
-      let d : 0x60 ≤ t = omega arith in
-      simp (ne-eqb t 0x4E (omega arith), ne-eqb t 0x4F (omega arith), le-leb 0x50 t c, lt-leb t 0x5F (omega arith), le-leb 0x60 t d, lt-leb t 0x6F a)
+pub kind-past : (t r : ℕ) → 256 ≤ t → r ≡ kindNumber kind.None → r ≡ kindWord t
+kind-past t r a e =
+    let c : 0x50 ≤ t = omega arith in
+    let d : 0x60 ≤ t = omega arith in
+    e ∙ simp (ne-eqb t 0x4E (omega arith), ne-eqb t 0x4F (omega arith), le-leb 0x50 t c, lt-leb t 0x5F (omega arith), le-leb 0x60 t d, lt-leb t 0x6F (omega arith))
 
 pub all-match : (o : Of) (f : Fields) (k : Key) (kind : ℕ) (p q r s t u : Bool) → p ≡ wants (f .pid) (k .pid) → kind ≡ kindIn o (k .«table_id») → q ≡ wants (f .kind) kind
     → r ≡ wants (f .«service_id») (k .extension) → s ≡ wants (f .«transport_stream_id») (k .«transport_stream_id»)

@@ -5,11 +5,11 @@ use mathlib.Core.List.{List}
 use mathlib.Core.Bool.{Bool, true, cond, _&&_}
 use lib.ListN.{length, take, drop}
 use lib.Seq.{paste}
-use lib.Dec.{eqb}
-use Rattle.eit_section.specs.Eit.{within}
+use lib.Dec.{eqb, ltb}
+use Rattle.eit_section.specs.Eit.{kindOf}
+use Rattle.arrivals.specs.Arrivals.{kindNumber}
 use Rattle.rows.specs.declared.Key.{Key}
 use Rattle.rows.specs.Rows.{keyAt, ageOf, withAge}
-use Rattle.ages.specs.Order.{younger}
 use Rattle.filter.specs.declared.Wanted.{Wanted}
 use Rattle.filter.specs.declared.Wanted.the-variants as wanted
 use Rattle.filter.specs.declared.Fields.{Fields}
@@ -23,9 +23,9 @@ abbrev pub wants : Wanted → ℕ → Bool
 wants wanted.Any v = true
 wants (wanted.Exactly x) v = eqb v x
 
--- "0x4E is present/following actual, 0x4F is present/following other, 0x50 to 0x5F is schedule actual, 0x60 to 0x6F is schedule other, all else none"
+-- the kind's number, by the table_id word in a set's head
 abbrev pub kindWord : ℕ → ℕ
-kindWord t = cond (eqb t 0x4E) 0 (cond (eqb t 0x4F) 1 (cond (within 0x50 0x5F t) 2 (cond (within 0x60 0x6F t) 3 4)))
+kindWord t = kindNumber (kindOf t)
 
 -- the kind, by word 1 of a head: of a set the table_id
 abbrev pub kindIn : Of → ℕ → ℕ
@@ -48,6 +48,10 @@ widthOf of.Schedules = 4608
 -- the n words from `from` on stand from `to` on, too
 abbrev pub movedTo : (to from n : ℕ) → List ℕ → List ℕ
 movedTo to from n words = paste words to (take n (drop from words)) n
+
+-- an age above a goes down by 1
+abbrev pub younger : ℕ → ℕ → ℕ
+younger a age = cond (ltb a age) (age - 1) age
 
 -- each of the first n rows whose age is above a is one younger
 unfoldable pub youngered : ℕ → ℕ → List ℕ → List ℕ

@@ -1,13 +1,13 @@
-// What a drop by filter does to the rows of a collector, sets and schedules alike (document 01, "Collectors": "sets and schedules that match
+// What a drop by filter does to the rows of a collector, sets and schedules alike (docs/RULES.md, "Collectors": "sets and schedules that match
 // go"). The rows in use are the first `used`. From the last down to the first, a row that matches leaves: the last row in use takes its place,
 // and each row that was older is one younger. Words past the rows in use stay as they are, and nothing is counted.
+use eit_section::Kind;
 use rows::Key;
 ghost use mathlib.Core.Path.{_≡_};
 ghost use mathlib.Core.Bool.{Bool, true, false};
 ghost use Prim.Native.Nat.{ℕ, _+_, _-_, _*_, _<_, _≤_};
 ghost use lib.ListN.{length};
-ghost use Rattle.ages.specs.Order.{younger};
-ghost use Rattle.filter.specs.Drops.{wants, kindWord, kindIn, matches, widthOf, movedTo, youngered, removedHeads, removedWords};
+ghost use Rattle.filter.specs.Drops.{younger, wants, kindWord, kindIn, matches, widthOf, movedTo, youngered, removedHeads, removedWords};
 ghost use Rattle.filter.specs.Drops.{Fits, rest, droppedRow, droppedRows};
 
 // A field of a filter: free, or exactly a word.
@@ -45,17 +45,14 @@ fn fits(w: Wanted, v: u64) -> bool
     }
 }
 
-// The kind by the table_id in a set's head; 4 where it is no EIT's.
+// The kind by the table_id word in a set's head, by its number.
 fn kind_word(table_id: u64) -> u64
     ensures { λ r. ⌜ r ≡ kindWord «table_id» ⌝ }
 {
-    match table_id {
-        0x4E => 0,
-        0x4F => 1,
-        0x50..=0x5F => 2,
-        0x60..=0x6F => 3,
-        _ => 4,
+    if table_id < 256 {
+        return arrivals::kind_number(Kind::from_table_id(table_id as u8));
     }
+    arrivals::kind_number(Kind::None)
 }
 
 fn kind_in(of: Of, word: u64) -> u64
@@ -92,8 +89,8 @@ fn width(of: Of) -> usize
     ensures { λ r. ⌜ r ≡ widthOf of ⌝ }
 {
     match of {
-        Of::Sets => 288,
-        Of::Schedules => 4608,
+        Of::Sets => rows::ROW_WORDS,
+        Of::Schedules => schedules::SCHEDULE_WORDS,
     }
 }
 

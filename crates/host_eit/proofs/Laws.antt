@@ -4,23 +4,23 @@ use Prim.Native.Nat.{ℕ}
 use mathlib.Core.Path.{_≡_}
 use mathlib.Core.List.{List, [], _∷_}
 use borrow.Author.Tests.{eq-eqb, ne-eqb}
-use Rattle.sets.specs.declared.OpenAnswer.{OpenAnswer}
-use Rattle.sets.specs.declared.OpenAnswer.the-variants as open-answer
+use Rattle.answers.specs.declared.Outcome.{Outcome}
+use Rattle.answers.specs.declared.Outcome.the-variants as outcome
 use Rattle.filter.specs.declared.Wanted.{Wanted}
 use Rattle.filter.specs.declared.Wanted.the-variants as wanted
-use Rattle.eit.specs.declared.Eit.{Eit}
-use Rattle.eit.specs.declared.Filter.{Filter}
-use Rattle.eit.specs.declared.WantedPid.{WantedPid}
-use Rattle.eit.specs.declared.WantedPid.the-variants as wanted-pid
-use Rattle.eit.specs.declared.PushAnswer as eit-push
-use Rattle.eit.specs.declared.PushAnswer.the-variants as eit-answer
+use Rattle.eit_state.specs.declared.Eit.{Eit}
+use Rattle.eit_drop.specs.declared.Filter.{Filter}
+use Rattle.eit_drop.specs.declared.WantedPid.{WantedPid}
+use Rattle.eit_drop.specs.declared.WantedPid.the-variants as wanted-pid
+use Rattle.eit_state.specs.declared.PushAnswer as eit-push
+use Rattle.eit_state.specs.declared.PushAnswer.the-variants as eit-answer
 use Rattle.host_words.specs.Answers.{at}
 use Rattle.host_words.specs.Pids.{pidNumber}
-use Rattle.host_eit.specs.Eits as eits
+use Rattle.host_eit.specs.Words as eits
 
 -- ---- the words of a collector
 
-pub eit-written : (a : OpenAnswer) (e : Eit) (w ws : List ℕ) → a ≡ open-answer.Opened → ws ≡ eits.wordsOf e → ws ≡ eits.wordsOpened a e w
+pub eit-written : (a : Outcome) (e : Eit) (w ws : List ℕ) → a ≡ outcome.Done → ws ≡ eits.wordsOf e → ws ≡ eits.wordsOpened a e w
 eit-written a e w ws h j = rw h j
 
 pub set-row-written : (a : eit-push.PushAnswer) (i : ℕ) (row : List ℕ) → a ≡ eit-answer.Set i → i ∷ [] ≡ eits.rowBy a row

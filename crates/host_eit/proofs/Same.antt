@@ -6,7 +6,7 @@ use mathlib.Core.List.{List}
 use native.Mathlib.Omega.{arith}
 use lib.ListN.{length}
 use Rattle.host_words.proofs.Same.{word, none}
-use Rattle.host_eit.specs.Eits as eits
+use Rattle.host_eit.specs.Words as eits
 
 pub eit-same : (w : List ℕ) → length w ≡ 7 → eits.wordsAfter w (eits.eitOf w) ≡ w
 eit-same w h =

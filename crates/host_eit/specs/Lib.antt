@@ -1,1 +1,2 @@
-pub mod Eits
+pub mod Words
+pub mod Calls

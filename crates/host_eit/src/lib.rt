@@ -1,170 +1,156 @@
-// The seven words of an EIT collector: 0 limit, 1 size, 2 count, 3 used, 4 evictions, 5 schedules, 6 schedule_evictions; the word of a row that
-// goes out; and the six words of a filter: 0 pid, 1 kind, 2 service_id, 3 transport_stream_id, 4 original_network_id, 5 current_next.
-use eit::Cleared;
-use eit::Dropped;
-use eit::Eit;
-use eit::Filter;
-use eit::Opened;
-use eit::PushAnswer;
-use eit::Pushed;
-use eit::WantedPid;
-use filter::Wanted;
-use host_words::pids;
-use sets::OpenAnswer;
+// The EIT collector for a host in another language, which keeps a collector as plain words: what the words hold is taken apart, the one call is made,
+// and what it leaves is written back. Every content of the words has one answer.
 ghost use mathlib.Core.Path.{_≡_};
-ghost use Rattle.host_words.specs.Answers.{words, pushes};
-ghost use Rattle.host_eit.specs.Eits.{eitOf, wordsOf, wordsOpened, wordsAfter, rowBy, tellsOpened, tellsPushed, tellsCleared, tellsDropped, wantedOf, wantedPidOf, filterOf};
+ghost use Rattle.host_words.specs.Answers.{words};
+ghost use Rattle.host_eit.specs.Calls.{eitOpened, eitLeft, eitPushed, eitCleared, eitDroppedTo, eitDropped, eitNext, eitNextIn};
 
-// A field of a filter that is free: all 64 bits set.
-const FREE: u64 = 18446744073709551615;
+pub mod words;
 
-pub fn eit(words: &[u64; 7]) -> Eit
-    ensures { λ r. ⌜ r ≡ eitOf (now (words .entry)) ⌝ }
+// Opens an EIT collector: 7 or 13. A refusal leaves the words as they were; nothing else lent is written.
+pub fn open(
+    eit: &mut [u64; 7],
+    limit: u64,
+    size: u64,
+    count: u64,
+    heads: &[u64],
+    slots: &[u32],
+    cells: &[u8],
+    schedule_heads: &[u64],
+    units: &[u32],
+) -> u8
+    ensures { λ r. ⌜ words r (now (eit .exit)) ≡ eitOpened (now (eit .entry)) limit size count (now (heads .entry)) (now (slots .entry)) (now (cells .entry)) (now («schedule_heads» .entry)) (now (units .entry)) ⌝ }
 {
-    Eit {
-        limit: words[0] as usize,
-        size: words[1] as usize,
-        count: words[2] as usize,
-        used: words[3] as usize,
-        evictions: words[4],
-        schedules: words[5] as usize,
-        schedule_evictions: words[6],
-    }
+    let opened = eit::open(
+        limit as usize,
+        size as usize,
+        count as usize,
+        heads,
+        slots,
+        cells,
+        schedule_heads,
+        units,
+    );
+    words::write_opened(eit, opened)
 }
 
-// All seven words.
-fn write(words: &mut [u64; 7], eit: Eit)
-    ensures { λ _. ⌜ now (words .exit) ≡ wordsOf eit ⌝ }
+// Offers a section, with the PID that it came on or, for 0xFFFFFFFF, without. 5 writes the set's row into `row`, 6 the schedule's.
+pub fn push(
+    eit: &mut [u64; 7],
+    heads: &mut [u64],
+    slots: &mut [u32],
+    cells: &mut [u8],
+    schedule_heads: &mut [u64],
+    units: &mut [u32],
+    pid: u32,
+    section: &[u8],
+    row: &mut [u64; 1],
+) -> u8
+    ensures { λ r. ⌜ eitLeft r (now (eit .exit)) (now (heads .exit)) (now (slots .exit)) (now (cells .exit)) (now («schedule_heads» .exit)) (now (units .exit)) (now (row .exit)) ≡ eitPushed (now (eit .entry)) (now (heads .entry)) (now (slots .entry)) (now (cells .entry)) (now («schedule_heads» .entry)) (now (units .entry)) pid (now (section .entry)) (now (row .entry)) ⌝ }
 {
-    *words = [
-        eit.limit as u64,
-        eit.size as u64,
-        eit.count as u64,
-        eit.used as u64,
-        eit.evictions,
-        eit.schedules as u64,
-        eit.schedule_evictions,
-    ];
+    let before = words::eit(eit);
+    let from = host_words::pids::maybe(pid);
+    let pushed = eit::push(
+        before,
+        heads,
+        slots,
+        cells,
+        schedule_heads,
+        units,
+        from,
+        section,
+    );
+    words::write_pushed(eit, row, pushed)
 }
 
-// A collector that was opened writes all seven; a refused opening none.
-fn write_where(words: &mut [u64; 7], answer: OpenAnswer, eit: Eit)
-    ensures { λ _. ⌜ now (words .exit) ≡ wordsOpened answer eit (now (words .entry)) ⌝ }
+// Every set and every schedule leaves: 7, or 10.
+pub fn clear(
+    eit: &mut [u64; 7],
+    heads: &[u64],
+    slots: &[u32],
+    cells: &[u8],
+    schedule_heads: &[u64],
+    units: &[u32],
+) -> u8
+    ensures { λ r. ⌜ words r (now (eit .exit)) ≡ eitCleared (now (eit .entry)) (now (heads .entry)) (now (slots .entry)) (now (cells .entry)) (now («schedule_heads» .entry)) (now (units .entry)) ⌝ }
 {
-    match answer {
-        OpenAnswer::Opened => write(words, eit),
-        OpenAnswer::TooLittle => {}
-    }
+    let before = words::eit(eit);
+    let cleared = eit::clear(before, heads, slots, cells, schedule_heads, units);
+    words::write_turned(eit, cleared)
 }
 
-// The counts: no call but opening changes the settings.
-fn write_counts(words: &mut [u64; 7], eit: Eit)
-    ensures { λ _. ⌜ now (words .exit) ≡ wordsAfter (now (words .entry)) eit ⌝ }
+// Sets and schedules that match the filter go: 7, 10, or 12 for a PID of the filter that is none. A word with all 64 bits set is free, the PID 0xFFFFFFFF
+// is "exactly none".
+pub fn drop(
+    eit: &mut [u64; 7],
+    heads: &mut [u64],
+    slots: &mut [u32],
+    cells: &[u8],
+    schedule_heads: &mut [u64],
+    units: &mut [u32],
+    filter: &[u64; 6],
+) -> u8
+    ensures { λ r. ⌜ eitDroppedTo r (now (eit .exit)) (now (heads .exit)) (now (slots .exit)) (now («schedule_heads» .exit)) (now (units .exit)) ≡ eitDropped (now (eit .entry)) (now (heads .entry)) (now (slots .entry)) (now (cells .entry)) (now («schedule_heads» .entry)) (now (units .entry)) (now (filter .entry)) ⌝ }
 {
-    *words = [
-        words[0],
-        words[1],
-        words[2],
-        eit.used as u64,
-        eit.evictions,
-        eit.schedules as u64,
-        eit.schedule_evictions,
-    ];
+    let before = words::eit(eit);
+    let wanted = words::filter(filter);
+    let dropped = eit::drop(before, heads, slots, cells, schedule_heads, units, wanted);
+    words::write_turned(eit, dropped)
 }
 
-// The row of a set or a schedule that goes out. Any other answer leaves the word as it was.
-fn write_row(row: &mut [u64; 1], answer: PushAnswer)
-    ensures { λ _. ⌜ now (row .exit) ≡ rowBy answer (now (row .entry)) ⌝ }
+// Has the set in a row another section, from a slot on? 8, 9 or 10; `next` gets its number, and where its bytes are in the cells.
+pub fn next(
+    eit: &[u64; 7],
+    heads: &[u64],
+    slots: &[u32],
+    cells: &[u8],
+    schedule_heads: &[u64],
+    units: &[u32],
+    row: u64,
+    from: u64,
+    next: &mut [u64; 3],
+) -> u8
+    ensures { λ r. ⌜ words r (now (next .exit)) ≡ eitNext (now (eit .entry)) (now (heads .entry)) (now (slots .entry)) (now (cells .entry)) (now («schedule_heads» .entry)) (now (units .entry)) row from ⌝ }
 {
-    match answer {
-        PushAnswer::Nothing => {}
-        PushAnswer::Set(i) => *row = [i as u64],
-        PushAnswer::Schedule(k) => *row = [k as u64],
-        PushAnswer::NotWhole => {}
-        PushAnswer::CounterFull => {}
-        PushAnswer::PidTooLarge => {}
-        PushAnswer::Malformed => {}
-        PushAnswer::ShortForm => {}
-        PushAnswer::BadNumber => {}
-        PushAnswer::BadCrc => {}
-        PushAnswer::NotEit => {}
-        PushAnswer::Broken => {}
-        PushAnswer::TooLong => {}
-        PushAnswer::NoCell => {}
-        PushAnswer::Conflict => {}
-        PushAnswer::Range => {}
-    }
+    let collector = words::eit(eit);
+    let told = eit::next_section(
+        collector,
+        heads,
+        slots,
+        cells,
+        schedule_heads,
+        units,
+        row as usize,
+        from as usize,
+    );
+    words::write_next(next, told)
 }
 
-// Writes what an opening leaves in the words, and gives its number.
-pub fn write_opened(eit: &mut [u64; 7], opened: Opened) -> u8
-    ensures { λ r. ⌜ words r (now (eit .exit)) ≡ tellsOpened opened (now (eit .entry)) ⌝ }
+// Has that table of the schedule in a row another section, from a slot on? Tables count from the first of the kind, 0x50 or 0x60, on.
+pub fn next_in_schedule(
+    eit: &[u64; 7],
+    heads: &[u64],
+    slots: &[u32],
+    cells: &[u8],
+    schedule_heads: &[u64],
+    units: &[u32],
+    row: u64,
+    table: u64,
+    from: u64,
+    next: &mut [u64; 3],
+) -> u8
+    ensures { λ r. ⌜ words r (now (next .exit)) ≡ eitNextIn (now (eit .entry)) (now (heads .entry)) (now (slots .entry)) (now (cells .entry)) (now («schedule_heads» .entry)) (now (units .entry)) row table from ⌝ }
 {
-    let answer = opened.answer;
-    write_where(eit, answer, opened.eit);
-    answer.number()
-}
-
-// Writes what a push leaves in the words, and gives its number.
-pub fn write_pushed(eit: &mut [u64; 7], row: &mut [u64; 1], pushed: Pushed) -> u8
-    ensures { λ r. ⌜ pushes r (now (eit .exit)) (now (row .exit)) ≡ tellsPushed pushed (now (eit .entry)) (now (row .entry)) ⌝ }
-{
-    let answer = pushed.answer;
-    write_counts(eit, pushed.eit);
-    write_row(row, answer);
-    answer.number()
-}
-
-// Writes what a clearing leaves in the words, and gives its number.
-pub fn write_cleared(eit: &mut [u64; 7], cleared: Cleared) -> u8
-    ensures { λ r. ⌜ words r (now (eit .exit)) ≡ tellsCleared cleared (now (eit .entry)) ⌝ }
-{
-    let answer = cleared.answer;
-    write_counts(eit, cleared.eit);
-    answer.number()
-}
-
-// Writes what a drop leaves in the words, and gives its number.
-pub fn write_dropped(eit: &mut [u64; 7], dropped: Dropped) -> u8
-    ensures { λ r. ⌜ words r (now (eit .exit)) ≡ tellsDropped dropped (now (eit .entry)) ⌝ }
-{
-    let answer = dropped.answer;
-    write_counts(eit, dropped.eit);
-    answer.number()
-}
-
-fn wanted(word: u64) -> Wanted
-    ensures { λ r. ⌜ r ≡ wantedOf word ⌝ }
-{
-    if word == FREE {
-        Wanted::Any
-    } else {
-        Wanted::Exactly(word)
-    }
-}
-
-// The PID of a filter: free, 0xFFFFFFFF for "exactly none", or exactly that one.
-fn wanted_pid(word: u64) -> WantedPid
-    ensures { λ r. ⌜ r ≡ wantedPidOf word ⌝ }
-{
-    if word == FREE {
-        return WantedPid::Any;
-    }
-    if word == 0xFFFF_FFFF {
-        return WantedPid::Without;
-    }
-    WantedPid::Exactly(pids::narrow(word))
-}
-
-pub fn filter(words: &[u64; 6]) -> Filter
-    ensures { λ r. ⌜ r ≡ filterOf (now (words .entry)) ⌝ }
-{
-    Filter {
-        pid: wanted_pid(words[0]),
-        kind: wanted(words[1]),
-        service_id: wanted(words[2]),
-        transport_stream_id: wanted(words[3]),
-        original_network_id: wanted(words[4]),
-        current_next: wanted(words[5]),
-    }
+    let collector = words::eit(eit);
+    let told = eit::next_in_schedule(
+        collector,
+        heads,
+        slots,
+        cells,
+        schedule_heads,
+        units,
+        row as usize,
+        table as usize,
+        from as usize,
+    );
+    words::write_next(next, told)
 }

@@ -1,4 +1,3 @@
 pub mod SetLaws
-pub mod EitLaws
 pub mod Refusals
 pub mod Unique

@@ -1,2 +1,1 @@
 pub mod Collectors
-pub mod Eits

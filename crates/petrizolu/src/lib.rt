@@ -7,7 +7,7 @@ ghost use Rattle.host_gate.specs.Calls.{begun, gateOpened, left, gateOffered, w
 ghost use Rattle.host_indexed.specs.Calls as indexed;
 ghost use Rattle.host_words.specs.Answers.{words};
 ghost use Rattle.petrizolu.specs.Collectors.{setsLeft, setsOpened, setsPushed, setsCleared, setsNext};
-ghost use Rattle.petrizolu.specs.Eits.{eitOpened, eitLeft, eitPushed, eitCleared, eitDroppedTo, eitDropped, eitNext, eitNextIn};
+ghost use Rattle.host_eit.specs.Calls.{eitOpened, eitLeft, eitPushed, eitCleared, eitDroppedTo, eitDropped, eitNext, eitNextIn};
 
 // The CRC of ISO/IEC 13818-1, Annex A.
 #[no_mangle]
@@ -192,17 +192,17 @@ pub extern "C" fn petrizolu_eit_open(
 ) -> u8
     ensures { λ r. ⌜ words r (now (eit .exit)) ≡ eitOpened (now (eit .entry)) limit size count (now (heads .entry)) (now (slots .entry)) (now (cells .entry)) (now («schedule_heads» .entry)) (now (units .entry)) ⌝ }
 {
-    let opened = eit::open(
-        limit as usize,
-        size as usize,
-        count as usize,
+    host_eit::open(
+        eit,
+        limit,
+        size,
+        count,
         heads,
         slots,
         cells,
         schedule_heads,
         units,
-    );
-    host_eit::write_opened(eit, opened)
+    )
 }
 
 // Offers a section, with the PID that it came on or, for 0xFFFFFFFF, without. 5 writes the set's row into `row`, 6 the schedule's.
@@ -220,22 +220,20 @@ pub extern "C" fn petrizolu_eit_push(
 ) -> u8
     ensures { λ r. ⌜ eitLeft r (now (eit .exit)) (now (heads .exit)) (now (slots .exit)) (now (cells .exit)) (now («schedule_heads» .exit)) (now (units .exit)) (now (row .exit)) ≡ eitPushed (now (eit .entry)) (now (heads .entry)) (now (slots .entry)) (now (cells .entry)) (now («schedule_heads» .entry)) (now (units .entry)) pid (now (section .entry)) (now (row .entry)) ⌝ }
 {
-    let before = host_eit::eit(eit);
-    let from = host_words::pids::maybe(pid);
-    let pushed = eit::push(
-        before,
+    host_eit::push(
+        eit,
         heads,
         slots,
         cells,
         schedule_heads,
         units,
-        from,
+        pid,
         section,
-    );
-    host_eit::write_pushed(eit, row, pushed)
+        row,
+    )
 }
 
-// No set and no schedule is in use then: 7, or 10.
+// Every set and every schedule leaves: 7, or 10.
 #[no_mangle]
 pub extern "C" fn petrizolu_eit_clear(
     eit: &mut [u64; 7],
@@ -247,9 +245,7 @@ pub extern "C" fn petrizolu_eit_clear(
 ) -> u8
     ensures { λ r. ⌜ words r (now (eit .exit)) ≡ eitCleared (now (eit .entry)) (now (heads .entry)) (now (slots .entry)) (now (cells .entry)) (now («schedule_heads» .entry)) (now (units .entry)) ⌝ }
 {
-    let before = host_eit::eit(eit);
-    let cleared = eit::clear(before, heads, slots, cells, schedule_heads, units);
-    host_eit::write_cleared(eit, cleared)
+    host_eit::clear(eit, heads, slots, cells, schedule_heads, units)
 }
 
 // Sets and schedules that match the filter go: 7, 10, or 12 for a PID of the filter that is none. A word with all 64 bits set is free, the PID 0xFFFFFFFF
@@ -266,10 +262,7 @@ pub extern "C" fn petrizolu_eit_drop(
 ) -> u8
     ensures { λ r. ⌜ eitDroppedTo r (now (eit .exit)) (now (heads .exit)) (now (slots .exit)) (now («schedule_heads» .exit)) (now (units .exit)) ≡ eitDropped (now (eit .entry)) (now (heads .entry)) (now (slots .entry)) (now (cells .entry)) (now («schedule_heads» .entry)) (now (units .entry)) (now (filter .entry)) ⌝ }
 {
-    let before = host_eit::eit(eit);
-    let wanted = host_eit::filter(filter);
-    let dropped = eit::drop(before, heads, slots, cells, schedule_heads, units, wanted);
-    host_eit::write_dropped(eit, dropped)
+    host_eit::drop(eit, heads, slots, cells, schedule_heads, units, filter)
 }
 
 // Has the set in a row another section, from a slot on? 8, 9 or 10; `next` gets its number, and where its bytes are in the cells.
@@ -287,18 +280,17 @@ pub extern "C" fn petrizolu_eit_next(
 ) -> u8
     ensures { λ r. ⌜ words r (now (next .exit)) ≡ eitNext (now (eit .entry)) (now (heads .entry)) (now (slots .entry)) (now (cells .entry)) (now («schedule_heads» .entry)) (now (units .entry)) row from ⌝ }
 {
-    let collector = host_eit::eit(eit);
-    let told = eit::next_section(
-        collector,
+    host_eit::next(
+        eit,
         heads,
         slots,
         cells,
         schedule_heads,
         units,
-        row as usize,
-        from as usize,
-    );
-    host_sets::write_next(next, told)
+        row,
+        from,
+        next,
+    )
 }
 
 // Has that table of the schedule in a row another section, from a slot on? Tables count from the first of the kind, 0x50 or 0x60, on.
@@ -317,17 +309,16 @@ pub extern "C" fn petrizolu_eit_next_in_schedule(
 ) -> u8
     ensures { λ r. ⌜ words r (now (next .exit)) ≡ eitNextIn (now (eit .entry)) (now (heads .entry)) (now (slots .entry)) (now (cells .entry)) (now («schedule_heads» .entry)) (now (units .entry)) row table from ⌝ }
 {
-    let collector = host_eit::eit(eit);
-    let told = eit::next_in_schedule(
-        collector,
+    host_eit::next_in_schedule(
+        eit,
         heads,
         slots,
         cells,
         schedule_heads,
         units,
-        row as usize,
-        table as usize,
-        from as usize,
-    );
-    host_sets::write_next(next, told)
+        row,
+        table,
+        from,
+        next,
+    )
 }

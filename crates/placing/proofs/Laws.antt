@@ -13,11 +13,11 @@ use Rattle.cells.specs.Cells.{keptLength, cellNumber, kept}
 use Rattle.rows.specs.Rows.{oldestOf, rowOf, roomIn, roomRenewed, roomNew, slotsAt, ageOf, lastOf, versionOf}
 use Rattle.rows.specs.declared.Entry.{Entry}
 use Rattle.rows.specs.declared.Room.{Room}
-use Rattle.sets.specs.Store.{Store, Whole, RoomOk}
-use Rattle.sets.proofs.May.{oldest-below}
+use Rattle.store.specs.Store.{Store, Whole}
+use Rattle.placing.proofs.Fits.{oldest-below}
 use Rattle.placing.specs.declared.Place.{Place}
 use Rattle.placing.specs.declared.Place.the-variants.{Conflict, Repeat, Goes}
-use Rattle.placing.specs.Places.{placeSlot, placeKnown, placeOf, PlaceOk}
+use Rattle.placing.specs.Places.{placeSlot, placeKnown, placeOf, RoomOk, PlaceOk}
 
 pub slot-empty : (s : Store) (bytes : List ℕ) (i w n : ℕ) (r : Room) → n ≡ keptLength w → n ≡ 0 → r ≡ roomIn (s .sets .used) (s .sets .evictions) i → Goes r ≡ placeSlot s bytes i w
 unfolding placeSlot

@@ -1,6 +1,7 @@
--- Where a section goes among the rows of a collector (document 01, "Collectors"), for every content of the lent memory. Which cell it takes is
+-- Where a section goes among the rows of a collector (docs/RULES.md, "Collectors"), for every content of the lent memory. Which cell it takes is
 -- another question: that depends on what else names cells.
-use Prim.Native.Nat.{ℕ, _+_, _≤_, _<_}
+use Prim.Native.Nat.{ℕ, _+_, _≤_, _<_, max}
+use mathlib.Core.Path.{_≡_}
 use mathlib.Core.List.{List}
 use mathlib.Core.Bool.{Bool, true, false, cond, _&&_}
 use lib.ListN.{getD}
@@ -9,7 +10,9 @@ use Rattle.laws.specs.Lists.{sameList}
 use Rattle.cells.specs.Cells.{keptLength, kept}
 use Rattle.rows.specs.Rows.{rowOf, roomIn, roomRenewed, roomNew, slotsAt, ageOf, lastOf, versionOf}
 use Rattle.rows.specs.declared.Entry.{Entry}
-use Rattle.sets.specs.Store.{Store, RoomOk}
+use Rattle.rows.specs.declared.Room.{Room}
+use Rattle.store.specs.Store.{Store}
+use Rattle.store.specs.declared.Sets.{Sets}
 use Rattle.placing.specs.declared.Place.{Place}
 use Rattle.placing.specs.declared.Place.the-variants.{Conflict, Repeat, Goes}
 
@@ -32,6 +35,14 @@ placeOf s e bytes =
     let i : ℕ = rowOf (s .heads) (e .key) (s .sets .used) in
     cond (ltb i (s .sets .used)) (placeKnown s e bytes i)
     (Goes (roomNew (s .heads) (s .sets .limit) (s .sets .used) (s .sets .evictions)))
+
+-- where a section may go: a row in use, or the next one
+pub record RoomOk (s : Sets) (r : Room) : Type 0 where
+  pub row : r .row < r .used
+  pub room : r .used ≤ s .limit
+  pub next : r .row ≤ s .used
+  pub all : r .used ≤ max (s .used) (r .row + 1)
+  pub known : r .fresh ≡ false → r .row < s .used
 
 -- what a place may be: a row in use, or room for one within the limit
 abbrev pub PlaceOk : Store → Place → Type 0

@@ -2,13 +2,14 @@
 // which row. Nothing is written, and no cell is looked for: the set collector and the EIT collector differ in what else names cells.
 use rows::Entry;
 use rows::Room;
-use sets::Sets;
+use store::Sets;
 ghost use mathlib.Core.Path.{_≡_};
 ghost use mathlib.Core.Bool.{true};
 ghost use Prim.Native.Nat.{_<_};
 ghost use Rattle.cells.specs.Cells.{slotWhole};
 ghost use Rattle.rows.specs.Rows.{roomIn, roomRenewed};
-ghost use Rattle.sets.specs.Store.{store, Whole, Numbered};
+ghost use Rattle.arrivals.specs.Arrivals.{Numbered};
+ghost use Rattle.store.specs.Store.{store, Whole};
 ghost use Rattle.placing.specs.Places.{placeSlot, placeKnown, placeOf};
 
 pub enum Place {

@@ -6,13 +6,14 @@ use mathlib.Core.Option.{none}
 use mathlib.Core.List.{List, [], _∷_, map}
 use Prim.Native.Nat.{ℕ}
 use lib.ListN.{replicate}
+use Rattle.answers.specs.declared.Refusal.the-variants as refusal
 use Rattle.rules_shared.specs.Slots.{someHeld, everyHeld, onSlots}
 use Rattle.rules_shared.specs.Touch.{count, someRow, everyRow, seenAs, untouched, onOrder}
 use Rattle.rules_shared.specs.Row.{onRow}
 use Rattle.rules_shared.specs.Cells.{bytesOf, names, lowest, write, placeNew, placeHeld, place, roomWhole, heldWhole, atEnd}
 use Rattle.laws.specs.Runs.{answers}
 use Rattle.rules_eit.specs.Keys.{presentActual, scheduleActual}
-use Rattle.rules_eit.specs.Rules.{Call, drop, offer, Answer, nothing, handout, conflict, noCell, numberOf}
+use Rattle.rules_eit.specs.Rules.{refused, Call, drop, offer, Answer, nothing, handout, numberOf}
 use Rattle.rules_eit.specs.Cells.{Store, onCopy, onSchedule, onEit, onWhole, onGuide, onAnswer, setTakes, copyTakes, scheduleTakes, taken, storeWhole, anyAtEnd, ended, shows, rest, roomFor, placeOf, carry, pushIn, admitIn, offerIn, dropIn, good, guarded, call, callTells, callActs}
 use Rattle.rules_eit.proofs.Examples.{one, set-of, guide-of, gives, free}
 
@@ -33,7 +34,7 @@ unfolding replies
 two-cells = refl
 
 -- with one cell the second set finds none (21), and the first stays
-one-cell : replies (store 1 1) (one 1 0x50 0 0x51 7 ∷ one 2 0x4e 0 0 9 ∷ one 1 0x50 0 0x51 7 ∷ one 1 0x50 0 0x51 6 ∷ []) ≡ nothing ∷ noCell ∷ nothing ∷ conflict ∷ []
+one-cell : replies (store 1 1) (one 1 0x50 0 0x51 7 ∷ one 2 0x4e 0 0 9 ∷ one 1 0x50 0 0x51 7 ∷ one 1 0x50 0 0x51 6 ∷ []) ≡ nothing ∷ (refused refusal.NoCell) ∷ nothing ∷ (refused refusal.Conflict) ∷ []
 unfolding replies
 one-cell = refl
 

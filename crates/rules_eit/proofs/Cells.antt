@@ -9,14 +9,16 @@ use Prim.Native.Nat.{ℕ, zero, suc}
 use native.Mathlib.Omega.{arith}
 use lib.Dec.{leb}
 use lib.ListN.{length}
+use Rattle.answers.specs.declared.Refusal.the-variants as refusal
 use Rattle.rules_shared.specs.Same.{Bytes}
 use Rattle.rules_shared.specs.Touch.{seenAs, emptied, onOrder}
 use Rattle.rules_shared.specs.Row.{keep, onRow, put}
 use Rattle.rules_shared.specs.Cells.{Held, Cells, bytesOf, write, heldIn}
 use Rattle.laws.specs.Runs.{Obeys, bars, does}
 use Rattle.rules_shared.proofs.Cells.{kept-shown, rules-keep, rules-ignore, rules-refuse}
+use Rattle.rules_shared.specs.Refusals as refusals
 use Rattle.rules_eit.specs.Keys.{Kind, kindOf, SetKey}
-use Rattle.rules_eit.specs.Rules.{Section, keyOf, partOf, Call, offer, refused, nothing, conflict, barred, StepOf, Eit, Step, gives, judge, cleared, finish, push, admit, offered, dropping, step, tells, acts}
+use Rattle.rules_eit.specs.Rules.{Section, keyOf, partOf, Call, offer, refused, nothing, barred, StepOf, Eit, Step, gives, judge, cleared, finish, push, admit, offered, dropping, step, tells, acts}
 use Rattle.rules_eit.specs.Cells.{Store, Turn, onEit, onAnswer, view, setTakes, shows, rest, roomFor, call, callTells, callActs}
 use Rattle.rules_eit.proofs.Views.{met-on, setAside-on, setNewest-on, dropped-on, onStep, judge-on, free-cell-unseen, free-parts}
 use Rattle.rules_eit.proofs.Outcome.{row, Asks, Outcome, broken, stopped, clears, drops, keepsAll, refuses, foreign, long, keyless, lacks, keeps, ignores, conflicts, outcome}
@@ -62,16 +64,16 @@ module _ (s : Store) where
   finished x k a o e = asked x k a ∙ ap (finish (s .settings .limit) (onEit read (rest s k)) k (x .lastTable) (onRow read (row s x k))) e
 
   well : {i : Call} {t : Turn} → Outcome s i t → Fits t (step (s .settings) (view s) i)
-  unfolding barred step dropping offered admit push view onEit onOrder cleared emptied seenAs finish onAnswer roomFor setTakes shows
+  unfolding barred refusals.barred step dropping offered admit push view onEit onOrder cleared emptied seenAs finish onAnswer roomFor setTakes shows
   well (broken i w) = out refl
   well (stopped i w e) = out refl
   well (clears w) = fits refl refl
   well (drops f w h) = rw h (fits refl (sym (dropped-on read f (s .eit))))
   well (keepsAll f w h) = rw h (fits refl refl)
-  well (refuses n w) = fits refl refl
-  well (foreign x w h) = shown (s .cells) (gives (refused 18) (s .eit)) (step (s .settings) (view s) (offer x)) (ap (offered (s .settings) (view s) x) h)
+  well (refuses r b w) = fits refl refl
+  well (foreign x w h) = shown (s .cells) (gives (refused refusal.NotEit) (s .eit)) (step (s .settings) (view s) (offer x)) (ap (offered (s .settings) (view s) x) h)
   well (long x kind w h l) =
-      shown (s .cells) (gives (refused 20) (s .eit)) (step (s .settings) (view s) (offer x))
+      shown (s .cells) (gives (refused refusal.TooLong) (s .eit)) (step (s .settings) (view s) (offer x))
       (kinded x kind h ∙ ap (admit (s .settings .limit) (view s) x (keyOf x kind)) (lt-leb (length (x .bytes)) (s .settings .cellSize) l))
   well (keyless x kind w h l q) =
       shown (s .cells) (gives nothing (s .eit)) (step (s .settings) (view s) (offer x))
@@ -91,8 +93,8 @@ module _ (s : Store) where
       shown (s .cells) (judge (s .settings .limit) (rest s k) k (x .lastTable) (row s x k)) (step (s .settings) (view s) (offer x))
       (finished x k a _ (rules-ignore (s .cells) (partOf x) (x .bytes) (row s x k) h e q) ∙ judge-on read (s .settings .limit) (rest s k) k (x .lastTable) (row s x k))
   well (conflicts x k a h e q) =
-      shown (s .cells) (gives conflict (roomFor s x k)) (step (s .settings) (view s) (offer x))
-      (finished x k a _ (rules-refuse (s .cells) (partOf x) (x .bytes) (row s x k) h e q) ∙ ap (gives conflict) (setNewest-on read k (row s x k) (rest s k)))
+      shown (s .cells) (gives (refused refusal.Conflict) (roomFor s x k)) (step (s .settings) (view s) (offer x))
+      (finished x k a _ (rules-refuse (s .cells) (partOf x) (x .bytes) (row s x k) h e q) ∙ ap (gives (refused refusal.Conflict)) (setNewest-on read k (row s x k) (rest s k)))
 
   settings-of : {i : Call} {t : Turn} → Outcome s i t → t .store .settings ≡ s .settings
   unfolding shows
@@ -101,7 +103,7 @@ module _ (s : Store) where
   settings-of (clears w) = refl
   settings-of (drops f w h) = refl
   settings-of (keepsAll f w h) = refl
-  settings-of (refuses n w) = refl
+  settings-of (refuses r b w) = refl
   settings-of (foreign x w h) = refl
   settings-of (long x kind w h l) = refl
   settings-of (keyless x kind w h l q) = refl

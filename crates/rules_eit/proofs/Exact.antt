@@ -10,6 +10,9 @@ use Prim.Native.Nat.{ℕ, _<_}
 use native.Mathlib.Omega.{arith}
 use lib.ListN.{length}
 use Rattle.laws.proofs.Tests.{none≢some}
+use Rattle.answers.specs.declared.Refusal.{Refusal}
+use Rattle.answers.specs.declared.Refusal.the-variants as refusal
+use Rattle.rules_shared.specs.Refusals as refusals
 use Rattle.rules_shared.specs.Touch.{under, find, remove, aside, newest}
 use Rattle.rules_shared.specs.Row.{slotOf}
 use Rattle.rules_shared.specs.Cells.{Held, bytesOf}
@@ -17,10 +20,10 @@ use Rattle.rules_shared.proofs.All.{held-stays}
 use Rattle.rules_shared.proofs.Row.{slot-on, start-held}
 use Rattle.rules_shared.proofs.Cells.{LowestFree, AllTaken, Kept, kept-parts, parts-kept}
 use Rattle.rules_eit.specs.Keys.{Kind, kindOf, SetKey, sameSet}
-use Rattle.rules_eit.specs.Rules.{EitOf, Section, keyOf, partOf, Call, offer, Answer, done, refused, nothing, handout, schedule, conflict, range, notWhole, counterFull, noCell, asBefore, metRow, setAside, setNewest, isKept}
+use Rattle.rules_eit.specs.Rules.{EitOf, Section, keyOf, partOf, Call, offer, Answer, done, refused, nothing, handout, schedule, asBefore, metRow, setAside, setNewest, isKept}
 use Rattle.rules_eit.specs.Cells.{Store, Turn, onAnswer, view, taken, storeWhole, ended, shows, rest, roomFor, callTells, callActs}
 use Rattle.rules_eit.proofs.Views.{met-on}
-use Rattle.rules_eit.proofs.Outcome.{row, slot, Asks, Outcome, broken, stopped, clears, drops, keepsAll, refuses, foreign, long, keyless, lacks, keeps, ignores, conflicts, outcome, accepting, judge-accepts, accepts-not}
+use Rattle.rules_eit.proofs.Outcome.{row, slot, Asks, Outcome, broken, stopped, clears, drops, keepsAll, refuses, foreign, long, keyless, lacks, keeps, ignores, conflicts, outcome, isRange, accepting, judge-accepts, accepts-not, bytes-not}
 
 -- ---- whether the rules keep a section, read off the store
 
@@ -38,19 +41,31 @@ module _ (s : Store) (x : Section) (k : SetKey) where
   unfolding isKept
   kept-slot h = map-eq-none-iff (bytesOf (s .cells)) (slot s x k) .0 (sym shown-slot ∙ kept-parts (s .settings) (x .bytes) _ h .free)
 
+range-changes : (r : Refusal) → isRange r ≡ true → refusals.asBefore r ≡ true → ⊥
+unfolding refusals.asBefore
+range-changes refusal.NotWhole p q = true≢false (sym p)
+range-changes refusal.CounterFull p q = true≢false (sym p)
+range-changes refusal.BadPid p q = true≢false (sym p)
+range-changes refusal.TooLittle p q = true≢false (sym p)
+range-changes refusal.Malformed p q = true≢false (sym p)
+range-changes refusal.ShortForm p q = true≢false (sym p)
+range-changes refusal.BadNumber p q = true≢false (sym p)
+range-changes refusal.BadCrc p q = true≢false (sym p)
+range-changes refusal.NotEit p q = true≢false (sym p)
+range-changes refusal.Broken p q = true≢false (sym p)
+range-changes refusal.TooLong p q = true≢false (sym p)
+range-changes refusal.NoCell p q = true≢false (sym p)
+range-changes refusal.Conflict p q = true≢false (sym p)
+range-changes refusal.Range p q = true≢false (sym q)
+
 -- what judging a row answers changes something
 accepts-changes : (a : Answer) → accepting a ≡ true → asBefore a ≡ true → ⊥
 unfolding accepting asBefore
 accepts-changes nothing p q = true≢false (sym q)
 accepts-changes (handout w) p q = true≢false (sym q)
 accepts-changes (schedule g) p q = true≢false (sym q)
-accepts-changes range p q = true≢false (sym q)
 accepts-changes done p q = true≢false (sym p)
-accepts-changes (refused n) p q = true≢false (sym p)
-accepts-changes conflict p q = true≢false (sym p)
-accepts-changes notWhole p q = true≢false (sym p)
-accepts-changes counterFull p q = true≢false (sym p)
-accepts-changes noCell p q = true≢false (sym p)
+accepts-changes (refused r) p q = range-changes r p q
 
 -- ---- 21
 
@@ -63,7 +78,7 @@ pub record NeedsCell (s : Store) (x : Section) (kind : Kind) : Type 0 where
   pub kept : isKept (s .settings) (view s) x (keyOf x kind) ≡ true
   pub named : AllTaken (taken (roomFor s x (keyOf x kind))) (length (s .cells))
 
-pub only-then-21 : (s : Store) (i : Call) → callTells s i ≡ noCell → (x : Section) × (kind : Kind) × (i ≡ offer x) × NeedsCell s x kind
+pub only-then-21 : (s : Store) (i : Call) → callTells s i ≡ (refused refusal.NoCell) → (x : Section) × (kind : Kind) × (i ≡ offer x) × NeedsCell s x kind
 unfolding callTells accepting onAnswer shows
 only-then-21 s i e = go (outcome s i) e
   where
@@ -76,13 +91,13 @@ only-then-21 s i e = go (outcome s i) e
       named = subst (λ (j : SetKey). AllTaken (taken (roomFor s x j)) (length (s .cells))) (sym (a .isKey)) f;
     }
 
-    go : {j : Call} {t : Turn} → Outcome s j t → t .answer ≡ noCell → (x : Section) × (kind : Kind) × (j ≡ offer x) × NeedsCell s x kind
+    go : {j : Call} {t : Turn} → Outcome s j t → t .answer ≡ (refused refusal.NoCell) → (x : Section) × (kind : Kind) × (j ≡ offer x) × NeedsCell s x kind
     go (broken j w) e = let z : _≡_ {A = ℕ} 0 1 = cc in absurd (omega arith)
     go (stopped j w q) e = let z : _≡_ {A = ℕ} 0 1 = cc in absurd (omega arith)
     go (clears w) e = let z : _≡_ {A = ℕ} 0 1 = cc in absurd (omega arith)
     go (drops f w h) e = let z : _≡_ {A = ℕ} 0 1 = cc in absurd (omega arith)
     go (keepsAll f w h) e = let z : _≡_ {A = ℕ} 0 1 = cc in absurd (omega arith)
-    go (refuses n w) e = let z : _≡_ {A = ℕ} 0 1 = cc in absurd (omega arith)
+    go (refuses r b w) e = absurd (bytes-not r refusal.NoCell b refl e)
     go (foreign x w h) e = let z : _≡_ {A = ℕ} 0 1 = cc in absurd (omega arith)
     go (long x kind w h l) e = let z : _≡_ {A = ℕ} 0 1 = cc in absurd (omega arith)
     go (keyless x kind w h l q) e = let z : _≡_ {A = ℕ} 0 1 = cc in absurd (omega arith)
@@ -91,7 +106,7 @@ only-then-21 s i e = go (outcome s i) e
     go (ignores x k a h q f) e = absurd (accepts-not _ _ (judge-accepts _ (s .settings .limit) (rest s k) k (x .lastTable) _) refl e)
     go (conflicts x k a h q f) e = let z : _≡_ {A = ℕ} 0 1 = cc in absurd (omega arith)
 
-pub then-21 : (s : Store) (x : Section) (kind : Kind) → NeedsCell s x kind → callTells s (offer x) ≡ noCell
+pub then-21 : (s : Store) (x : Section) (kind : Kind) → NeedsCell s x kind → callTells s (offer x) ≡ (refused refusal.NoCell)
 unfolding callTells isKept
 then-21 s x kind n = go (outcome s (offer x)) refl
   where
@@ -113,13 +128,13 @@ then-21 s x kind n = go (outcome s (offer x)) refl
         let e = sym (its-key y k z a) in
         none≢some ((λ i. slot s (z i) (e i)) ∙ free) q
 
-    go : {j : Call} {t : Turn} → Outcome s j t → j ≡ offer x → t .answer ≡ noCell
+    go : {j : Call} {t : Turn} → Outcome s j t → j ≡ offer x → t .answer ≡ (refused refusal.NoCell)
     go (broken j w) e = absurd (true≢false (sym (n .isWhole) ∙ w))
     go (stopped j w q) e = absurd (true≢false (sym q ∙ ap (ended s) e ∙ n .running))
     go (clears w) e = let z : _≡_ {A = ℕ} 0 1 = cc in absurd (omega arith)
     go (drops f w h) e = let z : _≡_ {A = ℕ} 0 1 = cc in absurd (omega arith)
     go (keepsAll f w h) e = let z : _≡_ {A = ℕ} 0 1 = cc in absurd (omega arith)
-    go (refuses m w) e = let z : _≡_ {A = ℕ} 0 1 = cc in absurd (omega arith)
+    go (refuses r b w) e = let z : _≡_ {A = ℕ} 0 1 = cc in absurd (omega arith)
     go (foreign y w h) e = let z : y ≡ x = cc in absurd (none≢some (ap (λ (v : Section). kindOf (v .tableId)) (sym z) ∙ h) (n .isKind))
     go (long y j w h l) e = let z : y ≡ x = cc in absurd (omega (arith, p .short, subst (λ (v : Section). s .settings .cellSize < length (v .bytes)) z l))
     go (keyless y j w h l q) e = absurd (omega (arith, p .some-key))
@@ -136,7 +151,7 @@ then-21 s x kind n = go (outcome s (offer x)) refl
 -- ---- "as before": on 10, 11, 21 and every refusal but 22 and 23
 
 pub as-before : (s : Store) (i : Call) → asBefore (callTells s i) ≡ true → callActs s i ≡ s
-unfolding callTells callActs asBefore onAnswer shows
+unfolding callTells callActs asBefore refusals.asBefore onAnswer shows
 as-before s i e = go (outcome s i) e
   where
     go : {j : Call} {t : Turn} → Outcome s j t → asBefore (t .answer) ≡ true → t .store ≡ s
@@ -145,7 +160,7 @@ as-before s i e = go (outcome s i) e
     go (clears w) e = absurd (true≢false (sym e))
     go (drops f w h) e = absurd (true≢false (sym e))
     go (keepsAll f w h) e = refl
-    go (refuses n w) e = refl
+    go (refuses r b w) e = refl
     go (foreign x w h) e = refl
     go (long x kind w h l) e = refl
     go (keyless x kind w h l q) e = refl
@@ -168,7 +183,7 @@ pub record Conflicting (s : Store) (x : Section) (k : SetKey) (after : Store) : 
     cells = s .cells;
   }
 
-pub conflict-touches : (s : Store) (i : Call) → callTells s i ≡ conflict → (x : Section) × (k : SetKey) × (i ≡ offer x) × Conflicting s x k (callActs s i)
+pub conflict-touches : (s : Store) (i : Call) → callTells s i ≡ (refused refusal.Conflict) → (x : Section) × (k : SetKey) × (i ≡ offer x) × Conflicting s x k (callActs s i)
 unfolding callTells callActs accepting onAnswer shows roomFor rest setAside setNewest newest metRow
 conflict-touches s i e = go (outcome s i) e
   where
@@ -178,13 +193,13 @@ conflict-touches s i e = go (outcome s i) e
     touched x k h q =
         ap (newest k (row s x k)) (held-stays sameSet (s .settings .limit) k (s .eit .sets) (row s x k) (start-held (partOf x) (find sameSet k (s .eit .sets .rows)) h q))
 
-    go : {j : Call} {t : Turn} → Outcome s j t → t .answer ≡ conflict → (x : Section) × (k : SetKey) × (j ≡ offer x) × Conflicting s x k (t .store)
+    go : {j : Call} {t : Turn} → Outcome s j t → t .answer ≡ (refused refusal.Conflict) → (x : Section) × (k : SetKey) × (j ≡ offer x) × Conflicting s x k (t .store)
     go (broken j w) e = let z : _≡_ {A = ℕ} 0 1 = cc in absurd (omega arith)
     go (stopped j w q) e = let z : _≡_ {A = ℕ} 0 1 = cc in absurd (omega arith)
     go (clears w) e = let z : _≡_ {A = ℕ} 0 1 = cc in absurd (omega arith)
     go (drops f w h) e = let z : _≡_ {A = ℕ} 0 1 = cc in absurd (omega arith)
     go (keepsAll f w h) e = let z : _≡_ {A = ℕ} 0 1 = cc in absurd (omega arith)
-    go (refuses n w) e = let z : _≡_ {A = ℕ} 0 1 = cc in absurd (omega arith)
+    go (refuses r b w) e = absurd (bytes-not r refusal.Conflict b refl e)
     go (foreign x w h) e = let z : _≡_ {A = ℕ} 0 1 = cc in absurd (omega arith)
     go (long x kind w h l) e = let z : _≡_ {A = ℕ} 0 1 = cc in absurd (omega arith)
     go (keyless x kind w h l q) e = let z : _≡_ {A = ℕ} 0 1 = cc in absurd (omega arith)

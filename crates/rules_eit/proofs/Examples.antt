@@ -6,6 +6,7 @@ use mathlib.Core.Option.{none, some}
 use mathlib.Core.List.{List, [], _∷_, map}
 use Prim.Native.Nat.{ℕ}
 use lib.ListN.{getElem?, replicate}
+use Rattle.answers.specs.declared.Refusal.the-variants as refusal
 use Rattle.rules_shared.specs.Same.{Bytes, sameBytes, samePid}
 use Rattle.rules_shared.specs.Slots.{isHeld, present}
 use Rattle.rules_shared.specs.Touch.{Entry, oldestGone, room, leaves, count, retain, find, remove, others, evicts, untouched, aside, newest, touch, emptied, retained}
@@ -14,7 +15,7 @@ use Rattle.laws.specs.Runs.{answers, storeAfter}
 use Rattle.rules_eit.specs.Keys.{Kind, presentActual, presentOther, scheduleActual, scheduleOther, between, kindOf, firstOf, kindNumber, sameKind, ScheduleKey, SetKey, sameSchedule, sameSet, Filter, anyPid, exactly, badPid, pidPasses, passes, matches}
 use Rattle.rules_eit.specs.Segments.{segmentEnd, SetOf, heldFrom, segmentFull, segmentsFull, complete}
 use Rattle.rules_eit.specs.Schedules.{ScheduleOf, copyOf, whole, copied, refill, begin, enter, allTables, wholes, guide}
-use Rattle.rules_eit.specs.Rules.{scheduleOf, keyOf, partOf, Call, clear, drop, refuse, offer, Whole, Answer, nothing, handout, schedule, conflict, numberOf, metRow, setAside, setNewest, scheduleTouched, told, ranged, ready, judged, judge, cleared, dropped, Eit, finish, push, admit, offered, dropping, step, tells, acts, opened}
+use Rattle.rules_eit.specs.Rules.{refused, scheduleOf, keyOf, partOf, Call, clear, drop, refuse, offer, Whole, Answer, nothing, handout, schedule, numberOf, metRow, setAside, setNewest, scheduleTouched, told, ranged, ready, judged, judge, cleared, dropped, Eit, finish, push, admit, offered, dropping, step, tells, acts, opened}
 
 -- ---- 01, "Checked examples": segment ends; and the kinds at their borders
 
@@ -84,7 +85,7 @@ scheduleServices e = map (λ (r : Entry ScheduleKey (ScheduleOf Bytes)). r .key 
 
 -- section 0 of 2 with segment last 0 goes out alone, then again with both; the repeat is ignored, other bytes conflict
 alone : gives 4 (sect 1 0x4e 0 0 1 0 0x4e 7 ∷ sect 1 0x4e 0 1 1 1 0x4e 8 ∷ sect 1 0x4e 0 1 1 1 0x4e 8 ∷ sect 1 0x4e 0 1 1 1 0x4e 9 ∷ [])
-    ≡ handout (set-of 1 presentActual 0x4e 0 1 (7 ∷ [])) ∷ handout (set-of 1 presentActual 0x4e 0 1 (7 ∷ 8 ∷ [])) ∷ nothing ∷ conflict ∷ []
+    ≡ handout (set-of 1 presentActual 0x4e 0 1 (7 ∷ [])) ∷ handout (set-of 1 presentActual 0x4e 0 1 (7 ∷ 8 ∷ [])) ∷ nothing ∷ (refused refusal.Conflict) ∷ []
 unfolding gives
 alone = refl
 
@@ -107,7 +108,7 @@ unfolding gives
 sparse = refl
 
 -- not an EIT; a section that its bytes refuse; longer than a cell; limit 0, looked at after 20; a filter with a PID that there is none of
-refusals : map numberOf (gives 0 (one 1 0x42 0 0x42 7 ∷ refuse 17 ∷ one 1 0x4e 0 0x4e 7 ∷ drop (record { pid = exactly (some 8192); kind = none; serviceId = none; transportStreamId = none; originalNetworkId = none; currentNext = none }) ∷ []))
+refusals : map numberOf (gives 0 (one 1 0x42 0 0x42 7 ∷ refuse refusal.BadCrc refl ∷ one 1 0x4e 0 0x4e 7 ∷ drop (record { pid = exactly (some 8192); kind = none; serviceId = none; transportStreamId = none; originalNetworkId = none; currentNext = none }) ∷ []))
     ≡ 18 ∷ 17 ∷ 4 ∷ 12 ∷ []
 unfolding gives
 refusals = refl

@@ -178,7 +178,7 @@ step-lived o e (drop f) u h = go (badPid (f .pid))
     go : (b : Bool) → Lived (o .limit) (o .limit) ((dropping e f b) .eit)
     go true = h
     go false = dropped-lived (o .limit) (o .limit) f e h
-step-lived o e (refuse n) u h = h
+step-lived o e (refuse r b) u h = h
 step-lived o e (offer x) u h = go (kindOf (x .tableId))
   where
     short : (k : SetKey) (b : Bool) → Lived (o .limit) (o .limit) ((admit (o .limit) e x k b) .eit)

@@ -8,13 +8,14 @@ use mathlib.Core.Option.{Option, none, some}
 use Prim.Native.Nat.{ℕ, _-_, _≤_, _<_}
 use native.Mathlib.Omega.{arith}
 use lib.Dec.{leb}
+use Rattle.answers.specs.declared.Refusal.the-variants as refusal
 use Rattle.rules_shared.specs.Touch.{find}
 use Rattle.rules_shared.specs.Row.{marked}
 use Rattle.rules_shared.specs.Same.{Bytes}
 use Rattle.rules_eit.specs.Keys.{firstOf, SetKey, sameSchedule}
 use Rattle.rules_eit.specs.Segments.{complete}
 use Rattle.rules_eit.specs.Schedules.{ScheduleOf, copyOf, whole, begin, enter, allTables, guide}
-use Rattle.rules_eit.specs.Rules.{SetRow, Eit, Guide, nothing, handout, schedule, range, Step, setNewest, scheduleTouched, told, ranged, ready, judged, judge}
+use Rattle.rules_eit.specs.Rules.{refused, SetRow, Eit, Guide, nothing, handout, schedule, Step, setNewest, scheduleTouched, told, ranged, ready, judged, judge}
 
 module _ (limit : ℕ) (e : Eit) (k : SetKey) (last : ℕ) (r : SetRow) where
   -- the schedule with the set's copy
@@ -26,7 +27,7 @@ module _ (limit : ℕ) (e : Eit) (k : SetKey) (last : ℕ) (r : SetRow) where
     shown : r .mark ≡ true → Verdict (record { answer = nothing; eit = setNewest k r e })
     incomplete : r .mark ≡ false → complete r ≡ false → Verdict (record { answer = nothing; eit = setNewest k r e })
     presents : r .mark ≡ false → complete r ≡ true → firstOf (k .schedule .kind) ≡ none → Verdict (record { answer = handout (whole k (copyOf r)); eit = setNewest k (marked r) e })
-    outside : (first : ℕ) → r .mark ≡ false → complete r ≡ true → firstOf (k .schedule .kind) ≡ some first → last < k .tableId → Verdict (record { answer = range; eit = setNewest k r e })
+    outside : (first : ℕ) → r .mark ≡ false → complete r ≡ true → firstOf (k .schedule .kind) ≡ some first → last < k .tableId → Verdict (record { answer = (refused refusal.Range); eit = setNewest k r e })
     enters : (first : ℕ) → r .mark ≡ false → complete r ≡ true → firstOf (k .schedule .kind) ≡ some first → k .tableId ≤ last → allTables first (entered first) ≡ false
         → Verdict (record { answer = nothing; eit = scheduleTouched limit (k .schedule) (entered first) (setNewest k (marked r) e) })
     schedules : (first : ℕ) → r .mark ≡ false → complete r ≡ true → firstOf (k .schedule .kind) ≡ some first → k .tableId ≤ last → allTables first (entered first) ≡ true
@@ -61,10 +62,10 @@ module _ (limit : ℕ) (e : Eit) (k : SetKey) (last : ℕ) (r : SetRow) where
     pub exceeds : last < k .tableId
     pub leaves : t .eit ≡ setNewest k r e
 
-  pub range-means : (judge limit e k last r) .answer ≡ range → OutOfRange (judge limit e k last r)
+  pub range-means : (judge limit e k last r) .answer ≡ (refused refusal.Range) → OutOfRange (judge limit e k last r)
   range-means h = go verdict h
     where
-      go : {t : Step} → Verdict t → t .answer ≡ range → OutOfRange t
+      go : {t : Step} → Verdict t → t .answer ≡ (refused refusal.Range) → OutOfRange t
       go (shown m) h = let z : _≡_ {A = ℕ} 0 1 = cc in absurd (omega arith)
       go (incomplete m c) h = let z : _≡_ {A = ℕ} 0 1 = cc in absurd (omega arith)
       go (presents m c f) h = let z : _≡_ {A = ℕ} 0 1 = cc in absurd (omega arith)

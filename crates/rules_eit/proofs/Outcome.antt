@@ -9,6 +9,8 @@ use Prim.Native.Nat.{ℕ, zero, suc, _≤_, _<_}
 use native.Mathlib.Omega.{arith}
 use lib.Dec.{leb}
 use lib.ListN.{length}
+use Rattle.answers.specs.declared.Refusal.{Refusal}
+use Rattle.answers.specs.declared.Refusal.the-variants as refusal
 use Rattle.rules_shared.specs.Same.{Bytes}
 use Rattle.rules_shared.specs.Row.{slotOf, keep}
 use Rattle.rules_shared.specs.Cells.{Held, bytesOf, write, Place, heldIn}
@@ -16,7 +18,7 @@ use Rattle.rules_shared.proofs.Cells.{LowestFree, AllTaken, Placed, laid, lacki
 use Rattle.rules_eit.specs.Keys.{Kind, kindOf, firstOf, SetKey, Filter, badPid}
 use Rattle.rules_eit.specs.Segments.{SetOf, complete}
 use Rattle.rules_eit.specs.Schedules.{ScheduleOf, allTables}
-use Rattle.rules_eit.specs.Rules.{EitOf, Section, keyOf, partOf, Call, clear, drop, refuse, offer, done, refused, nothing, handout, schedule, conflict, range, notWhole, counterFull, noCell, metRow, told, ranged, ready, judged, judge, cleared, dropped, Answer}
+use Rattle.rules_eit.specs.Rules.{fromBytes, EitOf, Section, keyOf, partOf, Call, clear, drop, refuse, offer, done, refused, nothing, handout, schedule, metRow, told, ranged, ready, judged, judge, cleared, dropped, Answer}
 use Rattle.rules_eit.specs.Cells.{Store, Turn, onAnswer, taken, storeWhole, ended, shows, rest, roomFor, placeOf, carry, pushIn, admitIn, offerIn, dropIn, good, guarded, call}
 
 -- the row that a section meets
@@ -38,24 +40,24 @@ pub record Asks (s : Store) (x : Section) (k : SetKey) : Type 0 where
   pub some-key : 1 ≤ s .settings .limit
 
 pub data Outcome (s : Store) : Call → Turn → Type 0 where
-  broken : (i : Call) → storeWhole s ≡ false → Outcome s i (record { answer = notWhole; store = s })
-  stopped : (i : Call) → storeWhole s ≡ true → ended s i ≡ true → Outcome s i (record { answer = counterFull; store = s })
+  broken : (i : Call) → storeWhole s ≡ false → Outcome s i (record { answer = (refused refusal.NotWhole); store = s })
+  stopped : (i : Call) → storeWhole s ≡ true → ended s i ≡ true → Outcome s i (record { answer = (refused refusal.CounterFull); store = s })
   clears : storeWhole s ≡ true → Outcome s clear (record { answer = done; store = record { settings = s .settings; eit = cleared (s .eit); cells = s .cells } })
   drops : (f : Filter) → storeWhole s ≡ true → badPid (f .pid) ≡ false → Outcome s (drop f) (record { answer = done; store = record { settings = s .settings; eit = dropped f (s .eit); cells = s .cells } })
-  keepsAll : (f : Filter) → storeWhole s ≡ true → badPid (f .pid) ≡ true → Outcome s (drop f) (record { answer = refused 12; store = s })
-  refuses : (n : ℕ) → storeWhole s ≡ true → Outcome s (refuse n) (record { answer = refused n; store = s })
-  foreign : (x : Section) → storeWhole s ≡ true → kindOf (x .tableId) ≡ none → Outcome s (offer x) (record { answer = refused 18; store = s })
+  keepsAll : (f : Filter) → storeWhole s ≡ true → badPid (f .pid) ≡ true → Outcome s (drop f) (record { answer = refused refusal.BadPid; store = s })
+  refuses : (r : Refusal) (b : fromBytes r ≡ true) → storeWhole s ≡ true → Outcome s (refuse r b) (record { answer = refused r; store = s })
+  foreign : (x : Section) → storeWhole s ≡ true → kindOf (x .tableId) ≡ none → Outcome s (offer x) (record { answer = refused refusal.NotEit; store = s })
   long : (x : Section) (kind : Kind) → storeWhole s ≡ true → kindOf (x .tableId) ≡ some kind → s .settings .cellSize < length (x .bytes)
-      → Outcome s (offer x) (record { answer = refused 20; store = s })
+      → Outcome s (offer x) (record { answer = refused refusal.TooLong; store = s })
   keyless : (x : Section) (kind : Kind) → storeWhole s ≡ true → kindOf (x .tableId) ≡ some kind → length (x .bytes) ≤ s .settings .cellSize → s .settings .limit ≡ 0
       → Outcome s (offer x) (record { answer = nothing; store = s })
-  lacks : (x : Section) (k : SetKey) → Asks s x k → slot s x k ≡ none → AllTaken (taken (roomFor s x k)) (length (s .cells)) → Outcome s (offer x) (record { answer = noCell; store = s })
+  lacks : (x : Section) (k : SetKey) → Asks s x k → slot s x k ≡ none → AllTaken (taken (roomFor s x k)) (length (s .cells)) → Outcome s (offer x) (record { answer = (refused refusal.NoCell); store = s })
   keeps : (x : Section) (k : SetKey) → Asks s x k → slot s x k ≡ none → (c : ℕ) → LowestFree (taken (roomFor s x k)) (length (s .cells)) c
       → Outcome s (offer x) (shows s (write (s .cells) c (x .bytes)) (judge (s .settings .limit) (rest s k) k (x .lastTable) (keep (partOf x) (heldIn c (x .bytes)) (row s x k))))
   ignores : (x : Section) (k : SetKey) → Asks s x k → (h : Held) → slot s x k ≡ some h → bytesOf (s .cells) h ≡ x .bytes
       → Outcome s (offer x) (shows s (s .cells) (judge (s .settings .limit) (rest s k) k (x .lastTable) (row s x k)))
   conflicts : (x : Section) (k : SetKey) → Asks s x k → (h : Held) → slot s x k ≡ some h → bytesOf (s .cells) h ≢ x .bytes
-      → Outcome s (offer x) (record { answer = conflict; store = record { settings = s .settings; eit = roomFor s x k; cells = s .cells } })
+      → Outcome s (offer x) (record { answer = (refused refusal.Conflict); store = record { settings = s .settings; eit = roomFor s x k; cells = s .cells } })
 
 module _ (s : Store) where
   carried : (x : Section) (k : SetKey) → Asks s x k → {p : Place} → Placed (s .cells) (taken (roomFor s x k)) (x .bytes) (slot s x k) p → Outcome s (offer x) (carry s x k p)
@@ -92,7 +94,7 @@ module _ (s : Store) where
   unfolding good shows onAnswer
   well clear w e = clears w
   well (drop f) w e = filtered f w (badPid (f .pid)) refl
-  well (refuse n) w e = refuses n w
+  well (refuse r b) w e = refuses r b w
   well (offer x) w e = offered x w e (kindOf (x .tableId)) refl
 
   pub outcome : (i : Call) → Outcome s i (call s i)
@@ -104,18 +106,29 @@ module _ (s : Store) where
       go true true w e = stopped i w e
       go true false w e = well i w e
 
+abbrev pub isRange : Refusal → Bool
+isRange refusal.NotWhole = false
+isRange refusal.CounterFull = false
+isRange refusal.BadPid = false
+isRange refusal.TooLittle = false
+isRange refusal.Malformed = false
+isRange refusal.ShortForm = false
+isRange refusal.BadNumber = false
+isRange refusal.BadCrc = false
+isRange refusal.NotEit = false
+isRange refusal.Broken = false
+isRange refusal.TooLong = false
+isRange refusal.NoCell = false
+isRange refusal.Conflict = false
+isRange refusal.Range = true
+
 -- 4, 5, 6 or 23: what judging a row answers
 unfoldable pub accepting : Answer → Bool
 accepting done = false
-accepting (refused n) = false
 accepting nothing = true
 accepting (handout w) = true
 accepting (schedule g) = true
-accepting conflict = false
-accepting range = true
-accepting notWhole = false
-accepting counterFull = false
-accepting noCell = false
+accepting (refused r) = isRange r
 
 pub judge-accepts : (f : Held → Bytes) (limit : ℕ) (e : EitOf Held) (k : SetKey) (last : ℕ) (r : SetOf Held) → accepting (onAnswer f ((judge limit e k last r) .answer)) ≡ true
 unfolding judge judged ready ranged told onAnswer accepting
@@ -141,3 +154,7 @@ judge-accepts f limit e k last r = go (r .mark) (complete r)
 -- so it is no other answer
 pub accepts-not : (a b : Answer) → accepting a ≡ true → accepting b ≡ false → a ≢ b
 accepts-not a b p q e = true≢false (sym p ∙ ap accepting e ∙ q)
+
+-- nor is what the bytes refuse one that they do not give
+pub bytes-not : (r q : Refusal) → fromBytes r ≡ true → fromBytes q ≡ false → _≢_ {A = Answer} (refused r) (refused q)
+bytes-not r q b c e = let z : r ≡ q = cc in true≢false (sym b ∙ ap fromBytes z ∙ c)

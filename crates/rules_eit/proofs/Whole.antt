@@ -9,6 +9,7 @@ use Prim.Native.Nat.{ℕ, zero, suc, _-_, _≤_}
 use native.Mathlib.Omega.{arith}
 use lib.ListN.{length}
 use Rattle.laws.proofs.Tests.{and-true, true-and}
+use Rattle.answers.specs.declared.Refusal.the-variants as refusal
 use Rattle.rules_shared.specs.Slots.{everyHeld}
 use Rattle.rules_shared.specs.Touch.{untouched, emptied}
 use Rattle.rules_shared.specs.Row.{keep}
@@ -20,9 +21,9 @@ use Rattle.laws.proofs.Runs.{after-all, never-after}
 use Rattle.rules_eit.specs.Keys.{SetKey}
 use Rattle.rules_eit.specs.Segments.{SetOf}
 use Rattle.rules_eit.specs.Schedules.{ScheduleOf}
-use Rattle.rules_eit.specs.Rules.{EitOf, Section, partOf, Call, clear, drop, refuse, offer, notWhole, setNewest, judge, cleared}
+use Rattle.rules_eit.specs.Rules.{refused, EitOf, Section, partOf, Call, clear, drop, refuse, offer, setNewest, judge, cleared}
 use Rattle.rules_eit.specs.Cells.{Store, Turn, onAnswer, storeWhole, shows, rest, roomFor, callTells, callActs}
-use Rattle.rules_eit.proofs.Outcome.{row, Asks, Outcome, broken, stopped, clears, drops, keepsAll, refuses, foreign, long, keyless, lacks, keeps, ignores, conflicts, outcome, accepting, judge-accepts, accepts-not}
+use Rattle.rules_eit.proofs.Outcome.{row, Asks, Outcome, broken, stopped, clears, drops, keepsAll, refuses, foreign, long, keyless, lacks, keeps, ignores, conflicts, outcome, accepting, judge-accepts, accepts-not, bytes-not}
 use Rattle.rules_eit.proofs.Checked.{SetOk, copyOk, Ok, met-ok, keep-ok, aside-ok, newest-ok, judge-ok, dropped-ok}
 
 abbrev okIn : Settings → Cells → Held → Bool
@@ -63,7 +64,7 @@ whole-of s h =
 abbrev pub LongEnough : Call → Type 0
 LongEnough clear = Unit {0}
 LongEnough (drop f) = Unit {0}
-LongEnough (refuse n) = Unit {0}
+LongEnough (refuse r b) = Unit {0}
 LongEnough (offer x) = 12 ≤ length (x .bytes)
 
 module _ (s : Store) (w : Sound s) where
@@ -97,7 +98,7 @@ module _ (s : Store) (w : Sound s) where
   outcome-sound f (clears e) = record { room = w .room; eit = record { fewSets = omega arith; fewSchedules = omega arith; sets = tt; schedules = tt } }
   outcome-sound f (drops g e h) = record { room = w .room; eit = dropped-ok ok (s .settings .limit) (s .settings .limit) g (s .eit) (w .eit) }
   outcome-sound f (keepsAll g e h) = w
-  outcome-sound f (refuses n e) = w
+  outcome-sound f (refuses r b e) = w
   outcome-sound f (foreign x e h) = w
   outcome-sound f (long x kind e h l) = w
   outcome-sound f (keyless x kind e h l q) = w
@@ -124,17 +125,17 @@ unfolding callActs
 whole-stays s i f h = whole-of (callActs s i) (outcome-sound s (sound s h) f (outcome s i))
 
 -- a store that is whole does not answer 10
-whole-tells : (s : Store) (i : Call) → storeWhole s ≡ true → callTells s i ≢ notWhole
+whole-tells : (s : Store) (i : Call) → storeWhole s ≡ true → callTells s i ≢ (refused refusal.NotWhole)
 unfolding callTells accepting onAnswer shows
 whole-tells s i h e = go (outcome s i) e
   where
-    go : {j : Call} {t : Turn} → Outcome s j t → t .answer ≡ notWhole → ⊥
+    go : {j : Call} {t : Turn} → Outcome s j t → t .answer ≡ (refused refusal.NotWhole) → ⊥
     go (broken j w) e = true≢false (sym h ∙ w)
     go (stopped j w q) e = let z : _≡_ {A = ℕ} 0 1 = cc in omega arith
     go (clears w) e = let z : _≡_ {A = ℕ} 0 1 = cc in omega arith
     go (drops f w q) e = let z : _≡_ {A = ℕ} 0 1 = cc in omega arith
     go (keepsAll f w q) e = let z : _≡_ {A = ℕ} 0 1 = cc in omega arith
-    go (refuses n w) e = let z : _≡_ {A = ℕ} 0 1 = cc in omega arith
+    go (refuses r b w) e = bytes-not r refusal.NotWhole b refl e
     go (foreign x w q) e = let z : _≡_ {A = ℕ} 0 1 = cc in omega arith
     go (long x kind w q l) e = let z : _≡_ {A = ℕ} 0 1 = cc in omega arith
     go (keyless x kind w q l m) e = let z : _≡_ {A = ℕ} 0 1 = cc in omega arith
@@ -150,9 +151,9 @@ opened-whole s r e = whole-of s (record { room = r; eit = rw e (record { fewSets
 
 -- so in no history of opening, pushes, drops and clears 10 occurs
 pub never-10 : (s : Store) → roomWhole (s .settings) (s .cells) ≡ true → s .eit ≡ record { sets = untouched; schedules = untouched } → (calls : List Call)
-    → ((t : ℕ) (i : Call) → At calls t i → LongEnough i) → Never notWhole (answers callTells callActs s calls)
+    → ((t : ℕ) (i : Call) → At calls t i → LongEnough i) → Never (refused refusal.NotWhole) (answers callTells callActs s calls)
 never-10 s r e calls f =
-    never-after callTells callActs LongEnough (λ q. storeWhole q ≡ true) whole-stays notWhole whole-tells calls f s (opened-whole s r e)
+    never-after callTells callActs LongEnough (λ q. storeWhole q ≡ true) whole-stays (refused refusal.NotWhole) whole-tells calls f s (opened-whole s r e)
 
 pub whole-after : (s : Store) → storeWhole s ≡ true → (calls : List Call) → ((t : ℕ) (i : Call) → At calls t i → LongEnough i) → storeWhole (storeAfter callActs s calls) ≡ true
 whole-after s h calls f = after-all callActs LongEnough (λ q. storeWhole q ≡ true) whole-stays calls f s h

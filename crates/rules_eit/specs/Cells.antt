@@ -7,6 +7,7 @@ use mathlib.Core.List.{map}
 use Prim.Native.Nat.{ℕ, zero, suc}
 use lib.Dec.{leb}
 use lib.ListN.{length}
+use Rattle.answers.specs.declared.Refusal.the-variants as refusal
 use Rattle.rules_shared.specs.Slots.{someHeld, everyHeld, onSlots}
 use Rattle.rules_shared.specs.Touch.{someRow, everyRow, onOrder}
 use Rattle.rules_shared.specs.Row.{slotOf, keep, onRow}
@@ -14,7 +15,7 @@ use Rattle.rules_shared.specs.Cells.{Settings, Held, Cells, bytesOf, names, wri
 use Rattle.rules_eit.specs.Keys.{Kind, kindOf, SetKey, Filter, badPid}
 use Rattle.rules_eit.specs.Segments.{SetOf}
 use Rattle.rules_eit.specs.Schedules.{CopyOf, ScheduleOf, WholeOf, GuideOf}
-use Rattle.rules_eit.specs.Rules.{EitOf, Section, keyOf, partOf, Call, clear, drop, refuse, offer, AnswerOf, done, refused, nothing, handout, schedule, conflict, range, notWhole, counterFull, noCell, StepOf, gives, metRow, setAside, setNewest, judge, cleared, dropped, Eit, Answer}
+use Rattle.rules_eit.specs.Rules.{EitOf, Section, keyOf, partOf, Call, clear, drop, refuse, offer, AnswerOf, done, refused, nothing, handout, schedule, StepOf, gives, metRow, setAside, setNewest, judge, cleared, dropped, Eit, Answer}
 
 pub record Store : Type 0 where
   pub settings : Settings
@@ -46,15 +47,10 @@ module _ {A B : Type 0} (f : A → B) where
 
   unfoldable pub onAnswer : AnswerOf A → AnswerOf B
   onAnswer done = done
-  onAnswer (refused n) = refused n
   onAnswer nothing = nothing
   onAnswer (handout w) = handout (onWhole w)
   onAnswer (schedule g) = schedule (onGuide g)
-  onAnswer conflict = conflict
-  onAnswer range = range
-  onAnswer notWhole = notWhole
-  onAnswer counterFull = counterFull
-  onAnswer noCell = noCell
+  onAnswer (refused r) = refused r
 
 unfoldable pub view : Store → Eit
 view s = onEit (bytesOf (s .cells)) (s .eit)
@@ -93,7 +89,7 @@ anyAtEnd s = atEnd (s .eit .sets .evicted) || atEnd (s .eit .schedules .evicted)
 unfoldable pub ended : Store → Call → Bool
 ended s clear = false
 ended s (drop f) = false
-ended s (refuse n) = anyAtEnd s
+ended s (refuse r b) = anyAtEnd s
 ended s (offer x) = anyAtEnd s
 
 -- ---- one call
@@ -117,37 +113,37 @@ placeOf s x k = place (s .cells) (taken (roomFor s x k)) (x .bytes) (slotOf (par
 unfoldable pub carry : Store → Section → SetKey → Place → Turn
 carry s x k (into c) =
     shows s (write (s .cells) c (x .bytes)) (judge (s .settings .limit) (rest s k) k (x .lastTable) (keep (partOf x) (heldIn c (x .bytes)) (metRow x k (s .eit))))
-carry s x k noneFree = record { answer = noCell; store = s }
+carry s x k noneFree = record { answer = (refused refusal.NoCell); store = s }
 carry s x k ignored = shows s (s .cells) (judge (s .settings .limit) (rest s k) k (x .lastTable) (metRow x k (s .eit)))
-carry s x k conflicting = shows s (s .cells) (gives conflict (roomFor s x k))
+carry s x k conflicting = shows s (s .cells) (gives (refused refusal.Conflict) (roomFor s x k))
 
 unfoldable pub pushIn : (limit : ℕ) → Store → Section → SetKey → Turn
 pushIn zero s x k = shows s (s .cells) (gives nothing (s .eit))
 pushIn (suc n) s x k = carry s x k (placeOf s x k)
 
 unfoldable pub admitIn : Store → Section → SetKey → (short : Bool) → Turn
-admitIn s x k false = shows s (s .cells) (gives (refused 20) (s .eit))
+admitIn s x k false = shows s (s .cells) (gives (refused refusal.TooLong) (s .eit))
 admitIn s x k true = pushIn (s .settings .limit) s x k
 
 unfoldable pub offerIn : Store → Section → Option Kind → Turn
-offerIn s x none = shows s (s .cells) (gives (refused 18) (s .eit))
+offerIn s x none = shows s (s .cells) (gives (refused refusal.NotEit) (s .eit))
 offerIn s x (some kind) = admitIn s x (keyOf x kind) (leb (length (x .bytes)) (s .settings .cellSize))
 
 unfoldable pub dropIn : Store → Filter → (isBad : Bool) → Turn
-dropIn s f true = shows s (s .cells) (gives (refused 12) (s .eit))
+dropIn s f true = shows s (s .cells) (gives (refused refusal.BadPid) (s .eit))
 dropIn s f false = shows s (s .cells) (gives done (dropped f (s .eit)))
 
 -- a call on a store that is whole, no counter at its end
 unfoldable pub good : Store → Call → Turn
 good s clear = shows s (s .cells) (gives done (cleared (s .eit)))
 good s (drop f) = dropIn s f (badPid (f .pid))
-good s (refuse n) = shows s (s .cells) (gives (refused n) (s .eit))
+good s (refuse r b) = shows s (s .cells) (gives (refused r) (s .eit))
 good s (offer x) = offerIn s x (kindOf (x .tableId))
 
 -- "Lower number first where several apply"
 unfoldable pub guarded : (isWhole isEnded : Bool) → Store → Call → Turn
-guarded false e s i = record { answer = notWhole; store = s }
-guarded true true s i = record { answer = counterFull; store = s }
+guarded false e s i = record { answer = (refused refusal.NotWhole); store = s }
+guarded true true s i = record { answer = (refused refusal.CounterFull); store = s }
 guarded true false s i = good s i
 
 unfoldable pub call : Store → Call → Turn

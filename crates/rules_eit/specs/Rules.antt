@@ -1,11 +1,16 @@
--- The EIT collector as 01 says it ("Collectors", "Numbers that a call gives back"): rows in touch order with their sections' bytes, and no memory.
+-- The EIT collector (docs/RULES.md, "Collectors" and "Answers"): rows in touch order with their sections' bytes, and no memory.
 -- All but `finish` and what stands below it is open in A, what a slot holds, so that the collector with cells (specs/Cells.antt) uses the same text.
 -- Assumes nothing.
+use mathlib.Core.Path.{_≡_}
 use mathlib.Core.Bool.{Bool, true, false, not}
 use mathlib.Core.Option.{Option, none, some}
 use Prim.Native.Nat.{ℕ, zero, suc, _-_}
 use lib.Dec.{leb}
 use lib.ListN.{length, set}
+use Rattle.answers.specs.Answers.{refusalNo}
+use Rattle.answers.specs.declared.Refusal.{Refusal}
+use Rattle.answers.specs.declared.Refusal.the-variants as refusal
+use Rattle.rules_shared.specs.Refusals as refusals
 use Rattle.rules_shared.specs.Same.{Bytes}
 use Rattle.rules_shared.specs.Touch.{TouchOrder, find, untouched, aside, newest, touch, emptied, retained}
 use Rattle.rules_shared.specs.Row.{Part, start, slotOf, marked, put}
@@ -57,63 +62,61 @@ partOf x = record {
   noted = λ lasts. set lasts (segmentOf (x .number)) (some (x .segmentLast));
 }
 
--- a call: a clear; a drop by filter; a section that its PID or its bytes refuse, with that number (12, 14 to 17, 19); any other section
+-- the refusals that a section's PID and bytes give, whatever the collector holds: 12, 14 to 17 and 19. Whether its table_id is one of an EIT (18)
+-- is for the rules to say
+abbrev pub fromBytes : Refusal → Bool
+fromBytes refusal.NotWhole = false
+fromBytes refusal.CounterFull = false
+fromBytes refusal.BadPid = true
+fromBytes refusal.TooLittle = false
+fromBytes refusal.Malformed = true
+fromBytes refusal.ShortForm = true
+fromBytes refusal.BadNumber = true
+fromBytes refusal.BadCrc = true
+fromBytes refusal.NotEit = false
+fromBytes refusal.Broken = true
+fromBytes refusal.TooLong = false
+fromBytes refusal.NoCell = false
+fromBytes refusal.Conflict = false
+fromBytes refusal.Range = false
+
+-- a call: a clear; a drop by filter; a section that its PID or its bytes refuse; any other section
 pub data Call : Type 0 where
   clear : Call
   drop : Filter → Call
-  refuse : ℕ → Call
+  refuse : (r : Refusal) → fromBytes r ≡ true → Call
   offer : Section → Call
 
 pub data AnswerOf (A : Type 0) : Type 0 where
   done : AnswerOf A
-  refused : ℕ → AnswerOf A
   nothing : AnswerOf A
   handout : WholeOf A → AnswerOf A
   schedule : GuideOf A → AnswerOf A
-  conflict : AnswerOf A
-  range : AnswerOf A
-  notWhole : AnswerOf A
-  counterFull : AnswerOf A
-  noCell : AnswerOf A
+  refused : Refusal → AnswerOf A
 
--- 01's number of each answer
+-- the number of each answer
 unfoldable pub numberOf : {A : Type 0} → AnswerOf A → ℕ
 numberOf done = 7
-numberOf (refused n) = n
 numberOf nothing = 4
 numberOf (handout w) = 5
 numberOf (schedule g) = 6
-numberOf conflict = 22
-numberOf range = 23
-numberOf notWhole = 10
-numberOf counterFull = 11
-numberOf noCell = 21
+numberOf (refused r) = refusalNo r
 
--- the three that come from a store's memory, which the rules do not have
+-- those that come from a store's memory, which the rules do not have: 10, 11 and 21
 unfoldable pub barred : {A : Type 0} → AnswerOf A → Bool
 barred done = false
-barred (refused n) = false
 barred nothing = false
 barred (handout w) = false
 barred (schedule g) = false
-barred conflict = false
-barred range = false
-barred notWhole = true
-barred counterFull = true
-barred noCell = true
+barred (refused r) = refusals.barred r
 
 -- the refusals that leave all as before: every one but 22 and 23
 unfoldable pub asBefore : {A : Type 0} → AnswerOf A → Bool
 asBefore done = false
-asBefore (refused n) = true
 asBefore nothing = false
 asBefore (handout w) = false
 asBefore (schedule g) = false
-asBefore conflict = false
-asBefore range = false
-asBefore notWhole = true
-asBefore counterFull = true
-asBefore noCell = true
+asBefore (refused r) = refusals.asBefore r
 
 -- what a call answers and leaves
 pub record StepOf (A : Type 0) : Type 0 where
@@ -146,7 +149,7 @@ module _ {A : Type 0} where
   -- a complete set of a schedule: "refused (23) with the section kept and the mark clear" where its table_id exceeds the arriving section's last_table_id;
   -- otherwise it is "marked and put in as a copy", s being its schedule with the copy
   unfoldable pub ranged : (limit : ℕ) → EitOf A → SetKey → SetOf A → (first : ℕ) (inRange : Bool) → ScheduleOf A → StepOf A
-  ranged limit e k r first false s = gives range (setNewest k r e)
+  ranged limit e k r first false s = gives (refused refusal.Range) (setNewest k r e)
   ranged limit e k r first true s = gives (told (k .schedule) first s (allTables first s)) (scheduleTouched limit (k .schedule) s (setNewest k (marked r) e))
 
   -- a complete set that is not marked. "Present/following sets go out at once"
@@ -199,7 +202,7 @@ Step = StepOf Bytes
 
 -- r is the row that the section met, `now` is that row with the section in its slot; none: conflict, 22, "key becomes newest, else as before"
 unfoldable pub finish : (limit : ℕ) → Eit → SetKey → (lastTable : ℕ) (r : SetRow) (now : Option SetRow) → Step
-finish limit e k last r none = gives conflict (setNewest k r e)
+finish limit e k last r none = gives (refused refusal.Conflict) (setNewest k r e)
 finish limit e k last r (some r′) = judge limit e k last r′
 
 -- "Limit 0: an otherwise good section answers 4 and changes nothing"
@@ -209,23 +212,23 @@ push (suc n) e x k = finish (suc n) (setAside (suc n) k e) k (x .lastTable) (met
 
 -- 20: "longer than a cell"
 unfoldable pub admit : (limit : ℕ) → Eit → Section → SetKey → (short : Bool) → Step
-admit limit e x k false = gives (refused 20) e
+admit limit e x k false = gives (refused refusal.TooLong) e
 admit limit e x k true = push limit e x k
 
 -- 18: "not an EIT table_id"
 unfoldable pub offered : Settings → Eit → Section → Option Kind → Step
-offered o e x none = gives (refused 18) e
+offered o e x none = gives (refused refusal.NotEit) e
 offered o e x (some kind) = admit (o .limit) e x (keyOf x kind) (leb (length (x .bytes)) (o .cellSize))
 
 -- 12: the filter asks for a PID that there is none of
 unfoldable pub dropping : Eit → Filter → (isBad : Bool) → Step
-dropping e f true = gives (refused 12) e
+dropping e f true = gives (refused refusal.BadPid) e
 dropping e f false = gives done (dropped f e)
 
 unfoldable pub step : Settings → Eit → Call → Step
 step o e clear = gives done (cleared e)
 step o e (drop f) = dropping e f (badPid (f .pid))
-step o e (refuse n) = gives (refused n) e
+step o e (refuse r b) = gives (refused r) e
 step o e (offer x) = offered o e x (kindOf (x .tableId))
 
 unfoldable pub tells : Settings → Eit → Call → Answer

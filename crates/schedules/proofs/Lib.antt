@@ -1,3 +1,2 @@
-pub mod Segments
-pub mod Units
+pub mod Laws
 pub mod Taken

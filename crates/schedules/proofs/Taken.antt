@@ -10,7 +10,8 @@ use Rattle.cells.specs.Cells.{someNames, markedAll, lowestFree, lowestClear}
 use Rattle.cells.proofs.Laws.{length-all, has-all-marked, has-none, lowest-of}
 use Rattle.rows.specs.Rows.{takenIn, markedRows}
 use Rattle.rows.proofs.Taken.{length-rows, has-rows}
-use Rattle.schedules.specs.Units.{tablesOf, isPresent, unitSlots, takenInUnits, takenInSchedules, markedUnit, markedUnits, markedSchedules, takenAnywhere}
+use Rattle.units.specs.Units.{isPresent, unitSlots, takenInUnits, markedUnit, markedUnits}
+use Rattle.schedules.specs.Schedules.{tablesOf, takenInSchedules, markedSchedules, takenAnywhere}
 
 swap : (a b t : Bool) → (a || (b || t)) ≡ ((b || a) || t)
 swap true true t = refl
@@ -46,18 +47,18 @@ module _ (units : List ℕ) where
       has-units base n (markedUnit units (base + n) map) c (length-unit (base + n) map ∙ l)
       ∙ rw (has-unit (base + n) map c l) (swap (takenInUnits units base n c) (isPresent units (base + n) && someNames c (unitSlots units (base + n))) (hasBit map c))
 
-  pub has-schedules : (tops : List ℕ) (n : ℕ) (map : List ℕ) (c : ℕ) → length map ≡ 1024 → hasBit (markedSchedules tops units n map) c ≡ (takenInSchedules tops units n c || hasBit map c)
+  pub has-schedules : (schedule-heads : List ℕ) (n : ℕ) (map : List ℕ) (c : ℕ) → length map ≡ 1024 → hasBit (markedSchedules schedule-heads units n map) c ≡ (takenInSchedules schedule-heads units n c || hasBit map c)
   unfolding markedSchedules takenInSchedules
-  has-schedules tops zero map c l = refl
-  has-schedules tops (suc n) map c l =
-      has-schedules tops n (markedUnits units (n * 16) (tablesOf tops n) map) c (length-units (n * 16) (tablesOf tops n) map ∙ l)
-      ∙ rw (has-units (n * 16) (tablesOf tops n) map c l) (swap (takenInSchedules tops units n c) (takenInUnits units (n * 16) (tablesOf tops n) c) (hasBit map c))
+  has-schedules schedule-heads zero map c l = refl
+  has-schedules schedule-heads (suc n) map c l =
+      has-schedules schedule-heads n (markedUnits units (n * 16) (tablesOf schedule-heads n) map) c (length-units (n * 16) (tablesOf schedule-heads n) map ∙ l)
+      ∙ rw (has-units (n * 16) (tablesOf schedule-heads n) map c l) (swap (takenInSchedules schedule-heads units n c) (takenInUnits units (n * 16) (tablesOf schedule-heads n) c) (hasBit map c))
 
 -- from a map of no cells, the lowest that is clear is the lowest that neither a row nor a schedule names
-pub lowest-anywhere : (heads slots tops units : List ℕ) (gone used n count r : ℕ) (m₀ m m' : List ℕ) → m₀ ≡ replicate 1024 0 → m ≡ markedRows heads slots gone used m₀ → m' ≡ markedSchedules tops units n m → r ≡ lowestClear m' count
-    → r ≡ lowestFree (takenAnywhere heads slots tops units gone used n) count
+pub lowest-anywhere : (heads slots schedule-heads units : List ℕ) (gone used n count r : ℕ) (m₀ m m' : List ℕ) → m₀ ≡ replicate 1024 0 → m ≡ markedRows heads slots gone used m₀ → m' ≡ markedSchedules schedule-heads units n m → r ≡ lowestClear m' count
+    → r ≡ lowestFree (takenAnywhere heads slots schedule-heads units gone used n) count
 unfolding takenAnywhere
-lowest-anywhere heads slots tops units gone used n count r m₀ m m' z e f q = q ∙ lowest-of (takenAnywhere heads slots tops units gone used n) m' count has
+lowest-anywhere heads slots schedule-heads units gone used n count r m₀ m m' z e f q = q ∙ lowest-of (takenAnywhere heads slots schedule-heads units gone used n) m' count has
   where
     long : length m₀ ≡ 1024
     long = ap length z ∙ length-replicate {A = ℕ} 1024 0
@@ -71,7 +72,7 @@ lowest-anywhere heads slots tops units gone used n count r m₀ m m' z e f q = q
     turn false true = refl
     turn false false = refl
 
-    has : (c : ℕ) → hasBit m' c ≡ takenAnywhere heads slots tops units gone used n c
+    has : (c : ℕ) → hasBit m' c ≡ takenAnywhere heads slots schedule-heads units gone used n c
     has c =
-        ap (λ (l : List ℕ). hasBit l c) f ∙ has-schedules units tops n m c (ap length e ∙ length-rows heads slots gone used m₀ ∙ long)
-        ∙ ap (λ (t : Bool). takenInSchedules tops units n c || t) (rows c) ∙ turn (takenInSchedules tops units n c) (takenIn heads slots gone used c)
+        ap (λ (l : List ℕ). hasBit l c) f ∙ has-schedules units schedule-heads n m c (ap length e ∙ length-rows heads slots gone used m₀ ∙ long)
+        ∙ ap (λ (t : Bool). takenInSchedules schedule-heads units n c || t) (rows c) ∙ turn (takenInSchedules schedule-heads units n c) (takenIn heads slots gone used c)

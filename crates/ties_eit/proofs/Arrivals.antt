@@ -4,10 +4,10 @@ use mathlib.Core.Path.{_≡_, refl, sym}
 use mathlib.Core.Bool.{Bool, true, false, cond}
 use mathlib.Core.Option.{Option, none, some}
 use mathlib.Core.List.{List}
-use Prim.Native.Nat.{ℕ, _+_, _-_, _<_}
+use Prim.Native.Nat.{ℕ, _+_, _-_, _≤_, _<_}
 use native.Mathlib.Omega.{arith}
 use lib.Dec.{eqb}
-use lib.ListN.{getD}
+use lib.ListN.{getD, length}
 use Rattle.rules_shared.specs.Same.{Bytes}
 use Rattle.rules_eit.specs.Keys.{Kind, presentActual, presentOther, scheduleActual, scheduleOther, between, kindOf, kindNumber}
 use Rattle.section.specs.Judged.{collectedOf}
@@ -23,9 +23,8 @@ use Rattle.eit_section.specs.declared.Kind.{Kind as Read}
 use Rattle.eit_section.specs.declared.Kind.the-variants.{PresentFollowingActual, PresentFollowingOther, ScheduleActual, ScheduleOther, None}
 use Rattle.eit_section.specs.declared.Reading.{Reading}
 use Rattle.eit_section.specs.declared.Reading.the-variants as reading
-use Rattle.sets.proofs.Judged.{header-numbers}
-use Rattle.eit.specs.Store.{arrivalOf}
-use Rattle.eit.specs.Store.{kindNumber as numberRead}
+use Rattle.arrivals.specs.Arrivals.{arrivalOf}
+use Rattle.arrivals.specs.Arrivals.{kindNumber as numberRead}
 use Rattle.ties_eit.specs.View.{pidShown, sectionOf}
 use Rattle.ties_eit.proofs.Keys.{bit-bit, bit-reads}
 use Rattle.ties_eit.proofs.Settle.{Arrives}
@@ -89,6 +88,9 @@ module _ (s : List ℕ) (h : Header) (q : collectedOf s ≡ collected.Good h) wh
   taken : Takes s h
   taken = takes s h (collectedOf s) refl q
 
+  pub good-length : 12 ≤ length s
+  good-length = taken .room
+
   pub table-is : h .«table_id» ≡ byteAt s 0
   unfolding headerOf
   table-is = rw (taken .header)
@@ -100,10 +102,14 @@ module _ (s : List ℕ) (h : Header) (q : collectedOf s ≡ collected.Good h) wh
   pub not-kind : isEit (kindRead (byteAt s 0)) ≡ false → kindOf (h .«table_id») ≡ none
   not-kind e = rw table-is (no-kind (kindRead (byteAt s 0)) (kindOf (byteAt s 0)) (kinds-agree (byteAt s 0)) e)
 
+  numbers : getD s 7 0 < 256 → (h .number ≤ h .last) × (h .last < 256)
+  unfolding headerOf
+  numbers b = rw (taken .header) (taken .numbered, b)
+
   pub arrives : getD s 7 0 < 256 → (pid : ℕ) → isEit (kindRead (byteAt s 0)) ≡ true
       → (k : Kind) × Arrives (arrivalOf pid h (fieldsOf s (kindRead (byteAt s 0)))) k
   arrives b pid e =
-      let n = header-numbers s h taken b in
+      let n = numbers b in
       let k = the-kind (kindRead (byteAt s 0)) (kindOf (byteAt s 0)) (kinds-agree (byteAt s 0)) e in (
         k .0,
         record {

@@ -45,21 +45,27 @@ use Rattle.ages.proofs.Ages.{length-order}
 use Rattle.ages.proofs.Touch.{stands-none}
 use Rattle.ages.proofs.Slots.{held-whole, rows-whole}
 use Rattle.ages.proofs.Cells.{cells-length}
-use Rattle.sets.specs.Store as sets
-use Rattle.sets.specs.Store.{pidOf, pidWord}
-use Rattle.sets.proofs.Whole.{long}
-use Rattle.sets.proofs.Judged.{good-length}
+use Rattle.store.specs.Store as sets
+use Rattle.arrivals.specs.Arrivals.{pidOf, pidWord, eitFields, eitRead, eitJudged, eitArrival}
+use Rattle.store.proofs.Whole.{long}
 use Rattle.placing.specs.Places.{placeOf as placeIn}
-use Rattle.schedules.specs.Units.{schedulesWhole}
-use Rattle.eit.specs.declared.Filter.{Filter}
-use Rattle.eit.specs.declared.DropAnswer.the-variants as drop-answer
-use Rattle.eit.specs.declared.inner.Drop.the-variants as plan-drop
-use Rattle.eit.specs.declared.inner.Arrival.{Arrival}
-use Rattle.eit.specs.declared.inner.Plan.the-variants as plan
-use Rattle.eit.specs.declared.PushAnswer.the-variants.{Nothing, NotWhole, CounterFull, Malformed, ShortForm, BadNumber, BadCrc, NotEit, Broken, TooLong}
-use Rattle.eit.specs.Store.{Store, store, setsOf, setStore, shelvesFit, wholeOf, Whole, left, plain, emptyEit, clearedOf, wantedPid, dropPid, dropOf, carriedDrop, leftRemains, droppedOf, arrivalOf, planPlaced, planGood, planRead, planJudged, planPid, countersFull, planOf, carried, pushedOf}
-use Rattle.eit.proofs.Plans.{counts}
-use Rattle.eit.proofs.Whole.{whole-store, units-whole, shelves-mean}
+use Rattle.schedules.specs.Schedules.{schedulesWhole}
+use Rattle.eit_drop.specs.declared.Filter.{Filter}
+use Rattle.eit_drop.specs.declared.Drop.the-variants as plan-drop
+use Rattle.arrivals.specs.declared.Arrival.{Arrival}
+use Rattle.eit_plan.specs.declared.Plan.the-variants as plan
+use Rattle.eit_state.specs.declared.PushAnswer.the-variants as answer
+use Rattle.arrivals.specs.Arrivals.{arrivalOf}
+use Rattle.arrivals.specs.declared.EitArrival.the-variants as arrival
+use Rattle.answers.specs.declared.Refusal.the-variants as refusal
+use Rattle.eit_state.specs.State.{Store, store, setStore, schedulesFit, wholeOf, Whole, countersFull}
+use Rattle.eit_plan.specs.Plan.{planPlaced, planOf}
+use Rattle.eit_settle.specs.Settle.{carried}
+use Rattle.eit_drop.specs.Drop.{dropWanted}
+use Rattle.eit.specs.Store as eit
+use Rattle.eit.specs.Store.{after, toldStep, emptyEit, clearedOf, dropOf, carriedDrop, droppedOf, admitted, pushedWhole, pushedAs, pushedOf}
+use Rattle.eit_state.proofs.Whole.{whole-store, units-whole, can-count}
+use Rattle.eit_state.proofs.Whole.{long as schedules-long}
 use Rattle.ties_eit.specs.View.{pidShown, keyShown, scheduleShown, keyWords, scheduleWords, rowSeen, scheduleSeen, seen, sectionOf, readsEit, readsAs, readSection, reads, answerTold, Given, clears, drops, section, FilterFits, filterShown, Fitting, called, Reached}
 use Rattle.ties_eit.proofs.Keys.{set-self, schedule-self}
 use Rattle.ties_eit.proofs.Places.{copyWhole, schedules-whole}
@@ -68,7 +74,7 @@ use Rattle.ties_eit.proofs.Settle.{Arrives}
 use Rattle.ties_eit.proofs.Keep.{sectionFor}
 use Rattle.ties_eit.proofs.Placed.{placed-tied}
 use Rattle.ties_eit.proofs.Dropping.{drop-tied}
-use Rattle.ties_eit.proofs.Arrivals.{Read-as, not-eit, broken, good as read-good, read-as, not-kind, arrives, section-same}
+use Rattle.ties_eit.proofs.Arrivals.{good-length, Read-as, not-eit, broken, good as read-good, read-as, not-kind, arrives, section-same}
 
 -- ---- lists of rows
 
@@ -78,66 +84,66 @@ seen-length shown heads used row = length-order (ageOf heads) used _
 
 -- ---- 10 and 11
 
-limit-is : (s : Store) → (seen s) .settings .limit ≡ s .eit .limit
+limit-is : (s : Store) → (seen s) .settings .limit ≡ s .eit .sets .limit
 unfolding seen
 limit-is s = refl
 
-part-is : (s : Store) → sets.settingsFit (setsOf (s .eit)) (length (s .heads)) (length (s .slots)) (length (s .cells)) ≡ true
-    → sets.wholeOf (setStore s) ≡ (leb (s .eit .used) (s .eit .limit) && rowsWhole (s .heads) (s .slots) (s .eit .count) (s .eit .size) (s .eit .used))
+part-is : (s : Store) → sets.settingsFit (s .eit .sets) (length (s .heads)) (length (s .slots)) (length (s .cells)) ≡ true
+    → sets.wholeOf (setStore s) ≡ (leb (s .eit .sets .used) (s .eit .sets .limit) && rowsWhole (s .heads) (s .slots) (s .eit .sets .count) (s .eit .sets .size) (s .eit .sets .used))
 unfolding sets.wholeOf
 part-is s e = rw e
 
 module _ (s : Store) (z : Reached s) where
-  fits-both : (sets.settingsFit (setsOf (s .eit)) (length (s .heads)) (length (s .slots)) (length (s .cells)) ≡ true) × (shelvesFit (s .eit) (length (s .schedule-heads)) (length (s .units)) ≡ true)
-  fits-both = and-true (sets.settingsFit (setsOf (s .eit)) (length (s .heads)) (length (s .slots)) (length (s .cells))) (shelvesFit (s .eit) (length (s .schedule-heads)) (length (s .units))) (z .fits)
+  fits-both : (sets.settingsFit (s .eit .sets) (length (s .heads)) (length (s .slots)) (length (s .cells)) ≡ true) × (schedulesFit (s .eit) (length (s .schedule-heads)) (length (s .units)) ≡ true)
+  fits-both = and-true (sets.settingsFit (s .eit .sets) (length (s .heads)) (length (s .slots)) (length (s .cells))) (schedulesFit (s .eit) (length (s .schedule-heads)) (length (s .units))) (z .fits)
 
-  sets-length : length ((seen s) .eit .sets .rows) ≡ s .eit .used
+  sets-length : length ((seen s) .eit .sets .rows) ≡ s .eit .sets .used
   unfolding seen
-  sets-length = seen-length keyShown (s .heads) (s .eit .used) (rowSeen (s .heads) (s .slots))
+  sets-length = seen-length keyShown (s .heads) (s .eit .sets .used) (rowSeen (s .heads) (s .slots))
 
   schedules-length : length ((seen s) .eit .schedules .rows) ≡ s .eit .schedules
   unfolding seen
   schedules-length = seen-length scheduleShown (s .schedule-heads) (s .eit .schedules) (scheduleSeen (s .schedule-heads) (s .units))
 
-  cells-count : length ((seen s) .cells) ≡ s .eit .count
+  cells-count : length ((seen s) .cells) ≡ s .eit .sets .count
   unfolding seen
-  cells-count = cells-length (s .cells) (s .eit .size) (s .eit .count)
+  cells-count = cells-length (s .cells) (s .eit .sets .size) (s .eit .sets .count)
 
   pub room-there : roomWhole ((seen s) .settings) ((seen s) .cells) ≡ true
   unfolding roomWhole seen
   room-there =
-      let l = long (setsOf (s .eit)) (length (s .heads)) (length (s .slots)) (length (s .cells)) (fits-both .0) in
-      let n : length (cellsSeen (s .cells) (s .eit .size) (s .eit .count)) ≡ s .eit .count = cells-length (s .cells) (s .eit .size) (s .eit .count) in
-      rw (n, le-leb 12 (s .eit .size) (l .size-low), le-leb (s .eit .size) 4096 (l .size-high), le-leb (s .eit .count) 65535 (l .few))
+      let l = long (s .eit .sets) (length (s .heads)) (length (s .slots)) (length (s .cells)) (fits-both .0) in
+      let n : length (cellsSeen (s .cells) (s .eit .sets .size) (s .eit .sets .count)) ≡ s .eit .sets .count = cells-length (s .cells) (s .eit .sets .size) (s .eit .sets .count) in
+      rw (n, le-leb 12 (s .eit .sets .size) (l .size-low), le-leb (s .eit .sets .size) 4096 (l .size-high), le-leb (s .eit .sets .count) 65535 (l .few))
 
   abbrev setTest : SetOf Held → Bool
   setTest r = everyHeld (heldWhole ((seen s) .settings) ((seen s) .cells)) (r .slots)
 
-  sets-whole : everyRow setTest ((seen s) .eit .sets .rows) ≡ rowsWhole (s .heads) (s .slots) (s .eit .count) (s .eit .size) (s .eit .used)
+  sets-whole : everyRow setTest ((seen s) .eit .sets .rows) ≡ rowsWhole (s .heads) (s .slots) (s .eit .sets .count) (s .eit .sets .size) (s .eit .sets .used)
   unfolding seen rowSeen
   sets-whole =
-      rows-whole keyShown (s .heads) (s .slots) (s .eit .count) (s .eit .size) (s .eit .used) (z .sets .ages) setTest (rowSeen (s .heads) (s .slots)) (λ j.
+      rows-whole keyShown (s .heads) (s .slots) (s .eit .sets .count) (s .eit .sets .size) (s .eit .sets .used) (z .sets .ages) setTest (rowSeen (s .heads) (s .slots)) (λ j.
       held-whole ((seen s) .settings) ((seen s) .cells) (rowSlots (s .heads) (s .slots) j)
-      ∙ ap (λ (m : ℕ). allWhole m (s .eit .size) (rowSlots (s .heads) (s .slots) j)) (cells-length (s .cells) (s .eit .size) (s .eit .count)))
+      ∙ ap (λ (m : ℕ). allWhole m (s .eit .sets .size) (rowSlots (s .heads) (s .slots) j)) (cells-length (s .cells) (s .eit .sets .size) (s .eit .sets .count)))
 
   schedules-whole-here : everyRow (λ (g : ScheduleOf Held). everyHeld (copyWhole ((seen s) .settings) ((seen s) .cells)) (g .copies)) ((seen s) .eit .schedules .rows)
-      ≡ schedulesWhole (s .schedule-heads) (s .units) (s .eit .count) (s .eit .size) (s .eit .schedules)
+      ≡ schedulesWhole (s .schedule-heads) (s .units) (s .eit .sets .count) (s .eit .sets .size) (s .eit .schedules)
   unfolding seen
   schedules-whole-here =
       schedules-whole ((seen s) .settings) ((seen s) .cells) (s .schedule-heads) (s .units) (s .eit .schedules) (z .schedules .ages)
-      ∙ ap (λ (m : ℕ). schedulesWhole (s .schedule-heads) (s .units) m (s .eit .size) (s .eit .schedules)) (cells-length (s .cells) (s .eit .size) (s .eit .count))
+      ∙ ap (λ (m : ℕ). schedulesWhole (s .schedule-heads) (s .units) m (s .eit .sets .size) (s .eit .schedules)) (cells-length (s .cells) (s .eit .sets .size) (s .eit .sets .count))
 
   pub whole-seen : storeWhole (seen s) ≡ wholeOf s
   unfolding storeWhole wholeOf
   whole-seen =
-      let few = shelves-mean (s .eit) (length (s .schedule-heads)) (length (s .units)) (fits-both .1) .schedules in
-      rw (fits-both .1, sets-part, room-there, sets-length, schedules-length, sets-whole, schedules-whole-here, settings-limit, le-leb (s .eit .schedules) (s .eit .limit) few)
-      (turn (leb (s .eit .used) (s .eit .limit)) (rowsWhole (s .heads) (s .slots) (s .eit .count) (s .eit .size) (s .eit .used)) (schedulesWhole (s .schedule-heads) (s .units) (s .eit .count) (s .eit .size) (s .eit .schedules)))
+      let few = schedules-long (s .eit) (length (s .schedule-heads)) (length (s .units)) (fits-both .1) .schedules in
+      rw (fits-both .1, sets-part, room-there, sets-length, schedules-length, sets-whole, schedules-whole-here, settings-limit, le-leb (s .eit .schedules) (s .eit .sets .limit) few)
+      (turn (leb (s .eit .sets .used) (s .eit .sets .limit)) (rowsWhole (s .heads) (s .slots) (s .eit .sets .count) (s .eit .sets .size) (s .eit .sets .used)) (schedulesWhole (s .schedule-heads) (s .units) (s .eit .sets .count) (s .eit .sets .size) (s .eit .schedules)))
     where
-      settings-limit : (seen s) .settings .limit ≡ s .eit .limit
+      settings-limit : (seen s) .settings .limit ≡ s .eit .sets .limit
       settings-limit = limit-is s
 
-      sets-part : sets.wholeOf (setStore s) ≡ (leb (s .eit .used) (s .eit .limit) && rowsWhole (s .heads) (s .slots) (s .eit .count) (s .eit .size) (s .eit .used))
+      sets-part : sets.wholeOf (setStore s) ≡ (leb (s .eit .sets .used) (s .eit .sets .limit) && rowsWhole (s .heads) (s .slots) (s .eit .sets .count) (s .eit .sets .size) (s .eit .sets .used))
       sets-part = part-is s (fits-both .0)
 
       turn : (a b c : Bool) → (a && (b && c)) ≡ ((a && b) && c)
@@ -153,11 +159,11 @@ module _ (s : Store) (z : Reached s) where
   -- 11 looks at both eviction counts
   pub ended-seen : anyAtEnd (seen s) ≡ countersFull (s .eit)
   unfolding anyAtEnd seen
-  ended-seen = rw (ended-one (s .eit .evictions) (z .counts), ended-one (s .eit .«schedule_evictions») (z .schedule-counts))
+  ended-seen = rw (ended-one (s .eit .sets .evictions) (z .counts), ended-one (s .eit .«schedule_evictions») (z .schedule-counts))
 
   -- ---- a clear
 
-  emptied-tied : Tied (left (plain 7) (store (emptyEit (s .eit)) (s .heads) (s .slots) (s .cells) (s .schedule-heads) (s .units))) (good (seen s) clear)
+  emptied-tied : Tied (after eit.done (store (emptyEit (s .eit)) (s .heads) (s .slots) (s .cells) (s .schedule-heads) (s .units))) (good (seen s) clear)
   unfolding good shows onAnswer answerTold seen cleared emptied rowsSeen inOrder downFrom
   emptied-tied = record {
     told = refl;
@@ -176,7 +182,7 @@ module _ (s : Store) (z : Reached s) where
   unfolding clearedOf call guarded ended answerTold
   clear-tied = rw whole-seen (go (wholeOf s))
     where
-      go : (b : Bool) → Tied (cond b (left (plain 7) (store (emptyEit (s .eit)) (s .heads) (s .slots) (s .cells) (s .schedule-heads) (s .units))) (left (plain 10) s)) (guarded b false (seen s) clear)
+      go : (b : Bool) → Tied (cond b (after eit.done (store (emptyEit (s .eit)) (s .heads) (s .slots) (s .cells) (s .schedule-heads) (s .units))) (after (eit.refused refusal.NotWhole) s)) (guarded b false (seen s) clear)
       go true = emptied-tied
       go false = record { told = refl; shown = refl; reached = z }
 
@@ -187,44 +193,44 @@ unfolding keyOf scheduleOf keyShown
 key-of a bytes kind e = rw e
 
 module _ (s : Store) (z : Reached s) where
-  module _ (f : Whole (s .eit) (s .heads) (s .slots) (s .cells) (s .schedule-heads) (s .units))
-      (units-ok : schedulesWhole (s .schedule-heads) (s .units) (s .eit .count) (s .eit .size) (s .eit .schedules) ≡ true)
-      (more : s .eit .evictions < 18446744073709551615) (more′ : s .eit .«schedule_evictions» < 18446744073709551615) (bytes : Bytes) where
+  module _ (f : Whole s)
+      (units-ok : schedulesWhole (s .schedule-heads) (s .units) (s .eit .sets .count) (s .eit .sets .size) (s .eit .schedules) ≡ true)
+      (more : s .eit .sets .evictions < 18446744073709551615) (more′ : s .eit .«schedule_evictions» < 18446744073709551615) (bytes : Bytes) where
     -- 20, then limit 0
-    good-tied : (a : Arrival) (kind : Kind) → Arrives a kind → 12 ≤ length bytes → Tied (carried s bytes (planGood s bytes a)) (good (seen s) (offer (sectionFor a bytes)))
-    unfolding planGood good offerIn admitIn pushIn shows onAnswer answerTold seen
-    good-tied a kind arr h12 = rw (arr .table, key-of a bytes kind (arr .table)) (fit (ltb (s .eit .size) (length bytes)) refl)
+    good-tied : (a : Arrival) (kind : Kind) → Arrives a kind → 12 ≤ length bytes → Tied (toldStep (pushedWhole s bytes a)) (good (seen s) (offer (sectionFor a bytes)))
+    unfolding pushedWhole planOf good offerIn admitIn pushIn shows onAnswer answerTold seen
+    good-tied a kind arr h12 = rw (arr .table, key-of a bytes kind (arr .table)) (fit (ltb (s .eit .sets .size) (length bytes)) refl)
       where
         k : SetKey
         k = keyShown (a .entry .key)
 
-        limited : length bytes ≤ s .eit .size → (m : ℕ) → s .eit .limit ≡ m
-            → Tied (carried s bytes (cond (eqb m 0) (plan.Refuse Nothing) (planPlaced s a (placeIn (setStore s) (a .entry) bytes)))) (pushIn m (seen s) (sectionFor a bytes) k)
+        limited : length bytes ≤ s .eit .sets .size → (m : ℕ) → s .eit .sets .limit ≡ m
+            → Tied (toldStep (carried s bytes (cond (eqb m 0) (plan.Leave answer.Nothing) (planPlaced s a (placeIn (setStore s) (a .entry) bytes))))) (pushIn m (seen s) (sectionFor a bytes) k)
         limited l zero q = record { told = refl; shown = refl; reached = z }
         limited l (suc m) q =
             rw (ne-eqb (suc m) 0 (λ (t : suc m ≡ 0). absurd (omega arith))) (placed-tied s z f units-ok more more′ (omega arith) a kind arr bytes h12 l)
 
-        fit : (b : Bool) → ltb (s .eit .size) (length bytes) ≡ b
-            → Tied (carried s bytes (cond b (plan.Refuse TooLong) (cond (eqb (s .eit .limit) 0) (plan.Refuse Nothing) (planPlaced s a (placeIn (setStore s) (a .entry) bytes)))))
-            (admitIn (seen s) (sectionFor a bytes) k (leb (length bytes) (s .eit .size)))
-        fit true q = rw (lt-leb (length bytes) (s .eit .size) (ltb-true (s .eit .size) (length bytes) q)) (record { told = refl; shown = refl; reached = z })
+        fit : (b : Bool) → ltb (s .eit .sets .size) (length bytes) ≡ b
+            → Tied (toldStep (carried s bytes (cond b (plan.Leave (answer.Refused refusal.TooLong)) (cond (eqb (s .eit .sets .limit) 0) (plan.Leave answer.Nothing) (planPlaced s a (placeIn (setStore s) (a .entry) bytes))))))
+            (admitIn (seen s) (sectionFor a bytes) k (leb (length bytes) (s .eit .sets .size)))
+        fit true q = rw (lt-leb (length bytes) (s .eit .sets .size) (ltb-true (s .eit .sets .size) (length bytes) q)) (record { told = refl; shown = refl; reached = z })
         fit false q =
-            let l = ltb-false (s .eit .size) (length bytes) q in
-            rw (le-leb (length bytes) (s .eit .size) l) (limited l (s .eit .limit) refl)
+            let l = ltb-false (s .eit .sets .size) (length bytes) q in
+            rw (le-leb (length bytes) (s .eit .sets .size) l) (limited l (s .eit .sets .limit) refl)
 
     -- 18 and 19
     read-tied : AllBytes bytes → (pid : ℕ) (h : Header) → collectedOf bytes ≡ collected.Good h → (r : Reading) → Read-as bytes r
-        → Tied (carried s bytes (planRead s bytes pid h r)) (good (seen s) (readsEit (pidShown pid) bytes h r))
+        → Tied (pushedAs s bytes (eitFields pid h r)) (good (seen s) (readsEit (pidShown pid) bytes h r))
     unfolding readsEit good offerIn shows onAnswer answerTold seen sectionOf
     read-tied o pid h q r (not-eit e) = rw (not-kind bytes h q e) (record { told = refl; shown = refl; reached = z })
     read-tied o pid h q r broken = record { told = refl; shown = refl; reached = z }
     read-tied o pid h q r (read-good e) =
         let k = arrives bytes h q (o 7) pid e in
-        subst (λ (x : Section). Tied (carried s bytes (planGood s bytes (arrivalOf pid h (fieldsOf bytes (kindRead (byteAt bytes 0)))))) (good (seen s) (offer x)))
+        subst (λ (x : Section). Tied (toldStep (pushedWhole s bytes (arrivalOf pid h (fieldsOf bytes (kindRead (byteAt bytes 0)))))) (good (seen s) (offer x)))
         (section-same pid bytes h (fieldsOf bytes (kindRead (byteAt bytes 0)))) (good-tied (arrivalOf pid h (fieldsOf bytes (kindRead (byteAt bytes 0)))) (k .0) (k .1) (good-length bytes h q))
 
     -- 14 to 17
-    judged-tied : AllBytes bytes → (pid : ℕ) (c : Collected) → collectedOf bytes ≡ c → Tied (carried s bytes (planJudged s bytes pid c)) (good (seen s) (readsAs (pidShown pid) bytes c))
+    judged-tied : AllBytes bytes → (pid : ℕ) (c : Collected) → collectedOf bytes ≡ c → Tied (pushedAs s bytes (eitRead pid bytes c)) (good (seen s) (readsAs (pidShown pid) bytes c))
     unfolding readsAs good shows onAnswer answerTold seen
     judged-tied o pid collected.Malformed q = record { told = refl; shown = refl; reached = z }
     judged-tied o pid collected.ShortForm q = record { told = refl; shown = refl; reached = z }
@@ -233,12 +239,13 @@ module _ (s : Store) (z : Reached s) where
     judged-tied o pid (collected.Good h) q = read-tied o pid h q (eitOf bytes) (read-as bytes)
 
     -- 12
-    pid-tied : AllBytes bytes → (pid : MaybePid) → Tied (carried s bytes (planPid s bytes (pidWord pid))) (good (seen s) (readSection pid bytes))
-    unfolding readSection good shows onAnswer answerTold seen pidShown
+    pid-tied : AllBytes bytes → (pid : MaybePid) → Tied (pushedAs s bytes (eitArrival pid bytes)) (good (seen s) (readSection pid bytes))
+    unfolding eitArrival readSection good shows onAnswer answerTold seen pidShown
     pid-tied o maybe.None = judged-tied o 8192 (collectedOf bytes) refl
     pid-tied o (maybe.Some v) = go (ltb v 8192) refl
       where
-        go : (b : Bool) → ltb v 8192 ≡ b → Tied (carried s bytes (planPid s bytes (pidOf (cond b (made.One (record { 0 = v })) made.TooLarge)))) (good (seen s) (cond b (readsAs (some v) bytes (collectedOf bytes)) (refuse 12)))
+        go : (b : Bool) → ltb v 8192 ≡ b
+            → Tied (pushedAs s bytes (eitJudged (pidOf (cond b (made.One (record { 0 = v })) made.TooLarge)) bytes)) (good (seen s) (cond b (readsAs (some v) bytes (collectedOf bytes)) (refuse refusal.BadPid refl)))
         go true q =
             let l = ltb-true v 8192 q in
             let d : pidShown v ≡ some v = rw (ne-eqb v 8192 (λ (t : v ≡ 8192). absurd (omega arith))) in
@@ -265,27 +272,25 @@ module _ (s : Store) (z : Reached s) where
   ended-read maybe.None bytes = ended-as bytes none (collectedOf bytes)
   ended-read (maybe.Some v) bytes = go (ltb v 8192)
     where
-      go : (b : Bool) → ended (seen s) (cond b (readsAs (some v) bytes (collectedOf bytes)) (refuse 12)) ≡ anyAtEnd (seen s)
+      go : (b : Bool) → ended (seen s) (cond b (readsAs (some v) bytes (collectedOf bytes)) (refuse refusal.BadPid refl)) ≡ anyAtEnd (seen s)
       go true = ended-as bytes (some v) (collectedOf bytes)
       go false = refl
 
   -- 10, then 11
   pub push-tied : (pid : MaybePid) (bytes : Bytes) → AllBytes bytes → Tied (pushedOf s pid bytes) (call (seen s) (readSection pid bytes))
-  unfolding pushedOf planOf call guarded answerTold
+  unfolding pushedOf admitted call guarded answerTold
   push-tied pid bytes o =
       rw (whole-seen s z, ended-read pid bytes, ended-seen s z) (go (wholeOf s) (countersFull (s .eit)) refl refl)
     where
       go : (w t : Bool) → wholeOf s ≡ w → countersFull (s .eit) ≡ t
-          → Tied (carried s bytes (cond w (cond t (plan.Refuse CounterFull) (planPid s bytes (pidWord pid))) (plan.Refuse NotWhole))) (guarded w t (seen s) (readSection pid bytes))
+          → Tied (pushedAs s bytes (cond w (cond t (arrival.Refused refusal.CounterFull) (eitArrival pid bytes)) (arrival.Refused refusal.NotWhole))) (guarded w t (seen s) (readSection pid bytes))
       go false t p q = record { told = refl; shown = refl; reached = z }
       go true true p q = record { told = refl; shown = refl; reached = z }
       go true false p q =
-          let d = counts (s .eit) false (sym q) refl in
-          let d₀ : s .eit .evictions ≢ 18446744073709551615 = d .0 in
-          let d₁ : s .eit .«schedule_evictions» ≢ 18446744073709551615 = d .1 in
           let c = z .counts in
           let c′ = z .schedule-counts in
-          pid-tied (whole-store s p) (units-whole s p) (omega arith) (omega arith) bytes o pid
+          let d = can-count (s .eit) false (sym q) refl (omega arith) (omega arith) in
+          pid-tied (whole-store s p) (units-whole s p) (d .sets) (d .schedules) bytes o pid
 
   -- 10, then a drop's 12 and 7; a drop asks for no count
   dropped-tied : (f : Filter) → FilterFits f → Tied (droppedOf s f) (call (seen s) (drop (filterShown f)))
@@ -293,7 +298,7 @@ module _ (s : Store) (z : Reached s) where
   dropped-tied f fit = rw (whole-seen s z) (go (wholeOf s) refl)
     where
       go : (b : Bool) → wholeOf s ≡ b
-          → Tied (leftRemains (carriedDrop (s .eit) (s .heads) (s .slots) (s .schedule-heads) (s .units) (cond b (dropPid f (wantedPid (f .pid))) (plan-drop.Refuse drop-answer.NotWhole))) (s .cells))
+          → Tied (carriedDrop s (cond b (dropWanted f) (plan-drop.Refuse refusal.NotWhole)))
           (guarded b false (seen s) (drop (filterShown f)))
       go true e = drop-tied s z (whole-store s e) f fit
       go false e = record { told = refl; shown = refl; reached = z }

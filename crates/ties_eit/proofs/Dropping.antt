@@ -19,19 +19,21 @@ use Rattle.rows.specs.declared.Key.{Key}
 use Rattle.rows.specs.Rows.{word, keyAt, slotCount, slotsAt}
 use Rattle.ages.specs.Order.{movedFrom}
 use Rattle.ages.proofs.Cells.{up-cong}
-use Rattle.schedules.specs.Segments.{wordOf}
-use Rattle.schedules.specs.Units.{tablesOf}
+use Rattle.segments.specs.Segments.{wordOf}
+use Rattle.schedules.specs.Schedules.{tablesOf}
 use Rattle.filter.specs.declared.Of.the-variants as of
 use Rattle.filter.specs.declared.Wanted.{Wanted}
 use Rattle.filter.specs.declared.Wanted.the-variants as wanted
 use Rattle.filter.specs.Drops.{wants, matches, removedHeads, removedWords, Rest, rest, droppedRows}
-use Rattle.filter.proofs.Removed.{removed-word, removed-words, removed-part, removed-slots}
-use Rattle.eit.specs.declared.Filter.{Filter}
-use Rattle.eit.specs.declared.WantedPid.{WantedPid}
-use Rattle.eit.specs.declared.WantedPid.the-variants as wanted-pid
-use Rattle.eit.specs.declared.inner.Drop.{Drop}
-use Rattle.eit.specs.declared.inner.Drop.the-variants as drop
-use Rattle.eit.specs.Store.{Store, store, Whole, Left, withRows, withSchedules, madeWanted, wantedPid, fieldsOf, dropPid, matchingGone, carriedDrop, leftRemains}
+use Rattle.ties_eit.proofs.Removed.{removed-word, removed-words, removed-part, removed-slots}
+use Rattle.eit_drop.specs.declared.Filter.{Filter}
+use Rattle.eit_drop.specs.declared.WantedPid.{WantedPid}
+use Rattle.eit_drop.specs.declared.WantedPid.the-variants as wanted-pid
+use Rattle.eit_drop.specs.declared.Drop.{Drop}
+use Rattle.eit_drop.specs.declared.Drop.the-variants as drop
+use Rattle.eit_state.specs.State.{Store, store, Whole, withSets, withSchedules}
+use Rattle.eit_drop.specs.Drop.{madeWanted, wantedPid, fieldsOf, dropPid, matchingGone}
+use Rattle.eit.specs.Store.{After, carriedDrop}
 use Rattle.ties_eit.specs.View.{pidShown, kindBy, keyShown, scheduleShown, keyWords, scheduleWords, rowSeen, copySeen, placeSeen, scheduleSeen, seen, pidTest, filterShown, answerTold, FilterFits, HeadFits, Reached}
 use Rattle.ties_eit.proofs.Keys.{Bit}
 use Rattle.ties_eit.proofs.Rows.{row-as}
@@ -133,15 +135,15 @@ module _ (f : Filter) (fit : FilterFits f) (w : Wanted) (pid : (p : ℕ) → wan
 
   -- ---- the sets and the schedules
 
-  module _ (s : Store) (z : Reached s) (g : Whole (s .eit) (s .heads) (s .slots) (s .cells) (s .schedule-heads) (s .units)) where
+  module _ (s : Store) (z : Reached s) (g : Whole s) where
     abbrev setsBefore : Rest
-    setsBefore = rest (s .heads) (s .slots) (s .eit .used)
+    setsBefore = rest (s .heads) (s .slots) (s .eit .sets .used)
 
     abbrev schedulesBefore : Rest
     schedulesBefore = rest (s .schedule-heads) (s .units) (s .eit .schedules)
 
     abbrev setsAfter : Rest
-    setsAfter = droppedRows of.Sets (fieldsOf w f) (s .eit .used) setsBefore
+    setsAfter = droppedRows of.Sets (fieldsOf w f) (s .eit .sets .used) setsBefore
 
     abbrev schedulesAfter : Rest
     schedulesAfter = droppedRows of.Schedules (fieldsOf w f) (s .eit .schedules) schedulesBefore
@@ -152,20 +154,20 @@ module _ (f : Filter) (fit : FilterFits f) (w : Wanted) (pid : (p : ℕ) → wan
         let b = g .sets .heads-long in
         let c = g .sets .slots-long in
         stays keyShown keyWords of.Sets (fieldsOf w f) HeadFits rowSeen setStays (λ used i heads h l j q. moved-head used i heads heads h l j q)
-        (λ used i heads ws h l m j k. moved-set used i heads ws h l m j k) set-agrees (s .eit .used) setsBefore
-        (record { stands = z .sets; heads-long = omega arith; words-long = omega arith; fits = z .heads-fit }) (le-refl (s .eit .used)) (λ j p q. absurd (omega arith))
+        (λ used i heads ws h l m j k. moved-set used i heads ws h l m j k) set-agrees (s .eit .sets .used) setsBefore
+        (record { stands = z .sets; heads-long = omega arith; words-long = omega arith; fits = z .heads-fit }) (le-refl (s .eit .sets .used)) (λ j p q. absurd (omega arith))
 
     schedules-stay : Stays scheduleShown scheduleWords of.Schedules Any scheduleSeen scheduleStays schedulesBefore schedulesAfter
     schedules-stay =
         let a = g .schedules in
-        let b = g .tops-long in
+        let b = g .schedule-heads-long in
         let c = g .units-long in
         stays scheduleShown scheduleWords of.Schedules (fieldsOf w f) Any scheduleSeen scheduleStays (λ used i heads h l j q. tt)
         (λ used i heads ws h l m j k. moved-schedule used i heads ws h l m j k) schedule-agrees (s .eit .schedules) schedulesBefore
         (record { stands = z .schedules; heads-long = omega arith; words-long = omega arith; fits = λ j k. tt }) (le-refl (s .eit .schedules)) (λ j p q. absurd (omega arith))
 
     abbrev after : Store
-    after = store (withSchedules (withRows (s .eit) (setsAfter .used) (s .eit .evictions)) (schedulesAfter .used) (s .eit .«schedule_evictions»))
+    after = store (withSchedules (withSets (s .eit) (setsAfter .used) (s .eit .sets .evictions)) (schedulesAfter .used) (s .eit .«schedule_evictions»))
         (setsAfter .heads) (setsAfter .words) (s .cells) (schedulesAfter .heads) (schedulesAfter .words)
 
     -- "sets and schedules that match go"
@@ -176,7 +178,7 @@ module _ (f : Filter) (fit : FilterFits f) (w : Wanted) (pid : (p : ℕ) → wan
         let q = schedules-stay .rows in
         λ t. record {
           settings = (seen s) .settings;
-          eit = record { sets = record { rows = p t; evicted = s .eit .evictions }; schedules = record { rows = q t; evicted = s .eit .«schedule_evictions» } };
+          eit = record { sets = record { rows = p t; evicted = s .eit .sets .evictions }; schedules = record { rows = q t; evicted = s .eit .«schedule_evictions» } };
           cells = (seen s) .cells;
         }
 
@@ -192,16 +194,16 @@ module _ (f : Filter) (fit : FilterFits f) (w : Wanted) (pid : (p : ℕ) → wan
       schedules = schedules-stay .sound .stands;
     }
 
-    pub matching-tied : Tied (leftRemains (carriedDrop (s .eit) (s .heads) (s .slots) (s .schedule-heads) (s .units) (drop.Matching (fieldsOf w f))) (s .cells))
+    pub matching-tied : Tied (carriedDrop s (drop.Matching (fieldsOf w f)))
         (shows (seen s) ((seen s) .cells) (gives done (dropped (filterShown f) ((seen s) .eit))))
     unfolding matchingGone shows onAnswer answerTold
     matching-tied = record { told = refl; shown = shown-after; reached = reached-after }
 
 -- ---- 12, then 7
 
-module _ (s : Store) (z : Reached s) (g : Whole (s .eit) (s .heads) (s .slots) (s .cells) (s .schedule-heads) (s .units)) (f : Filter) (fit : FilterFits f) where
-  abbrev leaves : Drop → Left
-  leaves d = leftRemains (carriedDrop (s .eit) (s .heads) (s .slots) (s .schedule-heads) (s .units) d) (s .cells)
+module _ (s : Store) (z : Reached s) (g : Whole s) (f : Filter) (fit : FilterFits f) where
+  abbrev leaves : Drop → After
+  leaves d = carriedDrop s d
 
   pub drop-tied : Tied (leaves (dropPid f (wantedPid (f .pid)))) (dropIn (seen s) (filterShown f) (badPid ((filterShown f) .pid)))
   unfolding filterShown badPid dropIn shows onAnswer answerTold seen

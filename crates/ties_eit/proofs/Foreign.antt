@@ -10,22 +10,24 @@ use borrow.Author.Tests.{ne-eqb}
 use lib.Dec.{eqb}
 use Rattle.laws.proofs.Tests.{and-none}
 use Rattle.rules_eit.specs.Keys.{Kind, presentActual, presentOther, scheduleActual, scheduleOther, kindOf, kindNumber}
+use Rattle.answers.specs.declared.Refusal.the-variants as refusal
 use Rattle.rows.specs.declared.Key.{Key}
 use Rattle.rows.specs.Rows.{word, keyAt}
-use Rattle.sets.specs.Store.{bitOf}
+use Rattle.arrivals.specs.Arrivals.{bitOf}
 use Rattle.filter.specs.declared.Of.{Of}
 use Rattle.filter.specs.declared.Of.the-variants as of
 use Rattle.filter.specs.declared.Wanted.{Wanted}
 use Rattle.filter.specs.declared.Wanted.the-variants as wanted
 use Rattle.filter.specs.declared.Fields.{Fields}
 use Rattle.filter.specs.Drops.{wants, kindIn, matches, Rest, rest, droppedRow, droppedRows}
-use Rattle.eit.specs.declared.Filter.{Filter}
-use Rattle.eit.specs.declared.DropAnswer.the-variants as drop-answer
-use Rattle.eit.specs.declared.inner.Drop.{Drop}
-use Rattle.eit.specs.declared.inner.Drop.the-variants as drop
-use Rattle.eit.specs.declared.inner.PidWanted.{PidWanted}
-use Rattle.eit.specs.declared.inner.PidWanted.the-variants as pid-wanted
-use Rattle.eit.specs.Store.{Store, wholeOf, wantedPid, fieldsOf, dropPid, dropOf, matchingGone, carriedDrop, leftRemains, droppedOf}
+use Rattle.eit_drop.specs.declared.Filter.{Filter}
+use Rattle.eit_drop.specs.declared.Drop.{Drop}
+use Rattle.eit_drop.specs.declared.Drop.the-variants as drop
+use Rattle.eit_drop.specs.declared.PidWanted.{PidWanted}
+use Rattle.eit_drop.specs.declared.PidWanted.the-variants as pid-wanted
+use Rattle.eit_state.specs.State.{Store, wholeOf}
+use Rattle.eit_drop.specs.Drop.{wantedPid, fieldsOf, dropPid, matchingGone}
+use Rattle.eit.specs.Store.{dropOf, carriedDrop, droppedOf}
 use Rattle.ties_eit.specs.View.{theKind, kindBy, acts, drops, Reached}
 use Rattle.ties_eit.proofs.Keys.{Bit}
 use Rattle.ties_eit.proofs.Filters.{kind-word}
@@ -72,9 +74,9 @@ no-match o f w (current-next x e h) k l m =
     (ap (λ (q : Wanted). wants q (k .«current_next»)) e ∙ ne-eqb (k .«current_next») x (λ (t : k .«current_next» ≡ x). absurd (omega arith)))
 
 module _ (s : Store) (z : Reached s) (f : Filter) (g : Foreign f) (w : Wanted) where
-  sets-stay : droppedRows of.Sets (fieldsOf w f) (s .eit .used) (rest (s .heads) (s .slots) (s .eit .used)) ≡ rest (s .heads) (s .slots) (s .eit .used)
+  sets-stay : droppedRows of.Sets (fieldsOf w f) (s .eit .sets .used) (rest (s .heads) (s .slots) (s .eit .sets .used)) ≡ rest (s .heads) (s .slots) (s .eit .sets .used)
   sets-stay =
-      none-leave of.Sets (fieldsOf w f) (s .eit .used) (rest (s .heads) (s .slots) (s .eit .used)) (λ j h.
+      none-leave of.Sets (fieldsOf w f) (s .eit .sets .used) (rest (s .heads) (s .slots) (s .eit .sets .used)) (λ j h.
       let t : ℕ = word (s .heads) j 1 in
       let n = kind-word t (z .heads-fit j h .kind) in
       let k = kind-below (theKind (kindOf t)) in
@@ -92,7 +94,7 @@ module _ (s : Store) (z : Reached s) (f : Filter) (g : Foreign f) (w : Wanted) w
       let c = bit-below (not (eqb (word (s .schedule-heads) j 3) 0)) in
       no-match of.Schedules f w g (keyAt (s .schedule-heads) j) (omega arith) (omega arith))
 
-  gone-stays : (leftRemains (carriedDrop (s .eit) (s .heads) (s .slots) (s .schedule-heads) (s .units) (drop.Matching (fieldsOf w f))) (s .cells)) .store ≡ s
+  gone-stays : (carriedDrop s (drop.Matching (fieldsOf w f))) .store ≡ s
   unfolding matchingGone
   gone-stays = rw (sets-stay, schedules-stay)
 
@@ -101,7 +103,7 @@ pub foreign-drop : (s : Store) → Reached s → (f : Filter) → Foreign f → 
 unfolding acts droppedOf dropOf
 foreign-drop s z f g = go (wholeOf s) (wantedPid (f .pid))
   where
-    go : (b : Bool) (p : PidWanted) → (leftRemains (carriedDrop (s .eit) (s .heads) (s .slots) (s .schedule-heads) (s .units) (cond b (dropPid f p) (drop.Refuse drop-answer.NotWhole))) (s .cells)) .store ≡ s
+    go : (b : Bool) (p : PidWanted) → (carriedDrop s (cond b (dropPid f p) (drop.Refuse refusal.NotWhole))) .store ≡ s
     go true pid-wanted.TooLarge = refl
     go true (pid-wanted.Is w) = gone-stays s z f g w
     go false p = refl

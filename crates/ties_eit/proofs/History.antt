@@ -17,7 +17,8 @@ use Rattle.laws.specs.Runs.{answers, storeAfter, At, Never, Obeys, bars, does}
 use Rattle.laws.proofs.Runs.{each-read, answers-read}
 use Rattle.laws.proofs.Runs.{same-answers as run-same}
 use Rattle.rules_eit.specs.Keys.{Kind, sameSet, sameSchedule}
-use Rattle.rules_eit.specs.Rules.{Eit, Section, offer, refuse, Answer, done, refused, nothing, handout, schedule, conflict, range, notWhole, counterFull, noCell, barred, asBefore}
+use Rattle.answers.specs.declared.Refusal.the-variants as refusal
+use Rattle.rules_eit.specs.Rules.{Eit, Section, offer, refuse, Answer, done, refused, nothing, handout, schedule, barred, asBefore}
 use Rattle.rules_eit.specs.Rules.{tells as rulesTell, acts as rulesAct, opened as rulesOpened}
 use Rattle.rules_eit.specs.Cells.{Store as Shown, onEit, view, callTells, callActs}
 use Rattle.rules_eit.proofs.Keys.{sameSet-true, sameSchedule-true}
@@ -34,26 +35,32 @@ use Rattle.eit_section.specs.declared.Reading.the-variants as reading
 use Rattle.section.specs.declared.ids.MaybePid.the-variants as maybe
 use Rattle.ages.specs.Order.{downFrom, inOrder, rowsSeen}
 use Rattle.ages.proofs.Touch.{stands-none}
-use Rattle.sets.proofs.Judged.{good-length}
 use Rattle.cells.specs.Cells.{slotWord}
 use Rattle.rows.specs.declared.Entry.{Entry}
 use Rattle.rows.specs.Rows.{touched, keptHeads, withMark}
-use Rattle.schedules.specs.Segments.{keptSection}
-use Rattle.berths.specs.declared.Berth.{Berth}
-use Rattle.berths.specs.Berths.{berthOf, tableCount, berthedUnits, tablesThere}
-use Rattle.eit.specs.declared.Eit.{Eit as Eits}
-use Rattle.eit.specs.declared.PushAnswer.the-variants.{Nothing, Schedule}
-use Rattle.eit.specs.declared.inner.Drop.{Drop}
-use Rattle.eit.specs.declared.inner.Drop.the-variants as plan-drop
-use Rattle.eit.specs.declared.inner.Arrival.{Arrival}
-use Rattle.eit.specs.declared.inner.Course.{Course}
-use Rattle.eit.specs.declared.inner.Course.the-variants as course
-use Rattle.eit.specs.declared.inner.Plan.{Plan}
-use Rattle.eit.specs.declared.inner.Plan.the-variants as plan
-use Rattle.eit.specs.Store.{Store, store, asked, plain, Left, left, settingsFit, wholeOf, openedOf, emptyEit, clearedOf, dropOf, matchingGone, carriedDrop, leftRemains, droppedOf, answerOf, withRows, scheduleEntry, courseOf, shelvedIn, shelved, settledBy, settled, keptAndSettled, carried, planOf, pushedOf}
+use Rattle.segments.specs.Segments.{keptSection}
+use Rattle.schedules.specs.declared.ScheduleRoom.{ScheduleRoom}
+use Rattle.schedules.specs.Schedules.{roomOf, tableCount, scheduledUnits, tablesThere}
+use Rattle.eit_drop.specs.declared.Drop.{Drop}
+use Rattle.eit_drop.specs.declared.Drop.the-variants as plan-drop
+use Rattle.arrivals.specs.declared.Arrival.{Arrival}
+use Rattle.eit_settle.specs.declared.Becomes.{Becomes}
+use Rattle.eit_settle.specs.declared.Becomes.the-variants as becomes
+use Rattle.eit_plan.specs.declared.Plan.{Plan}
+use Rattle.eit_plan.specs.declared.Plan.the-variants as plan
+use Rattle.eit_state.specs.State.{Store, store, rows, rowsOf, asked, settingsFit, wholeOf}
+use Rattle.eit_state.specs.State.{Rows as EitRows}
+use Rattle.arrivals.specs.declared.EitArrival.{EitArrival}
+use Rattle.arrivals.specs.declared.EitArrival.the-variants as arrival
+use Rattle.rules_shared.specs.Refusals as refusals
+use Rattle.eit_plan.specs.Plan.{planOf}
+use Rattle.eit_settle.specs.Settle.{ownTable, scheduleEntry, becomesOf, isMarked, markedHeads, enteredAnswer, enteredIn, entered, settledAs, settled, keptAndSettled, carried}
+use Rattle.eit.specs.Store as eit
+use Rattle.eit.specs.Store.{After, after, toldStep, answerOf, openedOf, emptyEit, clearedOf, dropOf, carriedDrop, droppedOf, admitted, pushedWhole, pushedAs, pushedOf}
 use Rattle.ties_eit.specs.View.{keyShown, scheduleShown, keyWords, scheduleWords, seen, settingsOf, sectionOf, readsEit, readsAs, readSection, reads, answerTold, tells, acts, Given, clears, drops, section, Fitting, Opened, Reached}
 use Rattle.ties_eit.proofs.Keys.{set-self, schedule-self}
 use Rattle.ties_eit.proofs.Calls.{tied, room-there}
+use Rattle.ties_eit.proofs.Arrivals.{good-length}
 
 -- ---- opening
 
@@ -68,16 +75,16 @@ opened-reached s o = record {
   schedules = rw (o .schedules) (stands-none scheduleShown scheduleWords sameSchedule sameSchedule-true schedule-self (s .schedule-heads));
 }
   where
-    go : (b : Bool) → plain (cond b 7 13) ≡ plain 7 → b ≡ true
+    go : (b : Bool) → cond b eit.done (eit.refused refusal.TooLittle) ≡ eit.done → b ≡ true
     go true e = refl
-    go false e = let z : _≡_ {A = ℕ} 13 7 = cc in absurd (omega arith)
+    go false e = let z : _≡_ {A = ℕ} 0 1 = cc in absurd (omega arith)
 
 -- what `open` leaves where the settings fit: there are such stores, whatever the lent memory holds
-pub opens : (limit size count : ℕ) (heads slots cells tops units : List ℕ) → settingsFit (asked limit size count) (length heads) (length slots) (length cells) (length tops) (length units) ≡ true
-    → Opened (store (asked limit size count) heads slots cells tops units)
+pub opens : (limit size count : ℕ) (heads slots cells schedule-heads units : List ℕ) → settingsFit (asked limit size count) (length heads) (length slots) (length cells) (length schedule-heads) (length units) ≡ true
+    → Opened (store (asked limit size count) heads slots cells schedule-heads units)
 unfolding openedOf
-opens limit size count heads slots cells tops units e =
-    record { opened = ap (λ (b : Bool). plain (cond b 7 13)) e; sets = refl; evictions = refl; schedules = refl; schedule-evictions = refl }
+opens limit size count heads slots cells schedule-heads units e =
+    record { opened = ap (λ (b : Bool). cond b eit.done (eit.refused refusal.TooLittle)) e; sets = refl; evictions = refl; schedules = refl; schedule-evictions = refl }
 
 -- "no rows, counts 0"
 pub opened-seen : (s : Store) → Opened s → (seen s) .eit ≡ record { sets = untouched; schedules = untouched }
@@ -114,49 +121,52 @@ module _ (s : Store) (z : Reached s) (i : Given) (o : Fitting i) where
       go (does e v u) = does (tells-seen ∙ e) (ap view acts-seen ∙ v) acts-reached
 
   -- 21: only where the rules would keep the section and every cell is named after the eviction or the emptying; and there always
-  pub no-cell-only : tells s i ≡ noCell → (x : Section) × (kind : Kind) × (reads i ≡ offer x) × NeedsCell (seen s) x kind
+  pub no-cell-only : tells s i ≡ (refused refusal.NoCell) → (x : Section) × (kind : Kind) × (reads i ≡ offer x) × NeedsCell (seen s) x kind
   no-cell-only h = only-then-21 (seen s) (reads i) (sym tells-seen ∙ h)
 
-  pub no-cell-there : (x : Section) (kind : Kind) → reads i ≡ offer x → NeedsCell (seen s) x kind → tells s i ≡ noCell
+  pub no-cell-there : (x : Section) (kind : Kind) → reads i ≡ offer x → NeedsCell (seen s) x kind → tells s i ≡ (refused refusal.NoCell)
   no-cell-there x kind q h = tells-seen ∙ ap (callTells (seen s)) q ∙ then-21 (seen s) x kind h
 
 -- ---- refusals: the memory is as before, whatever it holds
 
 -- what settling a row answers changes something
-shelving-changes : (e : Eits) (heads slots tops units : List ℕ) (a : Arrival) (i : ℕ) (b : Berth) (s : Store) → asBefore (answerTold (answerOf ((shelvedIn e heads slots tops units a i b) .answer) s)) ≡ false
-unfolding asBefore answerTold shelvedIn
-shelving-changes e heads slots tops units a i b s =
-    go (tablesThere (berthedUnits heads slots (e .used) (a .entry .key) (tableCount (a .entry .key .«table_id») (a .tables)) i b units) (b .room .row) (a .entry .key .«table_id») (a .tables))
+entering-changes : (r : EitRows) (a : Arrival) (i : ℕ) (b : ScheduleRoom) (s : Store) → asBefore (answerTold (answerOf ((enteredIn r a i b) .answer) s)) ≡ false
+unfolding asBefore answerTold enteredIn
+entering-changes r a i b s =
+    go (tablesThere (scheduledUnits (r .heads) (r .slots) (r .eit .sets .used) (scheduleEntry a) (ownTable a) i b (r .units)) (b .room .row) (scheduleEntry a))
   where
-    go : (t : Bool) → asBefore (answerTold (answerOf (cond t (Schedule (b .room .row)) Nothing) s)) ≡ false
+    go : (t : Bool) → asBefore (answerTold (answerOf (enteredAnswer t (b .room .row)) s)) ≡ false
     go true = refl
     go false = refl
 
-settling-changes : (c : Course) (e : Eits) (heads slots tops units : List ℕ) (a : Arrival) (i : ℕ) (s : Store)
-    → asBefore (answerTold (answerOf ((settledBy c e heads slots tops units a i) .answer) s)) ≡ false
-unfolding asBefore answerTold shelved
-settling-changes course.Stay e heads slots tops units a i s = refl
-settling-changes course.Out e heads slots tops units a i s = refl
-settling-changes course.Range e heads slots tops units a i s = refl
-settling-changes course.Shelve e heads slots tops units a i s =
-    shelving-changes e (withMark i 1 heads) slots tops units a i (berthOf tops (e .limit) (e .schedules) (e .«schedule_evictions») (scheduleEntry a)) s
+settling-changes : (c : Becomes) (r : EitRows) (a : Arrival) (i : ℕ) (s : Store) → asBefore (answerTold (answerOf ((settledAs c r a i) .answer) s)) ≡ false
+unfolding asBefore refusals.asBefore answerTold entered
+settling-changes becomes.Stays r a i s = refl
+settling-changes becomes.GoesOut r a i s = refl
+settling-changes becomes.OutOfRange r a i s = refl
+settling-changes becomes.Enters r a i s = entering-changes r a i (roomOf (r .schedule-heads) (r .eit .sets .limit) (r .eit .schedules) (r .eit .«schedule_evictions») (scheduleEntry a)) s
 
-plan-keeps : (s : Store) (bytes : Bytes) (p : Plan) → asBefore (answerTold ((carried s bytes p) .told)) ≡ true → (carried s bytes p) .store ≡ s
-unfolding asBefore answerTold settled keptAndSettled
-plan-keeps s bytes (plan.Refuse a) h = refl
+settled-changes : (r : EitRows) (a : Arrival) (i : ℕ) (s : Store) → asBefore (answerTold (answerOf ((settled r a i) .answer) s)) ≡ false
+unfolding settled
+settled-changes r a i s =
+    let heads : List ℕ = touched (r .eit .sets .used) i (r .heads) in
+    let b : Becomes = becomesOf heads (r .slots) a i in
+    settling-changes b (rows (r .eit) (markedHeads (isMarked b) i heads) (r .slots) (r .schedule-heads) (r .units)) a i s
+
+plan-keeps : (s : Store) (bytes : Bytes) (p : Plan) → asBefore (answerTold ((toldStep (carried s bytes p)) .told)) ≡ true → (carried s bytes p) .store ≡ s
+unfolding asBefore refusals.asBefore answerTold keptAndSettled
+plan-keeps s bytes (plan.Leave a) h = refl
 plan-keeps s bytes (plan.Conflict i) h = absurd (true≢false (sym h))
-plan-keeps s bytes (plan.Repeat x) h =
-    let heads : List ℕ = touched (s .eit .used) (x .row) (s .heads) in
-    absurd (true≢false (sym h ∙ settling-changes (courseOf heads (s .slots) (x .arrival) (x .row)) (s .eit) heads (s .slots) (s .schedule-heads) (s .units) (x .arrival) (x .row) _))
-plan-keeps s bytes (plan.Keep k) h =
-    let e : Entry = k .arrival .entry in
-    let slots : List ℕ = keptSection (k .room) e (k .arrival .segment) (slotWord (length bytes) (k .cell)) (s .slots) in
-    let heads : List ℕ = touched (k .room .used) (k .room .row) (keptHeads (k .room) e (s .heads)) in
-    absurd (true≢false (sym h ∙ settling-changes (courseOf heads slots (k .arrival) (k .room .row)) (withRows (s .eit) (k .room .used) (k .room .evictions)) heads slots (s .schedule-heads) (s .units) (k .arrival) (k .room .row) _))
+plan-keeps s bytes (plan.Repeat x) h = absurd (true≢false (sym h ∙ settled-changes (rowsOf s) (x .arrival) (x .row) _))
+plan-keeps s bytes (plan.Keep k) h = absurd (true≢false (sym h ∙ settled-changes _ (k .arrival) (k .room .row) _))
 
-drop-keeps : (s : Store) (d : Drop) → asBefore (answerTold ((leftRemains (carriedDrop (s .eit) (s .heads) (s .slots) (s .schedule-heads) (s .units) d) (s .cells)) .told)) ≡ true
-    → (leftRemains (carriedDrop (s .eit) (s .heads) (s .slots) (s .schedule-heads) (s .units) d) (s .cells)) .store ≡ s
-unfolding asBefore answerTold matchingGone
+push-keeps : (s : Store) (bytes : Bytes) (v : EitArrival) → asBefore (answerTold ((pushedAs s bytes v) .told)) ≡ true → (pushedAs s bytes v) .store ≡ s
+unfolding pushedWhole
+push-keeps s bytes (arrival.Refused r) h = refl
+push-keeps s bytes (arrival.Arrived a) h = plan-keeps s bytes (planOf s bytes a) h
+
+drop-keeps : (s : Store) (d : Drop) → asBefore (answerTold ((carriedDrop s d) .told)) ≡ true → (carriedDrop s d) .store ≡ s
+unfolding asBefore answerTold
 drop-keeps s (plan-drop.Refuse a) h = refl
 drop-keeps s (plan-drop.Matching f) h = absurd (true≢false (sym h))
 
@@ -164,14 +174,14 @@ pub as-before : (s : Store) (i : Given) → asBefore (tells s i) ≡ true → ac
 unfolding tells acts asBefore answerTold clearedOf droppedOf pushedOf
 as-before s clears h = go (wholeOf s) h
   where
-    after : Bool → Left
-    after b = cond b (left (plain 7) (store (emptyEit (s .eit)) (s .heads) (s .slots) (s .cells) (s .schedule-heads) (s .units))) (left (plain 10) s)
+    cleared : Bool → After
+    cleared b = cond b (after eit.done (store (emptyEit (s .eit)) (s .heads) (s .slots) (s .cells) (s .schedule-heads) (s .units))) (after (eit.refused refusal.NotWhole) s)
 
-    go : (b : Bool) → asBefore (answerTold ((after b) .told)) ≡ true → (after b) .store ≡ s
+    go : (b : Bool) → asBefore (answerTold ((cleared b) .told)) ≡ true → (cleared b) .store ≡ s
     go true h = absurd (true≢false (sym h))
     go false h = refl
 as-before s (drops f) h = drop-keeps s (dropOf s f) h
-as-before s (section pid bytes) h = plan-keeps s bytes (planOf s pid bytes) h
+as-before s (section pid bytes) h = push-keeps s bytes (admitted s pid bytes) h
 
 -- ---- many calls
 
@@ -216,14 +226,14 @@ reads-long (drops f) = tt
 reads-long (section maybe.None bytes) = read-long none bytes (collectedOf bytes) refl
 reads-long (section (maybe.Some p) bytes) = pick (ltb p 8192)
   where
-    pick : (b : Bool) → LongEnough (cond b (readsAs (some p) bytes (collectedOf bytes)) (refuse 12))
+    pick : (b : Bool) → LongEnough (cond b (readsAs (some p) bytes (collectedOf bytes)) (refuse refusal.BadPid refl))
     pick true = read-long (some p) bytes (collectedOf bytes) refl
     pick false = tt
 
 -- in no history 10 occurs
-pub never-not-whole : (s : Store) → Opened s → (calls : List Given) → EachFitting calls → Never notWhole (answers tells acts s calls)
+pub never-not-whole : (s : Store) → Opened s → (calls : List Given) → EachFitting calls → Never (refused refusal.NotWhole) (answers tells acts s calls)
 never-not-whole s o calls b =
-    subst (Never notWhole) (sym (same-answers calls b s (opened-reached s o)))
+    subst (Never (refused refusal.NotWhole)) (sym (same-answers calls b s (opened-reached s o)))
     (never-10 (seen s) (room-there s (opened-reached s o)) (opened-seen s o) (map reads calls) (each-read LongEnough reads reads-long calls))
 
 -- ---- the rules without memory
@@ -232,21 +242,29 @@ opened-view : (s : Store) → Opened s → view (seen s) ≡ rulesOpened
 unfolding view onEit onOrder seenAs untouched
 opened-view s o = rw (opened-seen s o)
 
-unbarred : (as′ : List Answer) → Never notWhole as′ → Never counterFull as′ → Never noCell as′ → (t : ℕ) (a : Answer) → At as′ t a → barred a ≡ false
-unfolding barred
+unbarred : (as′ : List Answer) → Never (refused refusal.NotWhole) as′ → Never (refused refusal.CounterFull) as′ → Never (refused refusal.NoCell) as′ → (t : ℕ) (a : Answer) → At as′ t a → barred a ≡ false
+unfolding barred refusals.barred
 unbarred as′ w f n t done e = refl
-unbarred as′ w f n t (refused m) e = refl
 unbarred as′ w f n t nothing e = refl
 unbarred as′ w f n t (handout x) e = refl
 unbarred as′ w f n t (schedule g) e = refl
-unbarred as′ w f n t conflict e = refl
-unbarred as′ w f n t range e = refl
-unbarred as′ w f n t notWhole e = absurd (w t e)
-unbarred as′ w f n t counterFull e = absurd (f t e)
-unbarred as′ w f n t noCell e = absurd (n t e)
+unbarred as′ w f n t (refused refusal.NotWhole) e = absurd (w t e)
+unbarred as′ w f n t (refused refusal.CounterFull) e = absurd (f t e)
+unbarred as′ w f n t (refused refusal.BadPid) e = refl
+unbarred as′ w f n t (refused refusal.TooLittle) e = refl
+unbarred as′ w f n t (refused refusal.Malformed) e = refl
+unbarred as′ w f n t (refused refusal.ShortForm) e = refl
+unbarred as′ w f n t (refused refusal.BadNumber) e = refl
+unbarred as′ w f n t (refused refusal.BadCrc) e = refl
+unbarred as′ w f n t (refused refusal.NotEit) e = refl
+unbarred as′ w f n t (refused refusal.Broken) e = refl
+unbarred as′ w f n t (refused refusal.TooLong) e = refl
+unbarred as′ w f n t (refused refusal.NoCell) e = absurd (n t e)
+unbarred as′ w f n t (refused refusal.Conflict) e = refl
+unbarred as′ w f n t (refused refusal.Range) e = refl
 
 -- from an opened store the answers are those of the rules without memory, as long as no count is at its end (11) and no cell is wanting (21)
-pub history : (s : Store) → Opened s → (calls : List Given) → EachFitting calls → Never counterFull (answers tells acts s calls) → Never noCell (answers tells acts s calls)
+pub history : (s : Store) → Opened s → (calls : List Given) → EachFitting calls → Never (refused refusal.CounterFull) (answers tells acts s calls) → Never (refused refusal.NoCell) (answers tells acts s calls)
     → answers tells acts s calls ≡ answers (rulesTell (settingsOf s)) (rulesAct (settingsOf s)) rulesOpened (map reads calls)
 history s o calls b full cell =
     run-same barred (λ (q : Store). view (seen q)) Here tells acts (λ (d : Eit) (j : Given). rulesTell (settingsOf s) d (reads j)) (λ (d : Eit) (j : Given). rulesAct (settingsOf s) d (reads j)) Fitting each

@@ -39,13 +39,18 @@ use Rattle.ages.proofs.Slots.{held-whole as words-whole}
 use Rattle.ages.proofs.Cells.{cells-length, cells-written, written-length}
 use Rattle.ages.proofs.Touch.{goes-row, goes-out}
 use Rattle.ages.proofs.Taken.{taken-fresh, taken-known}
-use Rattle.schedules.specs.Segments.{keptSection}
-use Rattle.schedules.specs.Units.{schedulesWhole, takenInSchedules, takenAnywhere}
-use Rattle.eit.specs.declared.inner.Arrival.{Arrival}
-use Rattle.eit.specs.declared.inner.Keeping.{Keeping}
-use Rattle.eit.specs.declared.inner.Plan.the-variants as plan
-use Rattle.eit.specs.declared.PushAnswer.the-variants.{NoCell}
-use Rattle.eit.specs.Store.{Store, Whole, planKeep, carried, keptAndSettled}
+use Rattle.segments.specs.Segments.{keptSection}
+use Rattle.schedules.specs.Schedules.{schedulesWhole, takenInSchedules, takenAnywhere}
+use Rattle.arrivals.specs.declared.Arrival.{Arrival}
+use Rattle.eit_plan.specs.declared.Keeping.{Keeping}
+use Rattle.eit_plan.specs.declared.Plan.the-variants as plan
+use Rattle.eit_state.specs.declared.PushAnswer.the-variants as answer
+use Rattle.eit_state.specs.State.{Store, Whole}
+use Rattle.eit_plan.specs.Plan.{planPlaced}
+use Rattle.placing.specs.declared.Place.the-variants as place
+use Rattle.answers.specs.declared.Refusal.the-variants as refusal
+use Rattle.eit.specs.Store.{toldStep}
+use Rattle.eit_settle.specs.Settle.{carried, keptAndSettled}
 use Rattle.ties_eit.specs.View.{pidShown, keyShown, keyWords, rowSeen, seen, answerTold, HeadFits, Reached}
 use Rattle.ties_eit.proofs.Keys.{set-self, key-reads}
 use Rattle.ties_eit.proofs.Rows.{row-takes}
@@ -74,14 +79,14 @@ sectionFor a bytes = record {
 -- where the section goes: a row that begins anew, or one that goes on; the last argument is the row that the rules' section meets
 pub data Meets (s : Store) (a : Arrival) (bytes : Bytes) (r : Room) (age : ℕ) : SetOf Held → Type 0 where
   anew : r .fresh ≡ true → r .age ≡ age → Meets s a bytes r age (fresh (partOf (sectionFor a bytes)))
-  goesOn : r .fresh ≡ false → r .row < s .eit .used → keyAt (s .heads) (r .row) ≡ a .entry .key → ageOf (s .heads) (r .row) ≡ age
+  goesOn : r .fresh ≡ false → r .row < s .eit .sets .used → keyAt (s .heads) (r .row) ≡ a .entry .key → ageOf (s .heads) (r .row) ≡ age
       → lastOf (s .heads) (r .row) ≡ a .entry .last → Meets s a bytes r age (rowSeen (s .heads) (s .slots) (r .row))
 
-module _ (s : Store) (z : Reached s) (f : Whole (s .eit) (s .heads) (s .slots) (s .cells) (s .schedule-heads) (s .units))
-    (units-ok : schedulesWhole (s .schedule-heads) (s .units) (s .eit .count) (s .eit .size) (s .eit .schedules) ≡ true)
-    (more : s .eit .evictions < 18446744073709551615) (more′ : s .eit .«schedule_evictions» < 18446744073709551615) (pos : 0 < s .eit .limit)
-    (a : Arrival) (kind : Kind) (arr : Arrives a kind) (bytes : Bytes) (h12 : 12 ≤ length bytes) (hs : length bytes ≤ s .eit .size)
-    (r : Room) (age : ℕ) (g : Goes (s .heads) (s .eit .limit) (s .eit .used) (s .eit .evictions) (a .entry .key) (r .row) age (r .used) (r .evictions)) where
+module _ (s : Store) (z : Reached s) (f : Whole s)
+    (units-ok : schedulesWhole (s .schedule-heads) (s .units) (s .eit .sets .count) (s .eit .sets .size) (s .eit .schedules) ≡ true)
+    (more : s .eit .sets .evictions < 18446744073709551615) (more′ : s .eit .«schedule_evictions» < 18446744073709551615) (pos : 0 < s .eit .sets .limit)
+    (a : Arrival) (kind : Kind) (arr : Arrives a kind) (bytes : Bytes) (h12 : 12 ≤ length bytes) (hs : length bytes ≤ s .eit .sets .size)
+    (r : Room) (age : ℕ) (g : Goes (s .heads) (s .eit .sets .limit) (s .eit .sets .used) (s .eit .sets .evictions) (a .entry .key) (r .row) age (r .used) (r .evictions)) where
   abbrev e : Entry
   e = a .entry
 
@@ -94,7 +99,7 @@ module _ (s : Store) (z : Reached s) (f : Whole (s .eit) (s .heads) (s .slots) (
   proper : keyWords (keyShown (e .key)) ≡ e .key
   proper = key-reads (e .key) (arr .bit)
 
-  within : r .used ≤ s .eit .limit
+  within : r .used ≤ s .eit .sets .limit
   within = goes-room g (f .sets .used)
 
   head-long : r .row * 12 + 12 ≤ length (s .heads)
@@ -151,18 +156,18 @@ module _ (s : Store) (z : Reached s) (f : Whole (s .eit) (s .heads) (s .slots) (
   none-taken c = passes-none (names c) (replicate (suc (e .last)) none) (λ n h q. absurd (none≢some (free-slot (suc (e .last)) n) q))
 
   abbrev gone : ℕ
-  gone = goneRow r (s .eit .used)
+  gone = goneRow r (s .eit .sets .used)
 
   abbrev there : ℕ → Bool
-  there = takenAnywhere (s .heads) (s .slots) (s .schedule-heads) (s .units) gone (s .eit .used) (s .eit .schedules)
+  there = takenAnywhere (s .heads) (s .slots) (s .schedule-heads) (s .units) gone (s .eit .sets .used) (s .eit .schedules)
 
-  sets-taken : {met : SetOf Held} → Meets s a bytes r age met → (c : ℕ) → someRow (setTakes c) ((setNewest k met (rest (seen s) k)) .sets .rows) ≡ takenIn (s .heads) (s .slots) gone (s .eit .used) c
+  sets-taken : {met : SetOf Held} → Meets s a bytes r age met → (c : ℕ) → someRow (setTakes c) ((setNewest k met (rest (seen s) k)) .sets .rows) ≡ takenIn (s .heads) (s .slots) gone (s .eit .sets .used) c
   unfolding setNewest rest setAside seen
   sets-taken (anew t u) c =
-      taken-fresh keyShown keyWords sameSet sameSet-true set-self (s .heads) (s .slots) (s .eit .limit) (s .eit .used) (s .eit .evictions) (e .key) (z .sets) proper (rowSeen (s .heads) (s .slots))
+      taken-fresh keyShown keyWords sameSet sameSet-true set-self (s .heads) (s .slots) (s .eit .sets .limit) (s .eit .sets .used) (s .eit .sets .evictions) (e .key) (z .sets) proper (rowSeen (s .heads) (s .slots))
       (touched (r .used) (r .row) heads₁) r age g (then-touched (anew t u)) setTakes (row-takes (s .heads) (s .slots)) (fresh (partOf x)) none-taken t c
   sets-taken (goesOn t l q u v) c =
-      taken-known keyShown keyWords sameSet sameSet-true set-self (s .heads) (s .slots) (s .eit .limit) (s .eit .used) (s .eit .evictions) (e .key) (z .sets) proper (rowSeen (s .heads) (s .slots))
+      taken-known keyShown keyWords sameSet sameSet-true set-self (s .heads) (s .slots) (s .eit .sets .limit) (s .eit .sets .used) (s .eit .sets .evictions) (e .key) (z .sets) proper (rowSeen (s .heads) (s .slots))
       (touched (r .used) (r .row) heads₁) r age g (then-touched (goesOn t l q u v)) setTakes (row-takes (s .heads) (s .slots)) l t c
 
   schedules-named : (met : SetOf Held) (c : ℕ) → someRow (scheduleTakes c) ((setNewest k met (rest (seen s) k)) .schedules .rows) ≡ takenInSchedules (s .schedule-heads) (s .units) (s .eit .schedules) c
@@ -175,7 +180,7 @@ module _ (s : Store) (z : Reached s) (f : Whole (s .eit) (s .heads) (s .slots) (
 
   -- ---- the section in cell c
 
-  module _ (c : ℕ) (hc : c < s .eit .count) where
+  module _ (c : ℕ) (hc : c < s .eit .sets .count) where
     abbrev w : ℕ
     w = slotWord (length bytes) c
 
@@ -183,13 +188,13 @@ module _ (s : Store) (z : Reached s) (f : Whole (s .eit) (s .heads) (s .slots) (
     slots₁ = keptSection r e (a .segment) w (s .slots)
 
     abbrev cells₁ : List ℕ
-    cells₁ = paste (s .cells) (c * s .eit .size) bytes (length bytes)
+    cells₁ = paste (s .cells) (c * s .eit .sets .size) bytes (length bytes)
 
     abbrev keeping : Keeping
     keeping = record { arrival = a; room = r; cell = c }
 
     abbrev cells : Cells
-    cells = cellsSeen (s .cells) (s .eit .size) (s .eit .count)
+    cells = cellsSeen (s .cells) (s .eit .sets .size) (s .eit .sets .count)
 
     word-shown : heldOf w ≡ some (heldIn c bytes)
     word-shown = let p = f .sets .few in held-new (length bytes) c (omega arith) (omega arith)
@@ -231,38 +236,38 @@ module _ (s : Store) (z : Reached s) (f : Whole (s .eit) (s .heads) (s .slots) (
 
     held-ok : ok (heldIn c bytes) ≡ true
     unfolding seen
-    held-ok = held-whole ((seen s) .settings) cells c bytes (let l = cells-length (s .cells) (s .eit .size) (s .eit .count) in omega arith) h12 hs
+    held-ok = held-whole ((seen s) .settings) cells c bytes (let l = cells-length (s .cells) (s .eit .sets .size) (s .eit .sets .count) in omega arith) h12 hs
 
-    words-ok : (ws : List ℕ) → everyHeld ok (heldSlots ws) ≡ allWhole (s .eit .count) (s .eit .size) ws
+    words-ok : (ws : List ℕ) → everyHeld ok (heldSlots ws) ≡ allWhole (s .eit .sets .count) (s .eit .sets .size) ws
     unfolding seen
-    words-ok ws = words-whole ((seen s) .settings) cells ws ∙ ap (λ (m : ℕ). allWhole m (s .eit .size) ws) (cells-length (s .cells) (s .eit .size) (s .eit .count))
+    words-ok ws = words-whole ((seen s) .settings) cells ws ∙ ap (λ (m : ℕ). allWhole m (s .eit .sets .size) ws) (cells-length (s .cells) (s .eit .sets .size) (s .eit .sets .count))
 
-    set-ok : (ws : List ℕ) → everyHeld ok (heldSlots ws) ≡ true → allWhole (s .eit .count) (s .eit .size) (set ws (e .number) w) ≡ true
+    set-ok : (ws : List ℕ) → everyHeld ok (heldSlots ws) ≡ true → allWhole (s .eit .sets .count) (s .eit .sets .size) (set ws (e .number) w) ≡ true
     set-ok ws h =
         sym (words-ok (set ws (e .number) w)) ∙ ap (everyHeld ok) (held-set ws (e .number) w ∙ ap (set (heldSlots ws) (e .number)) word-shown)
         ∙ every-set ok (heldSlots ws) (e .number) (heldIn c bytes) held-ok h
 
-    own-whole : {met : SetOf Held} → Meets s a bytes r age met → allWhole (s .eit .count) (s .eit .size) (rowSlots heads₁ slots₁ (r .row)) ≡ true
+    own-whole : {met : SetOf Held} → Meets s a bytes r age met → allWhole (s .eit .sets .count) (s .eit .sets .size) (rowSlots heads₁ slots₁ (r .row)) ≡ true
     own-whole (anew t u) =
         rw (after-fresh r e (a .segment) w (s .slots) slots-long number last heads₁ t (own-last (anew t u)))
         (set-ok (replicate (suc (e .last)) 0) (rw (held-none (suc (e .last))) (every-free ok (suc (e .last)))))
     own-whole (goesOn t h n u v) =
         rw (after-own r e (a .segment) w (s .slots) slots-long number last (s .heads) heads₁ t v (own-last (goesOn t h n u v)))
-        (set-ok (rowSlots (s .heads) (s .slots) (r .row)) (words-ok (rowSlots (s .heads) (s .slots) (r .row)) ∙ rows-get (s .heads) (s .slots) (s .eit .count) (s .eit .size) (s .eit .used) (r .row) (f .sets .rows) h))
+        (set-ok (rowSlots (s .heads) (s .slots) (r .row)) (words-ok (rowSlots (s .heads) (s .slots) (r .row)) ∙ rows-get (s .heads) (s .slots) (s .eit .sets .count) (s .eit .sets .size) (s .eit .sets .used) (r .row) (f .sets .rows) h))
 
     other-row : (j : ℕ) → j ≢ r .row → rowSlots heads₁ slots₁ j ≡ rowSlots (s .heads) (s .slots) j
     other-row j ne = after-other r e (a .segment) w (s .slots) slots-long number last (s .heads) heads₁ j ne (kept-row r e (s .heads) head-long j 7 ne (omega arith))
 
-    all-whole : {met : SetOf Held} → Meets s a bytes r age met → rowsWhole heads₁ slots₁ (s .eit .count) (s .eit .size) (r .used) ≡ true
-    all-whole m = rows-all heads₁ slots₁ (s .eit .count) (s .eit .size) (r .used) (λ j l. go j l (ℕ-discrete j (r .row)))
+    all-whole : {met : SetOf Held} → Meets s a bytes r age met → rowsWhole heads₁ slots₁ (s .eit .sets .count) (s .eit .sets .size) (r .used) ≡ true
+    all-whole m = rows-all heads₁ slots₁ (s .eit .sets .count) (s .eit .sets .size) (r .used) (λ j l. go j l (ℕ-discrete j (r .row)))
       where
-        go : (j : ℕ) → j < r .used → Dec (j ≡ r .row) → allWhole (s .eit .count) (s .eit .size) (rowSlots heads₁ slots₁ j) ≡ true
+        go : (j : ℕ) → j < r .used → Dec (j ≡ r .row) → allWhole (s .eit .sets .count) (s .eit .sets .size) (rowSlots heads₁ slots₁ j) ≡ true
         go j l (yes q) = rw q (own-whole m)
-        go j l (no ne) = rw (other-row j ne) (rows-get (s .heads) (s .slots) (s .eit .count) (s .eit .size) (s .eit .used) j (f .sets .rows) (goes-out g j l ne))
+        go j l (no ne) = rw (other-row j ne) (rows-get (s .heads) (s .slots) (s .eit .sets .count) (s .eit .sets .size) (s .eit .sets .used) j (f .sets .rows) (goes-out g j l ne))
 
     ready : {met : SetOf Held} → Meets s a bytes r age met → Ready s (r .used) (r .evictions) heads₁ slots₁ cells₁ (e .key) (r .row) age
     ready m = record {
-      fits = rw (length-kept r e (s .heads) head-long, after-length r e (a .segment) w (s .slots) slots-long number last, written-length (s .cells) (s .eit .size) (s .eit .count) c bytes hc (f .sets .cells-long) hs) (z .fits);
+      fits = rw (length-kept r e (s .heads) head-long, after-length r e (a .segment) w (s .slots) slots-long number last, written-length (s .cells) (s .eit .sets .size) (s .eit .sets .count) c bytes hc (f .sets .cells-long) hs) (z .fits);
       counts = let q = goes-count g in omega arith;
       long = heads-still-long;
       slots-long = let p = within in let q = f .sets .slots-long in let l = after-length r e (a .segment) w (s .slots) slots-long number last in omega arith;
@@ -276,27 +281,27 @@ module _ (s : Store) (z : Reached s) (f : Whole (s .eit) (s .heads) (s .slots) (
     }
 
     kept-tied : {met : SetOf Held} → Meets s a bytes r age met → metRow x k ((seen s) .eit) ≡ met
-        → Tied (carried s bytes (plan.Keep keeping)) (shows (seen s) (write cells c bytes) (judge (s .eit .limit) (rest (seen s) k) k (a .tables) (keep (partOf x) (heldIn c bytes) (metRow x k ((seen s) .eit)))))
+        → Tied (toldStep (carried s bytes (plan.Keep keeping))) (shows (seen s) (write cells c bytes) (judge (s .eit .sets .limit) (rest (seen s) k) k (a .tables) (keep (partOf x) (heldIn c bytes) (metRow x k ((seen s) .eit)))))
     unfolding keptAndSettled
     kept-tied m q =
-        rw (q, ← own-row m, ← cells-written (s .cells) (s .eit .size) (s .eit .count) c bytes hc (f .sets .cells-long) hs)
+        rw (q, ← own-row m, ← cells-written (s .cells) (s .eit .sets .size) (s .eit .sets .count) c bytes hc (f .sets .cells-long) hs)
         (settle-tied s z f units-ok more′ pos a kind arr (r .used) (r .evictions) heads₁ slots₁ cells₁ (r .row) age g (ready m))
 
   -- ---- the section is kept, or every cell is named
 
   pub keep-tied : {met : SetOf Held} → Meets s a bytes r age met → metRow x k ((seen s) .eit) ≡ met
-      → Tied (carried s bytes (planKeep s a r)) (carry (seen s) x k (placeNew (lowest (taken (roomFor (seen s) x k)) (length ((seen s) .cells)) 0)))
-  unfolding planKeep seen carry placeNew answerTold
+      → Tied (toldStep (carried s bytes (planPlaced s a (place.Goes r)))) (carry (seen s) x k (placeNew (lowest (taken (roomFor (seen s) x k)) (length ((seen s) .cells)) 0)))
+  unfolding seen carry placeNew answerTold
   keep-tied m q =
-      rw (lowest-is (taken (roomFor (seen s) x k)) there (taken-same m q) (length ((seen s) .cells)), count-is) (go (ltb cell (s .eit .count)) refl)
+      rw (lowest-is (taken (roomFor (seen s) x k)) there (taken-same m q) (length ((seen s) .cells)), count-is) (go (ltb cell (s .eit .sets .count)) refl)
     where
       cell : ℕ
-      cell = lowestFree there (s .eit .count)
+      cell = lowestFree there (s .eit .sets .count)
 
-      count-is : length ((seen s) .cells) ≡ s .eit .count
-      count-is = cells-length (s .cells) (s .eit .size) (s .eit .count)
+      count-is : length ((seen s) .cells) ≡ s .eit .sets .count
+      count-is = cells-length (s .cells) (s .eit .sets .size) (s .eit .sets .count)
 
-      go : (b : Bool) → ltb cell (s .eit .count) ≡ b
-          → Tied (carried s bytes (cond b (plan.Keep (record { arrival = a; room = r; cell = cell })) (plan.Refuse NoCell))) (carry (seen s) x k (placeNew (cond b (some cell) none)))
-      go true h = kept-tied cell (ltb-true cell (s .eit .count) h) m q
+      go : (b : Bool) → ltb cell (s .eit .sets .count) ≡ b
+          → Tied (toldStep (carried s bytes (cond b (plan.Keep (record { arrival = a; room = r; cell = cell })) (plan.Leave (answer.Refused refusal.NoCell))))) (carry (seen s) x k (placeNew (cond b (some cell) none)))
+      go true h = kept-tied cell (ltb-true cell (s .eit .sets .count) h) m q
       go false h = record { told = refl; shown = refl; reached = z }

@@ -18,8 +18,8 @@ use Rattle.rows.proofs.Words.{length-kept-slots, length-emptied, emptied-in, em
 use Rattle.ages.specs.Slots.{upFrom}
 use Rattle.ages.proofs.Slots.{part-alike, other-slots, own-slots, fresh-slots}
 use Rattle.ages.proofs.Cells.{up-set}
-use Rattle.schedules.specs.Segments.{wordOf, keptSection}
-use Rattle.ties_eit.specs.View.{lastOf}
+use Rattle.segments.specs.Segments.{wordOf, keptSection}
+use Rattle.ties_eit.specs.View.{lastNoted}
 
 -- slots that differ only in words of segments
 slots-alike : (heads slots slots′ : List ℕ) (j : ℕ) → length slots′ ≡ length slots → ((k : ℕ) → slotsAt j ≤ k → k < slotsAt j + 256 → getD slots′ k 0 ≡ getD slots k 0)
@@ -109,21 +109,21 @@ module _ (r : Room) (e : Entry) (n w : ℕ) (slots : List ℕ) (long : r .row * 
   word-beside g h ne = getD-set-other (keptSlots r e w base) (r .row * 288 + segment) (r .row * 288 + g) n 0 (omega arith) ∙ kept-word (r .row) g h
 
   module _ (some-number : 0 < n) where
-    last-own : lastOf (wordOf after (r .row) segment) ≡ some (n - 1)
-    unfolding lastOf
+    last-own : lastNoted (wordOf after (r .row) segment) ≡ some (n - 1)
+    unfolding lastNoted
     last-own = rw (word-own, ne-eqb n 0 (λ (q : n ≡ 0). absurd (omega arith)))
 
     -- the segments that a row noted before, by what `old` says, and the section's
-    lasts-set : (old : ℕ → Option ℕ) → ((g : ℕ) → g < 32 → g ≢ segment → lastOf (wordOf base (r .row) g) ≡ old g)
-        → upFrom (λ (g : ℕ). lastOf (wordOf after (r .row) g)) 32 0 ≡ set (upFrom old 32 0) segment (some (n - 1))
+    lasts-set : (old : ℕ → Option ℕ) → ((g : ℕ) → g < 32 → g ≢ segment → lastNoted (wordOf base (r .row) g) ≡ old g)
+        → upFrom (λ (g : ℕ). lastNoted (wordOf after (r .row) g)) 32 0 ≡ set (upFrom old 32 0) segment (some (n - 1))
     lasts-set old q =
         let z : 0 + segment ≡ segment = omega arith in
-        up-set old (λ (g : ℕ). lastOf (wordOf after (r .row) g)) 32 0 segment (some (n - 1)) (omega arith) (rw z last-own)
-        (λ k a b ne. ap lastOf (word-beside k (omega arith) (omega arith)) ∙ q k (omega arith) (omega arith))
+        up-set old (λ (g : ℕ). lastNoted (wordOf after (r .row) g)) 32 0 segment (some (n - 1)) (omega arith) (rw z last-own)
+        (λ k a b ne. ap lastNoted (word-beside k (omega arith) (omega arith)) ∙ q k (omega arith) (omega arith))
 
-    pub lasts-own : r .fresh ≡ false → upFrom (λ (g : ℕ). lastOf (wordOf after (r .row) g)) 32 0 ≡ set (upFrom (λ (g : ℕ). lastOf (wordOf slots (r .row) g)) 32 0) segment (some (n - 1))
-    lasts-own f = lasts-set (λ (g : ℕ). lastOf (wordOf slots (r .row) g)) (λ g h ne. rw f)
+    pub lasts-own : r .fresh ≡ false → upFrom (λ (g : ℕ). lastNoted (wordOf after (r .row) g)) 32 0 ≡ set (upFrom (λ (g : ℕ). lastNoted (wordOf slots (r .row) g)) 32 0) segment (some (n - 1))
+    lasts-own f = lasts-set (λ (g : ℕ). lastNoted (wordOf slots (r .row) g)) (λ g h ne. rw f)
 
-    pub lasts-fresh : r .fresh ≡ true → upFrom (λ (g : ℕ). lastOf (wordOf after (r .row) g)) 32 0 ≡ set noLasts segment (some (n - 1))
-    unfolding upFrom lastOf
+    pub lasts-fresh : r .fresh ≡ true → upFrom (λ (g : ℕ). lastNoted (wordOf after (r .row) g)) 32 0 ≡ set noLasts segment (some (n - 1))
+    unfolding upFrom lastNoted
     lasts-fresh f = lasts-set (λ (g : ℕ). none) (λ g h ne. rw (f, emptied-in (r .row * 288) 32 slots (omega arith) (r .row * 288 + g) (omega arith) (omega arith)))

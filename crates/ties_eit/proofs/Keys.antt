@@ -12,9 +12,9 @@ use Rattle.laws.proofs.Facts.{eq-passes}
 use Rattle.rules_shared.specs.Same.{samePid}
 use Rattle.rules_eit.specs.Keys.{Kind, presentActual, presentOther, scheduleActual, scheduleOther, between, kindOf, firstOf, kindNumber, sameKind, ScheduleKey, SetKey, sameSchedule, sameSet}
 use Rattle.rows.specs.declared.Key.{Key}
-use Rattle.sets.specs.Store.{bitOf}
-use Rattle.schedules.specs.Units.{firstBy, firstTable, withTable}
-use Rattle.eit.specs.Store.{firstOfKind}
+use Rattle.arrivals.specs.Arrivals.{bitOf}
+use Rattle.units.specs.Units.{firstTable, withTable}
+use Rattle.units.specs.Units.{firstTable}
 use Rattle.ties_eit.specs.View.{pidShown, pidWords, kindBy, keyShown, scheduleShown, keyWords, scheduleWords}
 
 -- ---- a key is the same as itself
@@ -102,9 +102,7 @@ schedule-of k kind e = rw (number-kind kind, e)
 -- a kind of schedules has the 16 table_ids from its first one on
 pub record InKind (kind : Kind) (first table : ℕ) : Type 0 where
   pub first-of : firstOf kind ≡ some first
-  pub by-table : firstTable table ≡ first
-  pub by-kind : firstOfKind (kindNumber kind) ≡ first
-  pub by-word : firstBy (kindNumber kind) ≡ first
+  pub by-kind : firstTable (kindNumber kind) ≡ first
   pub from : first ≤ table
   pub until : table < first + 16
   pub place : table % 16 ≡ table - first
@@ -162,9 +160,7 @@ in-actual : (t : ℕ) → 0x50 ≤ t → t ≤ 0x5f → InKind scheduleActual 0x
 unfolding firstOf kindNumber
 in-actual t a b = record {
   first-of = refl;
-  by-table = omega arith;
   by-kind = refl;
-  by-word = refl;
   from = a;
   until = omega arith;
   place = omega arith;
@@ -176,9 +172,7 @@ in-other : (t : ℕ) → 0x60 ≤ t → t ≤ 0x6f → InKind scheduleOther 0x60
 unfolding firstOf kindNumber
 in-other t a b = record {
   first-of = refl;
-  by-table = omega arith;
   by-kind = refl;
-  by-word = refl;
   from = a;
   until = omega arith;
   place = omega arith;
@@ -200,7 +194,3 @@ kinds table kind e = go kind (subst (Ranges table) e (ranges table))
     go presentOther r = present refl (omega arith)
     go scheduleActual (in-5 a b) = scheduled 0x50 (in-actual table a b)
     go scheduleOther (in-6 a b) = scheduled 0x60 (in-other table a b)
-
--- "0x50 to 0x5F is schedule actual, 0x60 to 0x6F is schedule other": the first table_id is one of the two
-pub first-table : (table : ℕ) → (0x50 ≤ table → table ≤ 0x5f → firstTable table ≡ 0x50) × (0x60 ≤ table → table ≤ 0x6f → firstTable table ≡ 0x60)
-first-table table = (λ a b. omega arith, λ a b. omega arith)

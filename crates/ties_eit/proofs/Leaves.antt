@@ -12,7 +12,8 @@ use Rattle.laws.proofs.Search.{any-not, none-any}
 use Rattle.rules_shared.specs.Same.{Bytes}
 use Rattle.rules_shared.specs.Touch.{someRow}
 use Rattle.rules_eit.specs.Keys.{SetKey}
-use Rattle.rules_eit.specs.Rules.{Section, offer, Answer, conflict, numberOf}
+use Rattle.answers.specs.declared.Refusal.the-variants as refusal
+use Rattle.rules_eit.specs.Rules.{Section, offer, Answer, numberOf, refused}
 use Rattle.rules_eit.specs.Cells.{Store as Shown, setTakes, scheduleTakes, taken}
 use Rattle.rules_eit.proofs.Exact.{Conflicting, conflict-touches}
 use Rattle.rules_eit.proofs.Free.{KeptIn, cells-change}
@@ -23,18 +24,22 @@ use Rattle.rows.proofs.Words.{slot-at, length-slots, touched-not}
 use Rattle.ages.specs.Order.{rowsSeen}
 use Rattle.ages.proofs.Ages.{order-none, none-order}
 use Rattle.section.specs.declared.ids.MaybePid.{MaybePid}
-use Rattle.schedules.specs.Segments.{wordOf, keptSection}
-use Rattle.schedules.specs.Units.{tablesOf, isPresent, unitSlots, takenInSchedules}
-use Rattle.berths.specs.declared.Berth.{Berth}
-use Rattle.berths.specs.Berths.{berthOf, tableCount, berthedUnits, tablesThere}
-use Rattle.eit.specs.declared.Eit.{Eit}
-use Rattle.eit.specs.declared.PushAnswer.the-variants.{Nothing, Schedule}
-use Rattle.eit.specs.declared.inner.Arrival.{Arrival}
-use Rattle.eit.specs.declared.inner.Course.{Course}
-use Rattle.eit.specs.declared.inner.Course.the-variants as course
-use Rattle.eit.specs.declared.inner.Plan.{Plan}
-use Rattle.eit.specs.declared.inner.Plan.the-variants as plan
-use Rattle.eit.specs.Store.{Store, answerOf, withRows, scheduleEntry, courseOf, shelvedIn, shelved, settledBy, settled, keptAndSettled, carried, planOf, pushedOf}
+use Rattle.segments.specs.Segments.{wordOf, keptSection}
+use Rattle.units.specs.Units.{isPresent, unitSlots}
+use Rattle.schedules.specs.Schedules.{tablesOf, takenInSchedules}
+use Rattle.schedules.specs.declared.ScheduleRoom.{ScheduleRoom}
+use Rattle.schedules.specs.Schedules.{roomOf, tableCount, scheduledUnits, tablesThere}
+use Rattle.arrivals.specs.declared.Arrival.{Arrival}
+use Rattle.eit_settle.specs.declared.Becomes.{Becomes}
+use Rattle.eit_settle.specs.declared.Becomes.the-variants as becomes
+use Rattle.eit_plan.specs.declared.Plan.{Plan}
+use Rattle.eit_plan.specs.declared.Plan.the-variants as plan
+use Rattle.eit_state.specs.State.{Store, Rows, rows, rowsOf}
+use Rattle.arrivals.specs.declared.EitArrival.{EitArrival}
+use Rattle.arrivals.specs.declared.EitArrival.the-variants as arrival
+use Rattle.eit_plan.specs.Plan.{planOf}
+use Rattle.eit_settle.specs.Settle.{ownTable, scheduleEntry, becomesOf, isMarked, markedHeads, enteredAnswer, enteredIn, entered, settledAs, settled, keptAndSettled, carried}
+use Rattle.eit.specs.Store.{toldStep, answerOf, admitted, pushedWhole, pushedAs, pushedOf}
 use Rattle.ties_eit.specs.View.{seen, reads, answerTold, tells, acts, Given, section, Fitting, Reached}
 use Rattle.ties_eit.proofs.Rows.{row-takes}
 use Rattle.ties_eit.proofs.Places.{schedules-taken, named-units, units-named}
@@ -43,7 +48,7 @@ use Rattle.ties_eit.proofs.History.{tells-seen, acts-seen}
 -- ---- 22: "key becomes newest, else as before"
 
 module _ (s : Store) (z : Reached s) (i : Given) (o : Fitting i) where
-  pub conflict-leaves : tells s i ≡ conflict → (x : Section) × (k : SetKey) × (reads i ≡ offer x) × Conflicting (seen s) x k (seen (acts s i))
+  pub conflict-leaves : tells s i ≡ (refused refusal.Conflict) → (x : Section) × (k : SetKey) × (reads i ≡ offer x) × Conflicting (seen s) x k (seen (acts s i))
   conflict-leaves h =
       let r = conflict-touches (seen s) (reads i) (sym (tells-seen s z i o) ∙ h) in
       (r .0, r .1, r .2, subst (Conflicting (seen s) (r .0) (r .1)) (sym (acts-seen s z i o)) (r .3))
@@ -63,47 +68,52 @@ pub record AgesAlone (s after : Store) : Type 0 where
   pub units : after .units ≡ s .units
 
 -- settling a row does not answer 22
-shelving-tells : (e : Eit) (heads slots tops units : List ℕ) (a : Arrival) (i : ℕ) (b : Berth) (s : Store) → numberOf (answerTold (answerOf ((shelvedIn e heads slots tops units a i b) .answer) s)) ≢ 22
-unfolding numberOf answerTold shelvedIn
-shelving-tells e heads slots tops units a i b s =
-    go (tablesThere (berthedUnits heads slots (e .used) (a .entry .key) (tableCount (a .entry .key .«table_id») (a .tables)) i b units) (b .room .row) (a .entry .key .«table_id») (a .tables))
+entering-tells : (r : Rows) (a : Arrival) (i : ℕ) (b : ScheduleRoom) (s : Store) → numberOf (answerTold (answerOf ((enteredIn r a i b) .answer) s)) ≢ 22
+unfolding numberOf answerTold enteredIn
+entering-tells r a i b s =
+    go (tablesThere (scheduledUnits (r .heads) (r .slots) (r .eit .sets .used) (scheduleEntry a) (ownTable a) i b (r .units)) (b .room .row) (scheduleEntry a))
   where
-    go : (t : Bool) → numberOf (answerTold (answerOf (cond t (Schedule (b .room .row)) Nothing) s)) ≢ 22
+    go : (t : Bool) → numberOf (answerTold (answerOf (enteredAnswer t (b .room .row)) s)) ≢ 22
     go true q = omega arith
     go false q = omega arith
 
-settling-tells : (c : Course) (e : Eit) (heads slots tops units : List ℕ) (a : Arrival) (i : ℕ) (s : Store)
-    → numberOf (answerTold (answerOf ((settledBy c e heads slots tops units a i) .answer) s)) ≢ 22
-unfolding numberOf answerTold shelved
-settling-tells course.Stay e heads slots tops units a i s q = omega arith
-settling-tells course.Out e heads slots tops units a i s q = omega arith
-settling-tells course.Range e heads slots tops units a i s q = omega arith
-settling-tells course.Shelve e heads slots tops units a i s q =
-    shelving-tells e (withMark i 1 heads) slots tops units a i (berthOf tops (e .limit) (e .schedules) (e .«schedule_evictions») (scheduleEntry a)) s q
+settling-tells : (c : Becomes) (r : Rows) (a : Arrival) (i : ℕ) (s : Store) → numberOf (answerTold (answerOf ((settledAs c r a i) .answer) s)) ≢ 22
+unfolding numberOf answerTold entered
+settling-tells becomes.Stays r a i s q = omega arith
+settling-tells becomes.GoesOut r a i s q = omega arith
+settling-tells becomes.OutOfRange r a i s q = omega arith
+settling-tells becomes.Enters r a i s q =
+    entering-tells r a i (roomOf (r .schedule-heads) (r .eit .sets .limit) (r .eit .schedules) (r .eit .«schedule_evictions») (scheduleEntry a)) s q
 
-plan-ages : (s : Store) (bytes : Bytes) (p : Plan) → numberOf (answerTold ((carried s bytes p) .told)) ≡ 22 → AgesAlone s ((carried s bytes p) .store)
-unfolding settled keptAndSettled
-plan-ages s bytes (plan.Refuse a) h = record { eit = refl; heads = λ j m n l. refl; slots = refl; cells = refl; schedule-heads = refl; units = refl }
+settled-tells : (r : Rows) (a : Arrival) (i : ℕ) (s : Store) → numberOf (answerTold (answerOf ((settled r a i) .answer) s)) ≢ 22
+unfolding settled
+settled-tells r a i s =
+    let heads : List ℕ = touched (r .eit .sets .used) i (r .heads) in
+    let b : Becomes = becomesOf heads (r .slots) a i in
+    settling-tells b (rows (r .eit) (markedHeads (isMarked b) i heads) (r .slots) (r .schedule-heads) (r .units)) a i s
+
+plan-ages : (s : Store) (bytes : Bytes) (p : Plan) → numberOf (answerTold ((toldStep (carried s bytes p)) .told)) ≡ 22 → AgesAlone s ((carried s bytes p) .store)
+unfolding keptAndSettled
+plan-ages s bytes (plan.Leave a) h = record { eit = refl; heads = λ j m n l. refl; slots = refl; cells = refl; schedule-heads = refl; units = refl }
 plan-ages s bytes (plan.Conflict i) h =
-    record { eit = refl; heads = λ j m n l. touched-not (s .eit .used) i (s .heads) j m n l; slots = refl; cells = refl; schedule-heads = refl; units = refl }
-plan-ages s bytes (plan.Repeat x) h =
-    let heads : List ℕ = touched (s .eit .used) (x .row) (s .heads) in
-    absurd (settling-tells (courseOf heads (s .slots) (x .arrival) (x .row)) (s .eit) heads (s .slots) (s .schedule-heads) (s .units) (x .arrival) (x .row) _ h)
-plan-ages s bytes (plan.Keep k) h =
-    let e : Entry = k .arrival .entry in
-    let slots : List ℕ = keptSection (k .room) e (k .arrival .segment) (slotWord (length bytes) (k .cell)) (s .slots) in
-    let heads : List ℕ = touched (k .room .used) (k .room .row) (keptHeads (k .room) e (s .heads)) in
-    absurd (settling-tells (courseOf heads slots (k .arrival) (k .room .row)) (withRows (s .eit) (k .room .used) (k .room .evictions)) heads slots (s .schedule-heads) (s .units) (k .arrival) (k .room .row) _ h)
+    record { eit = refl; heads = λ j m n l. touched-not (s .eit .sets .used) i (s .heads) j m n l; slots = refl; cells = refl; schedule-heads = refl; units = refl }
+plan-ages s bytes (plan.Repeat x) h = absurd (settled-tells (rowsOf s) (x .arrival) (x .row) _ h)
+plan-ages s bytes (plan.Keep k) h = absurd (settled-tells _ (k .arrival) (k .room .row) _ h)
 
-pub conflict-memory : (s : Store) (pid : MaybePid) (bytes : Bytes) → tells s (section pid bytes) ≡ conflict → AgesAlone s (acts s (section pid bytes))
+push-ages : (s : Store) (bytes : Bytes) (v : EitArrival) → numberOf (answerTold ((pushedAs s bytes v) .told)) ≡ 22 → AgesAlone s ((pushedAs s bytes v) .store)
+unfolding pushedWhole
+push-ages s bytes (arrival.Refused r) h = record { eit = refl; heads = λ j m n l. refl; slots = refl; cells = refl; schedule-heads = refl; units = refl }
+push-ages s bytes (arrival.Arrived a) h = plan-ages s bytes (planOf s bytes a) h
+
+pub conflict-memory : (s : Store) (pid : MaybePid) (bytes : Bytes) → tells s (section pid bytes) ≡ (refused refusal.Conflict) → AgesAlone s (acts s (section pid bytes))
 unfolding tells acts pushedOf numberOf
-conflict-memory s pid bytes h = plan-ages s bytes (planOf s pid bytes) (ap numberOf h)
+conflict-memory s pid bytes h = push-ages s bytes (admitted s pid bytes) (ap numberOf h)
 
 -- ---- "A cell is free exactly when no slot or schedule copy of a row in use names it"
 
-module _ (s : Store) (z : Reached s) (long : s .eit .used * 288 ≤ length (s .slots)) (c : ℕ) where
+module _ (s : Store) (z : Reached s) (long : s .eit .sets .used * 288 ≤ length (s .slots)) (c : ℕ) where
   abbrev NoSlotNames : Type 0
-  NoSlotNames = (j n : ℕ) → j < s .eit .used → n < slotCount (lastOf (s .heads) j) → names c (getD (s .slots) (slotsAt j + n) 0) ≡ false
+  NoSlotNames = (j n : ℕ) → j < s .eit .sets .used → n < slotCount (lastOf (s .heads) j) → names c (getD (s .slots) (slotsAt j + n) 0) ≡ false
 
   -- of a table that is present, up to its schedule's last_table_id
   abbrev NoTableNames : Type 0
@@ -118,7 +128,7 @@ module _ (s : Store) (z : Reached s) (long : s .eit .used * 288 ≤ length (s .s
 
       slots : NoSlotNames
       slots j n l m =
-          let r = sym (row-takes (s .heads) (s .slots) c j) ∙ none-order (setTakes c) (ageOf (s .heads)) (s .eit .used) (z .sets .ages) _ j (p .0) l in
+          let r = sym (row-takes (s .heads) (s .slots) c j) ∙ none-order (setTakes c) (ageOf (s .heads)) (s .eit .sets .used) (z .sets .ages) _ j (p .0) l in
           subst (λ (w : ℕ). names c w ≡ false) (slot-at (s .heads) (s .slots) j n m)
           (any-not (names c) (rowSlots (s .heads) (s .slots) j) 0 n r (let d = length-slots (s .heads) (s .slots) j (omega arith) in omega arith))
 
@@ -134,7 +144,7 @@ module _ (s : Store) (z : Reached s) (long : s .eit .used * 288 ≤ length (s .s
 
       sets-free : someRow (setTakes c) ((seen s) .eit .sets .rows) ≡ false
       sets-free =
-          order-none (setTakes c) (ageOf (s .heads)) (s .eit .used) (z .sets .ages) _ (λ j l. row-takes (s .heads) (s .slots) c j
+          order-none (setTakes c) (ageOf (s .heads)) (s .eit .sets .used) (z .sets .ages) _ (λ j l. row-takes (s .heads) (s .slots) c j
           ∙ none-any (names c) (rowSlots (s .heads) (s .slots) j) 0 (λ n m.
           let d = length-slots (s .heads) (s .slots) j (omega arith) in
           let q : n < slotCount (lastOf (s .heads) j) = omega arith in

@@ -15,3 +15,4 @@ pub mod Calls
 pub mod History
 pub mod Leaves
 pub mod Foreign
+pub mod Removed

@@ -32,23 +32,26 @@ use Rattle.ages.specs.Slots.{heldOf}
 use Rattle.ages.proofs.Touch.{row-has-key, no-row-has-key, goes-known, goes-new, finds-known, finds-none}
 use Rattle.ages.proofs.Slots.{held-filled, held-empty, held-get}
 use Rattle.ages.proofs.Cells.{bytes-kept, same-bytes}
-use Rattle.sets.proofs.Plans.{slot-bounds, same-last}
+use Rattle.placing.proofs.Fits.{slot-bounds, same-last}
 use Rattle.placing.specs.Places.{placeSlot, placeKnown}
 use Rattle.placing.specs.Places.{placeOf as placeIn}
 use Rattle.placing.specs.declared.Place.the-variants as place
-use Rattle.schedules.specs.Units.{schedulesWhole}
-use Rattle.eit.specs.declared.inner.Arrival.{Arrival}
-use Rattle.eit.specs.Store.{Store, setStore, Whole, planPlaced, carried}
+use Rattle.schedules.specs.Schedules.{schedulesWhole}
+use Rattle.arrivals.specs.declared.Arrival.{Arrival}
+use Rattle.eit_state.specs.State.{Store, setStore, Whole}
+use Rattle.eit_plan.specs.Plan.{planPlaced}
+use Rattle.eit_settle.specs.Settle.{carried}
+use Rattle.eit.specs.Store.{toldStep}
 use Rattle.ties_eit.specs.View.{keyShown, keyWords, rowSeen, seen, Reached}
 use Rattle.ties_eit.proofs.Keys.{set-self, key-reads}
 use Rattle.ties_eit.proofs.Shelve.{Tied, new-fresh}
 use Rattle.ties_eit.proofs.Settle.{Arrives, Ready, settle-tied, conflict-tied}
 use Rattle.ties_eit.proofs.Keep.{sectionFor, anew, goesOn, keep-tied}
 
-module _ (s : Store) (z : Reached s) (f : Whole (s .eit) (s .heads) (s .slots) (s .cells) (s .schedule-heads) (s .units))
-    (units-ok : schedulesWhole (s .schedule-heads) (s .units) (s .eit .count) (s .eit .size) (s .eit .schedules) ≡ true)
-    (more : s .eit .evictions < 18446744073709551615) (more′ : s .eit .«schedule_evictions» < 18446744073709551615) (pos : 0 < s .eit .limit)
-    (a : Arrival) (kind : Kind) (arr : Arrives a kind) (bytes : Bytes) (h12 : 12 ≤ length bytes) (hs : length bytes ≤ s .eit .size) where
+module _ (s : Store) (z : Reached s) (f : Whole s)
+    (units-ok : schedulesWhole (s .schedule-heads) (s .units) (s .eit .sets .count) (s .eit .sets .size) (s .eit .schedules) ≡ true)
+    (more : s .eit .sets .evictions < 18446744073709551615) (more′ : s .eit .«schedule_evictions» < 18446744073709551615) (pos : 0 < s .eit .sets .limit)
+    (a : Arrival) (kind : Kind) (arr : Arrives a kind) (bytes : Bytes) (h12 : 12 ≤ length bytes) (hs : length bytes ≤ s .eit .sets .size) where
   abbrev e : Entry
   e = a .entry
 
@@ -62,7 +65,7 @@ module _ (s : Store) (z : Reached s) (f : Whole (s .eit) (s .heads) (s .slots) (
   proper = key-reads (e .key) (arr .bit)
 
   abbrev there : ℕ
-  there = rowOf (s .heads) (e .key) (s .eit .used)
+  there = rowOf (s .heads) (e .key) (s .eit .sets .used)
 
   -- an empty slot: the lowest free cell, or 21
   place-empty : slotOf (partOf x) (metRow x k ((seen s) .eit)) ≡ none → placeOf (seen s) x k ≡ placeNew (lowest (taken (roomFor (seen s) x k)) (length ((seen s) .cells)) 0)
@@ -70,31 +73,31 @@ module _ (s : Store) (z : Reached s) (f : Whole (s .eit) (s .heads) (s .slots) (
   place-empty h = rw h
 
   -- the key is new
-  met-new : s .eit .used ≤ there → metRow x k ((seen s) .eit) ≡ fresh (partOf x)
+  met-new : s .eit .sets .used ≤ there → metRow x k ((seen s) .eit) ≡ fresh (partOf x)
   unfolding metRow start seen
   met-new h =
-      rw (finds-none keyShown keyWords sameSet sameSet-true set-self (s .heads) (s .eit .limit) (s .eit .used) (s .eit .evictions) (e .key) (z .sets) proper (rowSeen (s .heads) (s .slots))
-      (no-row-has-key (s .heads) (e .key) (s .eit .used) h))
+      rw (finds-none keyShown keyWords sameSet sameSet-true set-self (s .heads) (s .eit .sets .limit) (s .eit .sets .used) (s .eit .sets .evictions) (e .key) (z .sets) proper (rowSeen (s .heads) (s .slots))
+      (no-row-has-key (s .heads) (e .key) (s .eit .sets .used) h))
 
   fresh-slot : (r : SetOf Held) → r ≡ fresh (partOf x) → slotOf (partOf x) r ≡ none
   unfolding slotOf fresh partOf
   fresh-slot r q = rw q (free-slot (suc (e .last)) (e .number))
 
-  new-tied : s .eit .used ≤ there
-      → Tied (carried s bytes (planPlaced s a (place.Goes (roomNew (s .heads) (s .eit .limit) (s .eit .used) (s .eit .evictions))))) (carry (seen s) x k (placeOf (seen s) x k))
+  new-tied : s .eit .sets .used ≤ there
+      → Tied (toldStep (carried s bytes (planPlaced s a (place.Goes (roomNew (s .heads) (s .eit .sets .limit) (s .eit .sets .used) (s .eit .sets .evictions)))))) (carry (seen s) x k (placeOf (seen s) x k))
   new-tied h =
-      let r : Room = roomNew (s .heads) (s .eit .limit) (s .eit .used) (s .eit .evictions) in
+      let r : Room = roomNew (s .heads) (s .eit .sets .limit) (s .eit .sets .used) (s .eit .sets .evictions) in
       rw (place-empty (fresh-slot _ (met-new h)))
-      (keep-tied s z f units-ok more more′ pos a kind arr bytes h12 hs r (r .age) (goes-new (s .heads) (s .eit .limit) (s .eit .used) (s .eit .evictions) (e .key) h pos)
-      (anew (new-fresh (s .heads) (s .eit .limit) (s .eit .used) (s .eit .evictions)) refl) (met-new h))
+      (keep-tied s z f units-ok more more′ pos a kind arr bytes h12 hs r (r .age) (goes-new (s .heads) (s .eit .sets .limit) (s .eit .sets .used) (s .eit .sets .evictions) (e .key) h pos)
+      (anew (new-fresh (s .heads) (s .eit .sets .limit) (s .eit .sets .used) (s .eit .sets .evictions)) refl) (met-new h))
 
   -- the key is known
-  module _ (h : there < s .eit .used) where
+  module _ (h : there < s .eit .sets .used) where
     abbrev row : SetOf Held
     row = rowSeen (s .heads) (s .slots) there
 
-    goes : Goes (s .heads) (s .eit .limit) (s .eit .used) (s .eit .evictions) (e .key) there (ageOf (s .heads) there) (s .eit .used) (s .eit .evictions)
-    goes = goes-known (s .heads) (s .eit .limit) (s .eit .used) (s .eit .evictions) (e .key) h
+    goes : Goes (s .heads) (s .eit .sets .limit) (s .eit .sets .used) (s .eit .sets .evictions) (e .key) there (ageOf (s .heads) there) (s .eit .sets .used) (s .eit .sets .evictions)
+    goes = goes-known (s .heads) (s .eit .sets .limit) (s .eit .sets .used) (s .eit .sets .evictions) (e .key) h
 
     fits-as : fits (partOf x) row ≡ (eqb (versionOf (s .heads) there) (e .version) && eqb (lastOf (s .heads) there) (e .last))
     unfolding fits rowSeen partOf
@@ -104,18 +107,18 @@ module _ (s : Store) (z : Reached s) (f : Whole (s .eit) (s .heads) (s .slots) (
     unfolding metRow start seen
     met-known b q =
         rw (
-          finds-known keyShown keyWords sameSet sameSet-true set-self (s .heads) (s .eit .limit) (s .eit .used) (s .eit .evictions) (e .key) (z .sets) proper (rowSeen (s .heads) (s .slots)) there h
-              (row-has-key (s .heads) (e .key) (s .eit .used) h),
+          finds-known keyShown keyWords sameSet sameSet-true set-self (s .heads) (s .eit .sets .limit) (s .eit .sets .used) (s .eit .sets .evictions) (e .key) (z .sets) proper (rowSeen (s .heads) (s .slots)) there h
+              (row-has-key (s .heads) (e .key) (s .eit .sets .used) h),
           fits-as,
           q,
         )
 
     -- "A differing version or last number empties the row"
     renewed-tied : metRow x k ((seen s) .eit) ≡ fresh (partOf x)
-        → Tied (carried s bytes (planPlaced s a (place.Goes (roomRenewed (s .eit .used) (s .eit .evictions) there (ageOf (s .heads) there))))) (carry (seen s) x k (placeOf (seen s) x k))
+        → Tied (toldStep (carried s bytes (planPlaced s a (place.Goes (roomRenewed (s .eit .sets .used) (s .eit .sets .evictions) there (ageOf (s .heads) there)))))) (carry (seen s) x k (placeOf (seen s) x k))
     renewed-tied m =
         rw (place-empty (fresh-slot _ m))
-        (keep-tied s z f units-ok more more′ pos a kind arr bytes h12 hs (roomRenewed (s .eit .used) (s .eit .evictions) there (ageOf (s .heads) there)) (ageOf (s .heads) there) goes (anew refl refl) m)
+        (keep-tied s z f units-ok more more′ pos a kind arr bytes h12 hs (roomRenewed (s .eit .sets .used) (s .eit .sets .evictions) there (ageOf (s .heads) there)) (ageOf (s .heads) there) goes (anew refl refl) m)
 
     -- the row goes on
     module _ (last : lastOf (s .heads) there ≡ e .last) (m : metRow x k ((seen s) .eit) ≡ row) where
@@ -129,25 +132,25 @@ module _ (s : Store) (z : Reached s) (f : Whole (s .eit) (s .heads) (s .slots) (
       unfolding slotOf partOf rowSeen
       slot-is = rw m (held-get (rowSlots (s .heads) (s .slots) there) (e .number) ∙ ap heldOf (slot-at (s .heads) (s .slots) there (e .number) in-row))
 
-      row-ok : allWhole (s .eit .count) (s .eit .size) (rowSlots (s .heads) (s .slots) there) ≡ true
-      row-ok = rows-get (s .heads) (s .slots) (s .eit .count) (s .eit .size) (s .eit .used) there (f .sets .rows) h
+      row-ok : allWhole (s .eit .sets .count) (s .eit .sets .size) (rowSlots (s .heads) (s .slots) there) ≡ true
+      row-ok = rows-get (s .heads) (s .slots) (s .eit .sets .count) (s .eit .sets .size) (s .eit .sets .used) there (f .sets .rows) h
 
       slots-there : there * 288 + 288 ≤ length (s .slots)
       slots-there = let p = f .sets .slots-long in let q = f .sets .used in omega arith
 
-      word-ok : slotWhole (s .eit .count) (s .eit .size) w ≡ true
+      word-ok : slotWhole (s .eit .sets .count) (s .eit .sets .size) w ≡ true
       word-ok =
-          subst (λ (v : ℕ). slotWhole (s .eit .count) (s .eit .size) v ≡ true) (slot-at (s .heads) (s .slots) there (e .number) in-row)
-          (every-get (slotWhole (s .eit .count) (s .eit .size)) (rowSlots (s .heads) (s .slots) there) 0 (e .number) row-ok (let d = length-slots (s .heads) (s .slots) there slots-there in let i = in-row in omega arith))
+          subst (λ (v : ℕ). slotWhole (s .eit .sets .count) (s .eit .sets .size) v ≡ true) (slot-at (s .heads) (s .slots) there (e .number) in-row)
+          (every-get (slotWhole (s .eit .sets .count) (s .eit .sets .size)) (rowSlots (s .heads) (s .slots) there) 0 (e .number) row-ok (let d = length-slots (s .heads) (s .slots) there slots-there in let i = in-row in omega arith))
 
       -- the store itself, with the row as it is
-      itself : Ready s (s .eit .used) (s .eit .evictions) (s .heads) (s .slots) (s .cells) (e .key) there (ageOf (s .heads) there)
+      itself : Ready s (s .eit .sets .used) (s .eit .sets .evictions) (s .heads) (s .slots) (s .cells) (e .key) there (ageOf (s .heads) there)
       itself = record {
         fits = z .fits;
         counts = z .counts;
         long = let p = f .sets .heads-long in let q = f .sets .used in omega arith;
         slots-long = let p = f .sets .slots-long in let q = f .sets .used in omega arith;
-        own = row-has-key (s .heads) (e .key) (s .eit .used) h;
+        own = row-has-key (s .heads) (e .key) (s .eit .sets .used) h;
         aged = refl;
         head-fits = z .heads-fit there h;
         others = λ j n l ne q. refl;
@@ -158,48 +161,48 @@ module _ (s : Store) (z : Reached s) (f : Whole (s .eit) (s .heads) (s .slots) (
 
       -- "identical bytes are ignored, others conflict"
       held-tied : keptLength w ≢ 0
-          → Tied (carried s bytes (planPlaced s a (cond (sameList (kept (s .cells) (s .eit .size) w) bytes) (place.Repeat there) (place.Conflict there)))) (carry (seen s) x k (placeOf (seen s) x k))
+          → Tied (toldStep (carried s bytes (planPlaced s a (cond (sameList (kept (s .cells) (s .eit .sets .size) w) bytes) (place.Repeat there) (place.Conflict there))))) (carry (seen s) x k (placeOf (seen s) x k))
       unfolding placeOf placed placeHeld seen carry roomFor
       held-tied ne =
-          let b = slot-bounds (s .eit .count) (s .eit .size) w word-ok ne in
-          rw (slot-is, held-filled w (ap not (ne-eqb (keptLength w) 0 ne)), bytes-kept (s .cells) (s .eit .size) (s .eit .count) w (b .1) (b .0), same-bytes (kept (s .cells) (s .eit .size) w) bytes)
-          (go (sameList (kept (s .cells) (s .eit .size) w) bytes))
+          let b = slot-bounds (s .eit .sets .count) (s .eit .sets .size) w word-ok ne in
+          rw (slot-is, held-filled w (ap not (ne-eqb (keptLength w) 0 ne)), bytes-kept (s .cells) (s .eit .sets .size) (s .eit .sets .count) w (b .1) (b .0), same-bytes (kept (s .cells) (s .eit .sets .size) w) bytes)
+          (go (sameList (kept (s .cells) (s .eit .sets .size) w) bytes))
         where
-          go : (b : Bool) → Tied (carried s bytes (planPlaced s a (cond b (place.Repeat there) (place.Conflict there)))) (carry (seen s) x k (placeHeld b))
+          go : (b : Bool) → Tied (toldStep (carried s bytes (planPlaced s a (cond b (place.Repeat there) (place.Conflict there))))) (carry (seen s) x k (placeHeld b))
           go true =
-              rw m (settle-tied s z f units-ok more′ pos a kind arr (s .eit .used) (s .eit .evictions) (s .heads) (s .slots) (s .cells) there (ageOf (s .heads) there) goes itself)
+              rw m (settle-tied s z f units-ok more′ pos a kind arr (s .eit .sets .used) (s .eit .sets .evictions) (s .heads) (s .slots) (s .cells) there (ageOf (s .heads) there) goes itself)
           go false =
-              rw m (conflict-tied s z f units-ok more′ pos a kind arr (s .eit .used) (s .eit .evictions) (s .heads) (s .slots) (s .cells) there (ageOf (s .heads) there) goes itself)
+              rw m (conflict-tied s z f units-ok more′ pos a kind arr (s .eit .sets .used) (s .eit .sets .evictions) (s .heads) (s .slots) (s .cells) there (ageOf (s .heads) there) goes itself)
 
-      slot-tied : Tied (carried s bytes (planPlaced s a (placeSlot (setStore s) bytes there w))) (carry (seen s) x k (placeOf (seen s) x k))
+      slot-tied : Tied (toldStep (carried s bytes (planPlaced s a (placeSlot (setStore s) bytes there w)))) (carry (seen s) x k (placeOf (seen s) x k))
       unfolding placeSlot
       slot-tied = go (eqb (keptLength w) 0) refl
         where
           go : (b : Bool) → eqb (keptLength w) 0 ≡ b
-              → Tied (carried s bytes (planPlaced s a (cond b (place.Goes (roomIn (s .eit .used) (s .eit .evictions) there)) (cond (sameList (kept (s .cells) (s .eit .size) w) bytes) (place.Repeat there) (place.Conflict there)))))
+              → Tied (toldStep (carried s bytes (planPlaced s a (cond b (place.Goes (roomIn (s .eit .sets .used) (s .eit .sets .evictions) there)) (cond (sameList (kept (s .cells) (s .eit .sets .size) w) bytes) (place.Repeat there) (place.Conflict there))))))
               (carry (seen s) x k (placeOf (seen s) x k))
           go true q =
               rw (place-empty (slot-is ∙ held-empty w (eqb-true (keptLength w) 0 q)))
-              (keep-tied s z f units-ok more more′ pos a kind arr bytes h12 hs (roomIn (s .eit .used) (s .eit .evictions) there) (ageOf (s .heads) there) goes
-              (goesOn refl h (row-has-key (s .heads) (e .key) (s .eit .used) h) refl last) m)
+              (keep-tied s z f units-ok more more′ pos a kind arr bytes h12 hs (roomIn (s .eit .sets .used) (s .eit .sets .evictions) there) (ageOf (s .heads) there) goes
+              (goesOn refl h (row-has-key (s .heads) (e .key) (s .eit .sets .used) h) refl last) m)
           go false q = held-tied (eqb-false (keptLength w) 0 q)
 
-    known-tied : Tied (carried s bytes (planPlaced s a (placeKnown (setStore s) e bytes there))) (carry (seen s) x k (placeOf (seen s) x k))
+    known-tied : Tied (toldStep (carried s bytes (planPlaced s a (placeKnown (setStore s) e bytes there)))) (carry (seen s) x k (placeOf (seen s) x k))
     unfolding placeKnown
     known-tied = go (eqb (versionOf (s .heads) there) (e .version) && eqb (lastOf (s .heads) there) (e .last)) refl
       where
         go : (b : Bool) → (eqb (versionOf (s .heads) there) (e .version) && eqb (lastOf (s .heads) there) (e .last)) ≡ b
-            → Tied (carried s bytes (planPlaced s a (cond b (placeSlot (setStore s) bytes there (getD (s .slots) (slotsAt there + e .number) 0))
-            (place.Goes (roomRenewed (s .eit .used) (s .eit .evictions) there (ageOf (s .heads) there)))))) (carry (seen s) x k (placeOf (seen s) x k))
+            → Tied (toldStep (carried s bytes (planPlaced s a (cond b (placeSlot (setStore s) bytes there (getD (s .slots) (slotsAt there + e .number) 0))
+            (place.Goes (roomRenewed (s .eit .sets .used) (s .eit .sets .evictions) there (ageOf (s .heads) there))))))) (carry (seen s) x k (placeOf (seen s) x k))
         go true q = slot-tied (same-last (versionOf (s .heads) there) (lastOf (s .heads) there) (e .version) (e .last) q) (met-known true q)
         go false q = renewed-tied (met-known false q)
 
-  pub placed-tied : Tied (carried s bytes (planPlaced s a (placeIn (setStore s) e bytes))) (carry (seen s) x k (placeOf (seen s) x k))
+  pub placed-tied : Tied (toldStep (carried s bytes (planPlaced s a (placeIn (setStore s) e bytes)))) (carry (seen s) x k (placeOf (seen s) x k))
   unfolding placeIn
-  placed-tied = go (ltb there (s .eit .used)) refl
+  placed-tied = go (ltb there (s .eit .sets .used)) refl
     where
-      go : (b : Bool) → ltb there (s .eit .used) ≡ b
-          → Tied (carried s bytes (planPlaced s a (cond b (placeKnown (setStore s) e bytes there) (place.Goes (roomNew (s .heads) (s .eit .limit) (s .eit .used) (s .eit .evictions))))))
+      go : (b : Bool) → ltb there (s .eit .sets .used) ≡ b
+          → Tied (toldStep (carried s bytes (planPlaced s a (cond b (placeKnown (setStore s) e bytes there) (place.Goes (roomNew (s .heads) (s .eit .sets .limit) (s .eit .sets .used) (s .eit .sets .evictions)))))))
           (carry (seen s) x k (placeOf (seen s) x k))
-      go true q = known-tied (ltb-true there (s .eit .used) q)
-      go false q = new-tied (ltb-false there (s .eit .used) q)
+      go true q = known-tied (ltb-true there (s .eit .sets .used) q)
+      go false q = new-tied (ltb-false there (s .eit .sets .used) q)

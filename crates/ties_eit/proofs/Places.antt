@@ -20,16 +20,19 @@ use Rattle.rules_eit.specs.Segments.{heldFrom}
 use Rattle.rules_eit.specs.Schedules.{CopyOf, ScheduleOf, tableOf, whole, wholes, allTables}
 use Rattle.rules_eit.specs.Cells.{copyTakes, scheduleTakes, onWhole}
 use Rattle.cells.specs.Cells.{allWhole, someNames}
+use Rattle.rows.specs.declared.Entry.{Entry}
 use Rattle.rows.specs.Rows.{word, lastOf, ageOf}
 use Rattle.ages.specs.Order.{rowsSeen, Ages}
 use Rattle.ages.specs.Slots.{heldSlots, upFrom, cellsSeen}
 use Rattle.ages.proofs.Ages.{order-every, every-order, order-none, none-order}
 use Rattle.ages.proofs.Slots.{held-whole, held-names}
 use Rattle.ages.proofs.Cells.{length-up, up-get}
-use Rattle.schedules.specs.Segments.{wordOf}
-use Rattle.schedules.specs.Units.{firstBy, tablesOf, isPresent, unitSlots, unitWhole, unitsWhole, schedulesWhole, takenInUnits, takenInSchedules, allPresent, firstTable}
-use Rattle.berths.specs.Berths.{tablesThere}
-use Rattle.eit.specs.Store.{Store, tableOut, tablesOut}
+use Rattle.segments.specs.Segments.{wordOf}
+use Rattle.units.specs.Units.{firstTable, isPresent, unitSlots, unitWhole, unitsWhole, takenInUnits, allPresent}
+use Rattle.schedules.specs.Schedules.{tablesOf, schedulesWhole, takenInSchedules}
+use Rattle.schedules.specs.Schedules.{tablesThere}
+use Rattle.eit_state.specs.State.{Store}
+use Rattle.eit.specs.Store.{tableOut, tablesOut}
 use Rattle.ties_eit.specs.View.{scheduleShown, copySeen, placeSeen, scheduleSeen, tablesShown}
 use Rattle.ties_eit.proofs.Rows.{sections-kept}
 
@@ -320,16 +323,16 @@ module _ (tops units : List ℕ) (row : ℕ) where
       past (o ∷ os) (suc k) l = past os k (omega arith)
 
 -- "A schedule with all tables from 0x50 or 0x60 to last_table_id": never where last_table_id is past the kind
-pub tables-there : (tops units : List ℕ) (row table last : ℕ) → lastOf tops row ≡ last → firstBy (word tops row 1) ≡ firstTable table
-    → allTables (firstTable table) (scheduleSeen tops units row) ≡ tablesThere units row table last
+pub tables-there : (tops units : List ℕ) (row : ℕ) (e : Entry) → lastOf tops row ≡ e .last → word tops row 1 ≡ e .key .«table_id»
+    → allTables (firstTable (e .key .«table_id»)) (scheduleSeen tops units row) ≡ tablesThere units row e
 unfolding allTables scheduleSeen tablesThere tablesOf
-tables-there tops units row table last e f = rw e (go (decLt (last - firstTable table) 16))
+tables-there tops units row e p f = rw p (go (decLt (e .last - firstTable (e .key .«table_id»)) 16))
   where
     d : ℕ
-    d = last - firstTable table
+    d = e .last - firstTable (e .key .«table_id»)
 
     n : tablesOf tops row ≡ min d 15 + 1
-    n = rw (e, f)
+    n = rw (p, f)
 
     go : Dec (d < 16) → heldFrom (upFrom (placeSeen tops units row) 16 0) 0 (suc d) ≡ (ltb d 16 && allPresent units (row * 16) (min d 15 + 1))
     go (yes h) = let m = n in let z : min d 15 + 1 ≡ suc d = omega arith in rw (lt-ltb d 16 h, z) (all-there tops units row (suc d) (omega arith))
@@ -358,8 +361,8 @@ copy-there units u e = rw e
 
 -- its tables in table order, each with all filled slots; place at + j shows unit u + j
 pub tables-out : (s : Store) (l : ScheduleKey) (f : ℕ → Option (CopyOf Held)) (n m at u t : ℕ) → n ≤ m → ((j : ℕ) → j < n → f (at + j) ≡ some (copyIn (s .units) (u + j)))
-    → ((j : ℕ) → j < n → allWhole (s .eit .count) (s .eit .size) (unitSlots (s .units) (u + j)) ≡ true)
-    → map (onWhole (bytesOf (cellsSeen (s .cells) (s .eit .size) (s .eit .count)))) (wholes l t (take n (upFrom f m at))) ≡ tablesShown l t (tablesOut s u n)
+    → ((j : ℕ) → j < n → allWhole (s .eit .sets .count) (s .eit .sets .size) (unitSlots (s .units) (u + j)) ≡ true)
+    → map (onWhole (bytesOf (cellsSeen (s .cells) (s .eit .sets .size) (s .eit .sets .count)))) (wholes l t (take n (upFrom f m at))) ≡ tablesShown l t (tablesOut s u n)
 unfolding wholes tablesOut tablesShown tableOut upFrom onWhole whole
 tables-out s l f zero m at u t h e o = refl
 tables-out s l f (suc n) zero at u t h e o = absurd (not-suc-le-zero h)
@@ -367,8 +370,8 @@ tables-out s l f (suc n) (suc m) at u t h e o =
     let y : at + 0 ≡ at = add-zero at in
     let z : u + 0 ≡ u = add-zero u in
     let p : f at ≡ some (copyIn (s .units) u) = ap f (sym y) ∙ e 0 (omega arith) ∙ ap (λ (v : ℕ). some (copyIn (s .units) v)) z in
-    let w : allWhole (s .eit .count) (s .eit .size) (unitSlots (s .units) u) ≡ true = rw z at (o 0 (omega arith)) in
-    let q = sections-kept (s .cells) (s .eit .size) (s .eit .count) (unitSlots (s .units) u) w in
+    let w : allWhole (s .eit .sets .count) (s .eit .sets .size) (unitSlots (s .units) u) ≡ true = rw z at (o 0 (omega arith)) in
+    let q = sections-kept (s .cells) (s .eit .sets .size) (s .eit .sets .count) (unitSlots (s .units) u) w in
     let ih =
     tables-out s l f n m (suc at) (suc u) (suc t) (omega arith)
     (λ j k. let a : suc at + j ≡ at + suc j = omega arith in let b : suc u + j ≡ u + suc j = omega arith in rw (a, b) (e (suc j) (omega arith)))

@@ -19,7 +19,7 @@ use Rattle.filter.specs.declared.Of.{Of}
 use Rattle.filter.specs.declared.Of.the-variants as of
 use Rattle.filter.specs.declared.Fields.{Fields}
 use Rattle.filter.specs.Drops.{matches, widthOf, removedHeads, removedWords, Rest, removed, droppedRow, droppedRows}
-use Rattle.filter.proofs.Removed.{length-removed-heads, removed-key, removed-dropped, length-removed-words}
+use Rattle.ties_eit.proofs.Removed.{length-removed-heads, removed-key, removed-dropped, length-removed-words}
 
 less-width : (o : Of) (n m : ℕ) → n * widthOf o ≤ m → (n - 1) * widthOf o ≤ m
 less-width of.Sets n m h = omega arith

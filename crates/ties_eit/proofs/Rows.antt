@@ -27,10 +27,10 @@ use Rattle.rows.proofs.Words.{length-slots}
 use Rattle.ages.specs.Slots.{heldOf, heldSlots, cellsSeen, upFrom}
 use Rattle.ages.proofs.Slots.{place, held-get, slots-same, held-names}
 use Rattle.ages.proofs.Cells.{bytes-kept, up-get, up-cong}
-use Rattle.sets.proofs.Plans.{slot-bounds}
-use Rattle.schedules.specs.Segments.{wordOf, filledTo, segmentComplete, segmentsComplete, setComplete}
+use Rattle.placing.proofs.Fits.{slot-bounds}
+use Rattle.segments.specs.Segments.{wordOf, filledTo, segmentComplete, segmentsComplete, setComplete}
 use Rattle.eit.specs.Store.{filledSlots}
-use Rattle.ties_eit.specs.View.{lastOf, rowSeen}
+use Rattle.ties_eit.specs.View.{lastNoted, rowSeen}
 
 -- ---- a row
 
@@ -44,7 +44,7 @@ row-as heads heads′ slots slots′ i i′ e q n =
       e 7 (omega arith) (omega arith),
       e 8 (omega arith) (omega arith),
       q,
-      up-cong (λ (g : ℕ). lastOf (wordOf slots′ i′ g)) (λ (g : ℕ). lastOf (wordOf slots i g)) 32 0 (λ k a b. ap lastOf (n k (omega arith))),
+      up-cong (λ (g : ℕ). lastNoted (wordOf slots′ i′ g)) (λ (g : ℕ). lastNoted (wordOf slots i g)) 32 0 (λ k a b. ap lastNoted (n k (omega arith))),
     )
 
 pub row-same : (heads heads′ slots slots′ : List ℕ) (i : ℕ) → ((m : ℕ) → 6 ≤ m → m < 9 → word heads′ i m ≡ word heads i m) → rowSlots heads′ slots′ i ≡ rowSlots heads slots i
@@ -111,14 +111,14 @@ module _ (heads slots : List ℕ) (i : ℕ) (l : i * 288 + 288 ≤ length slots)
   held = heldSlots (rowSlots heads slots i)
 
   abbrev lasts : SegmentLasts
-  lasts = upFrom (λ (g : ℕ). lastOf (wordOf slots i g)) 32 0
+  lasts = upFrom (λ (g : ℕ). lastNoted (wordOf slots i g)) 32 0
 
   segment-is : (g : ℕ) → g * 8 ≤ last → segmentFull last held (8 * g) (getD lasts g none) ≡ segmentComplete slots i last g
-  unfolding segmentComplete segmentFull lastOf
+  unfolding segmentComplete segmentFull lastNoted
   segment-is g k =
       let z : 0 + g ≡ g = omega arith in
       let y : 8 * g ≡ g * 8 = omega arith in
-      rw (up-get (λ (n : ℕ). lastOf (wordOf slots i n)) 32 0 g none (omega arith), z, y) (go (eqb (wordOf slots i g) 0))
+      rw (up-get (λ (n : ℕ). lastNoted (wordOf slots i n)) 32 0 g none (omega arith), z, y) (go (eqb (wordOf slots i g) 0))
     where
       n : ℕ
       n = wordOf slots i g - 1
@@ -151,12 +151,12 @@ segments-last last slots lasts g (suc n) =
 
 module _ (heads slots : List ℕ) (i : ℕ) (l : i * 288 + 288 ≤ length slots) (h : lastOf heads i < 256) where
   segments-are : (n : ℕ) → n ≤ suc (lastOf heads i / 8)
-      → segmentsFull (lastOf heads i) (heldSlots (rowSlots heads slots i)) (upFrom (λ (g : ℕ). lastOf (wordOf slots i g)) 32 0) 0 n ≡ segmentsComplete slots i (lastOf heads i) n
+      → segmentsFull (lastOf heads i) (heldSlots (rowSlots heads slots i)) (upFrom (λ (g : ℕ). lastNoted (wordOf slots i g)) 32 0) 0 n ≡ segmentsComplete slots i (lastOf heads i) n
   unfolding segmentsComplete
-  segments-are zero k = seg-none (lastOf heads i) (heldSlots (rowSlots heads slots i)) (upFrom (λ (g : ℕ). lastOf (wordOf slots i g)) 32 0)
+  segments-are zero k = seg-none (lastOf heads i) (heldSlots (rowSlots heads slots i)) (upFrom (λ (g : ℕ). lastNoted (wordOf slots i g)) 32 0)
   segments-are (suc n) k =
       let z : 0 + n ≡ n = omega arith in
-      segments-last (lastOf heads i) (heldSlots (rowSlots heads slots i)) (upFrom (λ (g : ℕ). lastOf (wordOf slots i g)) 32 0) 0 n
+      segments-last (lastOf heads i) (heldSlots (rowSlots heads slots i)) (upFrom (λ (g : ℕ). lastNoted (wordOf slots i g)) 32 0) 0 n
       ∙ rw (z, segment-is heads slots i l h n (omega arith), segments-are n (omega arith))
 
   -- "A set is complete if each segment from 0 to last_section_number / 8" is

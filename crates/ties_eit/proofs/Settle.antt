@@ -1,4 +1,4 @@
--- A row becomes the newest, and takes its course: it stays, goes out, is out of range, or goes into its schedule. What the store does is what the rules do.
+-- A row becomes the newest, and its set stays, goes out, is out of range, or enters its schedule. What the store does is what the rules do.
 -- Assumes nothing.
 use mathlib.Core.Path.{_≡_, refl, sym, ap, subst, _∙_}
 use mathlib.Core.Logic.{_≢_}
@@ -17,7 +17,8 @@ use Rattle.rules_shared.specs.Cells.{Held, Cells, bytesOf}
 use Rattle.rules_eit.specs.Keys.{Kind, kindOf, firstOf, kindNumber, ScheduleKey, SetKey, sameSchedule, sameSet}
 use Rattle.rules_eit.specs.Segments.{SetOf, complete}
 use Rattle.rules_eit.specs.Schedules.{CopyOf, ScheduleOf, copyOf, whole, begin, enter, allTables}
-use Rattle.rules_eit.specs.Rules.{EitOf, handout, conflict, range, gives, setAside, setNewest, scheduleTouched, told, ranged, ready, judged, judge}
+use Rattle.answers.specs.declared.Refusal.the-variants as refusal
+use Rattle.rules_eit.specs.Rules.{EitOf, handout, gives, setAside, setNewest, scheduleTouched, told, ranged, ready, judged, judge, refused}
 use Rattle.rules_eit.specs.Cells.{Store as Shown, Turn, onWhole, onAnswer, shows, rest}
 use Rattle.rules_eit.proofs.Keys.{sameSet-true}
 use Rattle.cells.specs.Cells.{allWhole, kept}
@@ -30,18 +31,20 @@ use Rattle.ages.specs.Slots.{cellsSeen}
 use Rattle.ages.proofs.Words.{ready-touched, put-touched, key-same}
 use Rattle.ages.proofs.Slots.{slots-same}
 use Rattle.ages.proofs.Touch.{goes-row, goes-in, goes-out, touched-seen, touched-stands}
-use Rattle.sets.specs.Store.{Numbered}
-use Rattle.schedules.specs.Segments.{wordOf, setComplete}
-use Rattle.schedules.specs.Units.{schedulesWhole}
-use Rattle.eit.specs.declared.PushAnswer.the-variants.{Range, Conflict}
-use Rattle.eit.specs.declared.inner.Arrival.{Arrival}
-use Rattle.eit.specs.declared.inner.Course.{Course}
-use Rattle.eit.specs.declared.inner.Course.the-variants as course
-use Rattle.eit.specs.Store.{Store, store, Whole, Left, answered, a-set, settingsFit, withRows, setOut, filledSlots, courseOf, settled, settledBy, leftShelf}
+use Rattle.arrivals.specs.Arrivals.{Numbered}
+use Rattle.segments.specs.Segments.{wordOf, setComplete}
+use Rattle.schedules.specs.Schedules.{schedulesWhole}
+use Rattle.arrivals.specs.declared.Arrival.{Arrival}
+use Rattle.eit_settle.specs.declared.Becomes.{Becomes}
+use Rattle.eit_settle.specs.declared.Becomes.the-variants as becomes
+use Rattle.eit_state.specs.State.{Store, store, rows, rowsOf, Whole, settingsFit, withSets}
+use Rattle.eit_settle.specs.Settle.{becomesOf, isMarked, markedHeads, entered, settledAs, settled}
+use Rattle.eit.specs.Store as eit
+use Rattle.eit.specs.Store.{After, after, a-set, setOut, filledSlots}
 use Rattle.ties_eit.specs.View.{theKind, keyShown, keyWords, rowSeen, seen, answerTold, HeadFits, Reached}
 use Rattle.ties_eit.proofs.Keys.{set-self, Bit, key-reads, Kinds, present, scheduled, kinds, InKind}
 use Rattle.ties_eit.proofs.Rows.{row-same, row-marked, complete-is, sections-kept}
-use Rattle.ties_eit.proofs.Shelve.{Tied, Shelving, shelve-tied}
+use Rattle.ties_eit.proofs.Shelve.{Tied, afterSettled, Shelving, shelve-tied}
 
 -- what a section that is taken has
 pub record Arrives (a : Arrival) (kind : Kind) : Type 0 where
@@ -67,7 +70,7 @@ head-same heads heads′ j a b c f = record { version = rw b (f .version); last 
 
 -- heads, slots and cells with row i made ready for the key, of age `age`; no other row in use differs
 pub record Ready (s : Store) (used₁ evictions₁ : ℕ) (heads₁ slots₁ cells₁ : List ℕ) (key : Key) (i age : ℕ) : Type 0 where
-  pub fits : settingsFit (withRows (s .eit) used₁ evictions₁) (length heads₁) (length slots₁) (length cells₁) (length (s .schedule-heads)) (length (s .units)) ≡ true
+  pub fits : settingsFit (withSets (s .eit) used₁ evictions₁) (length heads₁) (length slots₁) (length cells₁) (length (s .schedule-heads)) (length (s .units)) ≡ true
   pub counts : evictions₁ ≤ 18446744073709551615
   pub long : used₁ * 12 ≤ length heads₁
   pub slots-long : used₁ * 288 ≤ length slots₁
@@ -77,12 +80,12 @@ pub record Ready (s : Store) (used₁ evictions₁ : ℕ) (heads₁ slots₁ cel
   pub others : (j m : ℕ) → j < used₁ → j ≢ i → m < 12 → word heads₁ j m ≡ word (s .heads) j m
   pub slots : (j : ℕ) → j < used₁ → j ≢ i → rowSlots heads₁ slots₁ j ≡ rowSlots (s .heads) (s .slots) j
   pub segments : (j n : ℕ) → j < used₁ → j ≢ i → n < 32 → wordOf slots₁ j n ≡ wordOf (s .slots) j n
-  pub rows-ok : rowsWhole heads₁ slots₁ (s .eit .count) (s .eit .size) used₁ ≡ true
+  pub rows-ok : rowsWhole heads₁ slots₁ (s .eit .sets .count) (s .eit .sets .size) used₁ ≡ true
 
-module _ (s : Store) (z : Reached s) (f : Whole (s .eit) (s .heads) (s .slots) (s .cells) (s .schedule-heads) (s .units))
-    (units-ok : schedulesWhole (s .schedule-heads) (s .units) (s .eit .count) (s .eit .size) (s .eit .schedules) ≡ true) (more : s .eit .«schedule_evictions» < 18446744073709551615) (pos : 0 < s .eit .limit)
+module _ (s : Store) (z : Reached s) (f : Whole s)
+    (units-ok : schedulesWhole (s .schedule-heads) (s .units) (s .eit .sets .count) (s .eit .sets .size) (s .eit .schedules) ≡ true) (more : s .eit .«schedule_evictions» < 18446744073709551615) (pos : 0 < s .eit .sets .limit)
     (a : Arrival) (kind : Kind) (arr : Arrives a kind) (used₁ evictions₁ : ℕ) (heads₁ slots₁ cells₁ : List ℕ) (i age : ℕ)
-    (g : Goes (s .heads) (s .eit .limit) (s .eit .used) (s .eit .evictions) (a .entry .key) i age used₁ evictions₁)
+    (g : Goes (s .heads) (s .eit .sets .limit) (s .eit .sets .used) (s .eit .sets .evictions) (a .entry .key) i age used₁ evictions₁)
     (r : Ready s used₁ evictions₁ heads₁ slots₁ cells₁ (a .entry .key) i age) where
   abbrev key : Key
   key = a .entry .key
@@ -98,7 +101,7 @@ module _ (s : Store) (z : Reached s) (f : Whole (s .eit) (s .heads) (s .slots) (
   leftHeads b = cond b (withMark i 1 newer) newer
 
   abbrev leftStore : Bool → Store
-  leftStore b = store (withRows (s .eit) used₁ evictions₁) (leftHeads b) slots₁ cells₁ (s .schedule-heads) (s .units)
+  leftStore b = store (withSets (s .eit) used₁ evictions₁) (leftHeads b) slots₁ cells₁ (s .schedule-heads) (s .units)
 
   abbrev rowThere : SetOf Held
   rowThere = rowSeen heads₁ slots₁ i
@@ -111,7 +114,7 @@ module _ (s : Store) (z : Reached s) (f : Whole (s .eit) (s .heads) (s .slots) (
   beside = rest (seen s) k
 
   abbrev cellsThere : Cells
-  cellsThere = cellsSeen cells₁ (s .eit .size) (s .eit .count)
+  cellsThere = cellsSeen cells₁ (s .eit .sets .size) (s .eit .sets .count)
 
   proper : keyWords (keyShown key) ≡ key
   proper = key-reads key (arr .bit)
@@ -139,7 +142,7 @@ module _ (s : Store) (z : Reached s) (f : Whole (s .eit) (s .heads) (s .slots) (
   left-touched true = put-touched (s .heads) newer key i age used₁ i 8 1 newer-touched (omega arith) (omega arith) (omega arith)
   left-touched false = newer-touched
 
-  left-row : (b : Bool) (j : ℕ) → j < s .eit .used → j ≢ i → j < used₁ → rowSeen (leftHeads b) slots₁ j ≡ rowSeen (s .heads) (s .slots) j
+  left-row : (b : Bool) (j : ℕ) → j < s .eit .sets .used → j ≢ i → j < used₁ → rowSeen (leftHeads b) slots₁ j ≡ rowSeen (s .heads) (s .slots) j
   left-row b j l ne h =
       row-same (s .heads) (leftHeads b) (s .slots) slots₁ j (λ m p q. left-other b j m ne (omega arith) (omega arith) ∙ r .others j m h ne (omega arith))
       (slots-same heads₁ (leftHeads b) slots₁ j (left-other b j 7 ne (omega arith) (omega arith)) ∙ r .slots j h ne) (λ n q. r .segments j n h ne q)
@@ -158,7 +161,7 @@ module _ (s : Store) (z : Reached s) (f : Whole (s .eit) (s .heads) (s .slots) (
   left-sets : (b : Bool) → orderSeen keyShown (leftHeads b) used₁ evictions₁ (rowSeen (leftHeads b) slots₁) ≡ newest k (rowLeft b) (beside .sets)
   unfolding seen rest setAside
   left-sets b =
-      touched-seen keyShown keyWords sameSet sameSet-true set-self (s .heads) (s .eit .limit) (s .eit .used) (s .eit .evictions) key (z .sets) proper (rowSeen (s .heads) (s .slots))
+      touched-seen keyShown keyWords sameSet sameSet-true set-self (s .heads) (s .eit .sets .limit) (s .eit .sets .used) (s .eit .sets .evictions) key (z .sets) proper (rowSeen (s .heads) (s .slots))
       (leftHeads b) (rowSeen (leftHeads b) slots₁) g (left-touched b) (λ j l ne. let m = goes-in g in left-row b j l ne (omega arith))
       ∙ ap (λ (q : SetOf Held). newest k q (beside .sets)) (own-row b)
 
@@ -184,14 +187,14 @@ module _ (s : Store) (z : Reached s) (f : Whole (s .eit) (s .heads) (s .slots) (
     counts = r .counts;
     schedule-counts = z .schedule-counts;
     heads-fit = left-fits b;
-    sets = touched-stands keyShown keyWords sameSet sameSet-true set-self (s .heads) (s .eit .limit) (s .eit .used) (s .eit .evictions) key (z .sets) proper (leftHeads b) g (left-touched b);
+    sets = touched-stands keyShown keyWords sameSet sameSet-true set-self (s .heads) (s .eit .sets .limit) (s .eit .sets .used) (s .eit .sets .evictions) key (z .sets) proper (leftHeads b) g (left-touched b);
     schedules = z .schedules;
   }
 
   -- ---- a present/following set goes out
 
-  row-ok : (j : ℕ) → j < used₁ → allWhole (s .eit .count) (s .eit .size) (rowSlots heads₁ slots₁ j) ≡ true
-  row-ok j l = rows-get heads₁ slots₁ (s .eit .count) (s .eit .size) used₁ j (r .rows-ok) l
+  row-ok : (j : ℕ) → j < used₁ → allWhole (s .eit .sets .count) (s .eit .sets .size) (rowSlots heads₁ slots₁ j) ≡ true
+  row-ok j l = rows-get heads₁ slots₁ (s .eit .sets .count) (s .eit .sets .size) used₁ j (r .rows-ok) l
 
   set-out : answerTold (a-set (setOut (leftStore true) i)) ≡ onAnswer (bytesOf cellsThere) (handout (whole k (copyOf rowThere)))
   unfolding answerTold setOut onAnswer onWhole whole copyOf rowSeen
@@ -200,8 +203,8 @@ module _ (s : Store) (z : Reached s) (f : Whole (s .eit) (s .heads) (s .slots) (
       let q : keyAt (leftHeads true) i ≡ key = key-same heads₁ (leftHeads true) i (λ m l. e m (omega arith)) ∙ r .own in
       let v = e 6 (omega arith) in
       let l = e 7 (omega arith) in
-      let c = ap (λ (ws : List ℕ). map (kept cells₁ (s .eit .size)) (filledSlots ws)) (slots-same heads₁ (leftHeads true) slots₁ i l)
-      ∙ sym (sections-kept cells₁ (s .eit .size) (s .eit .count) (rowSlots heads₁ slots₁ i) (row-ok i hi)) in
+      let c = ap (λ (ws : List ℕ). map (kept cells₁ (s .eit .sets .size)) (filledSlots ws)) (slots-same heads₁ (leftHeads true) slots₁ i l)
+      ∙ sym (sections-kept cells₁ (s .eit .sets .size) (s .eit .sets .count) (rowSlots heads₁ slots₁ i) (row-ok i hi)) in
       λ t. handout (record { key = keyShown (q t); version = v t; last = l t; sections = c t })
 
   -- ---- a set goes into its schedule
@@ -212,9 +215,9 @@ module _ (s : Store) (z : Reached s) (f : Whole (s .eit) (s .heads) (s .slots) (
   abbrev table : ℕ
   table = key .«table_id»
 
-  left-rows : rowsWhole (leftHeads true) slots₁ (s .eit .count) (s .eit .size) used₁ ≡ true
+  left-rows : rowsWhole (leftHeads true) slots₁ (s .eit .sets .count) (s .eit .sets .size) used₁ ≡ true
   left-rows =
-      rows-all (leftHeads true) slots₁ (s .eit .count) (s .eit .size) used₁ (λ j q.
+      rows-all (leftHeads true) slots₁ (s .eit .sets .count) (s .eit .sets .size) used₁ (λ j q.
       rw (slots-same heads₁ (leftHeads true) slots₁ j (left-words true j 7 (omega arith) (omega arith) (omega arith))) (row-ok j q))
 
   -- what the rules make of it, over what the sets are then and the copy that goes in
@@ -222,7 +225,7 @@ module _ (s : Store) (z : Reached s) (f : Whole (s .eit) (s .heads) (s .slots) (
   turnOf first e c =
       shows (seen s) cellsThere
       (let q : ScheduleOf Held = enter (table - first) c (begin (beside .sets .rows) l first (a .tables) (find sameSchedule l (beside .schedules .rows))) in
-      gives (told l first q (allTables first q)) (scheduleTouched (s .eit .limit) l q e))
+      gives (told l first q (allTables first q)) (scheduleTouched (s .eit .sets .limit) l q e))
 
   module _ (first : ℕ) (in-kind : InKind kind first table) (range : table ≤ a .tables) where
     shelving : Shelving (leftStore true) a kind first i
@@ -236,7 +239,7 @@ module _ (s : Store) (z : Reached s) (f : Whole (s .eit) (s .heads) (s .slots) (
       limit = pos;
       heads-long = rw (left-length true) (r .long);
       slots-long = r .slots-long;
-      tops-long = f .tops-long;
+      tops-long = f .schedule-heads-long;
       units-long = f .units-long;
       few = f .schedules;
       counts = more;
@@ -249,7 +252,7 @@ module _ (s : Store) (z : Reached s) (f : Whole (s .eit) (s .heads) (s .slots) (
     others-found q e =
         sym (ap (λ (o : TouchOrder SetKey (SetOf Held)). find sameSet q (o .rows)) (ap (λ (t : Shown). t .eit .sets) (left-shown true)) ∙ find-newest q k (marked rowThere) (beside .sets) e)
 
-    shelved-tied : Tied (leftShelf (settledBy course.Shelve (withRows (s .eit) used₁ evictions₁) newer slots₁ (s .schedule-heads) (s .units) a i) slots₁ cells₁)
+    shelved-tied : Tied (afterSettled (entered (rowsOf (leftStore true)) a i) cells₁)
         (turnOf first ((seen (leftStore true)) .eit) (copyOf (rowSeen (leftHeads true) slots₁ i)))
     unfolding seen shows rest setAside
     shelved-tied = shelve-tied (leftStore true) (left-reached true) a kind first i shelving (beside .sets .rows) others-found
@@ -258,14 +261,14 @@ module _ (s : Store) (z : Reached s) (f : Whole (s .eit) (s .heads) (s .slots) (
     unfolding copyOf marked
     copy-marked = ap copyOf (own-row true)
 
-    shelf-tied : Tied (leftShelf (settledBy course.Shelve (withRows (s .eit) used₁ evictions₁) newer slots₁ (s .schedule-heads) (s .units) a i) slots₁ cells₁)
+    enters-tied : Tied (afterSettled (entered (rowsOf (leftStore true)) a i) cells₁)
         (turnOf first (setNewest k (marked rowThere) beside) (copyOf rowThere))
-    shelf-tied =
+    enters-tied =
         let p : (seen (leftStore true)) .eit ≡ setNewest k (marked rowThere) beside = ap (λ (t : Shown). t .eit) (left-shown true) in
         let q = copy-marked in
-        subst (Tied (leftShelf (settledBy course.Shelve (withRows (s .eit) used₁ evictions₁) newer slots₁ (s .schedule-heads) (s .units) a i) slots₁ cells₁)) (λ t. turnOf first (p t) (q t)) shelved-tied
+        subst (Tied (afterSettled (entered (rowsOf (leftStore true)) a i) cells₁)) (λ t. turnOf first (p t) (q t)) shelved-tied
 
-  -- ---- the row's course
+  -- ---- what becomes of the set
 
   kind-is : l .kind ≡ kind
   unfolding keyShown
@@ -277,28 +280,28 @@ module _ (s : Store) (z : Reached s) (f : Whole (s .eit) (s .heads) (s .slots) (
       rw (touched-not used₁ i heads₁ i 7 (omega arith) (omega arith))
       (sym (complete-is heads₁ slots₁ i (let p = hi in let q = r .slots-long in omega arith) (r .head-fits .last)))
 
-  abbrev shelfBy : Course → Left
-  shelfBy c = leftShelf (settledBy c (withRows (s .eit) used₁ evictions₁) newer slots₁ (s .schedule-heads) (s .units) a i) slots₁ cells₁
+  abbrev settledBy : Becomes → After
+  settledBy b = afterSettled (settledAs b (rows (withSets (s .eit) used₁ evictions₁) (markedHeads (isMarked b) i newer) slots₁ (s .schedule-heads) (s .units)) a i) cells₁
 
   -- a complete set that is not marked
-  ready-tied : Tied (shelfBy (cond (ltb (a .kind) 2) course.Out (cond (ltb (a .tables) table) course.Range course.Shelve)))
-      (shows (seen s) cellsThere (ready (s .eit .limit) beside k (a .tables) rowThere (firstOf (l .kind))))
+  ready-tied : Tied (settledBy (cond (ltb (a .kind) 2) becomes.GoesOut (cond (ltb (a .tables) table) becomes.OutOfRange becomes.Enters)))
+      (shows (seen s) cellsThere (ready (s .eit .sets .limit) beside k (a .tables) rowThere (firstOf (l .kind))))
   unfolding ready ranged shows keyShown answerTold onAnswer
   ready-tied =
-      subst (λ (q : Kind). Tied (shelfBy (cond (ltb (a .kind) 2) course.Out (cond (ltb (a .tables) table) course.Range course.Shelve)))
-      (shows (seen s) cellsThere (ready (s .eit .limit) beside k (a .tables) rowThere (firstOf q)))) (sym kind-is) (go (kinds table kind (arr .table)))
+      subst (λ (q : Kind). Tied (settledBy (cond (ltb (a .kind) 2) becomes.GoesOut (cond (ltb (a .tables) table) becomes.OutOfRange becomes.Enters)))
+      (shows (seen s) cellsThere (ready (s .eit .sets .limit) beside k (a .tables) rowThere (firstOf q)))) (sym kind-is) (go (kinds table kind (arr .table)))
     where
       fits : (first : ℕ) → InKind kind first table → (b : Bool) → ltb (a .tables) table ≡ b
-          → Tied (shelfBy (cond b course.Range course.Shelve)) (shows (seen s) cellsThere (ranged (s .eit .limit) beside k rowThere first (leb table (a .tables))
+          → Tied (settledBy (cond b becomes.OutOfRange becomes.Enters)) (shows (seen s) cellsThere (ranged (s .eit .sets .limit) beside k rowThere first (leb table (a .tables))
           (enter (table - first) (copyOf rowThere) (begin (beside .sets .rows) l first (a .tables) (find sameSchedule l (beside .schedules .rows))))))
       fits first in-kind true q =
           rw (lt-leb table (a .tables) (ltb-true (a .tables) table q)) (record { told = refl; shown = left-shown false; reached = left-reached false })
       fits first in-kind false q =
           let m = ltb-false (a .tables) table q in
-          rw (le-leb table (a .tables) m) (shelf-tied first in-kind m)
+          rw (le-leb table (a .tables) m) (enters-tied first in-kind m)
 
-      go : Kinds table kind → Tied (shelfBy (cond (ltb (a .kind) 2) course.Out (cond (ltb (a .tables) table) course.Range course.Shelve)))
-          (shows (seen s) cellsThere (ready (s .eit .limit) beside k (a .tables) rowThere (firstOf kind)))
+      go : Kinds table kind → Tied (settledBy (cond (ltb (a .kind) 2) becomes.GoesOut (cond (ltb (a .tables) table) becomes.OutOfRange becomes.Enters)))
+          (shows (seen s) cellsThere (ready (s .eit .sets .limit) beside k (a .tables) rowThere (firstOf kind)))
       go (present e lt) =
           let n = arr .number in
           rw (e, lt-ltb (a .kind) 2 (omega arith)) (record { told = set-out; shown = left-shown true; reached = left-reached true })
@@ -307,18 +310,18 @@ module _ (s : Store) (z : Reached s) (f : Whole (s .eit) (s .heads) (s .slots) (
           let m = in-kind .number in
           rw (in-kind .first-of, le-ltb (a .kind) 2 (omega arith)) (fits first in-kind (ltb (a .tables) table) refl)
 
-  pub settle-tied : Tied (leftShelf (settled (withRows (s .eit) used₁ evictions₁) heads₁ slots₁ (s .schedule-heads) (s .units) a i) slots₁ cells₁)
-      (shows (seen s) cellsThere (judge (s .eit .limit) beside k (a .tables) rowThere))
-  unfolding settled courseOf judge judged shows answerTold onAnswer rowSeen
+  pub settle-tied : Tied (afterSettled (settled (rows (withSets (s .eit) used₁ evictions₁) heads₁ slots₁ (s .schedule-heads) (s .units)) a i) cells₁)
+      (shows (seen s) cellsThere (judge (s .eit .sets .limit) beside k (a .tables) rowThere))
+  unfolding settled becomesOf judge judged shows answerTold onAnswer rowSeen
   settle-tied = rw (touched-not used₁ i heads₁ i 8 (omega arith) (omega arith), complete-there) (go (eqb (markOf heads₁ i) 0) (complete rowThere))
     where
-      go : (m c : Bool) → Tied (shelfBy (cond (m && c) (cond (ltb (a .kind) 2) course.Out (cond (ltb (a .tables) table) course.Range course.Shelve)) course.Stay))
-          (shows (seen s) cellsThere (judged (s .eit .limit) beside k (a .tables) rowThere (not m) c))
+      go : (m c : Bool) → Tied (settledBy (cond (m && c) (cond (ltb (a .kind) 2) becomes.GoesOut (cond (ltb (a .tables) table) becomes.OutOfRange becomes.Enters)) becomes.Stays))
+          (shows (seen s) cellsThere (judged (s .eit .sets .limit) beside k (a .tables) rowThere (not m) c))
       go true true = ready-tied
       go true false = record { told = refl; shown = left-shown false; reached = left-reached false }
       go false c = record { told = refl; shown = left-shown false; reached = left-reached false }
 
-  pub conflict-tied : Tied (answered Conflict (store (withRows (s .eit) used₁ evictions₁) newer slots₁ cells₁ (s .schedule-heads) (s .units)))
-      (shows (seen s) cellsThere (gives conflict (setNewest k rowThere beside)))
+  pub conflict-tied : Tied (after (eit.refused refusal.Conflict) (store (withSets (s .eit) used₁ evictions₁) newer slots₁ cells₁ (s .schedule-heads) (s .units)))
+      (shows (seen s) cellsThere (gives (refused refusal.Conflict) (setNewest k rowThere beside)))
   unfolding shows answerTold onAnswer
   conflict-tied = record { told = refl; shown = left-shown false; reached = left-reached false }

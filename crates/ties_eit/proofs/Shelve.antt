@@ -36,23 +36,29 @@ use Rattle.ages.proofs.Words.{key-same, ready-touched, kept-fresh-key}
 use Rattle.ages.proofs.Touch.{row-has-key, no-row-has-key, goes-known, goes-new, goes-row, finds-known, finds-none, touched-seen, touched-stands}
 use Rattle.ages.proofs.Slots.{held-whole}
 use Rattle.ages.proofs.Cells.{cells-length, length-up, up-get, up-cong}
-use Rattle.schedules.specs.Segments.{setComplete}
-use Rattle.schedules.specs.Units.{firstBy, tablesOf, schedulesWhole, isPresent, unitSlots, unitWhole, unitsWhole, withoutUnits, withSet, firstTable, withTable, refilled, allPresent}
-use Rattle.berths.specs.Berths.{knownBerth, berthOf, berthedHeads, tableCount, readyUnits, berthedUnits, tablesThere}
-use Rattle.berths.specs.declared.Berth.{Berth}
-use Rattle.sets.specs.Store as sets
-use Rattle.eit.specs.declared.Eit.{Eit}
-use Rattle.eit.specs.declared.PushAnswer.the-variants.{Nothing, Schedule}
-use Rattle.eit.specs.declared.inner.Arrival.{Arrival}
-use Rattle.eit.specs.Store.{Store, store, Left, answerOf, settingsFit, shelvesFit, setsOf, withSchedules, scheduleEntry, leftShelf, shelved, shelvedIn, scheduleOut, firstOfKind, tablesOut, a-schedule}
+use Rattle.segments.specs.Segments.{setComplete}
+use Rattle.units.specs.Units.{firstTable, isPresent, unitSlots, unitWhole, unitsWhole, withoutUnits, withSet, withTable, refilled, allPresent}
+use Rattle.schedules.specs.Schedules.{tablesOf, schedulesWhole}
+use Rattle.schedules.specs.Schedules.{roomKnown, roomOf, scheduledHeads, tableCount, readyUnits, scheduledUnits, tablesThere}
+use Rattle.schedules.specs.declared.ScheduleRoom.{ScheduleRoom}
+use Rattle.store.specs.Store as sets
+use Rattle.eit_state.specs.declared.Eit.{Eit}
+use Rattle.arrivals.specs.declared.Arrival.{Arrival}
+use Rattle.eit_state.specs.State.{Store, store, rowsOf, settingsFit, schedulesFit, withSchedules}
+use Rattle.eit_settle.specs.Settle.{Settled, stepped, scheduleEntry, enteredAnswer, enteredIn, entered}
+use Rattle.eit.specs.Store.{After, toldStep, answerOf, scheduleOut, tablesOut, a-schedule}
 use Rattle.ties_eit.specs.View.{keyShown, scheduleShown, keyWords, scheduleWords, rowSeen, copySeen, placeSeen, scheduleSeen, seen, answerTold, tablesShown, HeadFits, Reached}
 use Rattle.ties_eit.proofs.Keys.{schedule-self, set-self, Bit, key-reads, schedule-reads, schedule-of, number-kind, InKind}
 use Rattle.ties_eit.proofs.Rows.{complete-is}
 use Rattle.ties_eit.proofs.Units.{set-length, set-other, set-own, without-length, without-other, without-own, copyFor, refill-length, refill-other, refill-own}
 use Rattle.ties_eit.proofs.Places.{heldPasses, copyWhole, copy-whole, place-in, place-past, place-whole, schedules-get, tables-there, present-get, copy-there, tables-out}
 
+-- what settling a row tells and leaves
+abbrev pub afterSettled : Settled → (cells : List ℕ) → After
+afterSettled x cells = toldStep (stepped x cells)
+
 -- what a call left is what the rules' call left, and the store is one that a history reaches
-pub record Tied (l : Left) (t : Turn) : Type 0 where
+pub record Tied (l : After) (t : Turn) : Type 0 where
   pub told : answerTold (l .told) ≡ t .answer
   pub shown : seen (l .store) ≡ t .store
   pub reached : Reached (l .store)
@@ -69,11 +75,11 @@ goes-count (Rattle.ages.specs.Order.added f h) = omega arith
 goes-count (Rattle.ages.specs.Order.evicted f p h) = omega arith
 
 -- the settings fit whatever number of schedules within the limit is in use
-pub fits-schedules : (e : Eit) (h l c t u n v : ℕ) → settingsFit e h l c t u ≡ true → n ≤ e .limit → settingsFit (withSchedules e n v) h l c t u ≡ true
+pub fits-schedules : (e : Eit) (h l c t u n v : ℕ) → settingsFit e h l c t u ≡ true → n ≤ e .sets .limit → settingsFit (withSchedules e n v) h l c t u ≡ true
 fits-schedules e h l c t u n v q k =
-    let a = and-true (sets.settingsFit (setsOf e) h l c) (shelvesFit e t u) q in
-    let b = and-true (leb (e .limit * 12) t && leb (e .limit * 4608) u) (leb (e .schedules) (e .limit)) (a .1) in
-    rw (a .0, b .0, le-leb n (e .limit) k)
+    let a = and-true (sets.settingsFit (e .sets) h l c) (schedulesFit e t u) q in
+    let b = and-true (leb (e .sets .limit * 12) t && leb (e .sets .limit * 4608) u) (leb (e .schedules) (e .sets .limit)) (a .1) in
+    rw (a .0, b .0, le-leb n (e .sets .limit) k)
 
 -- what is known of a set that goes into its schedule: it stands in row i of a store L, complete, and its section's last_table_id is no smaller than its table_id
 pub record Shelving (L : Store) (a : Arrival) (kind : Kind) (first i : ℕ) : Type 0 where
@@ -82,16 +88,16 @@ pub record Shelving (L : Store) (a : Arrival) (kind : Kind) (first i : ℕ) : Ty
   pub number : a .kind ≡ kindNumber kind
   pub bit : Bit (a .entry .key .«current_next»)
   pub range : a .entry .key .«table_id» ≤ a .tables
-  pub row : i < L .eit .used
-  pub limit : 0 < L .eit .limit
-  pub heads-long : L .eit .used * 12 ≤ length (L .heads)
-  pub slots-long : L .eit .used * 288 ≤ length (L .slots)
-  pub tops-long : L .eit .limit * 12 ≤ length (L .schedule-heads)
-  pub units-long : L .eit .limit * 4608 ≤ length (L .units)
-  pub few : L .eit .schedules ≤ L .eit .limit
+  pub row : i < L .eit .sets .used
+  pub limit : 0 < L .eit .sets .limit
+  pub heads-long : L .eit .sets .used * 12 ≤ length (L .heads)
+  pub slots-long : L .eit .sets .used * 288 ≤ length (L .slots)
+  pub tops-long : L .eit .sets .limit * 12 ≤ length (L .schedule-heads)
+  pub units-long : L .eit .sets .limit * 4608 ≤ length (L .units)
+  pub few : L .eit .schedules ≤ L .eit .sets .limit
   pub counts : L .eit .«schedule_evictions» < 18446744073709551615
-  pub rows-ok : rowsWhole (L .heads) (L .slots) (L .eit .count) (L .eit .size) (L .eit .used) ≡ true
-  pub units-ok : schedulesWhole (L .schedule-heads) (L .units) (L .eit .count) (L .eit .size) (L .eit .schedules) ≡ true
+  pub rows-ok : rowsWhole (L .heads) (L .slots) (L .eit .sets .count) (L .eit .sets .size) (L .eit .sets .used) ≡ true
+  pub units-ok : schedulesWhole (L .schedule-heads) (L .units) (L .eit .sets .count) (L .eit .sets .size) (L .eit .schedules) ≡ true
 
 -- the key of the schedule, as its head has it
 abbrev pub scheduleKeyOf : Arrival → Key
@@ -99,16 +105,16 @@ scheduleKeyOf a = withTable (a .entry .key) (a .kind)
 
 -- how many tables there are from the first of the kind to the section's last_table_id
 abbrev pub countOf : Arrival → ℕ
-countOf a = tableCount (a .entry .key .«table_id») (a .tables)
+countOf a = tableCount (a .kind) (a .tables)
 
 -- the units with the schedule made ready: as they were, emptied, or refilled
-abbrev pub readyOf : Store → Arrival → Berth → List ℕ
-readyOf L a b = readyUnits (L .heads) (L .slots) (L .eit .used) (a .entry .key) (countOf a) b (L .units)
+abbrev pub readyOf : Store → Arrival → ScheduleRoom → List ℕ
+readyOf L a b = readyUnits (L .heads) (L .slots) (L .eit .sets .used) (scheduleEntry a) (a .entry .key .«table_id») b (L .units)
 
--- the berth b is where the rules' schedule is, and `old` is what they begin with there; only the arriving table's own place is left open
-pub record Berthed (L : Store) (a : Arrival) (first : ℕ) (others : Rows SetKey (SetOf Held)) (b : Berth) (old : ScheduleOf Held) : Type 0 where
+-- the room b is where the rules' schedule is, and `old` is what they begin with there; only the arriving table's own place is left open
+pub record Roomed (L : Store) (a : Arrival) (first : ℕ) (others : Rows SetKey (SetOf Held)) (b : ScheduleRoom) (old : ScheduleOf Held) : Type 0 where
   pub age : ℕ
-  pub goes : Goes (L .schedule-heads) (L .eit .limit) (L .eit .schedules) (L .eit .«schedule_evictions») (scheduleKeyOf a) (b .room .row) age (b .room .used) (b .room .evictions)
+  pub goes : Goes (L .schedule-heads) (L .eit .sets .limit) (L .eit .schedules) (L .eit .«schedule_evictions») (scheduleKeyOf a) (b .room .row) age (b .room .used) (b .room .evictions)
   pub own : keyAt (keptHeads (b .room) (scheduleEntry a) (L .schedule-heads)) (b .room .row) ≡ scheduleKeyOf a
   pub aged : ageOf (keptHeads (b .room) (scheduleEntry a) (L .schedule-heads)) (b .room .row) ≡ age
   pub last : lastOf (keptHeads (b .room) (scheduleEntry a) (L .schedule-heads)) (b .room .row) ≡ a .tables
@@ -158,7 +164,7 @@ module _ (L : Store) (z : Reached L) (a : Arrival) (kind : Kind) (first i : ℕ)
   held = L .eit .schedules
 
   abbrev limit : ℕ
-  limit = L .eit .limit
+  limit = L .eit .sets .limit
 
   abbrev evictions : ℕ
   evictions = L .eit .«schedule_evictions»
@@ -169,7 +175,7 @@ module _ (L : Store) (z : Reached L) (a : Arrival) (kind : Kind) (first i : ℕ)
   skey-proper : scheduleWords (scheduleShown skey) ≡ skey
   skey-proper = schedule-reads skey (h .bit) (rw (h .number) (ap kindNumber (number-kind kind)))
 
-  rows-fit : (r : ℕ) → r < L .eit .used → HeadFits (L .heads) r
+  rows-fit : (r : ℕ) → r < L .eit .sets .used → HeadFits (L .heads) r
   rows-fit = z .heads-fit
 
   -- ---- what the rules refill a place with
@@ -183,40 +189,44 @@ module _ (L : Store) (z : Reached L) (a : Arrival) (kind : Kind) (first i : ℕ)
   table-differs t ne = rw (ne-eqb t table ne) (and-none (sameSchedule l l))
 
   abbrev rowFor : ℕ → ℕ
-  rowFor j = rowOf (L .heads) (withTable key (first + j)) (L .eit .used)
+  rowFor j = rowOf (L .heads) (withTable key (first + j)) (L .eit .sets .used)
 
   copied-none : copied {A = Held} none ≡ none
   unfolding copied
   copied-none = refl
 
-  copied-some : (r : ℕ) → r < L .eit .used → copied (some (rowSeen (L .heads) (L .slots) r)) ≡ cond (setComplete (L .heads) (L .slots) r) (some (copyOf (rowSeen (L .heads) (L .slots) r))) none
+  copied-some : (r : ℕ) → r < L .eit .sets .used → copied (some (rowSeen (L .heads) (L .slots) r)) ≡ cond (setComplete (L .heads) (L .slots) r) (some (copyOf (rowSeen (L .heads) (L .slots) r))) none
   unfolding copied
   copied-some r k = let s = h .slots-long in rw (complete-is (L .heads) (L .slots) r (omega arith) (rows-fit r k .last))
 
   place-copy : (j : ℕ) → j < 16 → first + j ≢ table
-      → copied (find sameSet (tableOf l (first + j)) others) ≡ cond (ltb (rowFor j) (L .eit .used) && setComplete (L .heads) (L .slots) (rowFor j)) (some (copyOf (rowSeen (L .heads) (L .slots) (rowFor j)))) none
+      → copied (find sameSet (tableOf l (first + j)) others) ≡ cond (ltb (rowFor j) (L .eit .sets .used) && setComplete (L .heads) (L .slots) (rowFor j)) (some (copyOf (rowSeen (L .heads) (L .slots) (rowFor j)))) none
   unfolding seen
   place-copy j k ne =
       ap copied (beside (tableOf l (first + j)) (table-differs (first + j) ne) ∙ ap (λ (q : SetKey). find sameSet q ((seen L) .eit .sets .rows)) (sym (place-key j k)))
-      ∙ go (ltb (rowFor j) (L .eit .used)) refl
+      ∙ go (ltb (rowFor j) (L .eit .sets .used)) refl
     where
       key′ : Key
       key′ = withTable key (first + j)
 
-      go : (b : Bool) → ltb (rowFor j) (L .eit .used) ≡ b
+      go : (b : Bool) → ltb (rowFor j) (L .eit .sets .used) ≡ b
           → copied (find sameSet (keyShown key′) ((seen L) .eit .sets .rows)) ≡ cond (b && setComplete (L .heads) (L .slots) (rowFor j)) (some (copyOf (rowSeen (L .heads) (L .slots) (rowFor j)))) none
       go true q =
-          let m = ltb-true (rowFor j) (L .eit .used) q in
-          ap copied (finds-known keyShown keyWords sameSet sameSet-true set-self (L .heads) limit (L .eit .used) (L .eit .evictions) key′ (z .sets) (key-reads key′ (h .bit)) (rowSeen (L .heads) (L .slots))
-          (rowFor j) m (row-has-key (L .heads) key′ (L .eit .used) m)) ∙ copied-some (rowFor j) m
+          let m = ltb-true (rowFor j) (L .eit .sets .used) q in
+          ap copied (finds-known keyShown keyWords sameSet sameSet-true set-self (L .heads) limit (L .eit .sets .used) (L .eit .sets .evictions) key′ (z .sets) (key-reads key′ (h .bit)) (rowSeen (L .heads) (L .slots))
+          (rowFor j) m (row-has-key (L .heads) key′ (L .eit .sets .used) m)) ∙ copied-some (rowFor j) m
       go false q =
-          let m = ltb-false (rowFor j) (L .eit .used) q in
-          ap copied (finds-none keyShown keyWords sameSet sameSet-true set-self (L .heads) limit (L .eit .used) (L .eit .evictions) key′ (z .sets) (key-reads key′ (h .bit)) (rowSeen (L .heads) (L .slots))
-          (no-row-has-key (L .heads) key′ (L .eit .used) m)) ∙ copied-none
+          let m = ltb-false (rowFor j) (L .eit .sets .used) q in
+          ap copied (finds-none keyShown keyWords sameSet sameSet-true set-self (L .heads) limit (L .eit .sets .used) (L .eit .sets .evictions) key′ (z .sets) (key-reads key′ (h .bit)) (rowSeen (L .heads) (L .slots))
+          (no-row-has-key (L .heads) key′ (L .eit .sets .used) m)) ∙ copied-none
 
-  copy-for : (j : ℕ) → j < 16 → first + j ≢ table → copyFor (L .heads) (L .slots) (L .eit .used) key j ≡ copied (find sameSet (tableOf l (first + j)) others)
+  -- the first table_id of the kind
+  first-is : firstTable (a .kind) ≡ first
+  first-is = ap firstTable (h .number) ∙ h .in-kind .by-kind
+
+  copy-for : (j : ℕ) → j < 16 → first + j ≢ table → copyFor (L .heads) (L .slots) (L .eit .sets .used) skey table j ≡ copied (find sameSet (tableOf l (first + j)) others)
   unfolding copyFor
-  copy-for j k ne = rw (h .in-kind .by-table, ne-eqb (first + j) table ne) (sym (place-copy j k ne))
+  copy-for j k ne = rw (first-is, ne-eqb (first + j) table ne) (sym (place-copy j k ne))
 
   -- ---- which schedule
 
@@ -228,22 +238,22 @@ module _ (L : Store) (z : Reached L) (a : Arrival) (kind : Kind) (first i : ℕ)
   unfolding seen
   schedule-ok k m =
       place-whole ((seen L) .settings) ((seen L) .cells) tops (L .units) k
-      (ap (λ (n : ℕ). unitsWhole (L .units) n (L .eit .size) (k * 16) (tablesOf tops k)) (cells-length (L .cells) (L .eit .size) (L .eit .count))
-      ∙ schedules-get tops (L .units) (L .eit .count) (L .eit .size) held k (h .units-ok) m)
+      (ap (λ (n : ℕ). unitsWhole (L .units) n (L .eit .sets .size) (k * 16) (tablesOf tops k)) (cells-length (L .cells) (L .eit .sets .size) (L .eit .sets .count))
+      ∙ schedules-get tops (L .units) (L .eit .sets .count) (L .eit .sets .size) held k (h .units-ok) m)
 
   -- a set's copy is whole
-  set-ok : (r : ℕ) → r < L .eit .used → ok (some (copyOf (rowSeen (L .heads) (L .slots) r))) ≡ true
+  set-ok : (r : ℕ) → r < L .eit .sets .used → ok (some (copyOf (rowSeen (L .heads) (L .slots) r))) ≡ true
   unfolding seen copyOf rowSeen
   set-ok r k =
       held-whole ((seen L) .settings) ((seen L) .cells) (rowSlots (L .heads) (L .slots) r)
-      ∙ ap (λ (m : ℕ). allWhole m (L .eit .size) (rowSlots (L .heads) (L .slots) r)) (cells-length (L .cells) (L .eit .size) (L .eit .count))
-      ∙ rows-get (L .heads) (L .slots) (L .eit .count) (L .eit .size) (L .eit .used) r (h .rows-ok) k
+      ∙ ap (λ (m : ℕ). allWhole m (L .eit .sets .size) (rowSlots (L .heads) (L .slots) r)) (cells-length (L .cells) (L .eit .sets .size) (L .eit .sets .count))
+      ∙ rows-get (L .heads) (L .slots) (L .eit .sets .count) (L .eit .sets .size) (L .eit .sets .used) r (h .rows-ok) k
 
   copied-ok : (j : ℕ) → j < 16 → first + j ≢ table → ok (copied (find sameSet (tableOf l (first + j)) others)) ≡ true
-  copied-ok j k ne = ap ok (place-copy j k ne) ∙ go (ltb (rowFor j) (L .eit .used)) (setComplete (L .heads) (L .slots) (rowFor j)) refl
+  copied-ok j k ne = ap ok (place-copy j k ne) ∙ go (ltb (rowFor j) (L .eit .sets .used)) (setComplete (L .heads) (L .slots) (rowFor j)) refl
     where
-      go : (b c : Bool) → ltb (rowFor j) (L .eit .used) ≡ b → ok (cond (b && c) (some (copyOf (rowSeen (L .heads) (L .slots) (rowFor j)))) none) ≡ true
-      go true true q = set-ok (rowFor j) (ltb-true (rowFor j) (L .eit .used) q)
+      go : (b c : Bool) → ltb (rowFor j) (L .eit .sets .used) ≡ b → ok (cond (b && c) (some (copyOf (rowSeen (L .heads) (L .slots) (rowFor j)))) none) ≡ true
+      go true true q = set-ok (rowFor j) (ltb-true (rowFor j) (L .eit .sets .used) q)
       go true false q = refl
       go false c q = refl
 
@@ -268,15 +278,15 @@ module _ (L : Store) (z : Reached L) (a : Arrival) (kind : Kind) (first i : ℕ)
   -- a schedule's tables, by its head
   tables-are : (tops′ : List ℕ) (k : ℕ) → lastOf tops′ k ≡ a .tables → word tops′ k 1 ≡ a .kind → tablesOf tops′ k ≡ countOf a
   unfolding tablesOf
-  tables-are tops′ k e f = rw (e, f, h .number, h .in-kind .by-word, h .in-kind .by-table)
+  tables-are tops′ k e f = rw (e, f)
 
   places-few : countOf a ≤ 16
   places-few = omega arith
 
   -- the schedule is there, with the same last_table_id
-  same-berth : there < held → lastOf tops there ≡ a .tables → Berthed L a first others (record { room = roomIn held evictions there; refill = false }) (scheduleSeen tops (L .units) there)
+  same-room : there < held → lastOf tops there ≡ a .tables → Roomed L a first others (record { room = roomIn held evictions there; refill = false }) (scheduleSeen tops (L .units) there)
   unfolding begin scheduleSeen readyUnits
-  same-berth k e =
+  same-room k e =
       let t = h .tops-long in
       let f = h .few in
       let r : Room = roomIn held evictions there in
@@ -316,10 +326,10 @@ module _ (L : Store) (z : Reached L) (a : Arrival) (kind : Kind) (first i : ℕ)
   refill-places t (suc n) = ap suc (refill-places (suc t) n)
 
   -- "If last_table_id differs from an existing schedule's, that row is emptied first and refilled"
-  other-berth : there < held → lastOf tops there ≢ a .tables
-      → Berthed L a first others (record { room = roomRenewed held evictions there (ageOf tops there); refill = true }) (record { lastTable = a .tables; copies = refill others l (a .tables) first 16 })
+  other-room : there < held → lastOf tops there ≢ a .tables
+      → Roomed L a first others (record { room = roomRenewed held evictions there (ageOf tops there); refill = true }) (record { lastTable = a .tables; copies = refill others l (a .tables) first 16 })
   unfolding begin scheduleSeen readyUnits
-  other-berth k e =
+  other-room k e =
       let t = h .tops-long in
       let f = h .few in
       let u = h .units-long in
@@ -337,10 +347,10 @@ module _ (L : Store) (z : Reached L) (a : Arrival) (kind : Kind) (first i : ℕ)
         old-last = refl;
         sixteen = refill-places first 16;
         places = λ j q ne. place low k j q ne;
-        past = λ j q m. let b = h .in-kind .by-table in refill-past others l (a .tables) 16 first j (omega arith);
+        past = λ j q m. let b = first-is in refill-past others l (a .tables) 16 first j (omega arith);
         beside = λ v o.
-            refill-other (L .heads) (L .slots) (L .eit .used) key (there * 16) (h .slots-long) rows-fit n emptied (omega arith) v (wider o) ∙ without-other (there * 16) 16 (L .units) v o;
-        ready-length = refill-length (L .heads) (L .slots) (L .eit .used) key (there * 16) (h .slots-long) rows-fit n emptied (omega arith) ∙ same;
+            refill-other (L .heads) (L .slots) (L .eit .sets .used) skey table (there * 16) (h .slots-long) rows-fit n emptied (omega arith) v (wider o) ∙ without-other (there * 16) 16 (L .units) v o;
+        ready-length = refill-length (L .heads) (L .slots) (L .eit .sets .used) skey table (there * 16) (h .slots-long) rows-fit n emptied (omega arith) ∙ same;
         ok = λ j q ne. refilled-ok low j q ne (decLe (first + j) (a .tables));
       }
     where
@@ -358,13 +368,13 @@ module _ (L : Store) (z : Reached L) (a : Arrival) (kind : Kind) (first i : ℕ)
       wider (inr p) = inr (omega arith)
 
       place : first ≤ a .tables → there < held → (j : ℕ) → j < n → first + j ≢ table
-          → copySeen (refilled (L .heads) (L .slots) (L .eit .used) key (there * 16) n emptied) (there * 16 + j) ≡ getD (refill others l (a .tables) first 16) j none
+          → copySeen (refilled (L .heads) (L .slots) (L .eit .sets .used) skey table (there * 16) n emptied) (there * 16 + j) ≡ getD (refill others l (a .tables) first 16) j none
       place low k j m ne =
-          let b = h .in-kind .by-table in
+          let b = first-is in
           let u = h .units-long in
           let f = h .few in
           let s = same in
-          refill-own (L .heads) (L .slots) (L .eit .used) key (there * 16) (h .slots-long) rows-fit n emptied (omega arith)
+          refill-own (L .heads) (L .slots) (L .eit .sets .used) skey table (there * 16) (h .slots-long) rows-fit n emptied (omega arith)
           (λ v w. without-own (there * 16) 16 (L .units) (there * 16 + v) (omega arith) (omega arith) (omega arith)) j m
           ∙ copy-for j (omega arith) ne ∙ sym (refill-inside others l (a .tables) 16 first j (omega arith) (omega arith))
 
@@ -373,9 +383,9 @@ module _ (L : Store) (z : Reached L) (a : Arrival) (kind : Kind) (first i : ℕ)
       refilled-ok low j q ne (no m) = rw (refill-past others l (a .tables) 16 first j (omega arith))
 
   -- a schedule that was not there
-  new-berth : held ≤ there → Berthed L a first others (record { room = roomNew tops limit held evictions; refill = false }) (record { lastTable = a .tables; copies = replicate 16 none })
+  new-room : held ≤ there → Roomed L a first others (record { room = roomNew tops limit held evictions; refill = false }) (record { lastTable = a .tables; copies = replicate 16 none })
   unfolding begin readyUnits
-  new-berth k =
+  new-room k =
       let r : Room = roomNew tops limit held evictions in
       let g = goes-new tops limit held evictions skey k (h .limit) in
       let i = goes-row g in
@@ -400,24 +410,24 @@ module _ (L : Store) (z : Reached L) (a : Arrival) (kind : Kind) (first i : ℕ)
         ok = λ j q ne. rw (getD-none {A = Option (CopyOf Held)} 16 j none);
       }
 
-  abbrev berth : Berth
-  berth = berthOf tops limit held evictions entry
+  abbrev found-room : ScheduleRoom
+  found-room = roomOf tops limit held evictions entry
 
-  berthed : (old : ScheduleOf Held) × Berthed L a first others berth old
-  unfolding berthOf knownBerth
-  berthed = go (ltb there held) (eqb (lastOf tops there) (a .tables)) refl refl
+  roomed : (old : ScheduleOf Held) × Roomed L a first others found-room old
+  unfolding roomOf roomKnown
+  roomed = go (ltb there held) (eqb (lastOf tops there) (a .tables)) refl refl
     where
       go : (b c : Bool) → ltb there held ≡ b → eqb (lastOf tops there) (a .tables) ≡ c
-          → (old : ScheduleOf Held) × Berthed L a first others (cond b
+          → (old : ScheduleOf Held) × Roomed L a first others (cond b
           (cond c (record { room = roomIn held evictions there; refill = false }) (record { room = roomRenewed held evictions there (ageOf tops there); refill = true }))
           (record { room = roomNew tops limit held evictions; refill = false })) old
-      go true true p q = (scheduleSeen tops (L .units) there, same-berth (ltb-true there held p) (eqb-true (lastOf tops there) (a .tables) q))
-      go true false p q = (record { lastTable = a .tables; copies = refill others l (a .tables) first 16 }, other-berth (ltb-true there held p) (eqb-false (lastOf tops there) (a .tables) q))
-      go false c p q = (record { lastTable = a .tables; copies = replicate 16 none }, new-berth (ltb-false there held p))
+      go true true p q = (scheduleSeen tops (L .units) there, same-room (ltb-true there held p) (eqb-true (lastOf tops there) (a .tables) q))
+      go true false p q = (record { lastTable = a .tables; copies = refill others l (a .tables) first 16 }, other-room (ltb-true there held p) (eqb-false (lastOf tops there) (a .tables) q))
+      go false c p q = (record { lastTable = a .tables; copies = replicate 16 none }, new-room (ltb-false there held p))
 
   -- ---- the set is put in, and the schedule becomes the newest
 
-  module _ (b : Berth) (old : ScheduleOf Held) (w : Berthed L a first others b old) where
+  module _ (b : ScheduleRoom) (old : ScheduleOf Held) (w : Roomed L a first others b old) where
     abbrev row : ℕ
     row = b .room .row
 
@@ -492,7 +502,7 @@ module _ (L : Store) (z : Reached L) (a : Arrival) (kind : Kind) (first i : ℕ)
     own-tables = tables-are tops₁ row last-is kind-is
 
     own-in : table - first < countOf a
-    own-in = let p = h .in-kind .from in let q = h .range in let r = in-place in let s = h .in-kind .by-table in omega arith
+    own-in = let p = h .in-kind .from in let q = h .range in let r = in-place in let s = first-is in omega arith
 
     -- place j of the schedule: a table up to its last ..
     copy-is : (j : ℕ) → j < countOf a → copySeen units₁ (row * 16 + j) ≡ getD (set (old .copies) (table - first) (some copy)) j none
@@ -601,16 +611,16 @@ module _ (L : Store) (z : Reached L) (a : Arrival) (kind : Kind) (first i : ℕ)
             rw (q, getD-set-same (old .copies) (table - first) (some copy) none (omega arith)) (set-ok i (h .row))
         go (no ne) = let f = places-few in rw (getD-set-other (old .copies) (table - first) j (some copy) none ne) (w .ok j (omega arith) (not-own j ne))
 
-    unit-whole : (j : ℕ) → j < countOf a → isPresent units₁ (row * 16 + j) ≡ true → allWhole (L .eit .count) (L .eit .size) (unitSlots units₁ (row * 16 + j)) ≡ true
+    unit-whole : (j : ℕ) → j < countOf a → isPresent units₁ (row * 16 + j) ≡ true → allWhole (L .eit .sets .count) (L .eit .sets .size) (unitSlots units₁ (row * 16 + j)) ≡ true
     unfolding unitWhole seen
     unit-whole j k e =
-        let p : unitWhole units₁ (length ((seen L) .cells)) (L .eit .size) (row * 16 + j) ≡ true = sym (copy-whole ((seen L) .settings) ((seen L) .cells) units₁ (row * 16 + j)) ∙ copy-ok j k in
-        let q : allWhole (length ((seen L) .cells)) (L .eit .size) (unitSlots units₁ (row * 16 + j)) ≡ true = rw e at p in
-        ap (λ (m : ℕ). allWhole m (L .eit .size) (unitSlots units₁ (row * 16 + j))) (sym (cells-length (L .cells) (L .eit .size) (L .eit .count))) ∙ q
+        let p : unitWhole units₁ (length ((seen L) .cells)) (L .eit .sets .size) (row * 16 + j) ≡ true = sym (copy-whole ((seen L) .settings) ((seen L) .cells) units₁ (row * 16 + j)) ∙ copy-ok j k in
+        let q : allWhole (length ((seen L) .cells)) (L .eit .sets .size) (unitSlots units₁ (row * 16 + j)) ≡ true = rw e at p in
+        ap (λ (m : ℕ). allWhole m (L .eit .sets .size) (unitSlots units₁ (row * 16 + j))) (sym (cells-length (L .cells) (L .eit .sets .size) (L .eit .sets .count))) ∙ q
 
     -- "A schedule with all tables .. goes out"
-    first-after : firstOfKind (word tops₁ row 1) ≡ first
-    first-after = ap (λ (k : Key). firstOfKind (k .«table_id»)) key-after ∙ ap firstOfKind (h .number) ∙ h .in-kind .by-kind
+    first-after : firstTable (word tops₁ row 1) ≡ first
+    first-after = ap (λ (k : Key). firstTable (k .«table_id»)) key-after ∙ first-is
 
     abbrev count : ℕ
     count = suc (a .tables - first)
@@ -623,7 +633,7 @@ module _ (L : Store) (z : Reached L) (a : Arrival) (kind : Kind) (first i : ℕ)
     unfolding seen
     shown-tables d e =
         let n = own-tables in
-        let f = h .in-kind .by-table in
+        let f = first-is in
         sym (tables-out after l (placeSeen tops₁ units₁ row) count 16 0 (row * 16) first (omega arith)
         (λ j k. let y : 0 + j ≡ j = omega arith in ap (placeSeen tops₁ units₁ row) y ∙ place-in tops₁ units₁ row j (omega arith) ∙ copy-there units₁ (row * 16 + j) (present-get units₁ (row * 16) count j e k))
         (λ j k. unit-whole j (omega arith) (present-get units₁ (row * 16) count j e k)))
@@ -634,39 +644,37 @@ module _ (L : Store) (z : Reached L) (a : Arrival) (kind : Kind) (first i : ℕ)
         let k : scheduleShown (keyAt tops₁ row) ≡ l = ap scheduleShown key-after ∙ skey-shown in
         let v : lastOf tops₁ row ≡ old .lastTable = last-is ∙ sym (w .old-last) in
         let f = first-after in
-        let n : min (a .tables - first) 15 + 1 ≡ count = omega arith in
-        let p : tablesShown (scheduleShown (keyAt tops₁ row)) (firstOfKind (word tops₁ row 1)) (tablesOut after (row * 16) (min (lastOf tops₁ row - firstOfKind (word tops₁ row 1)) 15 + 1))
-        ≡ tablesShown l first (tablesOut after (row * 16) (min (a .tables - first) 15 + 1)) = λ t. tablesShown (k t) (f t) (tablesOut after (row * 16) (min (last-is t - f t) 15 + 1)) in
-        let q : tablesShown l first (tablesOut after (row * 16) (min (a .tables - first) 15 + 1)) ≡ tablesShown l first (tablesOut after (row * 16) count) = ap (λ (m : ℕ). tablesShown l first (tablesOut after (row * 16) m)) n in
+        let n : countOf a ≡ count = let b = first-is in omega arith in
+        let p : tablesShown (scheduleShown (keyAt tops₁ row)) (firstTable (word tops₁ row 1)) (tablesOut after (row * 16) (tablesOf tops₁ row)) ≡ tablesShown l first (tablesOut after (row * 16) (countOf a))
+        = λ t. tablesShown (k t) (f t) (tablesOut after (row * 16) (own-tables t)) in
+        let q : tablesShown l first (tablesOut after (row * 16) (countOf a)) ≡ tablesShown l first (tablesOut after (row * 16) count) = ap (λ (m : ℕ). tablesShown l first (tablesOut after (row * 16) m)) n in
         let r : map (onWhole read) (wholes l first (take count (upFrom (placeSeen tops₁ units₁ row) 16 0))) ≡ map (onWhole read) (wholes l first (take (suc (old .lastTable - first)) (set (old .copies) (table - first) (some copy)))) =
         let y : a .tables ≡ old .lastTable = sym (w .old-last) in λ t. map (onWhole read) (wholes l first (take (suc (y t - first)) (copies-are t))) in
         let s = p ∙ q ∙ shown-tables d e ∙ r in
         λ t. schedule (record { key = k t; lastTable = v t; tables = s t })
 
-    first-word : firstBy (word tops₁ row 1) ≡ firstTable table
-    first-word = ap firstBy (kind-is ∙ h .number) ∙ h .in-kind .by-word ∙ sym (h .in-kind .by-table)
+    all-tables : allTables first g ≡ tablesThere units₁ row entry
+    all-tables =
+        ap (allTables first) (sym own-schedule) ∙ ap (λ (f : ℕ). allTables f (scheduleSeen tops₁ units₁ row)) (sym first-is) ∙ tables-there tops₁ units₁ row entry last-is kind-is
 
-    all-tables : allTables first g ≡ tablesThere units₁ row table (a .tables)
-    all-tables = ap (allTables first) (sym own-schedule) ∙ ap (λ (f : ℕ). allTables f (scheduleSeen tops₁ units₁ row)) (sym (h .in-kind .by-table)) ∙ tables-there tops₁ units₁ row table (a .tables) last-is first-word
-
-    told-after : (t : Bool) → tablesThere units₁ row table (a .tables) ≡ t → answerTold (answerOf (cond t (Schedule row) Nothing) after) ≡ onAnswer read (told l first g t)
+    told-after : (t : Bool) → tablesThere units₁ row entry ≡ t → answerTold (answerOf (enteredAnswer t row) after) ≡ onAnswer read (told l first g t)
     unfolding tablesThere told answerTold onAnswer
     told-after true e =
-        let p = and-true (ltb (a .tables - firstTable table) 16) (allPresent units₁ (row * 16) (tableCount table (a .tables))) e in
-        let d = ltb-true (a .tables - firstTable table) 16 (p .0) in
-        let f = h .in-kind .by-table in
-        let n : tableCount table (a .tables) ≡ count = omega arith in
+        let p = and-true (ltb (a .tables - firstTable (a .kind)) 16) (allPresent units₁ (row * 16) (countOf a)) e in
+        let d = ltb-true (a .tables - firstTable (a .kind)) 16 (p .0) in
+        let f = first-is in
+        let n : countOf a ≡ count = omega arith in
         schedule-out (omega arith) (ap (allPresent units₁ (row * 16)) (sym n) ∙ p .1)
     told-after false e = refl
 
-    in-tied : Tied (leftShelf (shelvedIn (L .eit) (L .heads) (L .slots) tops (L .units) a i b) (L .slots) (L .cells))
+    in-tied : Tied (afterSettled (enteredIn (rowsOf L) a i b) (L .cells))
         (shows (seen L) ((seen L) .cells) (gives (told l first g (allTables first g)) (scheduleTouched limit l g ((seen L) .eit))))
-    unfolding shelvedIn berthedUnits berthedHeads shows
-    in-tied = rw all-tables (record { told = told-after (tablesThere units₁ row table (a .tables)) refl; shown = shown-after; reached = reached-after })
+    unfolding enteredIn scheduledUnits scheduledHeads shows
+    in-tied = rw all-tables (record { told = told-after (tablesThere units₁ row entry) refl; shown = shown-after; reached = reached-after })
 
-  pub shelve-tied : Tied (leftShelf (shelved (L .eit) (L .heads) (L .slots) tops (L .units) a i) (L .slots) (L .cells))
+  pub shelve-tied : Tied (afterSettled (entered (rowsOf L) a i) (L .cells))
       (shows (seen L) ((seen L) .cells)
       (let g = enter (table - first) (copyOf (rowSeen (L .heads) (L .slots) i)) (begin others l first (a .tables) found) in
       gives (told l first g (allTables first g)) (scheduleTouched limit l g ((seen L) .eit))))
-  unfolding shelved
-  shelve-tied = rw (berthed .1 .begun) (in-tied berth (berthed .0) (berthed .1))
+  unfolding entered
+  shelve-tied = rw (roomed .1 .begun) (in-tied found-room (roomed .0) (roomed .1))

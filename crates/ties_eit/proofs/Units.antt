@@ -20,8 +20,8 @@ use Rattle.rows.specs.declared.Key.{Key}
 use Rattle.rows.specs.Rows.{rowOf, rowSlots, slotsAt, slotCount, lastOf, versionOf}
 use Rattle.rows.proofs.Words.{length-slots}
 use Rattle.ages.proofs.Slots.{part-alike, part-pasted}
-use Rattle.schedules.specs.Segments.{wordOf, withWord, setComplete}
-use Rattle.schedules.specs.Units.{unitSlots, withoutUnits, withWords, withSet, firstTable, withTable, withComplete, withTableSet, refilled}
+use Rattle.segments.specs.Segments.{wordOf, withWord, setComplete}
+use Rattle.units.specs.Units.{unitSlots, withoutUnits, withWords, withSet, firstTable, withTable, withComplete, withTableSet, refilled}
 use Rattle.ties_eit.specs.View.{rowSeen, copySeen, HeadFits}
 
 -- ---- words of units
@@ -197,18 +197,18 @@ without-own base n units u l a b = copy-none (withoutUnits base n units) u (with
 -- ---- refilled
 
 -- what goes into place j: the other table's set where it is complete
-unfoldable pub copyFor : (heads slots : List ℕ) (used : ℕ) → Key → ℕ → Option (CopyOf Held)
-copyFor heads slots used key j =
+unfoldable pub copyFor : (heads slots : List ℕ) (used : ℕ) → Key → (own j : ℕ) → Option (CopyOf Held)
+copyFor heads slots used key own j =
     let r : ℕ = rowOf heads (withTable key (firstTable (key .«table_id») + j)) used in
-    cond (eqb (firstTable (key .«table_id») + j) (key .«table_id»)) none (cond (ltb r used && setComplete heads slots r) (some (copyOf (rowSeen heads slots r))) none)
+    cond (eqb (firstTable (key .«table_id») + j) own) none (cond (ltb r used && setComplete heads slots r) (some (copyOf (rowSeen heads slots r))) none)
 
-module _ (heads slots : List ℕ) (used : ℕ) (key : Key) (base : ℕ) (long : used * 288 ≤ length slots) (fit : (i : ℕ) → i < used → HeadFits heads i) where
+module _ (heads slots : List ℕ) (used : ℕ) (key : Key) (own base : ℕ) (long : used * 288 ≤ length slots) (fit : (i : ℕ) → i < used → HeadFits heads i) where
   abbrev rowFor : ℕ → ℕ
   rowFor j = rowOf heads (withTable key (firstTable (key .«table_id») + j)) used
 
-  table-length : (j : ℕ) (units : List ℕ) → (base + j) * 288 + 288 ≤ length units → length (withTableSet heads slots used key base j units) ≡ length units
+  table-length : (j : ℕ) (units : List ℕ) → (base + j) * 288 + 288 ≤ length units → length (withTableSet heads slots used key own base j units) ≡ length units
   unfolding withTableSet withComplete
-  table-length j units l = go (eqb (firstTable (key .«table_id») + j) (key .«table_id»)) (ltb (rowFor j) used) (setComplete heads slots (rowFor j)) refl
+  table-length j units l = go (eqb (firstTable (key .«table_id») + j) own) (ltb (rowFor j) used) (setComplete heads slots (rowFor j)) refl
     where
       go : (a b c : Bool) → ltb (rowFor j) used ≡ b → length (cond a units (cond (b && c) (withSet heads slots (rowFor j) (base + j) units) units)) ≡ length units
       go true b c e = refl
@@ -216,9 +216,9 @@ module _ (heads slots : List ℕ) (used : ℕ) (key : Key) (base : ℕ) (long : 
       go false true false e = refl
       go false true true e = let h = ltb-true (rowFor j) used e in set-length heads slots (rowFor j) (base + j) units (omega arith) l
 
-  table-other : (j : ℕ) (units : List ℕ) → (base + j) * 288 + 288 ≤ length units → (u : ℕ) → u ≢ base + j → copySeen (withTableSet heads slots used key base j units) u ≡ copySeen units u
+  table-other : (j : ℕ) (units : List ℕ) → (base + j) * 288 + 288 ≤ length units → (u : ℕ) → u ≢ base + j → copySeen (withTableSet heads slots used key own base j units) u ≡ copySeen units u
   unfolding withTableSet withComplete
-  table-other j units l u ne = go (eqb (firstTable (key .«table_id») + j) (key .«table_id»)) (ltb (rowFor j) used) (setComplete heads slots (rowFor j)) refl
+  table-other j units l u ne = go (eqb (firstTable (key .«table_id») + j) own) (ltb (rowFor j) used) (setComplete heads slots (rowFor j)) refl
     where
       go : (a b c : Bool) → ltb (rowFor j) used ≡ b → copySeen (cond a units (cond (b && c) (withSet heads slots (rowFor j) (base + j) units) units)) u ≡ copySeen units u
       go true b c e = refl
@@ -226,9 +226,9 @@ module _ (heads slots : List ℕ) (used : ℕ) (key : Key) (base : ℕ) (long : 
       go false true false e = refl
       go false true true e = let h = ltb-true (rowFor j) used e in set-other heads slots (rowFor j) (base + j) units (omega arith) l u ne
 
-  table-own : (j : ℕ) (units : List ℕ) → (base + j) * 288 + 288 ≤ length units → copySeen units (base + j) ≡ none → copySeen (withTableSet heads slots used key base j units) (base + j) ≡ copyFor heads slots used key j
+  table-own : (j : ℕ) (units : List ℕ) → (base + j) * 288 + 288 ≤ length units → copySeen units (base + j) ≡ none → copySeen (withTableSet heads slots used key own base j units) (base + j) ≡ copyFor heads slots used key own j
   unfolding withTableSet withComplete copyFor
-  table-own j units l e = go (eqb (firstTable (key .«table_id») + j) (key .«table_id»)) (ltb (rowFor j) used) (setComplete heads slots (rowFor j)) refl
+  table-own j units l e = go (eqb (firstTable (key .«table_id») + j) own) (ltb (rowFor j) used) (setComplete heads slots (rowFor j)) refl
     where
       go : (a b c : Bool) → ltb (rowFor j) used ≡ b
           → copySeen (cond a units (cond (b && c) (withSet heads slots (rowFor j) (base + j) units) units)) (base + j) ≡ cond a none (cond (b && c) (some (copyOf (rowSeen heads slots (rowFor j)))) none)
@@ -237,19 +237,19 @@ module _ (heads slots : List ℕ) (used : ℕ) (key : Key) (base : ℕ) (long : 
       go false true false q = e
       go false true true q = let h = ltb-true (rowFor j) used q in set-own heads slots (rowFor j) (base + j) units (omega arith) l (fit (rowFor j) h)
 
-  pub refill-length : (n : ℕ) (units : List ℕ) → (base + n) * 288 ≤ length units → length (refilled heads slots used key base n units) ≡ length units
+  pub refill-length : (n : ℕ) (units : List ℕ) → (base + n) * 288 ≤ length units → length (refilled heads slots used key own base n units) ≡ length units
   unfolding refilled
   refill-length zero units l = refl
   refill-length (suc n) units l =
       let q = table-length n units (omega arith) in
-      refill-length n (withTableSet heads slots used key base n units) (omega arith) ∙ q
+      refill-length n (withTableSet heads slots used key own base n units) (omega arith) ∙ q
 
-  pub refill-other : (n : ℕ) (units : List ℕ) → (base + n) * 288 ≤ length units → (u : ℕ) → (u < base) ⊎ (base + n ≤ u) → copySeen (refilled heads slots used key base n units) u ≡ copySeen units u
+  pub refill-other : (n : ℕ) (units : List ℕ) → (base + n) * 288 ≤ length units → (u : ℕ) → (u < base) ⊎ (base + n ≤ u) → copySeen (refilled heads slots used key own base n units) u ≡ copySeen units u
   unfolding refilled
   refill-other zero units l u o = refl
   refill-other (suc n) units l u o =
       let q = table-length n units (omega arith) in
-      refill-other n (withTableSet heads slots used key base n units) (omega arith) u (past o) ∙ table-other n units (omega arith) u (not-it o)
+      refill-other n (withTableSet heads slots used key own base n units) (omega arith) u (past o) ∙ table-other n units (omega arith) u (not-it o)
     where
       past : (u < base) ⊎ (base + suc n ≤ u) → (u < base) ⊎ (base + n ≤ u)
       past (inl l) = inl l
@@ -260,21 +260,21 @@ module _ (heads slots : List ℕ) (used : ℕ) (key : Key) (base : ℕ) (long : 
       not-it (inr l) = omega arith
 
   pub refill-own : (n : ℕ) (units : List ℕ) → (base + n) * 288 ≤ length units → ((j : ℕ) → j < n → copySeen units (base + j) ≡ none) → (j : ℕ) → j < n
-      → copySeen (refilled heads slots used key base n units) (base + j) ≡ copyFor heads slots used key j
+      → copySeen (refilled heads slots used key own base n units) (base + j) ≡ copyFor heads slots used key own j
   unfolding refilled
   refill-own zero units l e j h = absurd (not-suc-le-zero h)
   refill-own (suc n) units l e j h =
       let z = table-length n units (omega arith) in
-      go (ℕ-discrete j n) (λ f m. refill-own n (withTableSet heads slots used key base n units) (omega arith) f j m)
+      go (ℕ-discrete j n) (λ f m. refill-own n (withTableSet heads slots used key own base n units) (omega arith) f j m)
     where
       next : List ℕ
-      next = withTableSet heads slots used key base n units
+      next = withTableSet heads slots used key own base n units
 
       next-length : length next ≡ length units
       next-length = table-length n units (omega arith)
 
-      go : Dec (j ≡ n) → (((k : ℕ) → k < n → copySeen next (base + k) ≡ none) → j < n → copySeen (refilled heads slots used key base n next) (base + j) ≡ copyFor heads slots used key j)
-          → copySeen (refilled heads slots used key base n next) (base + j) ≡ copyFor heads slots used key j
+      go : Dec (j ≡ n) → (((k : ℕ) → k < n → copySeen next (base + k) ≡ none) → j < n → copySeen (refilled heads slots used key own base n next) (base + j) ≡ copyFor heads slots used key own j)
+          → copySeen (refilled heads slots used key own base n next) (base + j) ≡ copyFor heads slots used key own j
       go (yes q) ih =
           let z = next-length in
           rw q (refill-other n next (omega arith) (base + n) (inr (omega arith)) ∙ table-own n units (omega arith) (e n (omega arith)))

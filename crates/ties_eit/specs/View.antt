@@ -1,7 +1,7 @@
 -- What the memory of the EIT collector shows, in the words of the rules; and its calls as the rules have them.
 -- Assumes nothing.
 use Prim.Native.Nat.{ℕ, suc, _+_, _-_, _*_, _≤_, _<_}
-use mathlib.Core.Path.{_≡_}
+use mathlib.Core.Path.{_≡_, refl}
 use mathlib.Core.Bool.{true, cond, not}
 use mathlib.Core.Option.{Option, none, some}
 use mathlib.Core.List.{List, [], _∷_}
@@ -13,7 +13,8 @@ use Rattle.rules_eit.specs.Keys.{Kind, presentActual, presentOther, scheduleAct
 use Rattle.rules_eit.specs.Keys.{Filter as KeyFilter}
 use Rattle.rules_eit.specs.Segments.{SetOf}
 use Rattle.rules_eit.specs.Schedules.{CopyOf, ScheduleOf, WholeOf, tableOf}
-use Rattle.rules_eit.specs.Rules.{Section, Call, clear, drop, refuse, offer, Answer, done, refused, nothing, handout, schedule, conflict, range, notWhole, counterFull, noCell}
+use Rattle.answers.specs.declared.Refusal.the-variants as refusal
+use Rattle.rules_eit.specs.Rules.{Section, Call, clear, drop, refuse, offer, Answer, done, nothing, handout, schedule, refused}
 use Rattle.rules_eit.specs.Cells.{Store as Shown}
 use Rattle.section.specs.Judged.{collectedOf}
 use Rattle.eit_section.specs.Eit.{eitOf, fieldsOf}
@@ -30,15 +31,19 @@ use Rattle.rows.specs.declared.Key.{Key}
 use Rattle.rows.specs.Rows.{word, rowSlots, lastOf, markOf, versionOf}
 use Rattle.ages.specs.Order.{orderSeen, Stands}
 use Rattle.ages.specs.Slots.{heldSlots, upFrom, cellsSeen}
-use Rattle.sets.specs.Store.{bitOf}
-use Rattle.schedules.specs.Segments.{wordOf}
-use Rattle.schedules.specs.Units.{tablesOf, isPresent, unitSlots}
+use Rattle.arrivals.specs.Arrivals.{bitOf}
+use Rattle.segments.specs.Segments.{wordOf}
+use Rattle.units.specs.Units.{isPresent, unitSlots}
+use Rattle.schedules.specs.Schedules.{tablesOf}
 use Rattle.filter.specs.declared.Wanted.{Wanted}
 use Rattle.filter.specs.declared.Wanted.the-variants as wanted
-use Rattle.eit.specs.declared.Filter.{Filter}
-use Rattle.eit.specs.declared.WantedPid.{WantedPid}
-use Rattle.eit.specs.declared.WantedPid.the-variants as wanted-pid
-use Rattle.eit.specs.Store.{Store, Told, plain, a-set, a-schedule, TableOut, Left, settingsFit, firstOfKind, openedOf, clearedOf, droppedOf, pushedOf}
+use Rattle.eit_drop.specs.declared.Filter.{Filter}
+use Rattle.eit_drop.specs.declared.WantedPid.{WantedPid}
+use Rattle.eit_drop.specs.declared.WantedPid.the-variants as wanted-pid
+use Rattle.units.specs.Units.{firstTable}
+use Rattle.eit_state.specs.State.{Store, settingsFit}
+use Rattle.eit.specs.Store as eit
+use Rattle.eit.specs.Store.{Told, a-set, a-schedule, TableOut, After, openedOf, clearedOf, droppedOf, pushedOf}
 
 -- ---- keys
 
@@ -96,8 +101,8 @@ scheduleWords l = wordsUnder l (kindNumber (l .kind))
 -- ---- a store
 
 -- the word of a segment: 0 where no section of it was kept, else its segment_last_section_number and 1
-unfoldable pub lastOf : ℕ → Option ℕ
-lastOf w = cond (eqb w 0) none (some (w - 1))
+unfoldable pub lastNoted : ℕ → Option ℕ
+lastNoted w = cond (eqb w 0) none (some (w - 1))
 
 -- the set in row i: word 6 is its version, word 7 its last_section_number, word 8 not 0 where it went out; the row's first 32 words are its segments'
 unfoldable pub rowSeen : List ℕ → List ℕ → ℕ → SetOf Held
@@ -105,7 +110,7 @@ rowSeen heads slots i = record {
   version = versionOf heads i;
   last = lastOf heads i;
   slots = heldSlots (rowSlots heads slots i);
-  notes = upFrom (λ (g : ℕ). lastOf (wordOf slots i g)) 32 0;
+  notes = upFrom (λ (g : ℕ). lastNoted (wordOf slots i g)) 32 0;
   mark = not (eqb (markOf heads i) 0);
 }
 
@@ -123,17 +128,17 @@ unfoldable pub scheduleSeen : List ℕ → List ℕ → ℕ → ScheduleOf Held
 scheduleSeen tops units k = record { lastTable = lastOf tops k; copies = upFrom (placeSeen tops units k) 16 0 }
 
 abbrev pub settingsOf : Store → Settings
-settingsOf s = record { limit = s .eit .limit; cellSize = s .eit .size }
+settingsOf s = record { limit = s .eit .sets .limit; cellSize = s .eit .sets .size }
 
 -- the sets and the schedules in use, each in their touch order, and the cells
 unfoldable pub seen : Store → Shown
 seen s = record {
   settings = settingsOf s;
   eit = record {
-    sets = orderSeen keyShown (s .heads) (s .eit .used) (s .eit .evictions) (rowSeen (s .heads) (s .slots));
+    sets = orderSeen keyShown (s .heads) (s .eit .sets .used) (s .eit .sets .evictions) (rowSeen (s .heads) (s .slots));
     schedules = orderSeen scheduleShown (s .schedule-heads) (s .eit .schedules) (s .eit .«schedule_evictions») (scheduleSeen (s .schedule-heads) (s .units));
   };
-  cells = cellsSeen (s .cells) (s .eit .size) (s .eit .count);
+  cells = cellsSeen (s .cells) (s .eit .sets .size) (s .eit .sets .count);
 }
 
 -- ---- calls and answers
@@ -145,7 +150,7 @@ pub data Given : Type 0 where
   section : MaybePid → Bytes → Given
 
 -- what the calls are proved to tell and to leave
-abbrev pub called : Store → Given → Left
+abbrev pub called : Store → Given → After
 called s clears = clearedOf s
 called s (drops f) = droppedOf s f
 called s (section pid bytes) = pushedOf s pid bytes
@@ -206,21 +211,21 @@ sectionOf pid bytes h f = record {
 -- 19, or what the section says. Whether its table_id is one of an EIT (18) is for the rules to say
 unfoldable pub readsEit : Option ℕ → Bytes → Header → Reading → Call
 readsEit pid bytes h reading.NotEit = offer (sectionOf pid bytes h (fieldsOf bytes kind.None))
-readsEit pid bytes h reading.Broken = refuse 19
+readsEit pid bytes h reading.Broken = refuse refusal.Broken refl
 readsEit pid bytes h (reading.Good f) = offer (sectionOf pid bytes h f)
 
 -- 14 to 17
 unfoldable pub readsAs : Option ℕ → Bytes → Collected → Call
-readsAs pid bytes collected.Malformed = refuse 14
-readsAs pid bytes collected.ShortForm = refuse 15
-readsAs pid bytes collected.BadNumber = refuse 16
-readsAs pid bytes collected.BadCrc = refuse 17
+readsAs pid bytes collected.Malformed = refuse refusal.Malformed refl
+readsAs pid bytes collected.ShortForm = refuse refusal.ShortForm refl
+readsAs pid bytes collected.BadNumber = refuse refusal.BadNumber refl
+readsAs pid bytes collected.BadCrc = refuse refusal.BadCrc refl
 readsAs pid bytes (collected.Good h) = readsEit pid bytes h (eitOf bytes)
 
 -- 12 first: a PID of 8192 or more
 unfoldable pub readSection : MaybePid → Bytes → Call
 readSection maybe.None bytes = readsAs none bytes (collectedOf bytes)
-readSection (maybe.Some p) bytes = cond (ltb p 8192) (readsAs (some p) bytes (collectedOf bytes)) (refuse 12)
+readSection (maybe.Some p) bytes = cond (ltb p 8192) (readsAs (some p) bytes (collectedOf bytes)) (refuse refusal.BadPid refl)
 
 unfoldable pub reads : Given → Call
 reads clears = clear
@@ -232,24 +237,18 @@ unfoldable pub tablesShown : ScheduleKey → ℕ → List TableOut → List (Who
 tablesShown l t [] = []
 tablesShown l t (x ∷ xs) = record { key = tableOf l t; version = x .version; last = x .last; sections = x .sections } ∷ tablesShown l (suc t) xs
 
--- what is told, by 01's number; 5 comes with the set, 6 with the schedule
+-- what is told, in the words of the rules
 unfoldable pub answerTold : Told → Answer
+answerTold eit.done = done
+answerTold eit.nothing = nothing
 answerTold (a-set w) = handout (record { key = keyShown (w .key); version = w .version; last = w .last; sections = w .sections })
 answerTold (a-schedule w) =
     schedule (record {
       key = scheduleShown (w .key);
       lastTable = w .last;
-      tables = tablesShown (scheduleShown (w .key)) (firstOfKind (w .key .«table_id»)) (w .tables);
+      tables = tablesShown (scheduleShown (w .key)) (firstTable (w .key .«table_id»)) (w .tables);
     })
-answerTold (plain n) =
-    cond (eqb n 7) done
-    (cond (eqb n 4) nothing
-    (cond (eqb n 10) notWhole
-    (cond (eqb n 11) counterFull
-    (cond (eqb n 21) noCell
-    (cond (eqb n 22) conflict
-    (cond (eqb n 23) range
-    (refused n)))))))
+answerTold (eit.refused r) = refused r
 
 unfoldable pub tells : Store → Given → Answer
 tells s i = answerTold ((called s i) .told)
@@ -261,9 +260,9 @@ acts s i = (called s i) .store
 
 -- as `open` leaves a store where it answers 7: no rows, counts 0, nothing asked of what the lent memory holds
 pub record Opened (s : Store) : Type 0 where
-  pub opened : (openedOf s) .told ≡ plain 7
-  pub sets : s .eit .used ≡ 0
-  pub evictions : s .eit .evictions ≡ 0
+  pub opened : (openedOf s) .told ≡ eit.done
+  pub sets : s .eit .sets .used ≡ 0
+  pub evictions : s .eit .sets .evictions ≡ 0
   pub schedules : s .eit .schedules ≡ 0
   pub schedule-evictions : s .eit .«schedule_evictions» ≡ 0
 
@@ -276,8 +275,8 @@ pub record HeadFits (heads : List ℕ) (i : ℕ) : Type 0 where
 -- settings that opening takes, eviction counts that fit their 64 bits, heads that fit, and ages that are touch orders of keys, none of which stands twice
 pub record Reached (s : Store) : Type 0 where
   pub fits : settingsFit (s .eit) (length (s .heads)) (length (s .slots)) (length (s .cells)) (length (s .schedule-heads)) (length (s .units)) ≡ true
-  pub counts : s .eit .evictions ≤ 18446744073709551615
+  pub counts : s .eit .sets .evictions ≤ 18446744073709551615
   pub schedule-counts : s .eit .«schedule_evictions» ≤ 18446744073709551615
-  pub heads-fit : (i : ℕ) → i < s .eit .used → HeadFits (s .heads) i
-  pub sets : Stands keyShown keyWords (s .heads) (s .eit .used)
+  pub heads-fit : (i : ℕ) → i < s .eit .sets .used → HeadFits (s .heads) i
+  pub sets : Stands keyShown keyWords (s .heads) (s .eit .sets .used)
   pub schedules : Stands scheduleShown scheduleWords (s .schedule-heads) (s .eit .schedules)

@@ -1,4 +1,4 @@
-use Rattle.sets.proofs.Plans.{known-slot}
+use Rattle.placing.proofs.Fits.{known-slot}
 use Rattle.placing.proofs.Laws.{known-same, known-other}
 use borrow.Author.Needs.{needs}
 use Rattle.placing.proofs.place_known.Statement.{statement}

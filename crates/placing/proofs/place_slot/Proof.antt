@@ -1,6 +1,6 @@
-use Rattle.sets.proofs.Plans.{place-fits, slot-fits}
+use Rattle.placing.proofs.Fits.{place-fits, slot-fits}
 use native.Mathlib.Omega.{arith}
-use Rattle.sets.proofs.Whole.{product-fits}
+use Rattle.store.proofs.Whole.{product-fits}
 use Rattle.placing.proofs.Laws.{slot-empty, slot-same, slot-other}
 use borrow.Author.Needs.{needs}
 use Rattle.placing.proofs.place_slot.Statement.{statement}

@@ -1,4 +1,4 @@
-use Rattle.schedules.proofs.Units.{kind-word}
+use Rattle.schedules.proofs.Laws.{kind-word}
 use borrow.Author.Needs.{needs}
 use Rattle.schedules.proofs.kind_at.Statement.{statement}
 use Rattle.schedules.proofs.kind_at.Tie as tie

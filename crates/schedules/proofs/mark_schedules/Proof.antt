@@ -1,17 +1,17 @@
 use native.Mathlib.Omega.{arith}
 use mathlib.Core.Path.{_≡_, refl}
 use Prim.Native.Nat.{_≤_}
-use Rattle.schedules.specs.Units.{markedSchedules}
-use Rattle.schedules.proofs.Units.{all-marks-turn, all-marks-end}
+use Rattle.schedules.specs.Schedules.{markedSchedules}
+use Rattle.schedules.proofs.Laws.{all-marks-turn, all-marks-end}
 use borrow.Author.Needs.{needs}
 use Rattle.schedules.proofs.mark_schedules.Statement.{statement}
 use Rattle.schedules.proofs.mark_schedules.Tie as tie
 
 abbrev Inv-loop : tie.InvT-loop
-Inv-loop map₀ tops units n k₀ map k = (k ≤ n) × (markedSchedules tops units n map₀ ≡ markedSchedules tops units k map)
+Inv-loop map₀ schedule-heads units n k₀ map k = (k ≤ n) × (markedSchedules schedule-heads units n map₀ ≡ markedSchedules schedule-heads units k map)
 
 abbrev μ-loop : tie.MeasureT-loop
-μ-loop map₀ tops units n k₀ map k = k
+μ-loop map₀ schedule-heads units n k₀ map k = k
 
 loop-holds : tie.Need-loop-holds Inv-loop μ-loop
 loop-holds c = (omega arith, refl)

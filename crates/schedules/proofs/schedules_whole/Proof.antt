@@ -2,17 +2,17 @@ use native.Mathlib.Omega.{arith}
 use mathlib.Core.Path.{_≡_, refl}
 use mathlib.Core.Bool.{_&&_}
 use Prim.Native.Nat.{_≤_}
-use Rattle.schedules.specs.Units.{schedulesWhole}
-use Rattle.schedules.proofs.Units.{schedules-turn, schedules-end}
+use Rattle.schedules.specs.Schedules.{schedulesWhole}
+use Rattle.schedules.proofs.Laws.{schedules-turn, schedules-end}
 use borrow.Author.Needs.{needs}
 use Rattle.schedules.proofs.schedules_whole.Statement.{statement}
 use Rattle.schedules.proofs.schedules_whole.Tie as tie
 
 abbrev Inv-loop : tie.InvT-loop
-Inv-loop tops units count size n ok₀ k₀ ok k = (k ≤ n) × (schedulesWhole tops units count size n ≡ (ok && schedulesWhole tops units count size k))
+Inv-loop schedule-heads units count size n ok₀ k₀ ok k = (k ≤ n) × (schedulesWhole schedule-heads units count size n ≡ (ok && schedulesWhole schedule-heads units count size k))
 
 abbrev μ-loop : tie.MeasureT-loop
-μ-loop tops units count size n ok₀ k₀ ok k = k
+μ-loop schedule-heads units count size n ok₀ k₀ ok k = k
 
 loop-holds : tie.Need-loop-holds Inv-loop μ-loop
 loop-holds c = (omega arith, refl)

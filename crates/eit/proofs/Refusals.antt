@@ -1,0 +1,105 @@
+-- A refusal leaves everything as it was, but 22, which makes the key the newest, and 23, which keeps the section.
+-- Assumes nothing.
+use mathlib.Core.Path.{_≡_, refl, sym, ap, _∙_}
+use mathlib.Core.List.{List}
+use mathlib.Core.Bool.{Bool, true, false, cond}
+use Prim.Native.Nat.{ℕ, _≤_, _<_}
+use native.Mathlib.Omega.{arith}
+use lib.ListN.{length}
+use Rattle.answers.specs.Answers.{refusalNo}
+use Rattle.answers.specs.declared.Refusal.the-variants as refusal
+use Rattle.section.specs.declared.ids.MaybePid.{MaybePid}
+use Rattle.rows.specs.Rows.{touched}
+use Rattle.arrivals.specs.declared.Arrival.{Arrival}
+use Rattle.arrivals.specs.declared.EitArrival.{EitArrival}
+use Rattle.arrivals.specs.declared.EitArrival.the-variants as arrival
+use Rattle.schedules.specs.Schedules.{roomOf, scheduledUnits, tablesThere}
+use Rattle.schedules.specs.declared.ScheduleRoom.{ScheduleRoom}
+use Rattle.eit_state.specs.declared.PushAnswer.{PushAnswer}
+use Rattle.eit_state.specs.declared.PushAnswer.the-variants as answer
+use Rattle.eit_state.specs.State.{Store, store, Rows, rows, rowsOf, wholeOf, pushNumber}
+use Rattle.eit_plan.specs.declared.Plan.{Plan}
+use Rattle.eit_plan.specs.declared.Plan.the-variants as plan
+use Rattle.eit_plan.specs.Plan.{planOf}
+use Rattle.eit_settle.specs.declared.Becomes.{Becomes}
+use Rattle.eit_settle.specs.declared.Becomes.the-variants as becomes
+use Rattle.eit_settle.specs.Settle.{ownTable, becomesOf, isMarked, markedHeads, scheduleEntry, enteredAnswer, enteredIn, entered, settledAs, settled, Step, keptAndSettled, carried}
+use Rattle.eit_drop.specs.declared.Filter.{Filter}
+use Rattle.eit_drop.specs.declared.Drop.{Drop}
+use Rattle.eit_drop.specs.declared.Drop.the-variants as drop
+use Rattle.eit.specs.Store.{After, after, number, done, refused, answerOf, toldStep, emptyEit, clearedOf, dropOf, carriedDrop, droppedOf, admitted, pushedWhole, pushedAs, pushedOf}
+
+-- a section that settles a row answers 4, 5, 6 or 23
+entering : (r : Rows) (a : Arrival) (i : ℕ) (b : ScheduleRoom) → pushNumber ((enteredIn r a i b) .answer) < 10
+unfolding enteredIn
+entering r a i b =
+    go (tablesThere (scheduledUnits (r .heads) (r .slots) (r .eit .sets .used) (scheduleEntry a) (ownTable a) i b (r .units)) (b .room .row) (scheduleEntry a))
+  where
+    go : (all : Bool) → pushNumber (enteredAnswer all (b .room .row)) < 10
+    go true = omega arith
+    go false = omega arith
+
+settling : (c : Becomes) (r : Rows) (a : Arrival) (i : ℕ) → 10 ≤ pushNumber ((settledAs c r a i) .answer) → 22 ≤ pushNumber ((settledAs c r a i) .answer)
+unfolding entered
+settling becomes.Stays r a i h = omega arith
+settling becomes.GoesOut r a i h = omega arith
+settling becomes.OutOfRange r a i h = omega arith
+settling becomes.Enters r a i h =
+    absurd (omega (arith, entering r a i (roomOf (r .schedule-heads) (r .eit .sets .limit) (r .eit .schedules) (r .eit .«schedule_evictions») (scheduleEntry a))))
+
+settled-past : (r : Rows) (a : Arrival) (i : ℕ) → 10 ≤ pushNumber ((settled r a i) .answer) → 22 ≤ pushNumber ((settled r a i) .answer)
+unfolding settled
+settled-past r a i =
+    let heads : List ℕ = touched (r .eit .sets .used) i (r .heads) in
+    let b : Becomes = becomesOf heads (r .slots) a i in
+    settling b (rows (r .eit) (markedHeads (isMarked b) i heads) (r .slots) (r .schedule-heads) (r .units)) a i
+
+carried-keeps : (s : Store) (bytes : List ℕ) (p : Plan) → 10 ≤ pushNumber ((carried s bytes p) .answer) → pushNumber ((carried s bytes p) .answer) < 22 → (carried s bytes p) .store ≡ s
+unfolding keptAndSettled
+carried-keeps s bytes (plan.Leave a) h k = refl
+carried-keeps s bytes (plan.Conflict i) h k = absurd (omega arith)
+carried-keeps s bytes (plan.Repeat x) h k = absurd (omega (arith, settled-past (rowsOf s) (x .arrival) (x .row) h))
+carried-keeps s bytes (plan.Keep n) h k = absurd (omega (arith, settled-past _ (n .arrival) (n .room .row) h))
+
+-- the number that is told is the answer's
+pub told-number : (a : PushAnswer) (s : Store) → number (answerOf a s) ≡ pushNumber a
+told-number answer.Nothing s = refl
+told-number (answer.Set i) s = refl
+told-number (answer.Schedule k) s = refl
+told-number (answer.Refused r) s = refl
+
+step-keeps : (s : Store) (x : Step) → (10 ≤ pushNumber (x .answer) → pushNumber (x .answer) < 22 → x .store ≡ s) → 10 ≤ number ((toldStep x) .told) → number ((toldStep x) .told) < 22 → x .store ≡ s
+step-keeps s x f h k =
+    let e = told-number (x .answer) (x .store) in
+    f (rw e at h) (rw e at k)
+
+admitted-keeps : (s : Store) (bytes : List ℕ) (v : EitArrival) → 10 ≤ number ((pushedAs s bytes v) .told) → number ((pushedAs s bytes v) .told) < 22 → (pushedAs s bytes v) .store ≡ s
+unfolding pushedWhole
+admitted-keeps s bytes (arrival.Refused r) h k = refl
+admitted-keeps s bytes (arrival.Arrived a) h k = step-keeps s (carried s bytes (planOf s bytes a)) (carried-keeps s bytes (planOf s bytes a)) h k
+
+-- 10, 11, 12 and 14 to 21
+pub push-keeps : (s : Store) (pid : MaybePid) (bytes : List ℕ) → 10 ≤ number ((pushedOf s pid bytes) .told) → number ((pushedOf s pid bytes) .told) < 22 → (pushedOf s pid bytes) .store ≡ s
+unfolding pushedOf
+push-keeps s pid bytes h k = admitted-keeps s bytes (admitted s pid bytes) h k
+
+carried-drop-keeps : (s : Store) (d : Drop) → 10 ≤ number ((carriedDrop s d) .told) → (carriedDrop s d) .store ≡ s
+carried-drop-keeps s (drop.Refuse r) h = refl
+carried-drop-keeps s (drop.Matching f) h = absurd (omega arith)
+
+-- 10 and 12
+pub drop-keeps : (s : Store) (f : Filter) → 10 ≤ number ((droppedOf s f) .told) → (droppedOf s f) .store ≡ s
+unfolding droppedOf
+drop-keeps s f h = carried-drop-keeps s (dropOf s f) h
+
+-- 10
+pub clear-keeps : (s : Store) → 10 ≤ number ((clearedOf s) .told) → (clearedOf s) .store ≡ s
+unfolding clearedOf
+clear-keeps s h = go (wholeOf s) h
+  where
+    left : Bool → After
+    left b = cond b (after done (store (emptyEit (s .eit)) (s .heads) (s .slots) (s .cells) (s .schedule-heads) (s .units))) (after (refused refusal.NotWhole) s)
+
+    go : (b : Bool) → 10 ≤ number ((left b) .told) → (left b) .store ≡ s
+    go true h = absurd (omega arith)
+    go false h = refl

@@ -1,0 +1,22 @@
+use Rattle.eit_drop.proofs.Laws.{wanted-one}
+use borrow.Author.Needs.{needs}
+use Rattle.eit_drop.proofs.made_wanted.Statement.{statement}
+use Rattle.eit_drop.proofs.made_wanted.Tie as tie
+
+enum-known-m : tie.Need-enum-known-m
+enum-known-m c = search needs
+
+cast-t4 : tie.Need-cast-t4
+cast-t4 c = search needs
+
+enum-told : tie.Need-enum-told
+enum-told c = search needs
+
+returns : tie.Need-returns
+returns c = search wanted-one
+
+returns-2 : tie.Need-returns-2
+returns-2 c = search needs
+
+pub made-wanted-spec : {M : Type 1} → statement M
+made-wanted-spec = tie.close (tie.spec enum-known-m cast-t4 enum-told returns returns-2)

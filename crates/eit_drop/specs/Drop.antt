@@ -1,0 +1,57 @@
+-- A drop by filter (docs/RULES.md, "Collectors"), for every content of the lent memory.
+use Prim.Native.Nat.{ℕ, _*_, _≤_}
+use mathlib.Core.List.{List}
+use Rattle.answers.specs.declared.Refusal.the-variants as refusal
+use Rattle.section.specs.Ids.{pidMade}
+use Rattle.section.specs.declared.ids.Made.{Made}
+use Rattle.section.specs.declared.ids.Made.the-variants as made
+use Rattle.filter.specs.declared.Wanted.{Wanted}
+use Rattle.filter.specs.declared.Wanted.the-variants as wanted
+use Rattle.filter.specs.declared.Fields.{Fields}
+use Rattle.filter.specs.declared.Of.the-variants as of
+use Rattle.filter.specs.Drops.{Rest, rest, droppedRows}
+use Rattle.eit_state.specs.State.{Rows, rows, withSets, withSchedules}
+use Rattle.eit_drop.specs.declared.WantedPid.{WantedPid}
+use Rattle.eit_drop.specs.declared.WantedPid.the-variants as wanted-pid
+use Rattle.eit_drop.specs.declared.Filter.{Filter}
+use Rattle.eit_drop.specs.declared.PidWanted.{PidWanted}
+use Rattle.eit_drop.specs.declared.PidWanted.the-variants as pid-wanted
+use Rattle.eit_drop.specs.declared.Drop.{Drop}
+use Rattle.eit_drop.specs.declared.Drop.the-variants as drop
+
+-- "an exact PID of 8192 or more" is refused (12)
+abbrev pub madeWanted : Made → PidWanted
+madeWanted (made.One p) = pid-wanted.Is (wanted.Exactly (p .0))
+madeWanted made.TooLarge = pid-wanted.TooLarge
+
+-- the PID is free, exactly none or exactly p
+abbrev pub wantedPid : WantedPid → PidWanted
+wantedPid wanted-pid.Any = pid-wanted.Is wanted.Any
+wantedPid wanted-pid.Without = pid-wanted.Is (wanted.Exactly 8192)
+wantedPid (wanted-pid.Exactly v) = madeWanted (pidMade v)
+
+-- the filter in the words of a head
+abbrev pub fieldsOf : Wanted → Filter → Fields
+fieldsOf pid f = record {
+  pid = pid;
+  kind = f .kind;
+  «service_id» = f .«service_id»;
+  «transport_stream_id» = f .«transport_stream_id»;
+  «original_network_id» = f .«original_network_id»;
+  «current_next» = f .«current_next»;
+}
+
+-- 12
+abbrev pub dropPid : Filter → PidWanted → Drop
+dropPid f pid-wanted.TooLarge = drop.Refuse refusal.BadPid
+dropPid f (pid-wanted.Is w) = drop.Matching (fieldsOf w f)
+
+abbrev pub dropWanted : Filter → Drop
+dropWanted f = dropPid f (wantedPid (f .pid))
+
+-- "sets and schedules that match go"; no eviction is counted
+unfoldable pub matchingGone : Rows → Fields → Rows
+matchingGone r f =
+    let a : Rest = droppedRows of.Sets f (r .eit .sets .used) (rest (r .heads) (r .slots) (r .eit .sets .used)) in
+    let b : Rest = droppedRows of.Schedules f (r .eit .schedules) (rest (r .schedule-heads) (r .units) (r .eit .schedules)) in
+    rows (withSchedules (withSets (r .eit) (a .used) (r .eit .sets .evictions)) (b .used) (r .eit .«schedule_evictions»)) (a .heads) (a .words) (b .heads) (b .words)

@@ -1,0 +1,90 @@
+-- A refusal leaves every word that is lent as it was, whatever the words hold. An array of n words is a list of length n.
+-- Assumes nothing.
+use Prim.Native.Nat.{ℕ, _≤_, _<_}
+use mathlib.Core.Path.{_≡_, refl}
+use mathlib.Core.List.{List}
+use mathlib.Core.Bool.{Bool, true, false, cond}
+use native.Mathlib.Omega.{arith}
+use lib.ListN.{length}
+use lib.Dec.{eqb}
+use borrow.Author.Tests.{ne-eqb}
+use Rattle.answers.specs.declared.Refusal.the-variants as refusal
+use Rattle.host_words.specs.Answers as answers
+use Rattle.host_words.specs.Pids.{maybePid}
+use Rattle.eit_state.specs.State.{Store, store, wholeOf}
+use Rattle.eit.specs.Store as eit
+use Rattle.eit.specs.Store.{Told, a-set, a-schedule, number, After, after, clearedOf, pushedOf, droppedOf}
+use Rattle.eit.proofs.Refusals.{push-keeps, drop-keeps}
+use Rattle.host_eit.specs.Words.{eitOf, filterOf}
+use Rattle.host_eit.specs.Calls.{eitOpened, clearedAs, eitCleared, eitLeft, rowAfter, pushedAs, eitPushed, eitDroppedTo, droppedAs, eitDropped}
+use Rattle.host_eit.proofs.Same.{eit-same}
+
+refused-open :
+    (answer n : ℕ) (ws words : List ℕ) → answer ≡ n → (answer ≡ 7 → ⊥) → answers.words n (cond (eqb n 7) ws words) ≡ answers.words answer words
+refused-open answer n ws words e h = rw (← e, ne-eqb answer 7 h)
+
+-- 13
+pub eit-open-refused :
+    (words : List ℕ) (limit size count : ℕ) (heads slots cells schedule-heads units : List ℕ) (answer : ℕ) →
+    answer ≡ (eitOpened words limit size count heads slots cells schedule-heads units) .answer → (answer ≡ 7 → ⊥) →
+    eitOpened words limit size count heads slots cells schedule-heads units ≡ answers.words answer words
+unfolding eitOpened
+eit-open-refused words limit size count heads slots cells schedule-heads units answer e h = refused-open answer _ _ words e h
+
+-- 10
+pub eit-clear-refused :
+    (words heads slots cells schedule-heads units : List ℕ) (answer : ℕ) → length words ≡ 7 →
+    answer ≡ (eitCleared words heads slots cells schedule-heads units) .answer → (answer ≡ 7 → ⊥) →
+    eitCleared words heads slots cells schedule-heads units ≡ answers.words answer words
+unfolding eitCleared clearedOf
+eit-clear-refused words heads slots cells schedule-heads units answer n e h = go (wholeOf (store (eitOf words) heads slots cells schedule-heads units)) _ e
+  where
+    go :
+        (whole : Bool) (s : Store) →
+        answer ≡ (clearedAs words (cond whole (after eit.done s) (after (eit.refused refusal.NotWhole) (store (eitOf words) heads slots cells schedule-heads units)))) .answer →
+        clearedAs words (cond whole (after eit.done s) (after (eit.refused refusal.NotWhole) (store (eitOf words) heads slots cells schedule-heads units)))
+        ≡ answers.words answer words
+    go true s e = absurd (h e)
+    go false s e = rw (e, eit-same words n)
+
+no-row : (t : Told) (row : List ℕ) → 10 ≤ number t → rowAfter t row ≡ row
+no-row eit.done row h = refl
+no-row eit.nothing row h = refl
+no-row (a-set o) row h = absurd (omega arith)
+no-row (a-schedule o) row h = absurd (omega arith)
+no-row (eit.refused r) row h = refl
+
+-- 10, 11, 12 and 14 to 21
+pub eit-push-refused :
+    (words heads slots cells schedule-heads units : List ℕ) (pid : ℕ) (section row : List ℕ) (answer : ℕ) → length words ≡ 7 →
+    answer ≡ (eitPushed words heads slots cells schedule-heads units pid section row) .answer → 10 ≤ answer → answer < 22 →
+    eitPushed words heads slots cells schedule-heads units pid section row ≡ eitLeft answer words heads slots cells schedule-heads units row
+unfolding eitPushed
+eit-push-refused words heads slots cells schedule-heads units pid section row answer n e h k =
+    let s : Store = store (eitOf words) heads slots cells schedule-heads units in
+    let l : After = pushedOf s (maybePid pid) section in
+    let a : 10 ≤ number (l .told) = rw (← e) h in
+    let b : number (l .told) < 22 = rw (← e) k in
+    go l (push-keeps s (maybePid pid) section a b) a e
+  where
+    go :
+        (l : After) → l .store ≡ store (eitOf words) heads slots cells schedule-heads units → 10 ≤ number (l .told) → answer ≡ number (l .told) →
+        pushedAs words row l ≡ eitLeft answer words heads slots cells schedule-heads units row
+    go l q a e = rw (q, e, eit-same words n, no-row (l .told) row a)
+
+-- 10 and 12
+pub eit-drop-refused :
+    (words heads slots cells schedule-heads units filter : List ℕ) (answer : ℕ) → length words ≡ 7 →
+    answer ≡ (eitDropped words heads slots cells schedule-heads units filter) .answer → 10 ≤ answer →
+    eitDropped words heads slots cells schedule-heads units filter ≡ eitDroppedTo answer words heads slots schedule-heads units
+unfolding eitDropped
+eit-drop-refused words heads slots cells schedule-heads units filter answer n e h =
+    let s : Store = store (eitOf words) heads slots cells schedule-heads units in
+    let l : After = droppedOf s (filterOf filter) in
+    let a : 10 ≤ number (l .told) = rw (← e) h in
+    go l (drop-keeps s (filterOf filter) a) e
+  where
+    go :
+        (l : After) → l .store ≡ store (eitOf words) heads slots cells schedule-heads units → answer ≡ number (l .told) →
+        droppedAs words l ≡ eitDroppedTo answer words heads slots schedule-heads units
+    go l q e = rw (q, e, eit-same words n)
