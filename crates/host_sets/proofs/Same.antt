@@ -6,7 +6,7 @@ use mathlib.Core.List.{List}
 use native.Mathlib.Omega.{arith}
 use lib.ListN.{length}
 use Rattle.host_words.proofs.Same.{word, none}
-use Rattle.host_sets.specs.Collectors as collectors
+use Rattle.host_sets.specs.Words as collectors
 
 pub sets-same : (w : List ℕ) → length w ≡ 5 → collectors.wordsAfter w (collectors.setsOf w) ≡ w
 sets-same w h =

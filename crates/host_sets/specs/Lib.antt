@@ -1,1 +1,2 @@
-pub mod Collectors
+pub mod Words
+pub mod Calls

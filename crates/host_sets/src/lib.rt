@@ -1,117 +1,74 @@
-// The five words of a set collector: 0 limit, 1 size, 2 count, 3 used, 4 evictions; the word of a row that goes out; and the three words of a
-// section that a question tells of: 0 number, 1 start, 2 length.
-use sets::Cleared;
-use sets::Next;
-use sets::OpenAnswer;
-use sets::Opened;
-use sets::PushAnswer;
-use sets::Pushed;
-use sets::Sets;
+// The set collector for a host in another language, which keeps a collector as plain words: what the words hold is taken apart, the one call is made,
+// and what it leaves is written back. Every content of the words has one answer.
 ghost use mathlib.Core.Path.{_≡_};
-ghost use Rattle.host_words.specs.Answers.{words, pushes};
-ghost use Rattle.host_sets.specs.Collectors.{setsOf, wordsOf, wordsOpened, wordsAfter, rowBy, tellsOpened, tellsPushed, tellsCleared, tellsNext};
+ghost use Rattle.host_words.specs.Answers.{words};
+ghost use Rattle.host_sets.specs.Calls.{setsLeft, setsOpened, setsPushed, setsCleared, setsNext};
 
-pub fn sets(words: &[u64; 5]) -> Sets
-    ensures { λ r. ⌜ r ≡ setsOf (now (words .entry)) ⌝ }
+pub mod words;
+
+// Opens a set collector: 7 or 13. A refusal leaves the words as they were; nothing else lent is written.
+pub fn open(
+    sets: &mut [u64; 5],
+    limit: u64,
+    size: u64,
+    count: u64,
+    heads: &[u64],
+    slots: &[u32],
+    cells: &[u8],
+) -> u8
+    ensures { λ r. ⌜ words r (now (sets .exit)) ≡ setsOpened (now (sets .entry)) limit size count (now (heads .entry)) (now (slots .entry)) (now (cells .entry)) ⌝ }
 {
-    Sets {
-        limit: words[0] as usize,
-        size: words[1] as usize,
-        count: words[2] as usize,
-        used: words[3] as usize,
-        evictions: words[4],
-    }
+    let opened = sets::open(
+        limit as usize,
+        size as usize,
+        count as usize,
+        heads,
+        slots,
+        cells,
+    );
+    words::write_opened(sets, opened)
 }
 
-// All five words.
-fn write(words: &mut [u64; 5], sets: Sets)
-    ensures { λ _. ⌜ now (words .exit) ≡ wordsOf sets ⌝ }
+// Offers a section, with the PID that it came on or, for 0xFFFFFFFF, without. 5 writes the set's row into `row`.
+pub fn push(
+    sets: &mut [u64; 5],
+    heads: &mut [u64],
+    slots: &mut [u32],
+    cells: &mut [u8],
+    pid: u32,
+    section: &[u8],
+    row: &mut [u64; 1],
+) -> u8
+    ensures { λ r. ⌜ setsLeft r (now (sets .exit)) (now (heads .exit)) (now (slots .exit)) (now (cells .exit)) (now (row .exit)) ≡ setsPushed (now (sets .entry)) (now (heads .entry)) (now (slots .entry)) (now (cells .entry)) pid (now (section .entry)) (now (row .entry)) ⌝ }
 {
-    *words = [
-        sets.limit as u64,
-        sets.size as u64,
-        sets.count as u64,
-        sets.used as u64,
-        sets.evictions,
-    ];
+    let before = words::sets(sets);
+    let from = host_words::pids::maybe(pid);
+    let pushed = sets::push(before, heads, slots, cells, from, section);
+    words::write_pushed(sets, row, pushed)
 }
 
-// A collector that was opened writes all five; a refused opening none.
-fn write_where(words: &mut [u64; 5], answer: OpenAnswer, sets: Sets)
-    ensures { λ _. ⌜ now (words .exit) ≡ wordsOpened answer sets (now (words .entry)) ⌝ }
+// Empties all rows: 7, or 10.
+pub fn clear(sets: &mut [u64; 5], heads: &[u64], slots: &[u32], cells: &[u8]) -> u8
+    ensures { λ r. ⌜ words r (now (sets .exit)) ≡ setsCleared (now (sets .entry)) (now (heads .entry)) (now (slots .entry)) (now (cells .entry)) ⌝ }
 {
-    match answer {
-        OpenAnswer::Opened => write(words, sets),
-        OpenAnswer::TooLittle => {}
-    }
+    let before = words::sets(sets);
+    let cleared = sets::clear(before, heads, slots, cells);
+    words::write_cleared(sets, cleared)
 }
 
-// The counts: no call but opening changes the settings.
-fn write_counts(words: &mut [u64; 5], sets: Sets)
-    ensures { λ _. ⌜ now (words .exit) ≡ wordsAfter (now (words .entry)) sets ⌝ }
+// Has the set in a row another section, from a slot on? 8, 9 or 10; `next` gets its number, and where its bytes are in the cells.
+pub fn next(
+    sets: &[u64; 5],
+    heads: &[u64],
+    slots: &[u32],
+    cells: &[u8],
+    row: u64,
+    from: u64,
+    next: &mut [u64; 3],
+) -> u8
+    ensures { λ r. ⌜ words r (now (next .exit)) ≡ setsNext (now (sets .entry)) (now (heads .entry)) (now (slots .entry)) (now (cells .entry)) row from ⌝ }
 {
-    *words = [
-        words[0],
-        words[1],
-        words[2],
-        sets.used as u64,
-        sets.evictions,
-    ];
-}
-
-// The row of a set that goes out. Any other answer leaves the word as it was.
-fn write_row(row: &mut [u64; 1], answer: PushAnswer)
-    ensures { λ _. ⌜ now (row .exit) ≡ rowBy answer (now (row .entry)) ⌝ }
-{
-    match answer {
-        PushAnswer::Nothing => {}
-        PushAnswer::Set(i) => *row = [i as u64],
-        PushAnswer::NotWhole => {}
-        PushAnswer::CounterFull => {}
-        PushAnswer::PidTooLarge => {}
-        PushAnswer::Malformed => {}
-        PushAnswer::ShortForm => {}
-        PushAnswer::BadNumber => {}
-        PushAnswer::BadCrc => {}
-        PushAnswer::TooLong => {}
-        PushAnswer::NoCell => {}
-        PushAnswer::Conflict => {}
-    }
-}
-
-// Writes what an opening leaves in the words, and gives its number.
-pub fn write_opened(sets: &mut [u64; 5], opened: Opened) -> u8
-    ensures { λ r. ⌜ words r (now (sets .exit)) ≡ tellsOpened opened (now (sets .entry)) ⌝ }
-{
-    let answer = opened.answer;
-    write_where(sets, answer, opened.sets);
-    answer.number()
-}
-
-// Writes what a push leaves in the words, and gives its number.
-pub fn write_pushed(sets: &mut [u64; 5], row: &mut [u64; 1], pushed: Pushed) -> u8
-    ensures { λ r. ⌜ pushes r (now (sets .exit)) (now (row .exit)) ≡ tellsPushed pushed (now (sets .entry)) (now (row .entry)) ⌝ }
-{
-    let answer = pushed.answer;
-    write_counts(sets, pushed.sets);
-    write_row(row, answer);
-    answer.number()
-}
-
-// Writes what a clearing leaves in the words, and gives its number.
-pub fn write_cleared(sets: &mut [u64; 5], cleared: Cleared) -> u8
-    ensures { λ r. ⌜ words r (now (sets .exit)) ≡ tellsCleared cleared (now (sets .entry)) ⌝ }
-{
-    let answer = cleared.answer;
-    write_counts(sets, cleared.sets);
-    answer.number()
-}
-
-// Writes the section that a question told of, all 0 where it told of none, and gives the answer's number.
-pub fn write_next(section: &mut [u64; 3], next: Next) -> u8
-    ensures { λ r. ⌜ words r (now (section .exit)) ≡ tellsNext next ⌝ }
-{
-    let answer = next.answer;
-    *section = [next.number as u64, next.start as u64, next.length as u64];
-    answer.number()
+    let collector = words::sets(sets);
+    let told = sets::next_section(collector, heads, slots, cells, row as usize, from as usize);
+    words::write_next(next, told)
 }

@@ -1,3 +1,1 @@
-pub mod SetLaws
-pub mod Refusals
 pub mod Unique

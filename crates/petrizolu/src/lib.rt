@@ -6,7 +6,7 @@ ghost use Rattle.crc.specs.Crc.{crcOf};
 ghost use Rattle.host_gate.specs.Calls.{begun, gateOpened, left, gateOffered, watchAsked};
 ghost use Rattle.host_indexed.specs.Calls as indexed;
 ghost use Rattle.host_words.specs.Answers.{words};
-ghost use Rattle.petrizolu.specs.Collectors.{setsLeft, setsOpened, setsPushed, setsCleared, setsNext};
+ghost use Rattle.host_sets.specs.Calls.{setsLeft, setsOpened, setsPushed, setsCleared, setsNext};
 ghost use Rattle.host_eit.specs.Calls.{eitOpened, eitLeft, eitPushed, eitCleared, eitDroppedTo, eitDropped, eitNext, eitNextIn};
 
 // The CRC of ISO/IEC 13818-1, Annex A.
@@ -114,15 +114,7 @@ pub extern "C" fn petrizolu_sets_open(
 ) -> u8
     ensures { λ r. ⌜ words r (now (sets .exit)) ≡ setsOpened (now (sets .entry)) limit size count (now (heads .entry)) (now (slots .entry)) (now (cells .entry)) ⌝ }
 {
-    let opened = sets::open(
-        limit as usize,
-        size as usize,
-        count as usize,
-        heads,
-        slots,
-        cells,
-    );
-    host_sets::write_opened(sets, opened)
+    host_sets::open(sets, limit, size, count, heads, slots, cells)
 }
 
 // Offers a section, with the PID that it came on or, for 0xFFFFFFFF, without. 5 writes the set's row into `row`.
@@ -138,13 +130,10 @@ pub extern "C" fn petrizolu_sets_push(
 ) -> u8
     ensures { λ r. ⌜ setsLeft r (now (sets .exit)) (now (heads .exit)) (now (slots .exit)) (now (cells .exit)) (now (row .exit)) ≡ setsPushed (now (sets .entry)) (now (heads .entry)) (now (slots .entry)) (now (cells .entry)) pid (now (section .entry)) (now (row .entry)) ⌝ }
 {
-    let before = host_sets::sets(sets);
-    let from = host_words::pids::maybe(pid);
-    let pushed = sets::push(before, heads, slots, cells, from, section);
-    host_sets::write_pushed(sets, row, pushed)
+    host_sets::push(sets, heads, slots, cells, pid, section, row)
 }
 
-// No row is in use then: 7, or 10.
+// Empties all rows: 7, or 10.
 #[no_mangle]
 pub extern "C" fn petrizolu_sets_clear(
     sets: &mut [u64; 5],
@@ -154,9 +143,7 @@ pub extern "C" fn petrizolu_sets_clear(
 ) -> u8
     ensures { λ r. ⌜ words r (now (sets .exit)) ≡ setsCleared (now (sets .entry)) (now (heads .entry)) (now (slots .entry)) (now (cells .entry)) ⌝ }
 {
-    let before = host_sets::sets(sets);
-    let cleared = sets::clear(before, heads, slots, cells);
-    host_sets::write_cleared(sets, cleared)
+    host_sets::clear(sets, heads, slots, cells)
 }
 
 // Has the set in a row another section, from a slot on? 8, 9 or 10; `next` gets its number, and where its bytes are in the cells.
@@ -172,9 +159,7 @@ pub extern "C" fn petrizolu_sets_next(
 ) -> u8
     ensures { λ r. ⌜ words r (now (next .exit)) ≡ setsNext (now (sets .entry)) (now (heads .entry)) (now (slots .entry)) (now (cells .entry)) row from ⌝ }
 {
-    let collector = host_sets::sets(sets);
-    let told = sets::next_section(collector, heads, slots, cells, row as usize, from as usize);
-    host_sets::write_next(next, told)
+    host_sets::next(sets, heads, slots, cells, row, from, next)
 }
 
 // Opens an EIT collector: 7 or 13. A refusal leaves the words as they were; nothing else lent is written.

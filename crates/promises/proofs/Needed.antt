@@ -9,13 +9,14 @@ use native.Mathlib.Omega.{arith}
 use lib.ListN.{drop, getElem?}
 use Rattle.laws.specs.Lists.{every}
 use Rattle.laws.proofs.Facts.{anyOf}
+use Rattle.answers.specs.declared.Refusal.the-variants.{TooLong}
 use Rattle.rules_shared.specs.Same.{Bytes, sameBytes}
 use Rattle.rules_shared.specs.Touch.{untouched}
 use Rattle.laws.specs.Runs.{answers}
 use Rattle.crc.specs.Crc.{crcFrom, bitsIn, bitIn}
 use Rattle.section.specs.Header.{storedCrc, workedCrc, headerOf}
 use Rattle.section.specs.Judged.{malformed, collectedLong, collectedOf}
-use Rattle.rules_sets.specs.Rules.{Call, Whole, Answer, cleared, refused, nothing, handout, conflict, notWhole, counterFull, noCell}
+use Rattle.rules_sets.specs.Rules.{Call, Whole, Answer, cleared, nothing, handout, refused, conflict, notWhole, counterFull, noCell, numberOf}
 use Rattle.rules_sets.proofs.Cells.{settings-stay as stays}
 use Rattle.rules_sets.proofs.Examples.{replies}
 use Rattle.ages.specs.Order.{downFrom, inOrder, rowsSeen}
@@ -27,7 +28,7 @@ use Rattle.ties_sets.proofs.History.{opened-reached, acts-seen}
 use Rattle.sets.specs.Store.{openedOf}
 use Rattle.ties_sets.specs.View.{readsAs, readSection, reads, seen, acts}
 use Rattle.promises.specs.Demand3.{Collector, StartsEmpty, EqualCellSize, LimitNoLarger, Calls, SectionsOfBytes, answersOf, RefusesNoneAsConflicting, RefusesNoneForItsStore, HandsOut, HandedOutSinceTheLastClear}
-use Rattle.promises.proofs.Runs.{on, said, set-of, bytesIn, of-bytes, collector, shown, runs, never, no-conflict, unrefused}
+use Rattle.promises.proofs.Runs.{numbered, on, said, set-of, bytesIn, of-bytes, collector, shown, runs, never, no-conflict, unrefused}
 
 -- the end of demand 3
 abbrev pub Follows : (smaller larger : Collector) → Calls → Type 0
@@ -41,33 +42,15 @@ first bytes (b ∷ bs) = sameBytes b bytes
 abbrev begins : Bytes → Answer → Bool
 begins bytes (handout w) = first bytes (w .sections)
 begins bytes cleared = false
-begins bytes (refused n) = false
 begins bytes nothing = false
-begins bytes conflict = false
-begins bytes notWhole = false
-begins bytes counterFull = false
-begins bytes noCell = false
+begins bytes (refused r) = false
 
 -- 10, 11 and 21; and 22
 abbrev memory : Answer → Bool
-memory cleared = false
-memory (refused n) = false
-memory nothing = false
-memory (handout w) = false
-memory conflict = false
-memory notWhole = true
-memory counterFull = true
-memory noCell = true
+memory = numbered (10 ∷ 11 ∷ 21 ∷ [])
 
 abbrev others : Answer → Bool
-others cleared = false
-others (refused n) = false
-others nothing = false
-others (handout w) = false
-others conflict = true
-others notWhole = false
-others counterFull = false
-others noCell = false
+others = numbered (22 ∷ [])
 
 -- a set that begins as none that was handed out
 not-given : (s : Collector) (calls : Calls) (as′ : List Answer) → answersOf s calls ≡ as′ → (bytes : Bytes) → anyOf (begins bytes) as′ ≡ false
@@ -153,7 +136,7 @@ clash-large : answersOf (collector 2 16 3) (map on clash) ≡ nothing ∷ nothin
 clash-large = runs (collector 2 16 3) clash-large-opened (shown 2 16 3) clash-large-seen clash clash-bytes clash-said clash-reads ∙ clash-large-replies
 
 clash-stored : RefusesNoneForItsStore (collector 2 16 3) (map on clash)
-unfolding anyOf
+unfolding anyOf numbered numberOf
 clash-stored = record {
   cells = never (collector 2 16 3) (map on clash) _ clash-large memory refl noCell refl;
   counter = never (collector 2 16 3) (map on clash) _ clash-large memory refl counterFull refl;
@@ -161,7 +144,7 @@ clash-stored = record {
 }
 
 pub conflict-needed : ¬ ((smaller larger : Collector) → StartsEmpty smaller → StartsEmpty larger → EqualCellSize smaller larger → LimitNoLarger smaller larger → (calls : Calls) → SectionsOfBytes calls → RefusesNoneForItsStore smaller calls → RefusesNoneForItsStore larger calls → Follows smaller larger calls)
-unfolding anyOf sameBytes
+unfolding anyOf numbered numberOf sameBytes
 conflict-needed f =
     not-given (collector 2 16 3) (map on clash) _ clash-large A-6 refl 3 (set-of 0x40 1 (A-6 ∷ A-8 ∷ [])) refl
     (f (collector 1 16 2) (collector 2 16 3) clash-small-opened clash-large-opened refl (omega arith) (map on clash) (of-bytes clash clash-bytes)
@@ -214,7 +197,7 @@ driven-large : answersOf (collector 1 16 2) (map on driven) ≡ nothing ∷ noth
 driven-large = runs (collector 1 16 2) driven-large-opened (shown 1 16 2) driven-large-seen driven driven-bytes driven-said driven-reads ∙ driven-large-replies
 
 pub limit-needed : ¬ ((smaller larger : Collector) → StartsEmpty smaller → StartsEmpty larger → EqualCellSize smaller larger → (calls : Calls) → SectionsOfBytes calls → RefusesNoneAsConflicting larger calls → RefusesNoneForItsStore smaller calls → RefusesNoneForItsStore larger calls → Follows smaller larger calls)
-unfolding anyOf sameBytes
+unfolding anyOf numbered numberOf sameBytes
 limit-needed f =
     not-given (collector 1 16 2) (map on driven) _ driven-large A-7 refl 2 (set-of 0x40 1 (A-7 ∷ A-8 ∷ [])) refl
     (f (collector 2 16 3) (collector 1 16 2) driven-small-opened driven-large-opened refl (map on driven) (of-bytes driven driven-bytes) (no-conflict (collector 1 16 2) (map on driven) _ driven-large refl)
@@ -260,11 +243,11 @@ alone-short-seen : seen (collector 1 12 1) ≡ shown 1 12 1
 unfolding seen untouched rowsSeen inOrder downFrom cellsSeen upFrom
 alone-short-seen = refl
 
-alone-short-replies : replies (shown 1 12 1) alone-said ≡ refused 20 ∷ []
+alone-short-replies : replies (shown 1 12 1) alone-said ≡ refused TooLong ∷ []
 unfolding replies
 alone-short-replies = refl
 
-alone-short : answersOf (collector 1 12 1) (map on alone) ≡ refused 20 ∷ []
+alone-short : answersOf (collector 1 12 1) (map on alone) ≡ refused TooLong ∷ []
 alone-short = runs (collector 1 12 1) alone-short-opened (shown 1 12 1) alone-short-seen alone alone-bytes alone-said alone-reads ∙ alone-short-replies
 
 alone-none-opened : StartsEmpty (collector 1 16 0)
@@ -283,7 +266,7 @@ alone-none : answersOf (collector 1 16 0) (map on alone) ≡ noCell ∷ []
 alone-none = runs (collector 1 16 0) alone-none-opened (shown 1 16 0) alone-none-seen alone alone-bytes alone-said alone-reads ∙ alone-none-replies
 
 pub cell-size-needed : ¬ ((smaller larger : Collector) → StartsEmpty smaller → StartsEmpty larger → LimitNoLarger smaller larger → (calls : Calls) → SectionsOfBytes calls → RefusesNoneAsConflicting larger calls → RefusesNoneForItsStore smaller calls → RefusesNoneForItsStore larger calls → Follows smaller larger calls)
-unfolding anyOf sameBytes
+unfolding anyOf numbered numberOf sameBytes
 cell-size-needed f =
     not-given (collector 1 12 1) (map on alone) _ alone-short C-9 refl 0 (set-of 0x46 0 (C-9 ∷ [])) refl
     (f (collector 1 16 1) (collector 1 12 1) alone-small-opened alone-short-opened (omega arith) (map on alone) (of-bytes alone alone-bytes) (no-conflict (collector 1 12 1) (map on alone) _ alone-short refl)
@@ -293,7 +276,7 @@ cell-size-needed f =
 -- ---- the larger wants a cell (21)
 
 pub larger-cells-needed : ¬ ((smaller larger : Collector) → StartsEmpty smaller → StartsEmpty larger → EqualCellSize smaller larger → LimitNoLarger smaller larger → (calls : Calls) → SectionsOfBytes calls → RefusesNoneAsConflicting larger calls → RefusesNoneForItsStore smaller calls → Follows smaller larger calls)
-unfolding anyOf sameBytes
+unfolding anyOf numbered numberOf sameBytes
 larger-cells-needed f =
     not-given (collector 1 16 0) (map on alone) _ alone-none C-9 refl 0 (set-of 0x46 0 (C-9 ∷ [])) refl
     (f (collector 1 16 1) (collector 1 16 0) alone-small-opened alone-none-opened refl (omega arith) (map on alone) (of-bytes alone alone-bytes)
@@ -348,7 +331,7 @@ wanting-large : answersOf (collector 2 16 9) (map on wanting) ≡ nothing ∷ no
 wanting-large = runs (collector 2 16 9) wanting-large-opened (shown 2 16 9) wanting-large-seen wanting wanting-bytes wanting-said wanting-reads ∙ wanting-large-replies
 
 pub smaller-cells-needed : ¬ ((smaller larger : Collector) → StartsEmpty smaller → StartsEmpty larger → EqualCellSize smaller larger → LimitNoLarger smaller larger → (calls : Calls) → SectionsOfBytes calls → RefusesNoneAsConflicting larger calls → RefusesNoneForItsStore larger calls → Follows smaller larger calls)
-unfolding anyOf sameBytes
+unfolding anyOf numbered numberOf sameBytes
 smaller-cells-needed f =
     not-given (collector 2 16 9) (map on wanting) _ wanting-large B-7 refl 6 (set-of 0x42 1 (B-7 ∷ B-8 ∷ [])) refl
     (f (collector 2 16 3) (collector 2 16 9) wanting-small-opened wanting-large-opened refl (omega arith) (map on wanting) (of-bytes wanting wanting-bytes)
@@ -430,7 +413,7 @@ settings-stay =
     (ap (λ (o : Settings). o .cellSize) e, ap (λ (o : Settings). o .limit) e)
 
 pub empty-start-needed : ¬ ((smaller larger : Collector) → StartsEmpty larger → EqualCellSize smaller larger → LimitNoLarger smaller larger → (calls : Calls) → SectionsOfBytes calls → RefusesNoneAsConflicting larger calls → RefusesNoneForItsStore smaller calls → RefusesNoneForItsStore larger calls → Follows smaller larger calls)
-unfolding anyOf sameBytes
+unfolding anyOf numbered numberOf sameBytes
 empty-start-needed f =
     not-given (collector 1 16 2) (map on second) _ second-large A-7 refl 0 (set-of 0x40 1 (A-7 ∷ A-8 ∷ [])) refl
     (f begun (collector 1 16 2) second-large-opened (settings-stay .0) (le-of-eq (settings-stay .1)) (map on second) (of-bytes second second-bytes) (no-conflict (collector 1 16 2) (map on second) _ second-large refl)

@@ -12,14 +12,14 @@ use Rattle.rules_shared.specs.Touch.{untouched}
 use Rattle.crc.specs.Crc.{crcFrom, bitsIn, bitIn}
 use Rattle.section.specs.Header.{storedCrc, workedCrc, headerOf}
 use Rattle.section.specs.Judged.{malformed, collectedLong, collectedOf}
-use Rattle.rules_sets.specs.Rules.{Call, Whole, Answer, nothing, handout}
+use Rattle.rules_sets.specs.Rules.{Call, Whole, Answer, nothing, handout, numberOf}
 use Rattle.rules_sets.proofs.Examples.{replies}
 use Rattle.ages.specs.Order.{downFrom, inOrder, rowsSeen}
 use Rattle.ages.specs.Slots.{upFrom, cellsSeen}
 use Rattle.sets.specs.Store.{openedOf}
 use Rattle.ties_sets.specs.View.{readsAs, readSection, reads, seen}
 use Rattle.promises.specs.Demand3.{Collector, StartsEmpty, EqualCellSize, LimitNoLarger, Calls, SectionsOfBytes, answersOf, RefusesNoneAsConflicting, RefusesNoneForItsStore, HandsOut}
-use Rattle.promises.proofs.Runs.{on, said, set-of, bytesIn, of-bytes, collector, shown, runs, no-conflict, unrefused}
+use Rattle.promises.proofs.Runs.{numbered, on, said, set-of, bytesIn, of-bytes, collector, shown, runs, no-conflict, unrefused}
 
 -- ---- the sections: each twelve bytes, the last four the CRC
 
@@ -109,7 +109,7 @@ pub record Holds : Type 0 where
   pub hands-out : HandsOut smaller calls 3 set-A
 
 pub holds : Holds
-unfolding anyOf
+unfolding anyOf numbered numberOf
 holds = record {
   smaller-empty = smaller-opened;
   larger-empty = larger-opened;

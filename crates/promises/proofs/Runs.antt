@@ -8,7 +8,7 @@ use Prim.Native.Nat.{ℕ, zero, suc, _*_, _<_, _≤_}
 use native.Mathlib.Omega.{arith}
 use native.Mathlib.Decide.{decLe}
 use borrow.Author.Tests.{ltb-true}
-use lib.Dec.{ltb}
+use lib.Dec.{eqb, ltb}
 use lib.ListN.{length, getD, replicate, List·getD-eq-default}
 use Rattle.laws.specs.Lists.{every}
 use Rattle.laws.proofs.Search.{every-get}
@@ -19,11 +19,11 @@ use Rattle.rules_shared.specs.Touch.{untouched}
 use Rattle.laws.specs.Runs.{At, Never}
 use Rattle.section.specs.Facts.{Bytes as AllBytes}
 use Rattle.section.specs.declared.ids.MaybePid.the-variants as maybe
-use Rattle.rules_sets.specs.Rules.{Key, Call, offer, Whole, Answer, cleared, refused, nothing, handout, conflict, notWhole, counterFull, noCell}
+use Rattle.rules_sets.specs.Rules.{Key, Call, offer, Whole, Answer, cleared, nothing, handout, refused, conflict, notWhole, counterFull, noCell, numberOf}
 use Rattle.rules_sets.specs.Cells.{Store as Shown}
 use Rattle.rules_sets.specs.Demand.{run, withCells}
 use Rattle.rules_sets.proofs.Examples.{replies}
-use Rattle.sets.specs.Store.{store, asked}
+use Rattle.store.specs.Store.{store, asked}
 use Rattle.sets.specs.History.{Call as Given, offer as section, Bytes as OfBytes}
 use Rattle.ties_sets.specs.View.{reads, seen}
 use Rattle.promises.specs.Demand3.{Collector, StartsEmpty, Calls, SectionsOfBytes, answersOf, RefusesNoneAsConflicting, RefusesNoneForItsStore}
@@ -35,7 +35,7 @@ abbrev pub on : Bytes → Given
 on bytes = section (maybe.Some 0x10) bytes
 
 abbrev pub key : ℕ → Key
-key table = record { pid = some 0x10; tableId = table; extension = 1; currentNext = true }
+key table = record { from = record { pid = some 0x10 }; tableId = table; extension = 1; currentNext = true }
 
 -- what such a section says
 abbrev pub said : (table number last : ℕ) → Bytes → Call
@@ -77,16 +77,13 @@ pub runs : (s : Collector) → StartsEmpty s → (v : Shown) → seen s ≡ v �
 unfolding replies
 runs s o v e bs b said r = as-rules s o (map on bs) (of-bytes bs b) ∙ ap (λ (q : Shown). run withCells q (map reads (map on bs))) e ∙ ap (run withCells v) r
 
+-- the answer has one of these numbers
+unfoldable pub numbered : List ℕ → Answer → Bool
+numbered ns a = anyOf (λ (n : ℕ). eqb (numberOf a) n) ns
+
 -- 10, 11, 21 and 22
 abbrev pub refuses : Answer → Bool
-refuses cleared = false
-refuses (refused n) = false
-refuses nothing = false
-refuses (handout w) = false
-refuses conflict = true
-refuses notWhole = true
-refuses counterFull = true
-refuses noCell = true
+refuses = numbered (10 ∷ 11 ∷ 21 ∷ 22 ∷ [])
 
 module _ (s : Collector) (calls : Calls) (as′ : List Answer) (e : answersOf s calls ≡ as′) where
   -- an answer that passes a test which none of the run passes
@@ -94,7 +91,9 @@ module _ (s : Collector) (calls : Calls) (as′ : List Answer) (e : answersOf s 
   never test h a p t q = not-among test a p as′ h t (subst (λ (l : List Answer). At l t a) e q)
 
   pub no-conflict : anyOf refuses as′ ≡ false → RefusesNoneAsConflicting s calls
+  unfolding numbered numberOf anyOf
   no-conflict h = never refuses h conflict refl
 
   pub unrefused : anyOf refuses as′ ≡ false → RefusesNoneForItsStore s calls
+  unfolding numbered numberOf anyOf
   unrefused h = record { cells = never refuses h noCell refl; counter = never refuses h counterFull refl; wholeness = never refuses h notWhole refl }

@@ -13,7 +13,7 @@ use mathlib.Core.Path.{_≡_}
 use mathlib.Core.List.{List}
 use Rattle.laws.specs.Runs.{answers, At, Never, GivenBy}
 use Rattle.rules_sets.specs.Rules.{Whole, Answer, handout, conflict, notWhole, counterFull, noCell}
-use Rattle.sets.specs.Store.{Store}
+use Rattle.store.specs.Store.{Store}
 use Rattle.sets.specs.History.{Call as Given, empty as clears, Bytes as OfBytes}
 use Rattle.ties_sets.specs.View.{tells, acts, Opened}
 

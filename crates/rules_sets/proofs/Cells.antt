@@ -7,6 +7,7 @@ use mathlib.Core.Bool.{true}
 use Prim.Native.Nat.{ℕ, zero, suc}
 use native.Mathlib.Omega.{arith}
 use lib.ListN.{length}
+use Rattle.rules_shared.specs.Refusals as refusals
 use Rattle.rules_shared.specs.Same.{Bytes}
 use Rattle.rules_shared.specs.Touch.{seenAs, untouched, emptied, onOrder}
 use Rattle.rules_shared.specs.Row.{keep, onRow, put}
@@ -45,7 +46,7 @@ module _ (s : Store) where
       go (suc n) q = rw (met-on read x (s .sets), aside-on (onRow read) sameKey (suc n) (x .key) (s .sets), ← q) refl
 
   well : {i : Call} {t : Turn} → Outcome s i t → Fits t (step (s .settings) (view s) i)
-  unfolding barred step admit push view onSets onOrder emptied seenAs finish onAnswer roomFor takes shows
+  unfolding barred refusals.barred step admit push view onSets onOrder emptied seenAs finish onAnswer roomFor takes shows
   well (broken i w) = out refl
   well (stopped i w e) = out refl
   well (clears w) = fits refl refl

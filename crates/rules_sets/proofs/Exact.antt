@@ -11,6 +11,8 @@ use Prim.Native.Nat.{ℕ, _≤_, _<_}
 use native.Mathlib.Omega.{arith}
 use lib.ListN.{length, getD, drop}
 use Rattle.laws.proofs.Tests.{none≢some}
+use Rattle.answers.specs.declared.Refusal.the-variants.{NoCell, Conflict}
+use Rattle.rules_shared.specs.Refusals as refusals
 use Rattle.rules_shared.specs.Touch.{under, find, remove, newest}
 use Rattle.rules_shared.specs.Row.{slotOf}
 use Rattle.rules_shared.specs.Cells.{Held, bytesOf, names}
@@ -18,7 +20,7 @@ use Rattle.rules_shared.proofs.Slots.{none-passes, passes-none}
 use Rattle.rules_shared.proofs.All.{All, all-map, none-all, all-none, held-stays}
 use Rattle.rules_shared.proofs.Row.{slot-on, start-held}
 use Rattle.rules_shared.proofs.Cells.{LowestFree, AllTaken, write-other, write-front, Kept, kept-parts, parts-kept}
-use Rattle.rules_sets.specs.Rules.{Key, sameKey, SetOf, SetsOf, Section, partOf, Call, offer, conflict, noCell, asBefore, metRow, isKept, Answer, cleared, refused, nothing, handout, notWhole, counterFull}
+use Rattle.rules_sets.specs.Rules.{Key, sameKey, SetOf, SetsOf, Section, partOf, Call, offer, CanCome, conflict, noCell, asBefore, metRow, isKept, Answer, cleared, nothing, handout, refused}
 use Rattle.rules_sets.specs.Cells.{Store, Turn, onAnswer, view, takes, taken, storeWhole, ended, shows, rest, roomFor, call, callTells, callActs}
 use Rattle.rules_sets.proofs.Views.{met-on}
 use Rattle.rules_sets.proofs.Outcome.{row, slot, Asks, Outcome, broken, stopped, clears, refuses, long, keyless, lacks, keeps, ignores, conflicts, outcome, accepting, judge-accepts, accepts-not}
@@ -45,11 +47,7 @@ unfolding accepting asBefore
 accepts-changes nothing p q = true≢false (sym q)
 accepts-changes (handout w) p q = true≢false (sym q)
 accepts-changes cleared p q = true≢false (sym p)
-accepts-changes (refused n) p q = true≢false (sym p)
-accepts-changes conflict p q = true≢false (sym p)
-accepts-changes notWhole p q = true≢false (sym p)
-accepts-changes counterFull p q = true≢false (sym p)
-accepts-changes noCell p q = true≢false (sym p)
+accepts-changes (refused r) p q = true≢false (sym p)
 
 -- ---- 21
 
@@ -61,21 +59,21 @@ pub record NeedsCell (s : Store) (x : Section) : Type 0 where
   pub kept : isKept (s .settings) (view s) x ≡ true
   pub named : AllTaken (taken (roomFor s x)) (length (s .cells))
 
-pub only-then-21 : (s : Store) (i : Call) → callTells s i ≡ noCell → (x : Section) × (i ≡ offer x) × NeedsCell s x
-unfolding callTells accepting onAnswer shows
-only-then-21 s i e = go (outcome s i) e
+pub only-then-21 : (s : Store) (i : Call) → CanCome i → callTells s i ≡ noCell → (x : Section) × (i ≡ offer x) × NeedsCell s x
+unfolding callTells accepting onAnswer shows refusals.ofSection
+only-then-21 s i c e = go (outcome s i) c e
   where
-    go : {j : Call} {t : Turn} → Outcome s j t → t .answer ≡ noCell → (x : Section) × (j ≡ offer x) × NeedsCell s x
-    go (broken j w) e = let z : _≡_ {A = ℕ} 0 1 = cc in absurd (omega arith)
-    go (stopped j w q) e = let z : _≡_ {A = ℕ} 0 1 = cc in absurd (omega arith)
-    go (clears w) e = let z : _≡_ {A = ℕ} 0 1 = cc in absurd (omega arith)
-    go (refuses n w) e = let z : _≡_ {A = ℕ} 0 1 = cc in absurd (omega arith)
-    go (long x w l) e = let z : _≡_ {A = ℕ} 0 1 = cc in absurd (omega arith)
-    go (keyless x w l q) e = let z : _≡_ {A = ℕ} 0 1 = cc in absurd (omega arith)
-    go (lacks x a q f) e = (x, refl, record { isWhole = a .isWhole; running = a .running; kept = asked-kept s x a q; named = f })
-    go (keeps x a q c f) e = absurd (accepts-not _ _ (judge-accepts _ (rest s x) (x .key) _) refl e)
-    go (ignores x a k q f) e = absurd (accepts-not _ _ (judge-accepts _ (rest s x) (x .key) _) refl e)
-    go (conflicts x a k q f) e = let z : _≡_ {A = ℕ} 0 1 = cc in absurd (omega arith)
+    go : {j : Call} {t : Turn} → Outcome s j t → CanCome j → t .answer ≡ noCell → (x : Section) × (j ≡ offer x) × NeedsCell s x
+    go (broken j w) come e = let z : _≡_ {A = ℕ} 0 1 = cc in absurd (omega arith)
+    go (stopped j w q) come e = let z : _≡_ {A = ℕ} 0 1 = cc in absurd (omega arith)
+    go (clears w) come e = let z : _≡_ {A = ℕ} 0 1 = cc in absurd (omega arith)
+    go (refuses r w) come e = let z : r ≡ NoCell = cc in absurd (true≢false (sym come ∙ ap refusals.ofSection z))
+    go (long x w l) come e = let z : _≡_ {A = ℕ} 0 1 = cc in absurd (omega arith)
+    go (keyless x w l q) come e = let z : _≡_ {A = ℕ} 0 1 = cc in absurd (omega arith)
+    go (lacks x a q f) come e = (x, refl, record { isWhole = a .isWhole; running = a .running; kept = asked-kept s x a q; named = f })
+    go (keeps x a q c f) come e = absurd (accepts-not _ _ (judge-accepts _ (rest s x) (x .key) _) refl e)
+    go (ignores x a k q f) come e = absurd (accepts-not _ _ (judge-accepts _ (rest s x) (x .key) _) refl e)
+    go (conflicts x a k q f) come e = let z : _≡_ {A = ℕ} 0 1 = cc in absurd (omega arith)
 
 pub then-21 : (s : Store) (x : Section) → NeedsCell s x → callTells s (offer x) ≡ noCell
 unfolding callTells isKept
@@ -105,7 +103,7 @@ then-21 s x n = go (outcome s (offer x)) refl
 -- ---- "as before": on 10, 11, 21 and every refusal but 22
 
 pub as-before : (s : Store) (i : Call) → asBefore (callTells s i) ≡ true → callActs s i ≡ s
-unfolding callTells callActs asBefore onAnswer shows
+unfolding callTells callActs asBefore onAnswer shows refusals.asBefore
 as-before s i e = go (outcome s i) e
   where
     go : {j : Call} {t : Turn} → Outcome s j t → asBefore (t .answer) ≡ true → t .store ≡ s
@@ -149,25 +147,25 @@ pub record Conflicting (s : Store) (x : Section) (after : Store) : Type 0 where
     cells = s .cells;
   }
 
-pub conflict-touches : (s : Store) (i : Call) → callTells s i ≡ conflict → (x : Section) × (i ≡ offer x) × Conflicting s x (callActs s i)
-unfolding callTells callActs accepting onAnswer shows roomFor rest newest metRow
-conflict-touches s i e = go (outcome s i) e
+pub conflict-touches : (s : Store) (i : Call) → CanCome i → callTells s i ≡ conflict → (x : Section) × (i ≡ offer x) × Conflicting s x (callActs s i)
+unfolding callTells callActs accepting onAnswer shows roomFor rest newest metRow refusals.ofSection
+conflict-touches s i c e = go (outcome s i) c e
   where
     touched : (x : Section) (h : Held) → slot s x ≡ some h
         → roomFor s x ≡ record { rows = remove sameKey (x .key) (s .sets .rows) ++ (under (x .key) (row s x) ∷ []); evicted = s .sets .evicted }
     touched x h q = ap (newest (x .key) (row s x)) (held-stays sameKey (s .settings .limit) (x .key) (s .sets) (row s x) (start-held (partOf x) (find sameKey (x .key) (s .sets .rows)) h q))
 
-    go : {j : Call} {t : Turn} → Outcome s j t → t .answer ≡ conflict → (x : Section) × (j ≡ offer x) × Conflicting s x (t .store)
-    go (broken j w) e = let z : _≡_ {A = ℕ} 0 1 = cc in absurd (omega arith)
-    go (stopped j w q) e = let z : _≡_ {A = ℕ} 0 1 = cc in absurd (omega arith)
-    go (clears w) e = let z : _≡_ {A = ℕ} 0 1 = cc in absurd (omega arith)
-    go (refuses n w) e = let z : _≡_ {A = ℕ} 0 1 = cc in absurd (omega arith)
-    go (long x w l) e = let z : _≡_ {A = ℕ} 0 1 = cc in absurd (omega arith)
-    go (keyless x w l q) e = let z : _≡_ {A = ℕ} 0 1 = cc in absurd (omega arith)
-    go (lacks x a q f) e = let z : _≡_ {A = ℕ} 0 1 = cc in absurd (omega arith)
-    go (keeps x a q c f) e = absurd (accepts-not _ _ (judge-accepts _ (rest s x) (x .key) _) refl e)
-    go (ignores x a k q f) e = absurd (accepts-not _ _ (judge-accepts _ (rest s x) (x .key) _) refl e)
-    go (conflicts x a h q f) e = (
+    go : {j : Call} {t : Turn} → Outcome s j t → CanCome j → t .answer ≡ conflict → (x : Section) × (j ≡ offer x) × Conflicting s x (t .store)
+    go (broken j w) come e = let z : _≡_ {A = ℕ} 0 1 = cc in absurd (omega arith)
+    go (stopped j w q) come e = let z : _≡_ {A = ℕ} 0 1 = cc in absurd (omega arith)
+    go (clears w) come e = let z : _≡_ {A = ℕ} 0 1 = cc in absurd (omega arith)
+    go (refuses r w) come e = let z : r ≡ Conflict = cc in absurd (true≢false (sym come ∙ ap refusals.ofSection z))
+    go (long x w l) come e = let z : _≡_ {A = ℕ} 0 1 = cc in absurd (omega arith)
+    go (keyless x w l q) come e = let z : _≡_ {A = ℕ} 0 1 = cc in absurd (omega arith)
+    go (lacks x a q f) come e = let z : _≡_ {A = ℕ} 0 1 = cc in absurd (omega arith)
+    go (keeps x a q c f) come e = absurd (accepts-not _ _ (judge-accepts _ (rest s x) (x .key) _) refl e)
+    go (ignores x a k q f) come e = absurd (accepts-not _ _ (judge-accepts _ (rest s x) (x .key) _) refl e)
+    go (conflicts x a h q f) come e = (
       x,
       refl,
       record {

@@ -8,7 +8,8 @@ use Prim.Native.Nat.{ℕ}
 use native.Mathlib.Omega.{arith}
 use lib.ListN.{replicate}
 use Rattle.laws.proofs.Facts.{anyOf, not-among}
-use Rattle.rules_shared.specs.Same.{Bytes, sameBytes, samePid}
+use Rattle.answers.specs.declared.Refusal.the-variants.{Malformed, BadCrc}
+use Rattle.rules_shared.specs.Same.{Bytes, sameBytes, samePid, sameOrigin}
 use Rattle.rules_shared.specs.Slots.{isHeld, present, someHeld, everyHeld, onSlots}
 use Rattle.rules_shared.specs.Touch.{Entry, oldestGone, room, leaves, count, someRow, everyRow, seenAs, find, remove, others, evicts, untouched, aside, newest, touch, emptied, onOrder}
 use Rattle.rules_shared.specs.Row.{fresh, fits, start, slotOf, keep, marked, onRow, putOver, put}
@@ -23,7 +24,7 @@ unfoldable pub twelve : ℕ → Bytes
 twelve b = replicate 12 b
 
 unfoldable pub key : ℕ → Key
-key t = record { pid = some 18; tableId = t; extension = 1; currentNext = true }
+key t = record { from = record { pid = some 18 }; tableId = t; extension = 1; currentNext = true }
 
 -- section n of last of table t, version v
 unfoldable pub sect : (table version last number byte : ℕ) → Call
@@ -37,7 +38,7 @@ set-of t v last bs = record { key = key t; version = v; last = last; sections = 
 -- ---- runs, with every definition open
 
 unfoldable pub by-rules : (limit : ℕ) → List Call → List Answer
-unfolding sect set-of sameBytes samePid isHeld present oldestGone room leaves count find remove others evicts untouched aside newest touch emptied fresh fits start slotOf keep marked putOver put sameKey partOf full whole metRow judged judge finish push admit step tells acts answers
+unfolding sect set-of sameBytes samePid sameOrigin isHeld present oldestGone room leaves count find remove others evicts untouched aside newest touch emptied fresh fits start slotOf keep marked putOver put sameKey partOf full whole metRow judged judge finish push admit step tells acts answers
 by-rules limit calls = answers (tells (record { limit = limit; cellSize = 16 })) (acts (record { limit = limit; cellSize = 16 })) opened calls
 
 unfoldable pub after-rules : (limit : ℕ) → List Call → Sets
@@ -72,7 +73,7 @@ unfolding after-rules
 clear-counts = refl
 
 -- a refusal by the section's bytes; 20; then limit 0, looked at after 20
-refusals : map numberOf (by-rules 0 (refuse 17 ∷ offer (record { key = key 1; version = 0; number = 0; last = 0; bytes = replicate 17 1 }) ∷ sect 1 0 0 0 7 ∷ clear ∷ [])) ≡ 17 ∷ 20 ∷ 4 ∷ 7 ∷ []
+refusals : map numberOf (by-rules 0 (refuse BadCrc ∷ offer (record { key = key 1; version = 0; number = 0; last = 0; bytes = replicate 17 1 }) ∷ sect 1 0 0 0 7 ∷ clear ∷ [])) ≡ 17 ∷ 20 ∷ 4 ∷ 7 ∷ []
 unfolding by-rules numberOf
 refusals = refl
 
@@ -136,11 +137,11 @@ unfolding replies
 tight = refl
 
 -- no cell at all: the first section that would be kept answers 21
-none-at-all : map numberOf (replies (store 1 16 0) (refuse 14 ∷ sect 1 0 1 0 7 ∷ [])) ≡ 14 ∷ 21 ∷ []
+none-at-all : map numberOf (replies (store 1 16 0) (refuse Malformed ∷ sect 1 0 1 0 7 ∷ [])) ≡ 14 ∷ 21 ∷ []
 unfolding replies numberOf
 none-at-all = refl
 
 -- settings that opening refuses
-not-whole : map numberOf (replies (store 1 8 1) (refuse 14 ∷ clear ∷ [])) ≡ 10 ∷ 10 ∷ []
+not-whole : map numberOf (replies (store 1 8 1) (refuse Malformed ∷ clear ∷ [])) ≡ 10 ∷ 10 ∷ []
 unfolding replies numberOf
 not-whole = refl

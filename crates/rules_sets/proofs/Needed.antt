@@ -12,6 +12,7 @@ use lib.Dec.{leb, eqb}
 use lib.ListN.{replicate, length-replicate}
 use Rattle.laws.proofs.Tests.{none≢some}
 use Rattle.laws.proofs.Facts.{eq-passes, anyOf, not-among}
+use Rattle.rules_shared.specs.Refusals as refusals
 use Rattle.rules_shared.specs.Same.{Bytes, sameBytes}
 use Rattle.rules_shared.specs.Touch.{untouched}
 use Rattle.rules_shared.specs.Cells.{roomWhole}
@@ -32,12 +33,8 @@ hands : Bytes → Answer → Bool
 unfolding joined
 hands bytes (handout w) = sameBytes (joined (w .sections)) bytes
 hands bytes cleared = false
-hands bytes (refused n) = false
 hands bytes nothing = false
-hands bytes conflict = false
-hands bytes notWhole = false
-hands bytes counterFull = false
-hands bytes noCell = false
+hands bytes (refused r) = false
 
 -- the answer has this number
 numbered : ℕ → Answer → Bool
@@ -46,7 +43,7 @@ numbered n a = eqb (numberOf a) n
 
 -- what no answer of a run passes
 noneIn : (Answer → Bool) → List Answer → Bool
-unfolding anyOf barred hands numbered sameBytes
+unfolding anyOf barred refusals.barred hands numbered sameBytes
 noneIn test as′ = anyOf test as′
 
 unbarred : (s : Store) (calls : List Call) → noneIn barred (replies s calls) ≡ false → NeverBarred (run withCells s calls)

@@ -9,6 +9,8 @@ use Prim.Native.Nat.{ℕ, zero, suc, _≤_, _<_}
 use native.Mathlib.Omega.{arith}
 use lib.Dec.{leb}
 use lib.ListN.{length}
+use Rattle.answers.specs.declared.Refusal.{Refusal}
+use Rattle.answers.specs.declared.Refusal.the-variants.{TooLong}
 use Rattle.rules_shared.specs.Same.{Bytes}
 use Rattle.rules_shared.specs.Touch.{emptied}
 use Rattle.rules_shared.specs.Row.{slotOf, keep}
@@ -36,8 +38,8 @@ pub data Outcome (s : Store) : Call → Turn → Type 0 where
   broken : (i : Call) → storeWhole s ≡ false → Outcome s i (record { answer = notWhole; store = s })
   stopped : (i : Call) → storeWhole s ≡ true → ended s i ≡ true → Outcome s i (record { answer = counterFull; store = s })
   clears : storeWhole s ≡ true → Outcome s clear (record { answer = cleared; store = record { settings = s .settings; sets = emptied (s .sets); cells = s .cells } })
-  refuses : (n : ℕ) → storeWhole s ≡ true → Outcome s (refuse n) (record { answer = refused n; store = s })
-  long : (x : Section) → storeWhole s ≡ true → s .settings .cellSize < length (x .bytes) → Outcome s (offer x) (record { answer = refused 20; store = s })
+  refuses : (r : Refusal) → storeWhole s ≡ true → Outcome s (refuse r) (record { answer = refused r; store = s })
+  long : (x : Section) → storeWhole s ≡ true → s .settings .cellSize < length (x .bytes) → Outcome s (offer x) (record { answer = refused TooLong; store = s })
   keyless : (x : Section) → storeWhole s ≡ true → length (x .bytes) ≤ s .settings .cellSize → s .settings .limit ≡ 0 → Outcome s (offer x) (record { answer = nothing; store = s })
   lacks : (x : Section) → Asks s x → slot s x ≡ none → AllTaken (taken (roomFor s x)) (length (s .cells)) → Outcome s (offer x) (record { answer = noCell; store = s })
   keeps : (x : Section) → Asks s x → slot s x ≡ none → (c : ℕ) → LowestFree (taken (roomFor s x)) (length (s .cells)) c
@@ -69,7 +71,7 @@ module _ (s : Store) where
   well : (i : Call) → storeWhole s ≡ true → ended s i ≡ false → Outcome s i (good s i)
   unfolding good shows onAnswer
   well clear w e = clears w
-  well (refuse n) w e = refuses n w
+  well (refuse r) w e = refuses r w
   well (offer x) w e = admitted x w e (leb (length (x .bytes)) (s .settings .cellSize)) refl
 
   pub outcome : (i : Call) → Outcome s i (call s i)
@@ -84,13 +86,9 @@ module _ (s : Store) where
 -- 4 or 5: what judging a row answers
 unfoldable pub accepting : Answer → Bool
 accepting cleared = false
-accepting (refused n) = false
 accepting nothing = true
 accepting (handout w) = true
-accepting conflict = false
-accepting notWhole = false
-accepting counterFull = false
-accepting noCell = false
+accepting (refused r) = false
 
 pub judge-accepts : (f : Held → Bytes) (s : SetsOf Held) (k : Key) (r : SetOf Held) → accepting (onAnswer f ((judge s k r) .answer)) ≡ true
 unfolding judge judged onAnswer accepting

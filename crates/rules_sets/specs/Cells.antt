@@ -1,15 +1,16 @@
--- The set collector with cells (01, "Cells"): a slot names the cell that holds a section's bytes, and how many they are. 10, 11 and 21 come in here.
+-- The set collector with cells (docs/RULES.md, "Cells"): a slot names the cell that holds a section's bytes, and how many they are. 10, 11 and 21 come in here.
 -- Assumes nothing.
 use mathlib.Core.Bool.{Bool, true, false, _&&_}
 use mathlib.Core.List.{map}
 use Prim.Native.Nat.{ℕ, zero, suc}
 use lib.Dec.{leb}
 use lib.ListN.{length}
+use Rattle.answers.specs.declared.Refusal.the-variants.{TooLong}
 use Rattle.rules_shared.specs.Slots.{someHeld, everyHeld}
 use Rattle.rules_shared.specs.Touch.{someRow, everyRow, aside, newest, emptied, onOrder}
 use Rattle.rules_shared.specs.Row.{slotOf, keep, onRow}
 use Rattle.rules_shared.specs.Cells.{Settings, Held, Cells, bytesOf, names, write, Place, into, noneFree, ignored, conflicting, place, heldIn, roomWhole, heldWhole, atEnd}
-use Rattle.rules_sets.specs.Rules.{sameKey, SetOf, SetsOf, Section, partOf, Call, clear, refuse, offer, WholeOf, AnswerOf, cleared, refused, nothing, handout, conflict, notWhole, counterFull, noCell, StepOf, gives, metRow, judge, Sets, Answer}
+use Rattle.rules_sets.specs.Rules.{sameKey, SetOf, SetsOf, Section, partOf, Call, clear, refuse, offer, WholeOf, AnswerOf, cleared, nothing, handout, refused, conflict, notWhole, counterFull, noCell, StepOf, gives, metRow, judge, Sets, Answer}
 
 pub record Store : Type 0 where
   pub settings : Settings
@@ -32,13 +33,9 @@ module _ {A B : Type 0} (f : A → B) where
 
   unfoldable pub onAnswer : AnswerOf A → AnswerOf B
   onAnswer cleared = cleared
-  onAnswer (refused n) = refused n
   onAnswer nothing = nothing
   onAnswer (handout w) = handout (onWhole w)
-  onAnswer conflict = conflict
-  onAnswer notWhole = notWhole
-  onAnswer counterFull = counterFull
-  onAnswer noCell = noCell
+  onAnswer (refused r) = refused r
 
 unfoldable pub view : Store → Sets
 view s = onSets (bytesOf (s .cells)) (s .sets)
@@ -64,7 +61,7 @@ storeWhole s =
 -- 11: "a section is given and a counter of this part is at 2^64 − 1"
 unfoldable pub ended : Store → Call → Bool
 ended s clear = false
-ended s (refuse n) = atEnd (s .sets .evicted)
+ended s (refuse r) = atEnd (s .sets .evicted)
 ended s (offer x) = atEnd (s .sets .evicted)
 
 -- ---- one call
@@ -96,13 +93,13 @@ pushIn zero s x = shows s (s .cells) (gives nothing (s .sets))
 pushIn (suc n) s x = carry s x (placeOf s x)
 
 unfoldable pub admitIn : Store → Section → (short : Bool) → Turn
-admitIn s x false = shows s (s .cells) (gives (refused 20) (s .sets))
+admitIn s x false = shows s (s .cells) (gives (refused TooLong) (s .sets))
 admitIn s x true = pushIn (s .settings .limit) s x
 
 -- a call on a store that is whole, no counter at its end
 unfoldable pub good : Store → Call → Turn
 good s clear = shows s (s .cells) (gives cleared (emptied (s .sets)))
-good s (refuse n) = shows s (s .cells) (gives (refused n) (s .sets))
+good s (refuse r) = shows s (s .cells) (gives (refused r) (s .sets))
 good s (offer x) = admitIn s x (leb (length (x .bytes)) (s .settings .cellSize))
 
 -- "Lower number first where several apply"

@@ -6,32 +6,45 @@ use mathlib.Core.List.{List}
 use mathlib.Core.Bool.{Bool, true, false, cond}
 use Prim.Native.Nat.{ℕ, _<_}
 use native.Mathlib.Omega.{arith}
+use Rattle.answers.specs.declared.Refusal.{Refusal}
+use Rattle.answers.specs.declared.Refusal.the-variants.{Conflict}
 use Rattle.section.specs.declared.ids.MaybePid.{MaybePid}
 use Rattle.rows.specs.Rows.{word, touched}
 use Rattle.rows.proofs.Words.{touched-not}
-use Rattle.sets.specs.declared.PushAnswer.the-variants.{Nothing, Set, Conflict}
-use Rattle.sets.specs.declared.inner.Plan.{Plan}
-use Rattle.sets.specs.declared.inner.Plan.the-variants as plan
-use Rattle.sets.specs.Store.{Store, store, plain, handed, setIn, answerOf, goesOut, settledAnswer, settledHeads, settled, keptIn, carried, planOf, pushedOf}
+use Rattle.store.specs.Store.{Store, store}
+use Rattle.arrivals.specs.declared.SetArrival.{SetArrival}
+use Rattle.arrivals.specs.declared.SetArrival.the-variants as arrival
+use Rattle.sets_settle.specs.declared.PushAnswer.the-variants.{Nothing, Set, Refused}
+use Rattle.sets_plan.specs.declared.Plan.{Plan}
+use Rattle.sets_plan.specs.declared.Plan.the-variants as plan
+use Rattle.sets_plan.specs.Plan.{planOf}
+use Rattle.sets_settle.specs.Settle.{nothing, handed, refused, setIn, answerOf, goesOut, settledAnswer, settledHeads, settled, keptIn, carried}
+use Rattle.sets.specs.Store.{wholePushed, admitted, pushedAs, pushedOf}
 
 -- what a row that is settled tells is 4 or 5
-settled-tells : (s : Store) (i n : ℕ) → n ≢ 4 → (settled s i) .told ≢ plain n
+settled-tells : (s : Store) (i : ℕ) (r : Refusal) → (settled s i) .told ≢ refused r
 unfolding settled settledAnswer
-settled-tells s i n ne = go (goesOut (touched (s .sets .used) i (s .heads)) (s .slots) i)
+settled-tells s i r = go (goesOut (touched (s .sets .used) i (s .heads)) (s .slots) i)
   where
     left-it : Store
     left-it = store (s .sets) (settledHeads (s .sets .used) (s .heads) (s .slots) i) (s .slots) (s .cells)
 
-    go : (b : Bool) → answerOf (cond b (Set i) Nothing) left-it ≢ plain n
-    go true q = let t : handed (setIn left-it i) ≡ plain n = q in let z : _≡_ {A = ℕ} 0 1 = cc in omega arith
-    go false q = let t : plain 4 ≡ plain n = q in let z : 4 ≡ n = cc in ne (sym z)
+    go : (b : Bool) → answerOf (cond b (Set i) Nothing) left-it ≢ refused r
+    go true q = let t : handed (setIn left-it i) ≡ refused r = q in let z : _≡_ {A = ℕ} 0 1 = cc in omega arith
+    go false q = let t : nothing ≡ refused r = q in let z : _≡_ {A = ℕ} 0 1 = cc in omega arith
 
 module _ (s : Store) (bytes : List ℕ) where
-  carried-keeps : (p : Plan) (n : ℕ) → (carried s bytes p) .told ≡ plain n → n ≢ 4 → n ≢ 22 → (carried s bytes p) .store ≡ s
-  carried-keeps (plan.Refuse a) n e h k = refl
-  carried-keeps (plan.Conflict i) n e h k = let z : 22 ≡ n = cc in absurd (k (sym z))
-  carried-keeps (plan.Repeat i) n e h k = absurd (settled-tells s i n h e)
-  carried-keeps (plan.Keep m) n e h k = absurd (settled-tells (keptIn s bytes m) (m .room .row) n h e)
+  carried-keeps : (p : Plan) (r : Refusal) → (carried s bytes p) .told ≡ refused r → r ≢ Conflict → (carried s bytes p) .store ≡ s
+  carried-keeps (plan.Refuse x) r e k = refl
+  carried-keeps plan.Silent r e k = refl
+  carried-keeps (plan.Conflict i) r e k = let z : Conflict ≡ r = cc in absurd (k (sym z))
+  carried-keeps (plan.Repeat i) r e k = absurd (settled-tells s i r e)
+  carried-keeps (plan.Keep m) r e k = absurd (settled-tells (keptIn s bytes m) (m .room .row) r e)
+
+  pushed-keeps : (a : SetArrival) (r : Refusal) → (pushedAs s bytes a) .told ≡ refused r → r ≢ Conflict → (pushedAs s bytes a) .store ≡ s
+  unfolding wholePushed
+  pushed-keeps (arrival.Refused x) r e k = refl
+  pushed-keeps (arrival.Arrived x) r e k = carried-keeps (planOf s x bytes) r e k
 
   -- what a conflict leaves: settings, counts, slots and cells, and every word of a head but the ages
   pub record AsBefore (t : Store) : Type 0 where
@@ -40,18 +53,27 @@ module _ (s : Store) (bytes : List ℕ) where
     pub cells : t .cells ≡ s .cells
     pub heads : (j m : ℕ) → m ≢ 9 → m < 12 → word (t .heads) j m ≡ word (s .heads) j m
 
-  carried-conflicts : (p : Plan) → (carried s bytes p) .told ≡ plain 22 → AsBefore ((carried s bytes p) .store)
-  carried-conflicts (plan.Refuse a) e = record { sets = refl; slots = refl; cells = refl; heads = λ j m ne h. refl }
-  carried-conflicts (plan.Conflict i) e = record { sets = refl; slots = refl; cells = refl; heads = λ j m ne h. touched-not (s .sets .used) i (s .heads) j m ne h }
-  carried-conflicts (plan.Repeat i) e = absurd (settled-tells s i 22 (omega arith) e)
-  carried-conflicts (plan.Keep m) e = absurd (settled-tells (keptIn s bytes m) (m .room .row) 22 (omega arith) e)
+  unchanged : AsBefore s
+  unchanged = record { sets = refl; slots = refl; cells = refl; heads = λ j m ne h. refl }
 
--- 10 to 21: the store is as before
-pub refusal-keeps : (s : Store) (pid : MaybePid) (bytes : List ℕ) (n : ℕ) → (pushedOf s pid bytes) .told ≡ plain n → n ≢ 4 → n ≢ 22 → (pushedOf s pid bytes) .store ≡ s
+  carried-conflicts : (p : Plan) → (carried s bytes p) .told ≡ refused Conflict → AsBefore ((carried s bytes p) .store)
+  carried-conflicts (plan.Refuse x) e = unchanged
+  carried-conflicts plan.Silent e = unchanged
+  carried-conflicts (plan.Conflict i) e = record { sets = refl; slots = refl; cells = refl; heads = λ j m ne h. touched-not (s .sets .used) i (s .heads) j m ne h }
+  carried-conflicts (plan.Repeat i) e = absurd (settled-tells s i Conflict e)
+  carried-conflicts (plan.Keep m) e = absurd (settled-tells (keptIn s bytes m) (m .room .row) Conflict e)
+
+  pushed-conflicts : (a : SetArrival) → (pushedAs s bytes a) .told ≡ refused Conflict → AsBefore ((pushedAs s bytes a) .store)
+  unfolding wholePushed
+  pushed-conflicts (arrival.Refused x) e = unchanged
+  pushed-conflicts (arrival.Arrived x) e = carried-conflicts (planOf s x bytes) e
+
+-- every refusal but 22: the store is as before
+pub refusal-keeps : (s : Store) (pid : MaybePid) (bytes : List ℕ) (r : Refusal) → (pushedOf s pid bytes) .told ≡ refused r → r ≢ Conflict → (pushedOf s pid bytes) .store ≡ s
 unfolding pushedOf
-refusal-keeps s pid bytes n e h k = carried-keeps s bytes (planOf s pid bytes) n e h k
+refusal-keeps s pid bytes r e k = pushed-keeps s bytes (admitted s pid bytes) r e k
 
 -- 22
-pub conflict-keeps : (s : Store) (pid : MaybePid) (bytes : List ℕ) → (pushedOf s pid bytes) .told ≡ plain 22 → AsBefore s bytes ((pushedOf s pid bytes) .store)
+pub conflict-keeps : (s : Store) (pid : MaybePid) (bytes : List ℕ) → (pushedOf s pid bytes) .told ≡ refused Conflict → AsBefore s bytes ((pushedOf s pid bytes) .store)
 unfolding pushedOf
-conflict-keeps s pid bytes e = carried-conflicts s bytes (planOf s pid bytes) e
+conflict-keeps s pid bytes e = pushed-conflicts s bytes (admitted s pid bytes) e

@@ -1,6 +1,6 @@
 -- A store that is whole stays whole, so in every history from opening on 10 never occurs.
 -- Assumes nothing.
-use mathlib.Core.Path.{_≡_, refl, subst, _∙_}
+use mathlib.Core.Path.{_≡_, refl, ap, subst, _∙_}
 use mathlib.Core.Logic.{_≢_}
 use mathlib.Core.List.{List, [], _∷_}
 use mathlib.Core.Bool.{Bool, true, false, cond}
@@ -12,6 +12,9 @@ use borrow.Author.Tests.{ne-eqb, eqb-false, le-leb, lt-ltb}
 use lib.Dec.{eqb, ltb}
 use lib.ListN.{length, getD}
 use lib.Seq.{paste, length-paste}
+use Rattle.answers.specs.Answers.{refusalNo}
+use Rattle.answers.specs.declared.Refusal.{Refusal}
+use Rattle.answers.specs.declared.Refusal.the-variants.{NotWhole, CounterFull, TooLittle, TooLong, NoCell, Conflict}
 use Rattle.section.specs.declared.ids.MaybePid.{MaybePid}
 use Rattle.cells.specs.Cells.{slotWord, slotWhole, lowestFree}
 use Rattle.rows.specs.Rows.{touched, goneRow, keptHeads, slotsAt, slotCount, keptSlots, rowsWhole, takenIn, lastOf, withMark}
@@ -19,22 +22,25 @@ use Rattle.rows.proofs.Words.{put-not, length-put, length-touched, touched-not,
 use Rattle.rows.proofs.Whole.{slot-get, slot-all}
 use Rattle.rows.specs.declared.Entry.{Entry}
 use Rattle.rows.specs.declared.Room.{Room}
-use Rattle.sets.specs.declared.Sets.{Sets}
-use Rattle.sets.specs.declared.PushAnswer.{PushAnswer}
-use Rattle.sets.specs.declared.PushAnswer.the-variants.{Nothing, Set, NotWhole, CounterFull, PidTooLarge, Malformed, ShortForm, BadNumber, BadCrc, TooLong, NoCell, Conflict}
-use Rattle.sets.specs.declared.inner.Keeping.{Keeping}
-use Rattle.sets.specs.declared.inner.Plan.{Plan}
-use Rattle.sets.specs.declared.inner.Plan.the-variants as plan
-use Rattle.sets.specs.Store.{Store, store, Told, plain, handed, answerOf, pushNumber, wholeOf, Whole, KeepOk, PlanOk, goesOut, settledAnswer, settledHeads, settled, keptIn, carried, pushedOf, clearedOf, openedOf, settingsFit}
-use Rattle.sets.specs.Store.{planKeep, planOf}
-use Rattle.sets.specs.History.{Call, offer, empty, called, after, Bytes, AllBytes, OpenedStore}
-use Rattle.sets.proofs.Whole.{long, means-whole}
-use Rattle.sets.proofs.Plans.{cell-fits}
-use Rattle.sets.proofs.May.{plan-ok}
-use Rattle.sets.proofs.Every.{plan-by}
-
-abbrev pub WholeStore : Store → Type 0
-WholeStore s = Whole (s .sets) (s .heads) (s .slots) (s .cells)
+use Rattle.store.specs.Store.{Store, store, settingsFit, wholeOf, Whole, WholeStore}
+use Rattle.store.specs.declared.Sets.{Sets}
+use Rattle.store.proofs.Whole.{long, means-whole, cell-fits}
+use Rattle.arrivals.specs.Arrivals.{setArrival, Taken}
+use Rattle.arrivals.specs.declared.SetArrival.{SetArrival}
+use Rattle.arrivals.specs.declared.SetArrival.the-variants as arrival
+use Rattle.sets.proofs.Arrived.{set-not-ten}
+use Rattle.sets_settle.specs.declared.PushAnswer.{PushAnswer}
+use Rattle.sets_settle.specs.declared.PushAnswer.the-variants.{Nothing, Set, Refused}
+use Rattle.sets_plan.specs.declared.Keeping.{Keeping}
+use Rattle.sets_plan.specs.declared.Plan.{Plan}
+use Rattle.sets_plan.specs.declared.Plan.the-variants as plan
+use Rattle.sets_plan.specs.Plan.{planKeep, planOf, KeepOk, PlanOk}
+use Rattle.sets_settle.specs.Settle.{Told, done, nothing, handed, refused, answerOf, goesOut, settledAnswer, settledHeads, settled, keptIn, carried}
+use Rattle.sets.specs.Store.{wholePushed, admitted, pushedAs, pushedOf, clearedOf, openedOf, AdmittedOk}
+use Rattle.sets.specs.History.{Call, offer, empty, called, afterAll, Bytes, AllBytes, OpenedStore}
+use Rattle.sets_plan.proofs.May.{plan-ok}
+use Rattle.sets.proofs.Admit.{admitted-ok}
+use Rattle.sets_plan.proofs.Every.{plan-by}
 
 -- ---- heads that differ in no last_section_number
 
@@ -163,16 +169,22 @@ module _ (s : Store) (bytes : List ℕ) (k : Keeping) (o : KeepOk s bytes k) whe
 -- ---- every plan, every call
 
 carried-whole : (s : Store) (bytes : List ℕ) → WholeStore s → (p : Plan) → PlanOk s bytes p → WholeStore ((carried s bytes p) .store)
-carried-whole s bytes w (plan.Refuse a) o = w
+carried-whole s bytes w (plan.Refuse r) o = w
+carried-whole s bytes w plan.Silent o = w
 carried-whole s bytes w (plan.Conflict i) o =
     heads-whole (s .sets) (s .heads) (touched (s .sets .used) i (s .heads)) (s .slots) (s .cells) (λ j. touched-not (s .sets .used) i (s .heads) j 7 (omega arith) (omega arith))
     (length-touched (s .sets .used) i (s .heads)) w
 carried-whole s bytes w (plan.Repeat i) o = settled-whole s i w
 carried-whole s bytes w (plan.Keep k) o = settled-whole (keptIn s bytes k) (k .room .row) (kept-whole s bytes k o)
 
+pushed-whole : (s : Store) (bytes : List ℕ) → WholeStore s → (a : SetArrival) → AdmittedOk s bytes a → WholeStore ((pushedAs s bytes a) .store)
+unfolding wholePushed
+pushed-whole s bytes w (arrival.Refused r) o = w
+pushed-whole s bytes w (arrival.Arrived e) o = carried-whole s bytes w (planOf s e bytes) (plan-ok s w e bytes (o .1))
+
 pub push-stays : (s : Store) (pid : MaybePid) (bytes : List ℕ) → getD bytes 7 0 < 256 → WholeStore s → WholeStore ((pushedOf s pid bytes) .store)
 unfolding pushedOf
-push-stays s pid bytes b w = carried-whole s bytes w (planOf s pid bytes) (plan-ok s bytes b pid)
+push-stays s pid bytes b w = pushed-whole s bytes w (admitted s pid bytes) (admitted-ok s bytes pid b)
 
 pub clear-stays : (s : Store) → WholeStore s → WholeStore ((clearedOf s) .store)
 unfolding clearedOf
@@ -195,21 +207,21 @@ call-stays s (offer pid bytes) b w = push-stays s pid bytes (b 7) w
 call-stays s empty b w = clear-stays s w
 
 -- in every history
-pub stays : (s : Store) (cs : List Call) → AllBytes cs → WholeStore s → WholeStore (after s cs)
-unfolding after
+pub stays : (s : Store) (cs : List Call) → AllBytes cs → WholeStore s → WholeStore (afterAll s cs)
+unfolding afterAll
 stays s [] b w = w
 stays s (c ∷ cs) b w = stays ((called s c) .store) cs (b .1) (call-stays s c (b .0) w)
 
 -- ---- opening
 
-fit-seven : (b : Bool) → plain (cond b 7 13) ≡ plain 7 → b ≡ true
-fit-seven true e = refl
-fit-seven false e = let z : _≡_ {A = ℕ} 13 7 = cc in absurd (omega arith)
+fit-done : (b : Bool) → cond b done (refused TooLittle) ≡ done → b ≡ true
+fit-done true e = refl
+fit-done false e = let z : _≡_ {A = ℕ} 0 1 = cc in absurd (omega arith)
 
 pub opened-whole : (s : Store) → OpenedStore s → WholeStore s
 unfolding openedOf
 opened-whole s o =
-    let g = long (s .sets) (length (s .heads)) (length (s .slots)) (length (s .cells)) (fit-seven (settingsFit (s .sets) (length (s .heads)) (length (s .slots)) (length (s .cells))) (o .opened)) in
+    let g = long (s .sets) (length (s .heads)) (length (s .slots)) (length (s .cells)) (fit-done (settingsFit (s .sets) (length (s .heads)) (length (s .slots)) (length (s .cells))) (o .opened)) in
     let z = o .none in
     record {
       size-low = g .size-low;
@@ -224,84 +236,72 @@ opened-whole s o =
 
 -- ---- a whole store never answers 10
 
+-- whether 10 is told
 ten : Told → Bool
-ten (plain n) = eqb n 10
+ten done = false
+ten nothing = false
 ten (handed h) = false
+ten (refused r) = eqb (refusalNo r) 10
 
--- whether a plan is the refusal 10
-tenPlan : Plan → Bool
-tenPlan (plan.Refuse a) = eqb (pushNumber a) 10
-tenPlan (plan.Conflict i) = false
-tenPlan (plan.Repeat i) = false
-tenPlan (plan.Keep k) = false
-
-ten-answer : (a : PushAnswer) (s : Store) → ten (answerOf a s) ≡ eqb (pushNumber a) 10
+not-ten : (t : Told) → ten t ≡ false → t ≢ refused NotWhole
 unfolding ten
-ten-answer Nothing s = refl
-ten-answer (Set i) s = refl
-ten-answer NotWhole s = refl
-ten-answer CounterFull s = refl
-ten-answer PidTooLarge s = refl
-ten-answer Malformed s = refl
-ten-answer ShortForm s = refl
-ten-answer BadNumber s = refl
-ten-answer BadCrc s = refl
-ten-answer TooLong s = refl
-ten-answer NoCell s = refl
-ten-answer Conflict s = refl
+not-ten done e q = let z : _≡_ {A = ℕ} 0 1 = cc in omega arith
+not-ten nothing e q = let z : _≡_ {A = ℕ} 0 1 = cc in omega arith
+not-ten (handed h) e q = let z : _≡_ {A = ℕ} 0 1 = cc in omega arith
+not-ten (refused r) e q = let z : r ≡ NotWhole = cc in eqb-false (refusalNo r) 10 e (ap refusalNo z)
 
 ten-settled : (s : Store) (i : ℕ) → ten ((settled s i) .told) ≡ false
-unfolding settled settledAnswer
+unfolding settled settledAnswer ten
 ten-settled s i = go (goesOut (touched (s .sets .used) i (s .heads)) (s .slots) i)
   where
     after-it : Store
     after-it = store (s .sets) (settledHeads (s .sets .used) (s .heads) (s .slots) i) (s .slots) (s .cells)
 
     go : (b : Bool) → ten (answerOf (cond b (Set i) Nothing) after-it) ≡ false
-    go true = ten-answer (Set i) after-it
-    go false = ten-answer Nothing after-it
+    go true = refl
+    go false = refl
 
-ten-carried : (s : Store) (bytes : List ℕ) (p : Plan) → ten ((carried s bytes p) .told) ≡ tenPlan p
-unfolding tenPlan
-ten-carried s bytes (plan.Refuse a) = ten-answer a s
-ten-carried s bytes (plan.Conflict i) = ten-answer Conflict (store (s .sets) (touched (s .sets .used) i (s .heads)) (s .slots) (s .cells))
-ten-carried s bytes (plan.Repeat i) = ten-settled s i
-ten-carried s bytes (plan.Keep k) = ten-settled (keptIn s bytes k) (k .room .row)
-
-plan-not : (s : Store) (pid : MaybePid) (bytes : List ℕ) → wholeOf s ≡ true → tenPlan (planOf s pid bytes) ≡ false
-unfolding tenPlan planKeep
-plan-not s pid bytes w = plan-by s bytes (λ p. tenPlan p ≡ false) (λ a e. e) (λ i. refl) (λ i. refl) keep-not pid w
+-- no plan tells 10
+ten-planned : (s : Store) (e : Entry) (bytes : List ℕ) → ten ((wholePushed s e bytes) .told) ≡ false
+unfolding wholePushed ten planKeep
+ten-planned s e bytes = plan-by s e bytes (λ p. ten ((carried s bytes p) .told) ≡ false) refl refl (λ i. ten-settled s i) (λ i. refl) keep-not
   where
-    keep-not : (e : Entry) (r : Room) → tenPlan (planKeep s e r) ≡ false
-    keep-not e r = go (lowestFree (takenIn (s .heads) (s .slots) (goneRow r (s .sets .used)) (s .sets .used)) (s .sets .count))
+    keep-not : (r : Room) → ten ((carried s bytes (planKeep s e r)) .told) ≡ false
+    keep-not r = go (lowestFree (takenIn (s .heads) (s .slots) (goneRow r (s .sets .used)) (s .sets .used)) (s .sets .count))
       where
-        at : (b : Bool) (c : ℕ) → tenPlan (cond b (plan.Keep (record { entry = e; room = r; cell = c })) (plan.Refuse NoCell)) ≡ false
-        at true c = refl
+        at : (b : Bool) (c : ℕ) → ten ((carried s bytes (cond b (plan.Keep (record { entry = e; room = r; cell = c })) (plan.Refuse NoCell))) .told) ≡ false
+        at true c = ten-settled (keptIn s bytes (record { entry = e; room = r; cell = c })) (r .row)
         at false c = refl
 
-        go : (c : ℕ) → tenPlan (cond (ltb c (s .sets .count)) (plan.Keep (record { entry = e; room = r; cell = c })) (plan.Refuse NoCell)) ≡ false
+        go : (c : ℕ) → ten ((carried s bytes (cond (ltb c (s .sets .count)) (plan.Keep (record { entry = e; room = r; cell = c })) (plan.Refuse NoCell))) .told) ≡ false
         go c = at (ltb c (s .sets .count)) c
 
-not-ten : (t : Told) → ten t ≡ false → t ≢ plain 10
-unfolding ten
-not-ten (plain n) e q = let z : n ≡ 10 = cc in let f = eqb-false n 10 e in f z
-not-ten (handed h) e q = let z : _≡_ {A = ℕ} 0 1 = cc in omega arith
+ten-pushed : (s : Store) (pid : MaybePid) (bytes : List ℕ) → wholeOf s ≡ true → ten ((pushedOf s pid bytes) .told) ≡ false
+unfolding pushedOf admitted ten
+ten-pushed s pid bytes w = rw w (go (eqb (s .sets .evictions) 18446744073709551615))
+  where
+    arrived : (a : SetArrival) → setArrival pid bytes ≡ a → ten ((pushedAs s bytes a) .told) ≡ false
+    arrived (arrival.Refused r) q = set-not-ten pid bytes r q
+    arrived (arrival.Arrived e) q = ten-planned s e bytes
 
-pub push-not-ten : (s : Store) (pid : MaybePid) (bytes : List ℕ) → WholeStore s → (pushedOf s pid bytes) .told ≢ plain 10
-unfolding pushedOf
-push-not-ten s pid bytes w = not-ten ((carried s bytes (planOf s pid bytes)) .told) (ten-carried s bytes (planOf s pid bytes) ∙ plan-not s pid bytes (means-whole s w))
+    go : (b : Bool) → ten ((pushedAs s bytes (cond b (arrival.Refused CounterFull) (setArrival pid bytes))) .told) ≡ false
+    go true = refl
+    go false = arrived (setArrival pid bytes) refl
 
-pub clear-not-ten : (s : Store) → WholeStore s → (clearedOf s) .told ≢ plain 10
+pub push-not-ten : (s : Store) (pid : MaybePid) (bytes : List ℕ) → WholeStore s → (pushedOf s pid bytes) .told ≢ refused NotWhole
+push-not-ten s pid bytes w = not-ten ((pushedOf s pid bytes) .told) (ten-pushed s pid bytes (means-whole s w))
+
+pub clear-not-ten : (s : Store) → WholeStore s → (clearedOf s) .told ≢ refused NotWhole
 unfolding clearedOf
-clear-not-ten s w = rw (means-whole s w) (λ (q : plain 7 ≡ plain 10). let z : _≡_ {A = ℕ} 7 10 = cc in omega arith)
+clear-not-ten s w = rw (means-whole s w) (λ (q : done ≡ refused NotWhole). let z : _≡_ {A = ℕ} 0 1 = cc in omega arith)
 
 -- after every sequence of calls on an opened collector, the next call does not answer 10
-pub never-ten : (s : Store) → OpenedStore s → (cs : List Call) → AllBytes cs → (c : Call) → (called (after s cs) c) .told ≢ plain 10
+pub never-ten : (s : Store) → OpenedStore s → (cs : List Call) → AllBytes cs → (c : Call) → (called (afterAll s cs) c) .told ≢ refused NotWhole
 never-ten s o cs b c = go c
   where
-    w : WholeStore (after s cs)
+    w : WholeStore (afterAll s cs)
     w = stays s cs b (opened-whole s o)
 
-    go : (c : Call) → (called (after s cs) c) .told ≢ plain 10
-    go (offer pid bytes) = push-not-ten (after s cs) pid bytes w
-    go empty = clear-not-ten (after s cs) w
+    go : (c : Call) → (called (afterAll s cs) c) .told ≢ refused NotWhole
+    go (offer pid bytes) = push-not-ten (afterAll s cs) pid bytes w
+    go empty = clear-not-ten (afterAll s cs) w

@@ -13,7 +13,7 @@ use lib.ListN.{length, getD}
 use Rattle.laws.specs.Lists.{sameList}
 use Rattle.laws.proofs.Tests.{same-test}
 use Rattle.laws.proofs.Search.{every-get}
-use Rattle.rules_shared.specs.Same.{Bytes}
+use Rattle.rules_shared.specs.Same.{Bytes, Origin}
 use Rattle.rules_shared.specs.Slots.{everyHeld}
 use Rattle.rules_shared.specs.Touch.{emptied}
 use Rattle.rules_shared.specs.Row.{fresh, fits, start, slotOf}
@@ -43,14 +43,22 @@ use Rattle.ages.proofs.Slots.{place, held-filled, held-empty, held-get, held-wh
 use Rattle.rows.proofs.Words.{slot-at, length-slots}
 use Rattle.rows.proofs.Whole.{rows-get}
 use Rattle.ages.proofs.Cells.{cells-length, bytes-kept, same-bytes}
-use Rattle.sets.specs.declared.inner.Plan.the-variants as plan
-use Rattle.sets.specs.declared.PushAnswer.the-variants.{Nothing, NotWhole, CounterFull, TooLong}
-use Rattle.sets.specs.Store.{Store, store, wholeOf, Whole, Numbered, emptySets, clearedOf, pidOf, pidWord, entryOf, planKeep, planSlot, planKnown, planGood, planHeader, planJudged, planPid, planOf, carried, pushedOf, left, plain}
-use Rattle.sets.proofs.Whole.{whole-means, long}
-use Rattle.sets.proofs.Plans.{slot-bounds, same-last}
-use Rattle.sets.proofs.Judged.{good-numbers, good-length}
+use Rattle.answers.specs.declared.Refusal.the-variants as refusal
+use Rattle.arrivals.specs.Arrivals.{Numbered, Taken, pidOf, pidWord, setKey, entryOf, setRead, setJudged, setArrival}
+use Rattle.arrivals.specs.declared.SetArrival.the-variants as arrival
+use Rattle.sets.proofs.Arrived.{entry-taken}
+use Rattle.store.specs.Store.{Store, store, wholeOf, Whole, emptySets}
+use Rattle.store.proofs.Whole.{whole-means, long}
+use Rattle.placing.specs.Places.{placeSlot, placeKnown}
+use Rattle.placing.specs.Places.{placeOf as rowPlace}
+use Rattle.placing.specs.declared.Place.the-variants.{Conflict, Repeat, Goes as RoomIn}
+use Rattle.placing.proofs.Fits.{slot-bounds, same-last}
+use Rattle.sets_plan.specs.declared.Plan.the-variants as plan
+use Rattle.sets_plan.specs.Plan.{planKeep, planPlaced, planOf}
+use Rattle.sets_settle.specs.Settle.{after, done, refused, carried}
+use Rattle.sets.specs.Store.{clearedOf, wholePushed, admitted, pushedAs, pushedOf}
 use Rattle.sets.specs.History.{Call as Given, empty as clears, offer as section, Bytes as OfBytes, called}
-use Rattle.ties_sets.specs.View.{pidShown, keyShown, keyWords, rowSeen, seen, readsAs, readSection, reads, answerTold, Reached}
+use Rattle.ties_sets.specs.View.{originShown, keyShown, keyWords, rowSeen, seen, readsAs, readSection, reads, answerTold, Reached}
 use Rattle.ties_sets.proofs.Rows.{same-self, written-shown, written-reads}
 use Rattle.ties_sets.proofs.Settle.{Tied, Ready, settle-tied, conflict-tied}
 use Rattle.ties_sets.proofs.Keep.{sectionFor, anew, goesOn, keep-tied}
@@ -105,7 +113,7 @@ ended-seen s z =
 -- ---- a clear
 
 emptied-tied : (s : Store) → Reached s
-    → Tied (left (plain 7) (store (emptySets (s .sets)) (s .heads) (s .slots) (s .cells))) (good (seen s) clear)
+    → Tied (after done (store (emptySets (s .sets)) (s .heads) (s .slots) (s .cells))) (good (seen s) clear)
 unfolding good shows onAnswer answerTold seen emptied rowsSeen inOrder downFrom
 emptied-tied s z = record {
   told = refl;
@@ -117,8 +125,8 @@ pub clear-tied : (s : Store) → Reached s → Tied (clearedOf s) (call (seen s)
 unfolding clearedOf call guarded ended answerTold
 clear-tied s z = rw (whole-seen s z) (go (wholeOf s))
   where
-    go : (b : Bool) → Tied (cond b (left (plain 7) (store (emptySets (s .sets)) (s .heads) (s .slots) (s .cells)))
-        (left (plain 10) s)) (guarded b false (seen s) clear)
+    go : (b : Bool) → Tied (cond b (after done (store (emptySets (s .sets)) (s .heads) (s .slots) (s .cells)))
+        (after (refused refusal.NotWhole) s)) (guarded b false (seen s) clear)
     go true = emptied-tied s z
     go false = record { told = refl; shown = refl; reached = z }
 
@@ -221,23 +229,23 @@ module _ (s : Store) (z : Reached s) (f : Whole (s .sets) (s .heads) (s .slots) 
       }
 
       -- "identical bytes are ignored, others conflict"
-      held-tied : keptLength w ≢ 0 → Tied (carried s bytes (cond (sameList (kept (s .cells) (s .sets .size) w) bytes) (plan.Repeat there) (plan.Conflict there))) (carry (seen s) x (placeOf (seen s) x))
+      held-tied : keptLength w ≢ 0 → Tied (carried s bytes (planPlaced s e (cond (sameList (kept (s .cells) (s .sets .size) w) bytes) (Repeat there) (Conflict there)))) (carry (seen s) x (placeOf (seen s) x))
       unfolding placeOf placed placeHeld seen carry rest roomFor
       held-tied ne =
           let b = slot-bounds (s .sets .count) (s .sets .size) w word-ok ne in
           rw (slot-is, held-filled w (ap not (ne-eqb (keptLength w) 0 ne)), bytes-kept (s .cells) (s .sets .size) (s .sets .count) w (b .1) (b .0), same-bytes (kept (s .cells) (s .sets .size) w) bytes)
           (go (sameList (kept (s .cells) (s .sets .size) w) bytes))
         where
-          go : (b : Bool) → Tied (carried s bytes (cond b (plan.Repeat there) (plan.Conflict there))) (carry (seen s) x (placeHeld b))
+          go : (b : Bool) → Tied (carried s bytes (planPlaced s e (cond b (Repeat there) (Conflict there)))) (carry (seen s) x (placeHeld b))
           go true = rw m (settle-tied s s (e .key) there (ageOf (s .heads) there) z proper goes itself refl refl)
           go false = rw m (conflict-tied s s (e .key) there (ageOf (s .heads) there) z proper goes itself refl refl)
 
-      slot-tied : Tied (carried s bytes (planSlot s e bytes there w)) (carry (seen s) x (placeOf (seen s) x))
-      unfolding planSlot
+      slot-tied : Tied (carried s bytes (planPlaced s e (placeSlot s bytes there w))) (carry (seen s) x (placeOf (seen s) x))
+      unfolding placeSlot
       slot-tied = go (eqb (keptLength w) 0) refl
         where
           go : (b : Bool) → eqb (keptLength w) 0 ≡ b
-              → Tied (carried s bytes (cond b (planKeep s e (roomIn (s .sets .used) (s .sets .evictions) there)) (cond (sameList (kept (s .cells) (s .sets .size) w) bytes) (plan.Repeat there) (plan.Conflict there))))
+              → Tied (carried s bytes (planPlaced s e (cond b (RoomIn (roomIn (s .sets .used) (s .sets .evictions) there)) (cond (sameList (kept (s .cells) (s .sets .size) w) bytes) (Repeat there) (Conflict there)))))
               (carry (seen s) x (placeOf (seen s) x))
           go true q =
               rw (place-empty (slot-is ∙ held-empty w (eqb-true (keptLength w) 0 q)))
@@ -245,22 +253,22 @@ module _ (s : Store) (z : Reached s) (f : Whole (s .sets) (s .heads) (s .slots) 
               (goesOn refl h (row-has-key (s .heads) (e .key) (s .sets .used) h) refl last) m)
           go false q = held-tied (eqb-false (keptLength w) 0 q)
 
-    known-tied : Tied (carried s bytes (planKnown s e bytes there)) (carry (seen s) x (placeOf (seen s) x))
-    unfolding planKnown
+    known-tied : Tied (carried s bytes (planPlaced s e (placeKnown s e bytes there))) (carry (seen s) x (placeOf (seen s) x))
+    unfolding placeKnown
     known-tied = go (eqb (versionOf (s .heads) there) (e .version) && eqb (lastOf (s .heads) there) (e .last)) refl
       where
         go : (b : Bool) → (eqb (versionOf (s .heads) there) (e .version) && eqb (lastOf (s .heads) there) (e .last)) ≡ b
-            → Tied (carried s bytes (cond b (planSlot s e bytes there (getD (s .slots) (slotsAt there + e .number) 0))
-            (planKeep s e (roomRenewed (s .sets .used) (s .sets .evictions) there (ageOf (s .heads) there))))) (carry (seen s) x (placeOf (seen s) x))
+            → Tied (carried s bytes (planPlaced s e (cond b (placeSlot s bytes there (getD (s .slots) (slotsAt there + e .number) 0))
+            (RoomIn (roomRenewed (s .sets .used) (s .sets .evictions) there (ageOf (s .heads) there)))))) (carry (seen s) x (placeOf (seen s) x))
         go true q = slot-tied (same-last (versionOf (s .heads) there) (lastOf (s .heads) there) (e .version) (e .last) q) (met-known true q)
         go false q = renewed-tied (met-known false q)
 
-  good-tied : Tied (carried s bytes (planGood s e bytes)) (carry (seen s) x (placeOf (seen s) x))
-  unfolding planGood
+  good-tied : Tied (carried s bytes (planPlaced s e (rowPlace s e bytes))) (carry (seen s) x (placeOf (seen s) x))
+  unfolding rowPlace
   good-tied = go (ltb there (s .sets .used)) refl
     where
       go : (b : Bool) → ltb there (s .sets .used) ≡ b
-          → Tied (carried s bytes (cond b (planKnown s e bytes there) (planKeep s e (roomNew (s .heads) (s .sets .limit) (s .sets .used) (s .sets .evictions))))) (carry (seen s) x (placeOf (seen s) x))
+          → Tied (carried s bytes (planPlaced s e (cond b (placeKnown s e bytes there) (RoomIn (roomNew (s .heads) (s .sets .limit) (s .sets .used) (s .sets .evictions)))))) (carry (seen s) x (placeOf (seen s) x))
       go true q = known-tied (ltb-true there (s .sets .used) q)
       go false q = new-tied (ltb-false there (s .sets .used) q)
 
@@ -269,17 +277,17 @@ module _ (s : Store) (z : Reached s) (f : Whole (s .sets) (s .heads) (s .slots) 
 module _ (s : Store) (z : Reached s) where
   module _ (f : Whole (s .sets) (s .heads) (s .slots) (s .cells)) (more : s .sets .evictions < 18446744073709551615) (bytes : Bytes) where
     -- 20, then limit 0
-    header-tied : (e : Entry) → Numbered e → keyWords (keyShown (e .key)) ≡ e .key → 12 ≤ length bytes → Tied (carried s bytes (planHeader s bytes e)) (good (seen s) (offer (sectionFor e bytes)))
-    unfolding planHeader good admitIn pushIn shows onAnswer answerTold seen
-    header-tied e n proper h12 = fit (ltb (s .sets .size) (length bytes)) refl
+    plan-tied : (e : Entry) → Taken bytes e → keyWords (keyShown (e .key)) ≡ e .key → Tied (carried s bytes (planOf s e bytes)) (good (seen s) (offer (sectionFor e bytes)))
+    unfolding planOf good admitIn pushIn shows onAnswer answerTold seen
+    plan-tied e t proper = fit (ltb (s .sets .size) (length bytes)) refl
       where
         limited : length bytes ≤ s .sets .size → (m : ℕ) → s .sets .limit ≡ m
-            → Tied (carried s bytes (cond (eqb m 0) (plan.Refuse Nothing) (planGood s e bytes))) (pushIn m (seen s) (sectionFor e bytes))
+            → Tied (carried s bytes (cond (eqb m 0) plan.Silent (planPlaced s e (rowPlace s e bytes)))) (pushIn m (seen s) (sectionFor e bytes))
         limited l zero q = record { told = refl; shown = refl; reached = z }
-        limited l (suc m) q = rw (ne-eqb (suc m) 0 (λ (t : suc m ≡ 0). absurd (omega arith))) (good-tied s z f more (omega arith) e n proper bytes h12 l)
+        limited l (suc m) q = rw (ne-eqb (suc m) 0 (λ (t : suc m ≡ 0). absurd (omega arith))) (good-tied s z f more (omega arith) e (t .numbered) proper bytes (t .long) l)
 
         fit : (b : Bool) → ltb (s .sets .size) (length bytes) ≡ b
-            → Tied (carried s bytes (cond b (plan.Refuse TooLong) (cond (eqb (s .sets .limit) 0) (plan.Refuse Nothing) (planGood s e bytes))))
+            → Tied (carried s bytes (cond b (plan.Refuse refusal.TooLong) (cond (eqb (s .sets .limit) 0) plan.Silent (planPlaced s e (rowPlace s e bytes)))))
             (admitIn (seen s) (sectionFor e bytes) (leb (length bytes) (s .sets .size)))
         fit true q = rw (lt-leb (length bytes) (s .sets .size) (ltb-true (s .sets .size) (length bytes) q)) (record { told = refl; shown = refl; reached = z })
         fit false q =
@@ -287,55 +295,56 @@ module _ (s : Store) (z : Reached s) where
             rw (le-leb (length bytes) (s .sets .size) l) (limited l (s .sets .limit) refl)
 
     -- 14 to 17
-    judged-tied : AllBytes bytes → (p : ℕ) (c : Collected) → collectedOf bytes ≡ c → Tied (carried s bytes (planJudged s bytes p c)) (good (seen s) (readsAs (pidShown p) bytes c))
-    unfolding readsAs good shows onAnswer answerTold seen
+    judged-tied : AllBytes bytes → (p : ℕ) (c : Collected) → collectedOf bytes ≡ c → Tied (pushedAs s bytes (setRead p c)) (good (seen s) (readsAs (originShown p) bytes c))
+    unfolding wholePushed readsAs good shows onAnswer answerTold seen
     judged-tied o p Malformed q = record { told = refl; shown = refl; reached = z }
     judged-tied o p ShortForm q = record { told = refl; shown = refl; reached = z }
     judged-tied o p BadNumber q = record { told = refl; shown = refl; reached = z }
     judged-tied o p BadCrc q = record { told = refl; shown = refl; reached = z }
     judged-tied o p (Good h) q =
         rw (← (written-shown p (h .«table_id») (h .extension) (h .«current_next»)))
-        (header-tied (entryOf p h) (good-numbers bytes p h q (o 7)) (written-reads p (h .«table_id») (h .extension) (h .«current_next»)) (good-length bytes h q))
+        (plan-tied (entryOf (setKey p h) h) (entry-taken bytes h (setKey p h) q (o 7)) (written-reads p (h .«table_id») (h .extension) (h .«current_next»)))
 
     -- 12
-    pid-tied : AllBytes bytes → (pid : MaybePid) → Tied (carried s bytes (planPid s bytes (pidWord pid))) (good (seen s) (readSection pid bytes))
-    unfolding readSection good shows onAnswer answerTold seen pidShown
+    pid-tied : AllBytes bytes → (pid : MaybePid) → Tied (pushedAs s bytes (setArrival pid bytes)) (good (seen s) (readSection pid bytes))
+    unfolding setArrival readSection good shows onAnswer answerTold seen originShown
     pid-tied o maybe.None = judged-tied o 8192 (collectedOf bytes) refl
     pid-tied o (maybe.Some v) = go (ltb v 8192) refl
       where
-        go : (b : Bool) → ltb v 8192 ≡ b → Tied (carried s bytes (planPid s bytes (pidOf (cond b (made.One (record { 0 = v })) made.TooLarge)))) (good (seen s) (cond b (readsAs (some v) bytes (collectedOf bytes)) (refuse 12)))
+        go : (b : Bool) → ltb v 8192 ≡ b
+            → Tied (pushedAs s bytes (setJudged (pidOf (cond b (made.One (record { 0 = v })) made.TooLarge)) bytes)) (good (seen s) (cond b (readsAs (record { pid = some v }) bytes (collectedOf bytes)) (refuse refusal.BadPid)))
         go true q =
             let l = ltb-true v 8192 q in
-            let d : pidShown v ≡ some v = rw (ne-eqb v 8192 (λ (t : v ≡ 8192). absurd (omega arith))) in
+            let d : originShown v ≡ record { pid = some v } = rw (ne-eqb v 8192 (λ (t : v ≡ 8192). absurd (omega arith))) in
             rw (← d) (judged-tied o v (collectedOf bytes) refl)
         go false q = record { told = refl; shown = refl; reached = z }
 
   -- 11 comes before what the section is read as
-  ended-as : (bytes : Bytes) (pid : Option ℕ) (c : Collected) → ended (seen s) (readsAs pid bytes c) ≡ atEnd (s .sets .evictions)
+  ended-as : (bytes : Bytes) (from : Origin) (c : Collected) → ended (seen s) (readsAs from bytes c) ≡ atEnd (s .sets .evictions)
   unfolding ended readsAs seen
-  ended-as bytes pid Malformed = refl
-  ended-as bytes pid ShortForm = refl
-  ended-as bytes pid BadNumber = refl
-  ended-as bytes pid BadCrc = refl
-  ended-as bytes pid (Good h) = refl
+  ended-as bytes from Malformed = refl
+  ended-as bytes from ShortForm = refl
+  ended-as bytes from BadNumber = refl
+  ended-as bytes from BadCrc = refl
+  ended-as bytes from (Good h) = refl
 
   ended-read : (pid : MaybePid) (bytes : Bytes) → ended (seen s) (readSection pid bytes) ≡ atEnd (s .sets .evictions)
   unfolding readSection ended seen
-  ended-read maybe.None bytes = ended-as bytes none (collectedOf bytes)
+  ended-read maybe.None bytes = ended-as bytes (record { pid = none }) (collectedOf bytes)
   ended-read (maybe.Some v) bytes = go (ltb v 8192)
     where
-      go : (b : Bool) → ended (seen s) (cond b (readsAs (some v) bytes (collectedOf bytes)) (refuse 12)) ≡ atEnd (s .sets .evictions)
-      go true = ended-as bytes (some v) (collectedOf bytes)
+      go : (b : Bool) → ended (seen s) (cond b (readsAs (record { pid = some v }) bytes (collectedOf bytes)) (refuse refusal.BadPid)) ≡ atEnd (s .sets .evictions)
+      go true = ended-as bytes (record { pid = some v }) (collectedOf bytes)
       go false = refl
 
   -- 10, then 11
   push-tied : (pid : MaybePid) (bytes : Bytes) → AllBytes bytes → Tied (pushedOf s pid bytes) (call (seen s) (readSection pid bytes))
-  unfolding pushedOf planOf call guarded answerTold
+  unfolding pushedOf admitted call guarded answerTold
   push-tied pid bytes o =
       rw (whole-seen s z, ended-read pid bytes, ended-seen s z) (go (wholeOf s) (eqb (s .sets .evictions) 18446744073709551615) refl refl)
     where
       go : (w t : Bool) → wholeOf s ≡ w → eqb (s .sets .evictions) 18446744073709551615 ≡ t
-          → Tied (carried s bytes (cond w (cond t (plan.Refuse CounterFull) (planPid s bytes (pidWord pid))) (plan.Refuse NotWhole))) (guarded w t (seen s) (readSection pid bytes))
+          → Tied (pushedAs s bytes (cond w (cond t (arrival.Refused refusal.CounterFull) (setArrival pid bytes)) (arrival.Refused refusal.NotWhole))) (guarded w t (seen s) (readSection pid bytes))
       go false t p q = record { told = refl; shown = refl; reached = z }
       go true true p q = record { told = refl; shown = refl; reached = z }
       go true false p q =

@@ -11,16 +11,16 @@ use Prim.Native.Nat.{ℕ, suc}
 use native.Mathlib.Omega.{arith}
 use lib.Dec.{ltb}
 use lib.ListN.{length}
-use Rattle.rules_shared.specs.Same.{Bytes}
+use Rattle.rules_shared.specs.Same.{Bytes, Origin}
 use Rattle.rules_shared.specs.Touch.{untouched}
 use Rattle.rules_shared.specs.Cells.{roomWhole}
 use Rattle.laws.specs.Runs.{answers, storeAfter, At, Never, Obeys, bars, does}
 use Rattle.laws.proofs.Runs.{each-read}
-use Rattle.rules_sets.specs.Rules.{sameKey, Section, offer, refuse, notWhole, noCell, barred, asBefore}
+use Rattle.rules_sets.specs.Rules.{sameKey, Section, offer, refuse, CanCome, notWhole, noCell, barred, asBefore}
 use Rattle.rules_sets.specs.Rules.{tells as rulesTell, acts as rulesAct}
 use Rattle.rules_sets.specs.Cells.{Store as Shown, view, callTells, callActs}
 use Rattle.rules_sets.proofs.Cells.{obeys-rules}
-use Rattle.rules_sets.proofs.Whole.{LongEnough, never-10}
+use Rattle.rules_sets.proofs.Whole.{never-10}
 use Rattle.rules_sets.proofs.Exact.{NeedsCell, only-then-21, then-21}
 use Rattle.section.specs.Judged.{collectedOf}
 use Rattle.section.specs.declared.header.Collected.{Collected}
@@ -30,11 +30,15 @@ use Rattle.ages.specs.Order.{downFrom, inOrder, rowsSeen}
 use Rattle.ages.proofs.Touch.{stands-none}
 use Rattle.ages.proofs.Cells.{cells-length}
 use Rattle.rules_sets.proofs.Keys.{sameKey-true}
-use Rattle.sets.specs.Store.{Store, Told, plain, handed, settingsFit, wholeOf, openedOf, clearedOf, pushedOf}
+use Rattle.answers.specs.declared.Refusal.{Refusal}
+use Rattle.answers.specs.declared.Refusal.the-variants.{NotWhole, TooLittle, BadPid, Conflict}
+use Rattle.rules_shared.specs.Refusals as refusals
+use Rattle.section.proofs.Facts.{takes}
+use Rattle.store.specs.Store.{Store, store, emptySets, settingsFit, wholeOf}
+use Rattle.store.proofs.Whole.{long}
+use Rattle.sets_settle.specs.Settle.{Told, done, nothing, handed, refused, after}
+use Rattle.sets.specs.Store.{openedOf, clearedOf, pushedOf}
 use Rattle.sets.proofs.Refusals.{refusal-keeps}
-use Rattle.sets.specs.Store as sets
-use Rattle.sets.proofs.Whole.{long}
-use Rattle.sets.proofs.Judged.{good-length}
 use Rattle.sets.specs.History.{Call as Given, empty as clears, offer as section, Bytes as OfBytes}
 use Rattle.ties_sets.specs.View.{keyShown, keyWords, seen, settingsOf, readsAs, readSection, reads, answerTold, tells, acts, Opened, Reached}
 use Rattle.ties_sets.proofs.Rows.{same-self}
@@ -50,14 +54,34 @@ opened-reached s o = record {
   stands = rw (o .opened .none) (stands-none keyShown keyWords sameKey sameKey-true same-self (s .heads));
 }
   where
-    go : (b : Bool) → plain (cond b 7 13) ≡ plain 7 → b ≡ true
+    go : (b : Bool) → cond b done (refused TooLittle) ≡ done → b ≡ true
     go true e = refl
-    go false e = let z : _≡_ {A = ℕ} 13 7 = cc in absurd (omega arith)
+    go false e = let z : _≡_ {A = ℕ} 0 1 = cc in absurd (omega arith)
 
 -- "no rows, counts 0"
 pub opened-seen : (s : Store) → Opened s → (seen s) .sets ≡ untouched
 unfolding seen untouched rowsSeen inOrder downFrom
 opened-seen s o = rw (o .opened .none, o .evictions)
+
+-- ---- a call as it can come
+
+come-as : (from : Origin) (bytes : Bytes) (c : Collected) → collectedOf bytes ≡ c → CanCome (readsAs from bytes c)
+unfolding readsAs refusals.ofSection
+come-as from bytes Malformed e = refl
+come-as from bytes ShortForm e = refl
+come-as from bytes BadNumber e = refl
+come-as from bytes BadCrc e = refl
+come-as from bytes (Good h) e = takes bytes h (collectedOf bytes) refl e .room
+
+pub can-come : (i : Given) → CanCome (reads i)
+unfolding reads readSection refusals.ofSection
+can-come clears = tt
+can-come (section maybe.None bytes) = come-as (record { pid = none }) bytes (collectedOf bytes) refl
+can-come (section (maybe.Some p) bytes) = pick (ltb p 8192)
+  where
+    pick : (b : Bool) → CanCome (cond b (readsAs (record { pid = some p }) bytes (collectedOf bytes)) (refuse BadPid))
+    pick true = come-as (record { pid = some p }) bytes (collectedOf bytes) refl
+    pick false = refl
 
 -- ---- one call
 
@@ -86,26 +110,26 @@ module _ (s : Store) (z : Reached s) (i : Given) (o : OfBytes i) where
 
   -- 21: only where the rules would keep the section and every cell is named after the eviction or the emptying; and there always
   pub no-cell-only : tells s i ≡ noCell → (x : Section) × (reads i ≡ offer x) × NeedsCell (seen s) x
-  no-cell-only h = only-then-21 (seen s) (reads i) (sym tells-seen ∙ h)
+  no-cell-only h = only-then-21 (seen s) (reads i) (can-come i) (sym tells-seen ∙ h)
 
   pub no-cell-there : (x : Section) → reads i ≡ offer x → NeedsCell (seen s) x → tells s i ≡ noCell
   no-cell-there x q h = tells-seen ∙ ap (callTells (seen s)) q ∙ then-21 (seen s) x h
 
 -- ---- refusals: the memory is as before, whatever it holds
 
-kept-told : (s after : Store) (t : Told) → ((n : ℕ) → t ≡ plain n → n ≢ 4 → n ≢ 22 → after ≡ s) → asBefore (answerTold t) ≡ true → after ≡ s
-unfolding asBefore answerTold
-kept-told s after (handed w) f h = absurd (true≢false (sym h))
-kept-told s after (plain n) f h =
-    f n refl (λ (e : n ≡ 4). absurd (true≢false (sym (subst (λ (m : ℕ). asBefore (answerTold (plain m)) ≡ true) e h))))
-    (λ (e : n ≡ 22). absurd (true≢false (sym (subst (λ (m : ℕ). asBefore (answerTold (plain m)) ≡ true) e h))))
+kept-told : (s then : Store) (t : Told) → ((r : Refusal) → t ≡ refused r → r ≢ Conflict → then ≡ s) → asBefore (answerTold t) ≡ true → then ≡ s
+unfolding asBefore answerTold refusals.asBefore
+kept-told s then done f h = absurd (true≢false (sym h))
+kept-told s then nothing f h = absurd (true≢false (sym h))
+kept-told s then (handed w) f h = absurd (true≢false (sym h))
+kept-told s then (refused r) f h = f r refl (λ (e : r ≡ Conflict). true≢false (sym h ∙ ap refusals.asBefore e))
 
 pub as-before : (s : Store) (i : Given) → asBefore (tells s i) ≡ true → acts s i ≡ s
 unfolding tells acts asBefore answerTold clearedOf
 as-before s clears h = go (wholeOf s) h
   where
-    go : (b : Bool) → asBefore (answerTold ((cond b (sets.left (plain 7) (sets.store (sets.emptySets (s .sets)) (s .heads) (s .slots) (s .cells))) (sets.left (plain 10) s)) .told)) ≡ true
-        → (cond b (sets.left (plain 7) (sets.store (sets.emptySets (s .sets)) (s .heads) (s .slots) (s .cells))) (sets.left (plain 10) s)) .store ≡ s
+    go : (b : Bool) → asBefore (answerTold ((cond b (after done (store (emptySets (s .sets)) (s .heads) (s .slots) (s .cells))) (after (refused NotWhole) s)) .told)) ≡ true
+        → (cond b (after done (store (emptySets (s .sets)) (s .heads) (s .slots) (s .cells))) (after (refused NotWhole) s)) .store ≡ s
     go true h = absurd (true≢false (sym h))
     go false h = refl
 as-before s (section pid bytes) h = kept-told s ((pushedOf s pid bytes) .store) ((pushedOf s pid bytes) .told) (refusal-keeps s pid bytes) h
@@ -130,25 +154,6 @@ same-store (i ∷ is) o s z =
     let q = same-store is (λ t j e. o (suc t) j e) (acts s i) (acts-reached s z i (o 0 i refl)) in
     (q .0 ∙ ap (λ (t : Shown). storeAfter callActs t (map reads is)) (acts-seen s z i (o 0 i refl)), q .1)
 
--- a section that is read has 12 bytes or more
-read-long : (pid : Option ℕ) (bytes : Bytes) (c : Collected) → collectedOf bytes ≡ c → LongEnough (readsAs pid bytes c)
-unfolding readsAs
-read-long pid bytes Malformed e = tt
-read-long pid bytes ShortForm e = tt
-read-long pid bytes BadNumber e = tt
-read-long pid bytes BadCrc e = tt
-read-long pid bytes (Good h) e = good-length bytes h e
-
-reads-long : (i : Given) → LongEnough (reads i)
-unfolding reads readSection
-reads-long clears = tt
-reads-long (section maybe.None bytes) = read-long none bytes (collectedOf bytes) refl
-reads-long (section (maybe.Some p) bytes) = pick (ltb p 8192)
-  where
-    pick : (b : Bool) → LongEnough (cond b (readsAs (some p) bytes (collectedOf bytes)) (refuse 12))
-    pick true = read-long (some p) bytes (collectedOf bytes) refl
-    pick false = tt
-
 -- opening leaves room that is whole
 opened-room : (s : Store) → Opened s → roomWhole ((seen s) .settings) ((seen s) .cells) ≡ true
 unfolding roomWhole seen
@@ -160,4 +165,4 @@ opened-room s o =
 pub never-not-whole : (s : Store) → Opened s → (calls : List Given) → EachOfBytes calls → Never notWhole (answers tells acts s calls)
 never-not-whole s o calls b =
     subst (Never notWhole) (sym (same-answers calls b s (opened-reached s o)))
-    (never-10 (seen s) (opened-room s o) (opened-seen s o) (map reads calls) (each-read LongEnough reads reads-long calls))
+    (never-10 (seen s) (opened-room s o) (opened-seen s o) (map reads calls) (each-read CanCome reads can-come calls))

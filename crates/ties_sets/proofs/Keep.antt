@@ -34,10 +34,13 @@ use Rattle.ages.proofs.Slots.{held-whole as words-whole}
 use Rattle.ages.proofs.Cells.{cells-length, cells-written, written-length}
 use Rattle.ages.proofs.Touch.{goes-row}
 use Rattle.ages.proofs.Taken.{taken-fresh, taken-known}
-use Rattle.sets.specs.declared.inner.Keeping.{Keeping}
-use Rattle.sets.specs.declared.inner.Plan.the-variants as plan
-use Rattle.sets.specs.declared.PushAnswer.the-variants.{NoCell}
-use Rattle.sets.specs.Store.{Store, Whole, Numbered, planKeep, keptIn, carried}
+use Rattle.sets_plan.specs.declared.Keeping.{Keeping}
+use Rattle.sets_plan.specs.declared.Plan.the-variants as plan
+use Rattle.answers.specs.declared.Refusal.the-variants.{NoCell}
+use Rattle.arrivals.specs.Arrivals.{Numbered}
+use Rattle.store.specs.Store.{Store, Whole}
+use Rattle.sets_plan.specs.Plan.{planKeep}
+use Rattle.sets_settle.specs.Settle.{keptIn, carried}
 use Rattle.ties_sets.specs.View.{keyShown, keyWords, rowSeen, seen, answerTold, Reached}
 use Rattle.ties_sets.proofs.Rows.{same-self, row-takes}
 use Rattle.ties_sets.proofs.Settle.{Tied, Ready, settle-tied}

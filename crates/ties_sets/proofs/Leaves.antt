@@ -1,16 +1,14 @@
 -- What a conflict leaves, which cells are free, and when a cell's bytes change.
 -- Assumes nothing.
-use borrow.Author.Tests.{eqb-true}
 use mathlib.Core.Path.{_≡_, refl, sym, ap, subst, _∙_}
 use mathlib.Core.Logic.{_⊎_}
-use mathlib.Core.Bool.{Bool, true, false, cond}
+use mathlib.Core.Bool.{false}
 use Prim.Native.Nat.{ℕ, _+_, _*_, _≤_, _<_}
 use native.Mathlib.Omega.{arith}
-use lib.Dec.{eqb}
 use lib.ListN.{length, getD}
 use Rattle.laws.proofs.Search.{any-not, none-any}
 use Rattle.rules_shared.specs.Same.{Bytes}
-use Rattle.rules_sets.specs.Rules.{Section, offer, Answer, cleared, refused, nothing, conflict, notWhole, counterFull, noCell}
+use Rattle.rules_sets.specs.Rules.{Section, offer, conflict}
 use Rattle.rules_sets.specs.Cells.{Store as Shown, takes, taken}
 use Rattle.rules_sets.proofs.Exact.{Conflicting, conflict-touches, KeptIn, cells-change}
 use Rattle.cells.specs.Cells.{names}
@@ -19,19 +17,22 @@ use Rattle.ages.specs.Order.{rowsSeen}
 use Rattle.ages.proofs.Ages.{order-none, none-order}
 use Rattle.rows.proofs.Words.{slot-at, length-slots}
 use Rattle.section.specs.declared.ids.MaybePid.{MaybePid}
-use Rattle.sets.specs.Store.{Store, Told, plain, handed, pushedOf}
+use Rattle.answers.specs.declared.Refusal.the-variants.{Conflict}
+use Rattle.store.specs.Store.{Store}
+use Rattle.sets_settle.specs.Settle.{Told, done, nothing, handed, refused}
+use Rattle.sets.specs.Store.{pushedOf}
 use Rattle.sets.proofs.Refusals.{AsBefore, conflict-keeps}
 use Rattle.sets.specs.History.{Call as Given, offer as section, Bytes as OfBytes}
 use Rattle.ties_sets.specs.View.{seen, reads, answerTold, tells, acts, Reached}
 use Rattle.ties_sets.proofs.Rows.{row-takes}
-use Rattle.ties_sets.proofs.History.{tells-seen, acts-seen}
+use Rattle.ties_sets.proofs.History.{can-come, tells-seen, acts-seen}
 
 -- ---- 22: "key becomes newest, else as before"
 
 module _ (s : Store) (z : Reached s) (i : Given) (o : OfBytes i) where
   pub conflict-leaves : tells s i ≡ conflict → (x : Section) × (reads i ≡ offer x) × Conflicting (seen s) x (seen (acts s i))
   conflict-leaves h =
-      let r = conflict-touches (seen s) (reads i) (sym (tells-seen s z i o) ∙ h) in
+      let r = conflict-touches (seen s) (reads i) (can-come i) (sym (tells-seen s z i o) ∙ h) in
       (r .0, r .1, subst (Conflicting (seen s) (r .0)) (sym (acts-seen s z i o)) (r .2))
 
   -- "a cell's bytes change only when a section is kept in it"
@@ -39,20 +40,12 @@ module _ (s : Store) (z : Reached s) (i : Given) (o : OfBytes i) where
   cells-change-seen = subst (λ (q : Shown). (q .cells ≡ (seen s) .cells) ⊎ ((x : Section) × (reads i ≡ offer x) × (c : ℕ) × KeptIn (seen s) x c q)) (sym (acts-seen s z i o)) (cells-change (seen s) (reads i))
 
 -- no settings, no count, no slot, no cell and no word of a head but the ages changes, whatever the memory holds
-conflict-told : (t : Told) → answerTold t ≡ conflict → t ≡ plain 22
+conflict-told : (t : Told) → answerTold t ≡ conflict → t ≡ refused Conflict
 unfolding answerTold
+conflict-told done e = let z : _≡_ {A = ℕ} 0 1 = cc in absurd (omega arith)
+conflict-told nothing e = let z : _≡_ {A = ℕ} 0 1 = cc in absurd (omega arith)
 conflict-told (handed w) e = let z : _≡_ {A = ℕ} 0 1 = cc in absurd (omega arith)
-conflict-told (plain n) e = go (eqb n 7) (eqb n 4) (eqb n 10) (eqb n 11) (eqb n 21) (eqb n 22) refl e
-  where
-    go : (a b c d f g : Bool) → eqb n 22 ≡ g
-        → cond {A = Answer} a cleared (cond b nothing (cond c notWhole (cond d counterFull (cond f noCell (cond g conflict (refused n)))))) ≡ conflict → plain n ≡ plain 22
-    go true b c d f g q e = let z : _≡_ {A = ℕ} 0 1 = cc in absurd (omega arith)
-    go false true c d f g q e = let z : _≡_ {A = ℕ} 0 1 = cc in absurd (omega arith)
-    go false false true d f g q e = let z : _≡_ {A = ℕ} 0 1 = cc in absurd (omega arith)
-    go false false false true f g q e = let z : _≡_ {A = ℕ} 0 1 = cc in absurd (omega arith)
-    go false false false false true g q e = let z : _≡_ {A = ℕ} 0 1 = cc in absurd (omega arith)
-    go false false false false false true q e = ap plain (eqb-true n 22 q)
-    go false false false false false false q e = let z : _≡_ {A = ℕ} 0 1 = cc in absurd (omega arith)
+conflict-told (refused r) e = let z : r ≡ Conflict = cc in ap refused z
 
 pub conflict-memory : (s : Store) (pid : MaybePid) (bytes : Bytes) → tells s (section pid bytes) ≡ conflict → AsBefore s bytes (acts s (section pid bytes))
 unfolding tells acts

@@ -23,13 +23,15 @@ use Rattle.rows.proofs.Words.{put-same, put-not, put-row, length-put, length-to
 use Rattle.ages.proofs.Words.{ready-touched, put-touched, key-same}
 use Rattle.ages.proofs.Slots.{slots-same}
 use Rattle.ages.proofs.Touch.{goes-row, touched-seen, touched-stands, goes-in}
-use Rattle.sets.specs.declared.PushAnswer.the-variants.{Nothing, Set, Conflict}
-use Rattle.sets.specs.Store.{Store, store, Left, settingsFit, setIn, answered, goesOut, settledAnswer, settledHeads, settled, handed}
+use Rattle.answers.specs.declared.Refusal.the-variants.{Conflict}
+use Rattle.store.specs.Store.{Store, store, settingsFit}
+use Rattle.sets_settle.specs.declared.PushAnswer.the-variants.{Nothing, Set, Refused}
+use Rattle.sets_settle.specs.Settle.{SetsAfter, setIn, answered, goesOut, settledAnswer, settledHeads, settled, handed}
 use Rattle.ties_sets.specs.View.{keyShown, keyWords, rowSeen, seen, answerTold, Reached}
 use Rattle.ties_sets.proofs.Rows.{same-self, row-same, row-marked, full-filled, sections-kept}
 
 -- what a call left is what the rules' call left, and the store is one that a history reaches
-pub record Tied (l : Left) (t : Turn) : Type 0 where
+pub record Tied (l : SetsAfter) (t : Turn) : Type 0 where
   pub told : answerTold (l .told) ≡ t .answer
   pub shown : seen (l .store) ≡ t .store
   pub reached : Reached (l .store)
@@ -158,6 +160,6 @@ module _ (s s₁ : Store) (key : Key) (i a : ℕ) (z : Reached s) (proper : keyW
         go true false e = record { told = refl; shown = left-shown false; reached = left-reached false }
         go false f e = record { told = refl; shown = left-shown false; reached = left-reached false }
 
-    pub conflict-tied : Tied (answered Conflict (leftStore false)) (shows (seen s) cellsThere (gives conflict (newest (keyShown key) rowThere rest)))
+    pub conflict-tied : Tied (answered (Refused Conflict) (leftStore false)) (shows (seen s) cellsThere (gives conflict (newest (keyShown key) rowThere rest)))
     unfolding shows answerTold onAnswer
     conflict-tied = record { told = refl; shown = left-shown false; reached = left-reached false }

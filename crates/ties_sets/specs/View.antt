@@ -7,9 +7,10 @@ use mathlib.Core.Option.{Option, none, some}
 use mathlib.Core.List.{List}
 use lib.Dec.{eqb, ltb}
 use lib.ListN.{length}
-use Rattle.rules_shared.specs.Same.{Bytes}
+use Rattle.answers.specs.declared.Refusal.the-variants as refusal
+use Rattle.rules_shared.specs.Same.{Bytes, Origin}
 use Rattle.rules_shared.specs.Cells.{Settings, Held}
-use Rattle.rules_sets.specs.Rules.{Key as SetKey, SetOf, Call, clear, refuse, offer, Answer, cleared, refused, nothing, handout, conflict, notWhole, counterFull, noCell}
+use Rattle.rules_sets.specs.Rules.{Key as SetKey, SetOf, Call, clear, refuse, offer, Answer, cleared, nothing, handout, refused}
 use Rattle.rules_sets.specs.Cells.{Store as Shown}
 use Rattle.section.specs.Judged.{collectedOf}
 use Rattle.section.specs.declared.header.Collected.{Collected}
@@ -21,25 +22,31 @@ use Rattle.rows.specs.Rows.{rowSlots, lastOf, markOf, versionOf}
 use Rattle.ages.specs.Order.{orderSeen, Stands}
 use Rattle.ages.specs.Slots.{heldSlots, cellsSeen}
 use Rattle.sets.specs.History.{Call as Given, offer as section, empty as clears, called, OpenedStore}
-use Rattle.sets.specs.Store.{Store, Told, plain, handed, settingsFit, bitOf}
+use Rattle.arrivals.specs.Arrivals.{bitOf}
+use Rattle.store.specs.Store.{Store, settingsFit}
+use Rattle.sets_settle.specs.Settle as sets
+use Rattle.sets_settle.specs.Settle.{Told}
 
 -- ---- a key
 
 -- the PID word of a row without a PID is 8192
-unfoldable pub pidShown : ℕ → Option ℕ
-pidShown p = cond (eqb p 8192) none (some p)
+unfoldable pub originShown : ℕ → Origin
+originShown p = record { pid = cond (eqb p 8192) none (some p) }
 
 unfoldable pub keyShown : Key → SetKey
-keyShown k = record { pid = pidShown (k .pid); tableId = k .«table_id»; extension = k .extension; currentNext = not (eqb (k .«current_next») 0) }
+keyShown k = record { from = originShown (k .pid); tableId = k .«table_id»; extension = k .extension; currentNext = not (eqb (k .«current_next») 0) }
 
 -- the words that a key is written in; transport_stream_id and original_network_id are 0 in the set collector
 abbrev pub pidWords : Option ℕ → ℕ
 pidWords none = 8192
 pidWords (some p) = p
 
+abbrev pub originWords : Origin → ℕ
+originWords o = pidWords (o .pid)
+
 unfoldable pub keyWords : SetKey → Key
 keyWords k = record {
-  pid = pidWords (k .pid);
+  pid = originWords (k .from);
   «table_id» = k .tableId;
   extension = k .extension;
   «current_next» = bitOf (k .currentNext);
@@ -73,13 +80,13 @@ seen s = record {
 -- ---- calls and answers
 
 -- 14 to 17, or what the section says
-unfoldable pub readsAs : Option ℕ → Bytes → Collected → Call
-readsAs pid bytes Malformed = refuse 14
-readsAs pid bytes ShortForm = refuse 15
-readsAs pid bytes BadNumber = refuse 16
-readsAs pid bytes BadCrc = refuse 17
-readsAs pid bytes (Good h) = offer (record {
-  key = record { pid = pid; tableId = h .«table_id»; extension = h .extension; currentNext = h .«current_next» };
+unfoldable pub readsAs : Origin → Bytes → Collected → Call
+readsAs from bytes Malformed = refuse refusal.Malformed
+readsAs from bytes ShortForm = refuse refusal.ShortForm
+readsAs from bytes BadNumber = refuse refusal.BadNumber
+readsAs from bytes BadCrc = refuse refusal.BadCrc
+readsAs from bytes (Good h) = offer (record {
+  key = record { from = from; tableId = h .«table_id»; extension = h .extension; currentNext = h .«current_next» };
   version = h .version;
   number = h .number;
   last = h .last;
@@ -88,24 +95,19 @@ readsAs pid bytes (Good h) = offer (record {
 
 -- 12 first: a PID of 8192 or more
 unfoldable pub readSection : MaybePid → Bytes → Call
-readSection maybe.None bytes = readsAs none bytes (collectedOf bytes)
-readSection (maybe.Some p) bytes = cond (ltb p 8192) (readsAs (some p) bytes (collectedOf bytes)) (refuse 12)
+readSection maybe.None bytes = readsAs (record { pid = none }) bytes (collectedOf bytes)
+readSection (maybe.Some p) bytes = cond (ltb p 8192) (readsAs (record { pid = some p }) bytes (collectedOf bytes)) (refuse refusal.BadPid)
 
 unfoldable pub reads : Given → Call
 reads clears = clear
 reads (section pid bytes) = readSection pid bytes
 
--- what is told, by 01's number; 5 comes with the set
+-- what is told, as the rules have it
 unfoldable pub answerTold : Told → Answer
-answerTold (handed w) = handout (record { key = keyShown (w .key); version = w .version; last = w .last; sections = w .sections })
-answerTold (plain n) =
-    cond (eqb n 7) cleared
-    (cond (eqb n 4) nothing
-    (cond (eqb n 10) notWhole
-    (cond (eqb n 11) counterFull
-    (cond (eqb n 21) noCell
-    (cond (eqb n 22) conflict
-    (refused n))))))
+answerTold sets.done = cleared
+answerTold sets.nothing = nothing
+answerTold (sets.handed w) = handout (record { key = keyShown (w .key); version = w .version; last = w .last; sections = w .sections })
+answerTold (sets.refused r) = refused r
 
 -- what `clear` and `push` are proved to tell and to leave (`called` of the crate sets)
 unfoldable pub tells : Store → Given → Answer

@@ -1,0 +1,78 @@
+-- A refusal leaves every word that is lent as it was, whatever the words hold. An array of n words is a list of length n.
+-- Assumes nothing.
+use Prim.Native.Nat.{ℕ, _≤_, _<_}
+use mathlib.Core.Path.{_≡_, refl, sym, ap, _∙_}
+use mathlib.Core.Logic.{_≢_}
+use mathlib.Core.List.{List}
+use mathlib.Core.Bool.{Bool, true, false, cond}
+use native.Mathlib.Omega.{arith}
+use lib.ListN.{length}
+use lib.Dec.{eqb}
+use borrow.Author.Tests.{ne-eqb}
+use Rattle.answers.specs.Answers.{refusalNo}
+use Rattle.answers.specs.declared.Refusal.{Refusal}
+use Rattle.answers.specs.declared.Refusal.the-variants.{NotWhole, Conflict}
+use Rattle.host_words.specs.Answers as answers
+use Rattle.host_words.specs.Pids.{maybePid}
+use Rattle.store.specs.Store.{Store, store, wholeOf}
+use Rattle.sets_settle.specs.Settle.{Told, done, nothing, handed, refused, toldNo, SetsAfter, after}
+use Rattle.sets.specs.Store.{clearedOf, pushedOf}
+use Rattle.sets.proofs.Refusals.{refusal-keeps}
+use Rattle.host_sets.specs.Words.{setsOf}
+use Rattle.host_sets.specs.Calls.{setsOpened, clearedAs, setsCleared, setsLeft, rowAfter, pushedAs, setsPushed}
+use Rattle.host_sets.proofs.Same.{sets-same}
+
+pub refused-open :
+    (answer n : ℕ) (ws words : List ℕ) → answer ≡ n → (answer ≡ 7 → ⊥) → answers.words n (cond (eqb n 7) ws words) ≡ answers.words answer words
+refused-open answer n ws words e h = rw (← e, ne-eqb answer 7 h)
+
+-- 13
+pub sets-open-refused :
+    (words : List ℕ) (limit size count : ℕ) (heads slots cells : List ℕ) (answer : ℕ) →
+    answer ≡ (setsOpened words limit size count heads slots cells) .answer → (answer ≡ 7 → ⊥) →
+    setsOpened words limit size count heads slots cells ≡ answers.words answer words
+unfolding setsOpened
+sets-open-refused words limit size count heads slots cells answer e h = refused-open answer _ _ words e h
+
+-- 10
+pub sets-clear-refused :
+    (words heads slots cells : List ℕ) (answer : ℕ) → length words ≡ 5 →
+    answer ≡ (setsCleared words heads slots cells) .answer → (answer ≡ 7 → ⊥) →
+    setsCleared words heads slots cells ≡ answers.words answer words
+unfolding setsCleared clearedOf
+sets-clear-refused words heads slots cells answer n e h = go (wholeOf (store (setsOf words) heads slots cells)) _ e
+  where
+    go :
+        (whole : Bool) (s : Store) →
+        answer ≡ (clearedAs words (cond whole (after done s) (after (refused NotWhole) (store (setsOf words) heads slots cells)))) .answer →
+        clearedAs words (cond whole (after done s) (after (refused NotWhole) (store (setsOf words) heads slots cells))) ≡ answers.words answer words
+    go true s e = absurd (h e)
+    go false s e = rw (e, sets-same words n)
+
+-- a refusal below 22 leaves the store and the row's word
+kept-as :
+    (s : Store) (l : SetsAfter) (row : List ℕ) (t : Told) → l .told ≡ t → ((r : Refusal) → l .told ≡ refused r → r ≢ Conflict → l .store ≡ s) →
+    10 ≤ toldNo t → toldNo t < 22 → (l .store ≡ s) × (rowAfter t row ≡ row)
+kept-as s l row done e f h k = absurd (omega arith)
+kept-as s l row nothing e f h k = absurd (omega arith)
+kept-as s l row (handed o) e f h k = absurd (omega arith)
+kept-as s l row (refused r) e f h k = (f r e (λ (q : r ≡ Conflict). let z : refusalNo r ≡ 22 = ap refusalNo q in omega arith), refl)
+
+-- 10, 11, 12, 14 to 17, 20 and 21
+pub sets-push-refused :
+    (words heads slots cells : List ℕ) (pid : ℕ) (section row : List ℕ) (answer : ℕ) → length words ≡ 5 →
+    answer ≡ (setsPushed words heads slots cells pid section row) .answer → 10 ≤ answer → answer < 22 →
+    setsPushed words heads slots cells pid section row ≡ setsLeft answer words heads slots cells row
+unfolding setsPushed
+sets-push-refused words heads slots cells pid section row answer n e h k =
+    let s : Store = store (setsOf words) heads slots cells in
+    let l : SetsAfter = pushedOf s (maybePid pid) section in
+    let a : 10 ≤ toldNo (l .told) = rw (← e) h in
+    let b : toldNo (l .told) < 22 = rw (← e) k in
+    let q = kept-as s l row (l .told) refl (refusal-keeps s (maybePid pid) section) a b in
+    go l (q .0) (q .1) e
+  where
+    go :
+        (l : SetsAfter) → l .store ≡ store (setsOf words) heads slots cells → rowAfter (l .told) row ≡ row → answer ≡ toldNo (l .told) →
+        pushedAs words row l ≡ setsLeft answer words heads slots cells row
+    go l q a e = rw (q, e, sets-same words n, a)

@@ -1,0 +1,13 @@
+use Rattle.host_words.proofs.Laws.{words-are}
+use borrow.Author.Needs.{needs}
+use Rattle.host_sets.proofs.words.write_next.Statement.{statement}
+use Rattle.host_sets.proofs.words.write_next.Tie as tie
+
+number-requires : tie.Need-number-requires
+number-requires c κs = search needs
+
+returns : tie.Need-returns
+returns c = search words-are
+
+pub write-next-spec : {M : Type 1} → statement M
+write-next-spec = tie.close (tie.spec number-requires returns)
