@@ -1,10 +1,10 @@
 // Examples of docs/RULES.md that no theorem has: a last_table_id past the kind never lets a schedule go out. Before it a set, an EIT set and a
 // schedule are collected and read out section by section. What is printed is held to what the second implementation says of the same sections
 // (compare/examples.txt).
-use eit::Eit;
-use eit::PushAnswer;
+use eit_state::Eit;
+use eit_state::PushAnswer;
 use section::ids::MaybePid;
-use sets::Sets;
+use store::Sets;
 ghost use Prim.Native.Nat.{_≤_};
 ghost use lib.ListN.{length};
 
@@ -24,7 +24,7 @@ fn read_set(sets: Sets, heads: &[u64], slots: &[u32], cells: &[u8], row: usize) 
         }
         lines::say_section(
             next.number,
-            sets::section_part(cells, next.start, next.length),
+            readers::section_part(cells, next.start, next.length),
         );
         from = std::num::wrapping_add_usize(next.number, 1);
         left -= 1;
@@ -42,7 +42,7 @@ fn collect(
     let answer = pushed.answer;
     let then = pushed.sets;
     lines::say_line(b"sets ", answer.number() as u64);
-    if let sets::PushAnswer::Set(row) = answer {
+    if let sets_settle::PushAnswer::Set(row) = answer {
         read_set(then, heads, slots, cells, row);
     }
     then
@@ -98,7 +98,7 @@ fn read_eit_set(
         }
         lines::say_section(
             next.number,
-            eit::section_part(cells, next.start, next.length),
+            readers::section_part(cells, next.start, next.length),
         );
         from = std::num::wrapping_add_usize(next.number, 1);
         left -= 1;
@@ -136,7 +136,7 @@ fn read_table(
         }
         lines::say_section(
             next.number,
-            eit::section_part(cells, next.start, next.length),
+            readers::section_part(cells, next.start, next.length),
         );
         from = std::num::wrapping_add_usize(next.number, 1);
         left -= 1;
