@@ -1,4 +1,4 @@
--- The cells that are named "after the set eviction or row emptying it would cause" (01, answer 21): what the code looks at is what the rules look at.
+-- The cells that are named "after the set eviction or row emptying it would cause" (docs/RULES.md, "Answers", 21): what the code looks at is what the rules look at.
 -- Assumes nothing.
 use mathlib.Core.Path.{_≡_, refl, sym, _∙_}
 use mathlib.Core.Bool.{Bool, true, false}

@@ -1,4 +1,4 @@
--- Document 01's checked examples, all in one theorem.
+-- The examples of docs/RULES.md that are marked P, all in one theorem.
 -- Assumes nothing.
 use mathlib.Core.Path.{_≡_, refl, ap, _∙_}
 use mathlib.Core.Bool.{Bool, true, false, cond}

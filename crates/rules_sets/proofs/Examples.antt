@@ -56,7 +56,7 @@ replies s calls = answers callTells callActs s calls
 
 -- ---- the rules
 
--- 01, "Checked examples": limit 2, keys A, B, A, C: the collector loses B, and counts one eviction; a clear keeps the count
+-- docs/RULES.md, "Examples": limit 2, keys A, B, A, C: the collector loses B, and counts one eviction; a clear keeps the count
 unfoldable pub calls-ABAC : List Call
 calls-ABAC = sect 1 0 1 0 7 ∷ sect 2 0 1 0 7 ∷ sect 1 0 1 0 7 ∷ sect 3 0 1 0 7 ∷ []
 

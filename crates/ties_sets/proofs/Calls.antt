@@ -272,7 +272,7 @@ module _ (s : Store) (z : Reached s) (f : Whole (s .sets) (s .heads) (s .slots) 
       go true q = known-tied (ltb-true there (s .sets .used) q)
       go false q = new-tied (ltb-false there (s .sets .used) q)
 
--- ---- a section, in the order of 01's numbers
+-- ---- a section, in the order of the numbers
 
 module _ (s : Store) (z : Reached s) where
   module _ (f : Whole (s .sets) (s .heads) (s .slots) (s .cells)) (more : s .sets .evictions < 18446744073709551615) (bytes : Bytes) where
