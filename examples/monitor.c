@@ -1,7 +1,8 @@
 /*
  * A guide monitor in C over the proved library. It reads records from standard input or from the file named: a PID (two bytes, high byte first)
- * and a section. Sections of watched PIDs go through the gate; new ones go on to the set collector, EIT sections to the EIT collector. It
- * prints what a monitor shows: each new section, each complete set with its sections, each complete schedule table by table, and totals.
+ * and a section. Sections of watched PIDs go through the gate; those that are sound, new or not, go on to the set collector, EIT sections to the EIT
+ * collector: a set that was evicted between two of its sections, or found no cell, is completed by repeats. It prints what a monitor shows: each new
+ * section, each complete set with its sections, each complete schedule table by table, and totals.
  */
 #include "../include/petrizolu.h"
 
@@ -171,9 +172,10 @@ static void take(struct monitor *m, uint32_t pid, const uint8_t *section, size_t
         return;
     }
     answer = petrizolu_indexed_offer(&m->gate.state, LEND_GATE(&m->gate), pid, section, length);
-    if (answer != PETRIZOLU_EMITTED)
+    if (answer == PETRIZOLU_EMITTED)
+        printf("new pid %04" PRIX32 " table %02X, %zu bytes\n", pid, section[0], length);
+    else if (answer != PETRIZOLU_SUPPRESSED)
         return;
-    printf("new pid %04" PRIX32 " table %02X, %zu bytes\n", pid, section[0], length);
     if (is_event_table(section[0]))
         collect_events(m, pid, section, length);
     else

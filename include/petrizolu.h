@@ -200,7 +200,12 @@ typedef struct petrizolu_section {
     uint64_t length;
 } petrizolu_section;
 
-/* ---- the set collector: which tables are complete */
+/*
+ * ---- the set collector: which tables are complete
+ *
+ * Give it every section that the gate answers 1 or 2 for: a set that was evicted between two of its sections, or whose section found no cell (21), is
+ * completed by repeats, and these are suppressed. EIT sections go to the EIT collector instead.
+ */
 
 typedef struct petrizolu_sets {
     uint64_t limit;    /* keys at most; 0: nothing is kept */

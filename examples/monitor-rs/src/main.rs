@@ -44,11 +44,15 @@ impl Monitor {
             self.unwatched += 1;
             return;
         }
-        if self.gate.offer(pid, section) != Ok(Offered::Emitted) {
-            return;
-        }
-        let table_id = section[0];
-        println!("new pid {pid:04X} table {table_id:02X}, {} bytes", section.len());
+        // A repeat goes on too: it completes a set that was evicted between two of its sections, or found no cell.
+        let table_id = match self.gate.offer(pid, section) {
+            Ok(Offered::Emitted) => {
+                println!("new pid {pid:04X} table {:02X}, {} bytes", section[0], section.len());
+                section[0]
+            }
+            Ok(Offered::Suppressed) => section[0],
+            _ => return,
+        };
         if (0x4E..=0x6F).contains(&table_id) {
             self.collect_events(pid, section);
         } else {
