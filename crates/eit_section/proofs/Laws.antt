@@ -98,7 +98,7 @@ module _ (s : List ℕ) (t : ℕ) (k : Kind) (b : Bool) (et : t ≡ byteAt s 0) 
     unfolding eitOf
     read-good e v ee = rw (kind-here, not-false b h, ← ew, not-false w v, ee, ek, et)
 
--- 01's numbers: 18 by table_id alone, 19 where the table_id is an EIT's, and no refusal else
+-- the numbers: 18 by table_id alone, 19 where the table_id is an EIT's, and no refusal else
 pub refused-18 : (s : List ℕ) → isEit (kindOf (byteAt s 0)) ≡ false → readingNo (eitOf s) ≡ 18
 unfolding eitOf
 refused-18 s h = rw h

@@ -1,4 +1,4 @@
--- What callers may use of a segment's end, and 01's examples of it.
+-- What callers may use of a segment's end, and the examples of it.
 -- Assumes nothing.
 use mathlib.Core.Path.{_≡_, refl}
 use Prim.Native.Nat.{ℕ, _+_, _/_, _%_, _≤_, _<_}

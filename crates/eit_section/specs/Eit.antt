@@ -54,7 +54,7 @@ layoutGood s = leb 18 (length s) && wholeEntries 12 (take (length s - 18) (drop 
 unfoldable pub eitOf : List ℕ → Reading
 eitOf s = cond (isEit (kindOf (byteAt s 0))) (cond (layoutGood s) (Good (fieldsOf s (kindOf (byteAt s 0)))) Broken) NotEit
 
--- 01's number of a refusal; 0 where there is none
+-- the number of a refusal; 0 where there is none
 abbrev pub readingNo : Reading → ℕ
 readingNo NotEit = 18
 readingNo Broken = 19

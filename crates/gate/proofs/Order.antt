@@ -1,4 +1,4 @@
--- The store over lent memory and the rule: from an opened store every offer answers and leaves what document 01 says.
+-- The store over lent memory and the rule: from an opened store every offer answers and leaves what docs/RULES.md says.
 -- Assumes nothing.
 use Prim.Native.Nat.{ℕ, _+_, _*_, _^_, _<_, _≤_}
 use mathlib.Core.Path.{_≡_, refl, sym, ap, _∙_}

@@ -1,4 +1,4 @@
--- Document 01's example of the gate: capacity 2, keys A, B, A, C: the gate loses A. Of the rule and of the ring.
+-- The examples of docs/RULES.md of the gate: capacity 2, keys A, B, A, C: the gate loses A. Of the rule and of the ring.
 -- Assumes nothing.
 use Prim.Native.Nat.{ℕ}
 use mathlib.Core.Path.{_≡_, refl}

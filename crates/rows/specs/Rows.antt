@@ -141,7 +141,7 @@ keptSlots r e w slots = set (cond (r .fresh) (emptied (slotsAt (r .row)) (e .las
 
 -- ---- all rows in use, the first n
 
--- of 01's 10: each slot of each row is whole
+-- of answer 10: each slot of each row is whole
 unfoldable pub rowsWhole : List ℕ → List ℕ → ℕ → ℕ → ℕ → Bool
 rowsWhole heads slots count size zero = true
 rowsWhole heads slots count size (suc n) = allWhole count size (rowSlots heads slots n) && rowsWhole heads slots count size n

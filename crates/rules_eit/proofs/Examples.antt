@@ -17,7 +17,7 @@ use Rattle.rules_eit.specs.Segments.{segmentEnd, SetOf, heldFrom, segmen
 use Rattle.rules_eit.specs.Schedules.{ScheduleOf, copyOf, whole, copied, refill, begin, enter, allTables, wholes, guide}
 use Rattle.rules_eit.specs.Rules.{refused, scheduleOf, keyOf, partOf, Call, clear, drop, refuse, offer, Whole, Answer, nothing, handout, schedule, numberOf, metRow, setAside, setNewest, scheduleTouched, told, ranged, ready, judged, judge, cleared, dropped, Eit, finish, push, admit, offered, dropping, step, tells, acts, opened}
 
--- ---- 01, "Checked examples": segment ends; and the kinds at their borders
+-- ---- docs/RULES.md, "Examples": segment ends; and the kinds at their borders
 
 pub segment-ends : segmentEnd 8 11 20 ∷ segmentEnd 8 3 20 ∷ segmentEnd 16 23 17 ∷ segmentEnd 248 255 255 ∷ [] ≡ 11 ∷ 11 ∷ 17 ∷ 255 ∷ []
 unfolding segmentEnd

@@ -1,4 +1,4 @@
--- The EIT collector with cells (01, "Cells"): a slot, of a set or of a schedule's copy, names the cell that holds a section's bytes, and how many they
+-- The EIT collector with cells (docs/RULES.md, "Cells"): a slot, of a set or of a schedule's copy, names the cell that holds a section's bytes, and how many they
 -- are. 10, 11 and 21 come in here.
 -- Assumes nothing.
 use mathlib.Core.Bool.{Bool, true, false, _&&_, _||_}

@@ -1,4 +1,4 @@
--- EIT kinds, the keys of sets and of schedules, and the filter that drops by key (01, "Layouts" and "Collectors"; EN 300 468, 5.2.4).
+-- EIT kinds, the keys of sets and of schedules, and the filter that drops by key (docs/RULES.md, "Layouts" and "Collectors"; EN 300 468, 5.2.4).
 -- Assumes nothing.
 use mathlib.Core.Bool.{Bool, true, false, cond, _&&_, Bool·beq}
 use mathlib.Core.Option.{Option, none, some}

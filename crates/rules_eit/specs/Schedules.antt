@@ -1,4 +1,4 @@
--- One schedule: copies of its tables' sets as they were when they went in (01, "Collectors").
+-- One schedule: copies of its tables' sets as they were when they went in (docs/RULES.md, "Collectors").
 -- Assumes nothing.
 use mathlib.Core.Bool.{Bool, cond}
 use mathlib.Core.Option.{Option, none, some}

@@ -1,4 +1,4 @@
--- Segments (EN 300 468, 5.2.4; 01, "Collectors"): "Segments are of eight numbers, from 0".
+-- Segments (EN 300 468, 5.2.4; docs/RULES.md, "Collectors"): "Segments are of eight numbers, from 0".
 -- Assumes nothing.
 use mathlib.Core.Bool.{Bool, true, false, _&&_}
 use mathlib.Core.Option.{Option, none, some}

@@ -186,7 +186,7 @@ module _ (s : Store) (z : Reached s) where
       go true = emptied-tied
       go false = record { told = refl; shown = refl; reached = z }
 
--- ---- a section, in the order of 01's numbers
+-- ---- a section, in the order of the numbers
 
 key-of : (a : Arrival) (bytes : Bytes) (kind : Kind) → kindOf (a .entry .key .«table_id») ≡ some kind → keyOf (sectionFor a bytes) kind ≡ keyShown (a .entry .key)
 unfolding keyOf scheduleOf keyShown
