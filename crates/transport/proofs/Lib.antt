@@ -1,0 +1,10 @@
+pub mod Gather
+pub mod Payload
+pub mod Counter
+pub mod Promise
+pub mod Restart
+pub mod Examples
+pub mod Blocks
+pub mod Exact
+pub mod Unbroken
+pub mod Apart
