@@ -34,6 +34,10 @@ one-reading {ask = ask} {cells = cells} {from = from} (goesOn e r) (goesOn f s) 
 no≢yes : No ≢ Yes
 no≢yes e = let z : _≡_ {A = ℕ} 0 1 = cc in omega arith
 
+-- where there is none, nothing is read
+pub reads-none : (ask : ℕ → Next) (cells : List ℕ) (from : ℕ) → ask from ≡ noSection No → Reads ask cells from [] No
+reads-none ask cells from q = subst (λ (x : Next). Reads ask cells from [] (x .answer)) q (ends (λ y. no≢yes (sym (ap (λ (x : Next). x .answer) q) ∙ y)))
+
 -- a question that is answered alike is read alike
 alike : (ask : ℕ → Next) (cells : List ℕ) (from later : ℕ) (p : List (List ℕ)) (a : Reply) → ask later ≡ ask from → Reads ask cells later p a → Reads ask cells from p a
 alike ask cells from later p a e (ends n) = subst (λ (x : Next). Reads ask cells from [] (x .answer)) (sym e) (ends (λ q. n (ap (λ (x : Next). x .answer) e ∙ q)))
@@ -81,7 +85,7 @@ module _ (count size : ℕ) (cells slots : List ℕ) (whole : allWhole count siz
       let q : asks size slots from ≡ noSection No = none-left from (omega (arith, e)) in
       let l : length slots ≤ from = omega (arith, e) in
       rw (drop-of-length-le slots l)
-      (subst (λ (x : Next). Reads (asks size slots) cells from [] (x .answer)) q (ends (λ y. no≢yes (sym (ap (λ (x : Next). x .answer) q) ∙ y))))
+      (reads-none (asks size slots) cells from q)
   reads-from (suc n) from e = rw (drop-cons slots from 0 (omega (arith, e))) (go (filled (getD slots from 0)) refl (reads-from n (suc from) (omega (arith, e))))
     where
       w : ℕ

@@ -20,10 +20,11 @@ use Rattle.rules_eit.specs.Keys.{Kind, sameSet, sameSchedule}
 use Rattle.answers.specs.declared.Refusal.the-variants as refusal
 use Rattle.rules_eit.specs.Rules.{Eit, Section, offer, refuse, Answer, done, refused, nothing, handout, schedule, barred, asBefore}
 use Rattle.rules_eit.specs.Rules.{tells as rulesTell, acts as rulesAct, opened as rulesOpened}
-use Rattle.rules_eit.specs.Cells.{Store as Shown, onEit, view, callTells, callActs}
+use Rattle.rules_eit.specs.Cells.{Store as Shown, onEit, view, storeWhole, callTells, callActs}
 use Rattle.rules_eit.proofs.Keys.{sameSet-true, sameSchedule-true}
 use Rattle.rules_eit.proofs.Cells.{obeys-rules, settings-stay}
-use Rattle.rules_eit.proofs.Whole.{LongEnough, never-10}
+use Rattle.rules_eit.proofs.Whole.{LongEnough, never-10, whole-stays}
+use Rattle.rules_eit.proofs.Whole.{opened-whole as rules-opened-whole}
 use Rattle.rules_eit.proofs.Exact.{NeedsCell, only-then-21, then-21}
 use Rattle.section.specs.Judged.{collectedOf}
 use Rattle.eit_section.specs.Eit.{eitOf}
@@ -59,7 +60,7 @@ use Rattle.eit.specs.Store as eit
 use Rattle.eit.specs.Store.{After, after, toldStep, answerOf, openedOf, emptyEit, clearedOf, dropOf, carriedDrop, droppedOf, admitted, pushedWhole, pushedAs, pushedOf}
 use Rattle.ties_eit.specs.View.{keyShown, scheduleShown, keyWords, scheduleWords, seen, settingsOf, sectionOf, readsEit, readsAs, readSection, reads, answerTold, tells, acts, Given, clears, drops, section, Fitting, Opened, Reached}
 use Rattle.ties_eit.proofs.Keys.{set-self, schedule-self}
-use Rattle.ties_eit.proofs.Calls.{tied, room-there}
+use Rattle.ties_eit.proofs.Calls.{tied, room-there, whole-seen}
 use Rattle.ties_eit.proofs.Arrivals.{good-length}
 
 -- ---- opening
@@ -235,6 +236,19 @@ pub never-not-whole : (s : Store) → Opened s → (calls : List Given) → Each
 never-not-whole s o calls b =
     subst (Never (refused refusal.NotWhole)) (sym (same-answers calls b s (opened-reached s o)))
     (never-10 (seen s) (room-there s (opened-reached s o)) (opened-seen s o) (map reads calls) (each-read LongEnough reads reads-long calls))
+
+-- so every store of a history is whole
+pub opened-whole : (s : Store) → Opened s → wholeOf s ≡ true
+opened-whole s o = sym (whole-seen s (opened-reached s o)) ∙ rules-opened-whole (seen s) (room-there s (opened-reached s o)) (opened-seen s o)
+
+pub stays-whole : (s : Store) → Reached s → wholeOf s ≡ true → (i : Given) → Fitting i → wholeOf (acts s i) ≡ true
+stays-whole s z w i o =
+    sym (whole-seen (acts s i) (acts-reached s z i o)) ∙ ap storeWhole (acts-seen s z i o) ∙ whole-stays (seen s) (reads i) (reads-long i) (whole-seen s z ∙ w)
+
+pub always-whole : (calls : List Given) → EachFitting calls → (s : Store) → Reached s → wholeOf s ≡ true → Reached (storeAfter acts s calls) × (wholeOf (storeAfter acts s calls) ≡ true)
+unfolding storeAfter
+always-whole [] o s z w = (z, w)
+always-whole (i ∷ is) o s z w = always-whole is (λ t j e. o (suc t) j e) (acts s i) (acts-reached s z i (o 0 i refl)) (stays-whole s z w i (o 0 i refl))
 
 -- ---- the rules without memory
 

@@ -1,1 +1,4 @@
 pub mod Sets
+pub mod Rows
+pub mod Eit
+pub mod Schedules
