@@ -46,7 +46,7 @@ set-of table last sections = record { key = key table; version = 0; last = last;
 
 -- ---- bytes
 
-byte-test : (bytes : Bytes) → every (λ (b : ℕ). ltb b 256) bytes ≡ true → AllBytes bytes
+pub byte-test : (bytes : Bytes) → every (λ (b : ℕ). ltb b 256) bytes ≡ true → AllBytes bytes
 byte-test bytes e i = go (decLe (suc i) (length bytes))
   where
     go : Dec (suc i ≤ length bytes) → getD bytes i 0 < 256

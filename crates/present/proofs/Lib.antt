@@ -1,0 +1,4 @@
+pub mod Complete
+pub mod Row
+pub mod Demand
+pub mod Five
