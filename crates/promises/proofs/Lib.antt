@@ -1,4 +1,5 @@
 pub mod Demand3
+pub mod Demand3Read
 pub mod Examples
 pub mod Runs
 pub mod NotEmpty
