@@ -252,7 +252,7 @@ uint8_t petrizolu_sets_clear(petrizolu_sets *sets, const uint64_t *heads, size_t
 
 /*
  * Has the set in a row another section, its number `from` or more? 8: *next tells of it; go on from next->number + 1. 9: no, or no such row. 10.
- * *next is written with zeros where there is none.
+ * 9 and 10 leave *next as it was.
  *
  *     petrizolu_section next;
  *     uint64_t from = 0;

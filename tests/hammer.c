@@ -488,11 +488,15 @@ static struct part sets, eit;
 #define SETS(p) A(p, HEADS), A(p, SLOTS), A(p, CELLS)
 #define EIT(p) SETS(p), A(p, SCHEDULE_HEADS), A(p, UNITS)
 
+/* The words of a section before the question: none that a section could have, and each another. */
+#define NO_SECTION {UINT64_MAX, UINT64_MAX - 1, UINT64_MAX - 2}
+
 static void check_part(enum call call, const struct part *p, const uint64_t next[3], unsigned answer)
 {
+    static const uint64_t before[3] = NO_SECTION;
     if (answer == PETRIZOLU_YES && (next[0] > 255 || next[2] < 12 || next[1] + next[2] > p->arrays[CELLS].count))
         fail(call, answer, "a section that is not in the cells");
-    if (answer != PETRIZOLU_YES && (next[0] | next[1] | next[2]) != 0)
+    if (answer != PETRIZOLU_YES && memcmp(next, before, sizeof before) != 0)
         fail(call, answer, "a section where there is none");
 }
 
@@ -531,7 +535,7 @@ static void sets_push(uint32_t pid)
 
 static void sets_next(uint64_t row, uint64_t from)
 {
-    uint64_t next[3] = {1, 2, 3};
+    uint64_t next[3] = NO_SECTION;
     unsigned answer;
     remember(&sets);
     answer = petrizolu_sets_next((const petrizolu_sets *)sets.words, SETS(&sets), row, from, (petrizolu_section *)next);
@@ -565,7 +569,7 @@ static void eit_push(uint32_t pid)
 
 static void eit_next(uint64_t row, uint64_t from)
 {
-    uint64_t next[3] = {1, 2, 3};
+    uint64_t next[3] = NO_SECTION;
     unsigned answer;
     remember(&eit);
     answer = petrizolu_eit_next((const petrizolu_eit *)eit.words, EIT(&eit), row, from, (petrizolu_section *)next);
@@ -575,7 +579,7 @@ static void eit_next(uint64_t row, uint64_t from)
 
 static void eit_next_in_schedule(uint64_t row, uint64_t table, uint64_t from)
 {
-    uint64_t next[3] = {1, 2, 3};
+    uint64_t next[3] = NO_SECTION;
     unsigned answer;
     remember(&eit);
     answer = petrizolu_eit_next_in_schedule((const petrizolu_eit *)eit.words, EIT(&eit), row, table, from, (petrizolu_section *)next);

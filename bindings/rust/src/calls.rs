@@ -43,7 +43,7 @@ pub struct EitState {
     pub schedule_evictions: u64,
 }
 
-/// Where a section of a row is.
+/// Where a section of a row is. A question that is answered yes (8) writes it, any other answer leaves it as it was.
 #[repr(C)]
 #[derive(Debug, Clone, Copy, Default, PartialEq, Eq)]
 pub struct Place {

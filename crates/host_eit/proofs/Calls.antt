@@ -1,19 +1,18 @@
 -- What each call of the EIT collector leaves in the words of a host, from what its parts leave.
 -- Assumes nothing.
 use Prim.Native.Nat.{ℕ}
-use mathlib.Core.Path.{_≡_, refl, sym, ap, _∙_}
+use mathlib.Core.Path.{_≡_, refl, sym, ap}
 use mathlib.Core.List.{List}
-use mathlib.Core.Bool.{cond, true, false, true≢false}
-use borrow.Author.Tests.{ne-eqb}
-use lib.Dec.{eqb, ltb}
-use Rattle.answers.specs.Answers.{refusalNo, outcomeNo}
-use Rattle.answers.specs.declared.Refusal.{Refusal}
+use mathlib.Core.Bool.{cond}
+use lib.Dec.{eqb}
+use Rattle.answers.specs.Answers.{outcomeNo}
 use Rattle.answers.specs.declared.Outcome.{Outcome}
 use Rattle.answers.specs.declared.Outcome.the-variants as outcome
-use Rattle.answers.proofs.Laws.{refused-from-10}
 use Rattle.section.specs.declared.ids.MaybePid.{MaybePid}
 use Rattle.host_words.specs.Answers.{Words, words, Pushes, pushes}
 use Rattle.host_words.specs.Pids.{maybePid}
+use Rattle.host_words.specs.Sections.{tellsNext}
+use Rattle.host_words.proofs.Refusals.{refused-not-7}
 use Rattle.readers.specs.declared.Next.{Next}
 use Rattle.eit_state.specs.State.{Store, store, asked, pushNumber}
 use Rattle.eit_state.specs.declared.Eit.{Eit}
@@ -24,12 +23,8 @@ use Rattle.eit_state.specs.declared.PushAnswer.the-variants.{Nothing, Set, Sche
 use Rattle.eit_drop.specs.declared.Filter.{Filter}
 use Rattle.eit.specs.Store.{number, outcomeOf, setOut, scheduleOut, answerOf, turned, pushed, openedOf, pushedOf, clearedOf, droppedOf, nextOf, nextInOf}
 use Rattle.eit.proofs.Refusals.{told-number}
-use Rattle.host_eit.specs.Words.{eitOf, wordsOf, wordsOpened, rowBy, tellsOpened, tellsPushed, tellsTurned, tellsNext, filterOf}
+use Rattle.host_eit.specs.Words.{eitOf, wordsOf, wordsOpened, rowBy, tellsOpened, tellsPushed, tellsTurned, filterOf}
 use Rattle.host_eit.specs.Calls.{eitOpened, eitCleared, eitLeft, rowAfter, eitPushed, eitDroppedTo, eitDropped, eitNext, eitNextIn}
-
--- no refusal is 7
-refused-not-7 : (r : Refusal) → eqb (refusalNo r) 7 ≡ false
-refused-not-7 r = ne-eqb (refusalNo r) 7 (λ (e : refusalNo r ≡ 7). true≢false (sym (ap (λ (n : ℕ). ltb n 10) e) ∙ refused-from-10 r))
 
 outcome-number : (a : Outcome) → outcomeNo a ≡ number (outcomeOf a)
 outcome-number outcome.Done = refl
@@ -85,19 +80,19 @@ module _ (eit heads slots cells schedule-heads units : List ℕ) where
   eit-dropped filter s f o hs ss ts us ws r h q e t = rw (← h, ← q, ← e, ap (λ (x : Words). x .answer) t, ap (λ (x : Words). x .now) t, outcome-number (o .answer))
 
   pub eit-next :
-      (row from : ℕ) (s : Eit) (o : Next) (ns : List ℕ) (r : ℕ) →
+      (row from : ℕ) (next : List ℕ) (s : Eit) (o : Next) (ns : List ℕ) (r : ℕ) →
       s ≡ eitOf eit →
       o ≡ nextOf (store s heads slots cells schedule-heads units) row from →
-      words r ns ≡ tellsNext o →
-      words r ns ≡ eitNext eit heads slots cells schedule-heads units row from
+      words r ns ≡ tellsNext o next →
+      words r ns ≡ eitNext eit heads slots cells schedule-heads units row from next
   unfolding eitNext
-  eit-next row from s o ns r h e t = rw (← h, ← e, ap (λ (x : Words). x .answer) t, ap (λ (x : Words). x .now) t)
+  eit-next row from next s o ns r h e t = rw (← h, ← e, ap (λ (x : Words). x .answer) t, ap (λ (x : Words). x .now) t)
 
   pub eit-next-in :
-      (row table from : ℕ) (s : Eit) (o : Next) (ns : List ℕ) (r : ℕ) →
+      (row table from : ℕ) (next : List ℕ) (s : Eit) (o : Next) (ns : List ℕ) (r : ℕ) →
       s ≡ eitOf eit →
       o ≡ nextInOf (store s heads slots cells schedule-heads units) row table from →
-      words r ns ≡ tellsNext o →
-      words r ns ≡ eitNextIn eit heads slots cells schedule-heads units row table from
+      words r ns ≡ tellsNext o next →
+      words r ns ≡ eitNextIn eit heads slots cells schedule-heads units row table from next
   unfolding eitNextIn
-  eit-next-in row table from s o ns r h e t = rw (← h, ← e, ap (λ (x : Words). x .answer) t, ap (λ (x : Words). x .now) t)
+  eit-next-in row table from next s o ns r h e t = rw (← h, ← e, ap (λ (x : Words). x .answer) t, ap (λ (x : Words). x .now) t)

@@ -6,22 +6,17 @@ use mathlib.Core.List.{List}
 use mathlib.Core.Bool.{Bool, true, false, cond}
 use native.Mathlib.Omega.{arith}
 use lib.ListN.{length}
-use lib.Dec.{eqb}
-use borrow.Author.Tests.{ne-eqb}
 use Rattle.answers.specs.declared.Refusal.the-variants as refusal
 use Rattle.host_words.specs.Answers as answers
 use Rattle.host_words.specs.Pids.{maybePid}
+use Rattle.host_words.proofs.Refusals.{refused-open, refused-next}
 use Rattle.eit_state.specs.State.{Store, store, wholeOf}
 use Rattle.eit.specs.Store as eit
-use Rattle.eit.specs.Store.{Told, a-set, a-schedule, number, After, after, clearedOf, pushedOf, droppedOf}
+use Rattle.eit.specs.Store.{Told, a-set, a-schedule, number, After, after, clearedOf, pushedOf, droppedOf, nextOf, nextInOf}
 use Rattle.eit.proofs.Refusals.{push-keeps, drop-keeps}
 use Rattle.host_eit.specs.Words.{eitOf, filterOf}
-use Rattle.host_eit.specs.Calls.{eitOpened, clearedAs, eitCleared, eitLeft, rowAfter, pushedAs, eitPushed, eitDroppedTo, droppedAs, eitDropped}
+use Rattle.host_eit.specs.Calls.{eitOpened, clearedAs, eitCleared, eitLeft, rowAfter, pushedAs, eitPushed, eitDroppedTo, droppedAs, eitDropped, eitNext, eitNextIn}
 use Rattle.host_eit.proofs.Same.{eit-same}
-
-refused-open :
-    (answer n : ℕ) (ws words : List ℕ) → answer ≡ n → (answer ≡ 7 → ⊥) → answers.words n (cond (eqb n 7) ws words) ≡ answers.words answer words
-refused-open answer n ws words e h = rw (← e, ne-eqb answer 7 h)
 
 -- 13
 pub eit-open-refused :
@@ -88,3 +83,20 @@ eit-drop-refused words heads slots cells schedule-heads units filter answer n e 
         (l : After) → l .store ≡ store (eitOf words) heads slots cells schedule-heads units → answer ≡ number (l .told) →
         droppedAs words l ≡ eitDroppedTo answer words heads slots schedule-heads units
     go l q e = rw (q, e, eit-same words n)
+
+-- 9 and 10
+pub eit-next-refused :
+    (words heads slots cells schedule-heads units : List ℕ) (row from : ℕ) (next : List ℕ) (answer : ℕ) →
+    answer ≡ (eitNext words heads slots cells schedule-heads units row from next) .answer → (answer ≡ 8 → ⊥) →
+    eitNext words heads slots cells schedule-heads units row from next ≡ answers.words answer next
+unfolding eitNext
+eit-next-refused words heads slots cells schedule-heads units row from next answer =
+    refused-next (nextOf (store (eitOf words) heads slots cells schedule-heads units) row from) next answer
+
+pub eit-next-in-refused :
+    (words heads slots cells schedule-heads units : List ℕ) (row table from : ℕ) (next : List ℕ) (answer : ℕ) →
+    answer ≡ (eitNextIn words heads slots cells schedule-heads units row table from next) .answer → (answer ≡ 8 → ⊥) →
+    eitNextIn words heads slots cells schedule-heads units row table from next ≡ answers.words answer next
+unfolding eitNextIn
+eit-next-in-refused words heads slots cells schedule-heads units row table from next answer =
+    refused-next (nextInOf (store (eitOf words) heads slots cells schedule-heads units) row table from) next answer

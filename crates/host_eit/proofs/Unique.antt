@@ -5,13 +5,9 @@ use Prim.Native.Nat.{ℕ}
 use mathlib.Core.Path.{_≡_, ap}
 use mathlib.Core.List.{List}
 use Rattle.laws.proofs.Unique.{one-result}
-use Rattle.host_words.specs.Answers.{Words, words}
+use Rattle.host_words.specs.Answers.{words}
+use Rattle.host_words.proofs.Unique.{words-one}
 use Rattle.host_eit.specs.Calls.{eitOpened, eitCleared, EitLeft, eitLeft, eitPushed, EitDropped, eitDroppedTo, eitDropped, eitNext, eitNextIn}
-
-words-one : (d : Words) (r s : ℕ) (w x : List ℕ) → words r w ≡ d → words s x ≡ d → (r ≡ s) × (w ≡ x)
-words-one d r s w x a b =
-    let e : words r w ≡ words s x = one-result d a b in
-    (ap (λ (t : Words). t .answer) e, ap (λ (t : Words). t .now) e)
 
 pub unique-eit-open :
     (eit : List ℕ) (limit size count : ℕ) (heads slots cells tops units : List ℕ) (r s : ℕ) (w x : List ℕ) →
@@ -56,12 +52,12 @@ unique-eit-drop eit heads slots cells tops units filter r s w x h i k l t u y z 
     )
 
 pub unique-eit-next :
-    (eit heads slots cells tops units : List ℕ) (row from : ℕ) (r s : ℕ) (w x : List ℕ) →
-    words r w ≡ eitNext eit heads slots cells tops units row from → words s x ≡ eitNext eit heads slots cells tops units row from → (r ≡ s) × (w ≡ x)
-unique-eit-next eit heads slots cells tops units row from = words-one (eitNext eit heads slots cells tops units row from)
+    (eit heads slots cells tops units : List ℕ) (row from : ℕ) (next : List ℕ) (r s : ℕ) (w x : List ℕ) →
+    words r w ≡ eitNext eit heads slots cells tops units row from next → words s x ≡ eitNext eit heads slots cells tops units row from next → (r ≡ s) × (w ≡ x)
+unique-eit-next eit heads slots cells tops units row from next = words-one (eitNext eit heads slots cells tops units row from next)
 
 pub unique-eit-next-in-schedule :
-    (eit heads slots cells tops units : List ℕ) (row table from : ℕ) (r s : ℕ) (w x : List ℕ) →
-    words r w ≡ eitNextIn eit heads slots cells tops units row table from → words s x ≡ eitNextIn eit heads slots cells tops units row table from →
+    (eit heads slots cells tops units : List ℕ) (row table from : ℕ) (next : List ℕ) (r s : ℕ) (w x : List ℕ) →
+    words r w ≡ eitNextIn eit heads slots cells tops units row table from next → words s x ≡ eitNextIn eit heads slots cells tops units row table from next →
     (r ≡ s) × (w ≡ x)
-unique-eit-next-in-schedule eit heads slots cells tops units row table from = words-one (eitNextIn eit heads slots cells tops units row table from)
+unique-eit-next-in-schedule eit heads slots cells tops units row table from next = words-one (eitNextIn eit heads slots cells tops units row table from next)

@@ -6,8 +6,7 @@ use mathlib.Core.Bool.{cond}
 use lib.Dec.{eqb}
 use Rattle.host_words.specs.Answers.{Words, words}
 use Rattle.host_words.specs.Pids.{maybePid}
-use Rattle.answers.specs.Answers.{replyNo}
-use Rattle.readers.specs.declared.Next.{Next}
+use Rattle.host_words.specs.Sections.{tellsNext}
 use Rattle.eit_state.specs.State.{store, asked}
 use Rattle.eit.specs.Store.{Told, done, nothing, a-set, a-schedule, refused, number, After, openedOf, pushedOf, clearedOf, droppedOf, nextOf, nextInOf}
 use Rattle.host_eit.specs.Words.{eitOf, wordsOf, wordsAfter, filterOf}
@@ -89,12 +88,10 @@ droppedAs eit l =
 unfoldable pub eitDropped : List ℕ → List ℕ → List ℕ → List ℕ → List ℕ → List ℕ → List ℕ → EitDropped
 eitDropped eit heads slots cells schedule-heads units filter = droppedAs eit (droppedOf (store (eitOf eit) heads slots cells schedule-heads units) (filterOf filter))
 
--- number, start and length of the section that is told of
-abbrev pub nextAs : Next → Words
-nextAs q = words (replyNo (q .answer)) (q .number ∷ q .start ∷ q .length ∷ [])
+-- 8 writes number, start and length of the section that is told of; 9 and 10 leave the three words as they were
+unfoldable pub eitNext : List ℕ → List ℕ → List ℕ → List ℕ → List ℕ → List ℕ → ℕ → ℕ → List ℕ → Words
+eitNext eit heads slots cells schedule-heads units row from next = tellsNext (nextOf (store (eitOf eit) heads slots cells schedule-heads units) row from) next
 
-unfoldable pub eitNext : List ℕ → List ℕ → List ℕ → List ℕ → List ℕ → List ℕ → ℕ → ℕ → Words
-eitNext eit heads slots cells schedule-heads units row from = nextAs (nextOf (store (eitOf eit) heads slots cells schedule-heads units) row from)
-
-unfoldable pub eitNextIn : List ℕ → List ℕ → List ℕ → List ℕ → List ℕ → List ℕ → ℕ → ℕ → ℕ → Words
-eitNextIn eit heads slots cells schedule-heads units row table from = nextAs (nextInOf (store (eitOf eit) heads slots cells schedule-heads units) row table from)
+unfoldable pub eitNextIn : List ℕ → List ℕ → List ℕ → List ℕ → List ℕ → List ℕ → ℕ → ℕ → ℕ → List ℕ → Words
+eitNextIn eit heads slots cells schedule-heads units row table from next =
+    tellsNext (nextInOf (store (eitOf eit) heads slots cells schedule-heads units) row table from) next

@@ -1,13 +1,12 @@
 -- The seven words of an EIT collector: 0 limit, 1 size, 2 count, 3 used, 4 evictions, 5 schedules, 6 schedule evictions; the word of a row that
--- goes out; the three words of a section that a question tells of; and the six words of a filter.
+-- goes out; and the six words of a filter.
 use Prim.Native.Nat.{ℕ}
 use mathlib.Core.List.{List, [], _∷_}
 use mathlib.Core.Bool.{cond}
 use lib.Dec.{eqb}
-use Rattle.answers.specs.Answers.{outcomeNo, replyNo}
+use Rattle.answers.specs.Answers.{outcomeNo}
 use Rattle.answers.specs.declared.Outcome.{Outcome}
 use Rattle.answers.specs.declared.Outcome.the-variants as outcome
-use Rattle.readers.specs.declared.Next.{Next}
 use Rattle.filter.specs.declared.Wanted.{Wanted}
 use Rattle.filter.specs.declared.Wanted.the-variants as wanted
 use Rattle.eit_state.specs.State.{pushNumber}
@@ -62,10 +61,6 @@ tellsPushed o w row = pushes (pushNumber (o .answer)) (wordsAfter w (o .eit)) (r
 
 abbrev pub tellsTurned : Turned → List ℕ → Words
 tellsTurned o w = words (outcomeNo (o .answer)) (wordsAfter w (o .eit))
-
--- number, start and length, all 0 where there is no section
-abbrev pub tellsNext : Next → Words
-tellsNext n = words (replyNo (n .answer)) (n .number ∷ n .start ∷ n .length ∷ [])
 
 -- ---- a filter: 0 pid, 1 kind, 2 service_id, 3 transport_stream_id, 4 original_network_id, 5 current_next
 

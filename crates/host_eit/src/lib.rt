@@ -97,7 +97,7 @@ pub fn drop(
     words::write_turned(eit, dropped)
 }
 
-// Has the set in a row another section, from a slot on? 8, 9 or 10; `next` gets its number, and where its bytes are in the cells.
+// Has the set in a row another section, from a slot on? 8, 9 or 10; 8 writes its number into `next`, and where its bytes are in the cells.
 pub fn next(
     eit: &[u64; 7],
     heads: &[u64],
@@ -109,7 +109,7 @@ pub fn next(
     from: u64,
     next: &mut [u64; 3],
 ) -> u8
-    ensures { λ r. ⌜ words r (now (next .exit)) ≡ eitNext (now (eit .entry)) (now (heads .entry)) (now (slots .entry)) (now (cells .entry)) (now («schedule_heads» .entry)) (now (units .entry)) row from ⌝ }
+    ensures { λ r. ⌜ words r (now (next .exit)) ≡ eitNext (now (eit .entry)) (now (heads .entry)) (now (slots .entry)) (now (cells .entry)) (now («schedule_heads» .entry)) (now (units .entry)) row from (now (next .entry)) ⌝ }
 {
     let collector = words::eit(eit);
     let told = eit::next_section(
@@ -122,7 +122,7 @@ pub fn next(
         row as usize,
         from as usize,
     );
-    words::write_next(next, told)
+    host_words::sections::write_next(next, told)
 }
 
 // Has that table of the schedule in a row another section, from a slot on? Tables count from the first of the kind, 0x50 or 0x60, on.
@@ -138,7 +138,7 @@ pub fn next_in_schedule(
     from: u64,
     next: &mut [u64; 3],
 ) -> u8
-    ensures { λ r. ⌜ words r (now (next .exit)) ≡ eitNextIn (now (eit .entry)) (now (heads .entry)) (now (slots .entry)) (now (cells .entry)) (now («schedule_heads» .entry)) (now (units .entry)) row table from ⌝ }
+    ensures { λ r. ⌜ words r (now (next .exit)) ≡ eitNextIn (now (eit .entry)) (now (heads .entry)) (now (slots .entry)) (now (cells .entry)) (now («schedule_heads» .entry)) (now (units .entry)) row table from (now (next .entry)) ⌝ }
 {
     let collector = words::eit(eit);
     let told = eit::next_in_schedule(
@@ -152,5 +152,5 @@ pub fn next_in_schedule(
         table as usize,
         from as usize,
     );
-    words::write_next(next, told)
+    host_words::sections::write_next(next, told)
 }

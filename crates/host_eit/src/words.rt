@@ -1,6 +1,5 @@
 // The seven words of an EIT collector: 0 limit, 1 size, 2 count, 3 used, 4 evictions, 5 schedules, 6 schedule_evictions; the word of a row that
-// goes out; the three words of a section that a question tells of: 0 number, 1 start, 2 length; and the six words of a filter: 0 pid, 1 kind,
-// 2 service_id, 3 transport_stream_id, 4 original_network_id, 5 current_next.
+// goes out; and the six words of a filter: 0 pid, 1 kind, 2 service_id, 3 transport_stream_id, 4 original_network_id, 5 current_next.
 use answers::Outcome;
 use eit_drop::Filter;
 use eit_drop::WantedPid;
@@ -10,11 +9,10 @@ use eit_state::Pushed;
 use eit_state::Turned;
 use filter::Wanted;
 use host_words::pids;
-use readers::Next;
 use store::Sets;
 ghost use mathlib.Core.Path.{_≡_};
 ghost use Rattle.host_words.specs.Answers.{words, pushes};
-ghost use Rattle.host_eit.specs.Words.{eitOf, wordsOf, wordsOpened, wordsAfter, rowBy, tellsOpened, tellsPushed, tellsTurned, tellsNext, wantedOf, wantedPidOf, filterOf};
+ghost use Rattle.host_eit.specs.Words.{eitOf, wordsOf, wordsOpened, wordsAfter, rowBy, tellsOpened, tellsPushed, tellsTurned, wantedOf, wantedPidOf, filterOf};
 
 // A field of a filter that is free: all 64 bits set.
 const FREE: u64 = 18446744073709551615;
@@ -115,15 +113,6 @@ pub fn write_turned(eit: &mut [u64; 7], turned: Turned) -> u8
 {
     let answer = turned.answer;
     write_counts(eit, turned.eit);
-    answer.number()
-}
-
-// Writes the section that a question told of, all 0 where it told of none, and gives the answer's number.
-pub fn write_next(section: &mut [u64; 3], next: Next) -> u8
-    ensures { λ r. ⌜ words r (now (section .exit)) ≡ tellsNext next ⌝ }
-{
-    let answer = next.answer;
-    *section = [next.number as u64, next.start as u64, next.length as u64];
     answer.number()
 }
 

@@ -1,19 +1,18 @@
 -- What each call of the set collector leaves in the words of a host, from what its parts leave.
 -- Assumes nothing.
 use Prim.Native.Nat.{ℕ}
-use mathlib.Core.Path.{_≡_, refl, sym, ap, _∙_}
+use mathlib.Core.Path.{_≡_, refl, ap}
 use mathlib.Core.List.{List}
-use mathlib.Core.Bool.{cond, true, false, true≢false}
-use borrow.Author.Tests.{ne-eqb}
-use lib.Dec.{eqb, ltb}
-use Rattle.answers.specs.Answers.{refusalNo, outcomeNo}
-use Rattle.answers.specs.declared.Refusal.{Refusal}
+use mathlib.Core.Bool.{cond}
+use lib.Dec.{eqb}
+use Rattle.answers.specs.Answers.{outcomeNo}
 use Rattle.answers.specs.declared.Outcome.{Outcome}
 use Rattle.answers.specs.declared.Outcome.the-variants as outcome
-use Rattle.answers.proofs.Laws.{refused-from-10}
 use Rattle.section.specs.declared.ids.MaybePid.{MaybePid}
 use Rattle.host_words.specs.Answers.{Words, words, Pushes, pushes}
 use Rattle.host_words.specs.Pids.{maybePid}
+use Rattle.host_words.specs.Sections.{tellsNext}
+use Rattle.host_words.proofs.Refusals.{refused-not-7}
 use Rattle.store.specs.Store.{Store, store, asked}
 use Rattle.store.specs.declared.Sets.{Sets}
 use Rattle.readers.specs.declared.Next.{Next}
@@ -24,12 +23,8 @@ use Rattle.sets_settle.specs.declared.Pushed.{Pushed}
 use Rattle.sets.specs.declared.Cleared.{Cleared}
 use Rattle.sets_settle.specs.declared.PushAnswer.{PushAnswer}
 use Rattle.sets_settle.specs.declared.PushAnswer.the-variants.{Nothing, Set, Refused}
-use Rattle.host_sets.specs.Words.{setsOf, wordsOf, wordsOpened, rowBy, tellsOpened, tellsPushed, tellsCleared, tellsNext}
+use Rattle.host_sets.specs.Words.{setsOf, wordsOf, wordsOpened, rowBy, tellsOpened, tellsPushed, tellsCleared}
 use Rattle.host_sets.specs.Calls.{setsOpened, setsCleared, setsLeft, rowAfter, setsPushed, setsNext}
-
--- no refusal is 7
-refused-not-7 : (r : Refusal) → eqb (refusalNo r) 7 ≡ false
-refused-not-7 r = ne-eqb (refusalNo r) 7 (λ (e : refusalNo r ≡ 7). true≢false (sym (ap (λ (n : ℕ). ltb n 10) e) ∙ refused-from-10 r))
 
 outcome-number : (a : Outcome) → outcomeNo a ≡ toldNo (outcomeOf a)
 outcome-number outcome.Done = refl
@@ -80,10 +75,10 @@ module _ (sets heads slots cells : List ℕ) where
       rw (← h, ← q, ← e, ap (λ (x : Pushes). x .answer) t, push-number (o .answer) l, ap (λ (x : Pushes). x .now) t, ap (λ (x : Pushes). x .row) t, push-row (o .answer) l row)
 
   pub sets-next :
-      (row from : ℕ) (s : Sets) (o : Next) (ns : List ℕ) (r : ℕ) →
+      (row from : ℕ) (next : List ℕ) (s : Sets) (o : Next) (ns : List ℕ) (r : ℕ) →
       s ≡ setsOf sets →
       o ≡ nextOf (store s heads slots cells) row from →
-      words r ns ≡ tellsNext o →
-      words r ns ≡ setsNext sets heads slots cells row from
+      words r ns ≡ tellsNext o next →
+      words r ns ≡ setsNext sets heads slots cells row from next
   unfolding setsNext
-  sets-next row from s o ns r h e t = rw (← h, ← e, ap (λ (x : Words). x .answer) t, ap (λ (x : Words). x .now) t)
+  sets-next row from next s o ns r h e t = rw (← h, ← e, ap (λ (x : Words). x .answer) t, ap (λ (x : Words). x .now) t)

@@ -7,24 +7,19 @@ use mathlib.Core.List.{List}
 use mathlib.Core.Bool.{Bool, true, false, cond}
 use native.Mathlib.Omega.{arith}
 use lib.ListN.{length}
-use lib.Dec.{eqb}
-use borrow.Author.Tests.{ne-eqb}
 use Rattle.answers.specs.Answers.{refusalNo}
 use Rattle.answers.specs.declared.Refusal.{Refusal}
 use Rattle.answers.specs.declared.Refusal.the-variants.{NotWhole, Conflict}
 use Rattle.host_words.specs.Answers as answers
 use Rattle.host_words.specs.Pids.{maybePid}
+use Rattle.host_words.proofs.Refusals.{refused-open, refused-next}
 use Rattle.store.specs.Store.{Store, store, wholeOf}
 use Rattle.sets_settle.specs.Settle.{Told, done, nothing, handed, refused, toldNo, SetsAfter, after}
-use Rattle.sets.specs.Store.{clearedOf, pushedOf}
+use Rattle.sets.specs.Store.{clearedOf, pushedOf, nextOf}
 use Rattle.sets.proofs.Refusals.{refusal-keeps}
 use Rattle.host_sets.specs.Words.{setsOf}
-use Rattle.host_sets.specs.Calls.{setsOpened, clearedAs, setsCleared, setsLeft, rowAfter, pushedAs, setsPushed}
+use Rattle.host_sets.specs.Calls.{setsOpened, clearedAs, setsCleared, setsLeft, rowAfter, pushedAs, setsPushed, setsNext}
 use Rattle.host_sets.proofs.Same.{sets-same}
-
-pub refused-open :
-    (answer n : ℕ) (ws words : List ℕ) → answer ≡ n → (answer ≡ 7 → ⊥) → answers.words n (cond (eqb n 7) ws words) ≡ answers.words answer words
-refused-open answer n ws words e h = rw (← e, ne-eqb answer 7 h)
 
 -- 13
 pub sets-open-refused :
@@ -76,3 +71,11 @@ sets-push-refused words heads slots cells pid section row answer n e h k =
         (l : SetsAfter) → l .store ≡ store (setsOf words) heads slots cells → rowAfter (l .told) row ≡ row → answer ≡ toldNo (l .told) →
         pushedAs words row l ≡ setsLeft answer words heads slots cells row
     go l q a e = rw (q, e, sets-same words n, a)
+
+-- 9 and 10
+pub sets-next-refused :
+    (words heads slots cells : List ℕ) (row from : ℕ) (next : List ℕ) (answer : ℕ) →
+    answer ≡ (setsNext words heads slots cells row from next) .answer → (answer ≡ 8 → ⊥) →
+    setsNext words heads slots cells row from next ≡ answers.words answer next
+unfolding setsNext
+sets-next-refused words heads slots cells row from next answer = refused-next (nextOf (store (setsOf words) heads slots cells) row from) next answer

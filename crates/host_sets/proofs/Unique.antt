@@ -5,13 +5,9 @@ use Prim.Native.Nat.{ℕ}
 use mathlib.Core.Path.{_≡_, ap}
 use mathlib.Core.List.{List}
 use Rattle.laws.proofs.Unique.{one-result}
-use Rattle.host_words.specs.Answers.{Words, words}
+use Rattle.host_words.specs.Answers.{words}
+use Rattle.host_words.proofs.Unique.{words-one}
 use Rattle.host_sets.specs.Calls.{setsOpened, setsCleared, SetsLeft, setsLeft, setsPushed, setsNext}
-
-pub words-one : (d : Words) (r s : ℕ) (w x : List ℕ) → words r w ≡ d → words s x ≡ d → (r ≡ s) × (w ≡ x)
-words-one d r s w x a b =
-    let e : words r w ≡ words s x = one-result d a b in
-    (ap (λ (t : Words). t .answer) e, ap (λ (t : Words). t .now) e)
 
 pub unique-sets-open :
     (sets : List ℕ) (limit size count : ℕ) (heads slots cells : List ℕ) (r s : ℕ) (w x : List ℕ) →
@@ -38,6 +34,6 @@ unique-sets-push sets heads slots cells pid section row r s w x h i k l c d n m 
     )
 
 pub unique-sets-next :
-    (sets heads slots cells : List ℕ) (row from : ℕ) (r s : ℕ) (w x : List ℕ) →
-    words r w ≡ setsNext sets heads slots cells row from → words s x ≡ setsNext sets heads slots cells row from → (r ≡ s) × (w ≡ x)
-unique-sets-next sets heads slots cells row from = words-one (setsNext sets heads slots cells row from)
+    (sets heads slots cells : List ℕ) (row from : ℕ) (next : List ℕ) (r s : ℕ) (w x : List ℕ) →
+    words r w ≡ setsNext sets heads slots cells row from next → words s x ≡ setsNext sets heads slots cells row from next → (r ≡ s) × (w ≡ x)
+unique-sets-next sets heads slots cells row from next = words-one (setsNext sets heads slots cells row from next)

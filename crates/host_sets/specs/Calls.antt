@@ -6,9 +6,8 @@ use mathlib.Core.Bool.{cond}
 use lib.Dec.{eqb}
 use Rattle.host_words.specs.Answers.{Words, words}
 use Rattle.host_words.specs.Pids.{maybePid}
-use Rattle.answers.specs.Answers.{replyNo}
+use Rattle.host_words.specs.Sections.{tellsNext}
 use Rattle.store.specs.Store.{store, asked}
-use Rattle.readers.specs.declared.Next.{Next}
 use Rattle.sets_settle.specs.Settle.{Told, done, nothing, handed, refused, toldNo, SetsAfter}
 use Rattle.sets.specs.Store.{openedOf, pushedOf, clearedOf, nextOf}
 use Rattle.host_sets.specs.Words.{setsOf, wordsOf, wordsAfter}
@@ -53,9 +52,6 @@ pushedAs sets row l =
 unfoldable pub setsPushed : List ℕ → List ℕ → List ℕ → List ℕ → ℕ → List ℕ → List ℕ → SetsLeft
 setsPushed sets heads slots cells pid section row = pushedAs sets row (pushedOf (store (setsOf sets) heads slots cells) (maybePid pid) section)
 
--- number, start and length of the section that is told of
-abbrev pub nextAs : Next → Words
-nextAs q = words (replyNo (q .answer)) (q .number ∷ q .start ∷ q .length ∷ [])
-
-unfoldable pub setsNext : List ℕ → List ℕ → List ℕ → List ℕ → ℕ → ℕ → Words
-setsNext sets heads slots cells row from = nextAs (nextOf (store (setsOf sets) heads slots cells) row from)
+-- 8 writes number, start and length of the section that is told of; 9 and 10 leave the three words as they were
+unfoldable pub setsNext : List ℕ → List ℕ → List ℕ → List ℕ → ℕ → ℕ → List ℕ → Words
+setsNext sets heads slots cells row from next = tellsNext (nextOf (store (setsOf sets) heads slots cells) row from) next

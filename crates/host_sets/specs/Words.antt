@@ -1,12 +1,10 @@
--- The five words of a set collector: 0 limit, 1 size, 2 count, 3 used, 4 evictions; the word of a row that goes out; and the three words of a
--- section that a question tells of.
+-- The five words of a set collector: 0 limit, 1 size, 2 count, 3 used, 4 evictions; and the word of a row that goes out.
 use Prim.Native.Nat.{ℕ}
 use mathlib.Core.List.{List, [], _∷_}
-use Rattle.answers.specs.Answers.{outcomeNo, replyNo}
+use Rattle.answers.specs.Answers.{outcomeNo}
 use Rattle.answers.specs.declared.Outcome.{Outcome}
 use Rattle.answers.specs.declared.Outcome.the-variants as outcome
 use Rattle.store.specs.declared.Sets.{Sets}
-use Rattle.readers.specs.declared.Next.{Next}
 use Rattle.sets_settle.specs.Settle.{pushNo}
 use Rattle.sets_settle.specs.declared.PushAnswer.{PushAnswer}
 use Rattle.sets_settle.specs.declared.PushAnswer.the-variants.{Nothing, Set, Refused}
@@ -46,7 +44,3 @@ tellsPushed o w row = pushes (pushNo (o .answer)) (wordsAfter w (o .sets)) (rowB
 
 abbrev pub tellsCleared : Cleared → List ℕ → Words
 tellsCleared o w = words (outcomeNo (o .answer)) (wordsAfter w (o .sets))
-
--- number, start and length, all 0 where there is no section
-abbrev pub tellsNext : Next → Words
-tellsNext n = words (replyNo (n .answer)) (n .number ∷ n .start ∷ n .length ∷ [])

@@ -56,7 +56,7 @@ pub fn clear(sets: &mut [u64; 5], heads: &[u64], slots: &[u32], cells: &[u8]) ->
     words::write_cleared(sets, cleared)
 }
 
-// Has the set in a row another section, from a slot on? 8, 9 or 10; `next` gets its number, and where its bytes are in the cells.
+// Has the set in a row another section, from a slot on? 8, 9 or 10; 8 writes its number into `next`, and where its bytes are in the cells.
 pub fn next(
     sets: &[u64; 5],
     heads: &[u64],
@@ -66,9 +66,9 @@ pub fn next(
     from: u64,
     next: &mut [u64; 3],
 ) -> u8
-    ensures { λ r. ⌜ words r (now (next .exit)) ≡ setsNext (now (sets .entry)) (now (heads .entry)) (now (slots .entry)) (now (cells .entry)) row from ⌝ }
+    ensures { λ r. ⌜ words r (now (next .exit)) ≡ setsNext (now (sets .entry)) (now (heads .entry)) (now (slots .entry)) (now (cells .entry)) row from (now (next .entry)) ⌝ }
 {
     let collector = words::sets(sets);
     let told = sets::next_section(collector, heads, slots, cells, row as usize, from as usize);
-    words::write_next(next, told)
+    host_words::sections::write_next(next, told)
 }

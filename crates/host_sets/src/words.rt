@@ -1,7 +1,5 @@
-// The five words of a set collector: 0 limit, 1 size, 2 count, 3 used, 4 evictions; the word of a row that goes out; and the three words of a
-// section that a question tells of: 0 number, 1 start, 2 length.
+// The five words of a set collector: 0 limit, 1 size, 2 count, 3 used, 4 evictions; and the word of a row that goes out.
 use answers::Outcome;
-use readers::Next;
 use sets::Cleared;
 use sets::Opened;
 use sets_settle::PushAnswer;
@@ -9,7 +7,7 @@ use sets_settle::Pushed;
 use store::Sets;
 ghost use mathlib.Core.Path.{_≡_};
 ghost use Rattle.host_words.specs.Answers.{words, pushes};
-ghost use Rattle.host_sets.specs.Words.{setsOf, wordsOf, wordsOpened, wordsAfter, rowBy, tellsOpened, tellsPushed, tellsCleared, tellsNext};
+ghost use Rattle.host_sets.specs.Words.{setsOf, wordsOf, wordsOpened, wordsAfter, rowBy, tellsOpened, tellsPushed, tellsCleared};
 
 pub fn sets(words: &[u64; 5]) -> Sets
     ensures { λ r. ⌜ r ≡ setsOf (now (words .entry)) ⌝ }
@@ -95,14 +93,5 @@ pub fn write_cleared(sets: &mut [u64; 5], cleared: Cleared) -> u8
 {
     let answer = cleared.answer;
     write_counts(sets, cleared.sets);
-    answer.number()
-}
-
-// Writes the section that a question told of, all 0 where it told of none, and gives the answer's number.
-pub fn write_next(section: &mut [u64; 3], next: Next) -> u8
-    ensures { λ r. ⌜ words r (now (section .exit)) ≡ tellsNext next ⌝ }
-{
-    let answer = next.answer;
-    *section = [next.number as u64, next.start as u64, next.length as u64];
     answer.number()
 }

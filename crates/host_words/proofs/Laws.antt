@@ -2,11 +2,15 @@
 -- Assumes nothing.
 use Prim.Native.Nat.{ℕ, _<_, _≤_}
 use mathlib.Core.Path.{_≡_}
-use mathlib.Core.List.{List}
+use mathlib.Core.List.{List, [], _∷_}
 use borrow.Author.Tests.{lt-ltb, le-ltb, eq-eqb, ne-eqb}
+use Rattle.answers.specs.declared.Reply.{Reply}
+use Rattle.answers.specs.declared.Reply.the-variants as reply
 use Rattle.section.specs.declared.ids.MaybePid.the-variants as maybe
+use Rattle.readers.specs.declared.Next.{Next}
 use Rattle.host_words.specs.Answers.{words, pushes}
 use Rattle.host_words.specs.Pids.{pidNumber, maybePid}
+use Rattle.host_words.specs.Sections.{sectionAfter}
 
 -- ---- what is handed to the host
 
@@ -30,3 +34,8 @@ module _ (pid : ℕ) where
 
   pub pid-some : (n : ℕ) → (pid ≡ 0xFFFF_FFFF → ⊥) → n ≡ pidNumber pid → maybe.Some n ≡ maybePid pid
   pid-some n h e = rw (ne-eqb pid 0xFFFF_FFFF h, e)
+
+-- ---- a section that a question tells of
+
+pub section-written : (a : Reply) (n : Next) (w : List ℕ) → a ≡ reply.Yes → n .number ∷ n .start ∷ n .length ∷ [] ≡ sectionAfter a n w
+section-written a n w h = rw h

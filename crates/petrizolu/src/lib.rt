@@ -146,7 +146,7 @@ pub extern "C" fn petrizolu_sets_clear(
     host_sets::clear(sets, heads, slots, cells)
 }
 
-// Has the set in a row another section, from a slot on? 8, 9 or 10; `next` gets its number, and where its bytes are in the cells.
+// Has the set in a row another section, from a slot on? 8, 9 or 10; 8 writes its number into `next`, and where its bytes are in the cells.
 #[no_mangle]
 pub extern "C" fn petrizolu_sets_next(
     sets: &[u64; 5],
@@ -157,7 +157,7 @@ pub extern "C" fn petrizolu_sets_next(
     from: u64,
     next: &mut [u64; 3],
 ) -> u8
-    ensures { λ r. ⌜ words r (now (next .exit)) ≡ setsNext (now (sets .entry)) (now (heads .entry)) (now (slots .entry)) (now (cells .entry)) row from ⌝ }
+    ensures { λ r. ⌜ words r (now (next .exit)) ≡ setsNext (now (sets .entry)) (now (heads .entry)) (now (slots .entry)) (now (cells .entry)) row from (now (next .entry)) ⌝ }
 {
     host_sets::next(sets, heads, slots, cells, row, from, next)
 }
@@ -250,7 +250,7 @@ pub extern "C" fn petrizolu_eit_drop(
     host_eit::drop(eit, heads, slots, cells, schedule_heads, units, filter)
 }
 
-// Has the set in a row another section, from a slot on? 8, 9 or 10; `next` gets its number, and where its bytes are in the cells.
+// Has the set in a row another section, from a slot on? 8, 9 or 10; 8 writes its number into `next`, and where its bytes are in the cells.
 #[no_mangle]
 pub extern "C" fn petrizolu_eit_next(
     eit: &[u64; 7],
@@ -263,7 +263,7 @@ pub extern "C" fn petrizolu_eit_next(
     from: u64,
     next: &mut [u64; 3],
 ) -> u8
-    ensures { λ r. ⌜ words r (now (next .exit)) ≡ eitNext (now (eit .entry)) (now (heads .entry)) (now (slots .entry)) (now (cells .entry)) (now («schedule_heads» .entry)) (now (units .entry)) row from ⌝ }
+    ensures { λ r. ⌜ words r (now (next .exit)) ≡ eitNext (now (eit .entry)) (now (heads .entry)) (now (slots .entry)) (now (cells .entry)) (now («schedule_heads» .entry)) (now (units .entry)) row from (now (next .entry)) ⌝ }
 {
     host_eit::next(
         eit,
@@ -292,7 +292,7 @@ pub extern "C" fn petrizolu_eit_next_in_schedule(
     from: u64,
     next: &mut [u64; 3],
 ) -> u8
-    ensures { λ r. ⌜ words r (now (next .exit)) ≡ eitNextIn (now (eit .entry)) (now (heads .entry)) (now (slots .entry)) (now (cells .entry)) (now («schedule_heads» .entry)) (now (units .entry)) row table from ⌝ }
+    ensures { λ r. ⌜ words r (now (next .exit)) ≡ eitNextIn (now (eit .entry)) (now (heads .entry)) (now (slots .entry)) (now (cells .entry)) (now («schedule_heads» .entry)) (now (units .entry)) row table from (now (next .entry)) ⌝ }
 {
     host_eit::next_in_schedule(
         eit,

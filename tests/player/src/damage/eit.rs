@@ -1,6 +1,6 @@
 //! An EIT collector of three rows and three schedules, two and one in use, and four cells of 64 bytes.
-use crate::{Case, Store, case};
-use petrizolu::{Answer, EitState, Filter, Place};
+use crate::{Case, Store, case, told};
+use petrizolu::{Answer, EitState, Filter};
 use player::eit::Eit;
 
 #[derive(Clone, Copy)]
@@ -94,8 +94,8 @@ impl Store for Damaged {
         match call {
             Push => self.push(),
             Drop => self.eit.drop_matching(&Filter { pid: self.pid.into(), ..Filter::ALL }),
-            Next => self.eit.next(self.row, 0, &mut Place::default()),
-            Table => self.eit.next_in_schedule(self.row, self.table, 0, &mut Place::default()),
+            Next => told(|place| self.eit.next(self.row, 0, place)),
+            Table => told(|place| self.eit.next_in_schedule(self.row, self.table, 0, place)),
             Clear => self.eit.clear(),
             Open => self.open(asked),
             Former => self.refused(WHOLE),

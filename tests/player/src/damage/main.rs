@@ -1,7 +1,7 @@
 //! `damage gate`, `damage sets`, `damage eit`: what a tape cannot reach. Lent memory is written over, less of it is lent or a count is preset, one
 //! thing at a time, and each call is made on it: a line says what it answers, and whether every word, lent or kept by value, is as it was. 10, 11, 12
 //! and 13 leave all as before.
-use petrizolu::Answer;
+use petrizolu::{Answer, Place};
 use std::io::{self, BufWriter, Write};
 use std::process::ExitCode;
 
@@ -31,6 +31,15 @@ struct Case<S: Store + 'static> {
 
 const fn case<S: Store>(name: &'static str, calls: &'static [S::Call], damage: fn(&mut S)) -> Case<S> {
     Case { name, calls, damage }
+}
+
+/// What a question for a section answers; only a yes writes the section's words.
+fn told(question: impl FnOnce(&mut Place) -> Answer) -> Answer {
+    let before = Place { number: u64::MAX, start: u64::MAX, length: u64::MAX };
+    let mut place = before;
+    let answer = question(&mut place);
+    assert_eq!(place != before, answer == Answer::YES, "the words of a section after {answer}");
+    answer
 }
 
 fn run<S: Store>(cases: &[Case<S>], out: &mut impl Write) -> io::Result<()> {

@@ -1,6 +1,6 @@
 //! A set collector of three rows, two in use, and four cells of 64 bytes.
-use crate::{Case, Store, case};
-use petrizolu::{Answer, Place, SetsState};
+use crate::{Case, Store, case, told};
+use petrizolu::{Answer, SetsState};
 use player::sets::Sets;
 
 #[derive(Clone, Copy)]
@@ -88,7 +88,7 @@ impl Store for Damaged {
         let asked = self.sets.state;
         match call {
             Push => self.push(),
-            Next => self.sets.next(self.row, 0, &mut Place::default()),
+            Next => told(|place| self.sets.next(self.row, 0, place)),
             Clear => self.sets.clear(),
             Open => self.open(asked),
             Former => self.refused(WHOLE),
