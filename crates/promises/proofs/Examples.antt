@@ -19,11 +19,13 @@ use Rattle.section.proofs.Keys.{key-small, key-largest}
 use Rattle.section.proofs.Examples.{cut-off, all-ones}
 use Rattle.eit_section.proofs.Segment.{as-sent, counted-within, past-last, no-wrap}
 use Rattle.pat.proofs.Laws.{example-pids}
+use Rattle.pat.specs.Pat.{patOf}
+use Rattle.pat.specs.declared.Pat.the-variants.{Readable}
 use Rattle.ring.specs.Rules.{Row, offeredTo, later, atCapacity}
 use Rattle.gate.specs.Rules.{Manner, Told, admitted, judgedIn, told, tells, acts}
 use Rattle.rules_sets.specs.Rules.{sameKey, partOf, full, whole, metRow, judged, judge, finish, push, admit, step}
 use Rattle.rules_sets.specs.Rules.{acts as collects}
-use Rattle.promises.specs.Examples.{freshGate, heldAfter, gateKeys, collectorKeys, tableKey, CheckedExamples}
+use Rattle.promises.specs.Examples.{pat, freshGate, heldAfter, gateKeys, collectorKeys, tableKey, CheckedExamples}
 
 -- ---- the gate
 
@@ -62,6 +64,12 @@ loses-B : collectorKeys 2 (10 ∷ 11 ∷ 10 ∷ 12 ∷ []) ≡ tableKey 10 ∷ t
 unfolding collectorKeys storeAfter collects step admit push finish judge judged metRow whole full partOf sameKey sameBytes samePid sameOrigin isHeld present oldestGone room leaves count find remove others evicts untouched aside newest fresh fits start slotOf keep marked putOver put
 loses-B = refl
 
+-- ---- the PAT
+
+reads-as-pat : patOf pat ≡ Readable
+unfolding patOf
+reads-as-pat = refl
+
 pub checked-examples : CheckedExamples
 checked-examples = record {
   key-small = key-small;
@@ -75,5 +83,6 @@ checked-examples = record {
   cut-off-fails = fails;
   gate-loses-A = loses-A;
   collector-loses-B = loses-B;
+  pat-readable = reads-as-pat;
   pat-programs = example-pids;
 }

@@ -12,7 +12,8 @@ use Rattle.laws.specs.Runs.{storeAfter}
 use Rattle.section.specs.Ids.{originOf}
 use Rattle.section.specs.Key.{keyOf}
 use Rattle.eit_section.specs.Segment.{segmentEnd}
-use Rattle.pat.specs.Pat.{groupsOf, programPids}
+use Rattle.pat.specs.Pat.{groupsOf, programPids, patOf}
+use Rattle.pat.specs.declared.Pat.the-variants.{Readable}
 use Rattle.ring.specs.Rules.{Row, offeredTo}
 use Rattle.watched.specs.Rules.{Watch}
 use Rattle.counters.specs.Counters.{zeroes}
@@ -75,4 +76,5 @@ pub record CheckedExamples : Type 0 where
   -- "the collector with limit 2 loses B"
   pub collector-loses-B : collectorKeys 2 (10 ∷ 11 ∷ 10 ∷ 12 ∷ []) ≡ tableKey 10 ∷ tableKey 12 ∷ []
   -- "PAT with program 0 at 0x0010 and 1 at 0x0100: N is 0x0100"
+  pub pat-readable : patOf pat ≡ Readable
   pub pat-programs : programPids (groupsOf pat) ≡ 0x0100 ∷ []
