@@ -28,7 +28,8 @@ use Rattle.eit_drop.specs.declared.PidWanted.the-variants as pid-wanted
 use Rattle.eit_state.specs.State.{Store, wholeOf}
 use Rattle.eit_drop.specs.Drop.{wantedPid, fieldsOf, dropPid, matchingGone}
 use Rattle.eit.specs.Store.{dropOf, carriedDrop, droppedOf}
-use Rattle.ties_eit.specs.View.{theKind, kindBy, acts, drops, Reached}
+use Rattle.rules_eit.specs.Rules.{Answer, done, refused}
+use Rattle.ties_eit.specs.View.{theKind, kindBy, answerTold, tells, acts, drops, Reached}
 use Rattle.ties_eit.proofs.Keys.{Bit}
 use Rattle.ties_eit.proofs.Filters.{kind-word}
 use Rattle.ties_eit.proofs.Dropping.{set-bit, schedule-bit}
@@ -107,3 +108,17 @@ foreign-drop s z f g = go (wholeOf s) (wantedPid (f .pid))
     go true pid-wanted.TooLarge = refl
     go true (pid-wanted.Is w) = gone-stays s z f g w
     go false p = refl
+
+-- 12 for a PID of 8192 or more, else 7, whatever the other fields of the filter are
+abbrev pub dropAnswer : PidWanted → Answer
+dropAnswer pid-wanted.TooLarge = refused refusal.BadPid
+dropAnswer (pid-wanted.Is w) = done
+
+-- a filter that names no kind and no current_next is answered as any other: by its PID alone
+pub drop-answered : (s : Store) → wholeOf s ≡ true → (f : Filter) → tells s (drops f) ≡ dropAnswer (wantedPid (f .pid))
+unfolding tells droppedOf dropOf answerTold
+drop-answered s w f = rw w (go (wantedPid (f .pid)))
+  where
+    go : (p : PidWanted) → answerTold ((carriedDrop s (dropPid f p)) .told) ≡ dropAnswer p
+    go pid-wanted.TooLarge = refl
+    go (pid-wanted.Is x) = refl
