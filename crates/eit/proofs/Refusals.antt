@@ -1,12 +1,10 @@
 -- A refusal leaves everything as it was, but 22, which makes the key the newest, and 23, which keeps the section.
 -- Assumes nothing.
-use mathlib.Core.Path.{_≡_, refl, sym, ap, _∙_}
+use mathlib.Core.Path.{_≡_, refl}
 use mathlib.Core.List.{List}
 use mathlib.Core.Bool.{Bool, true, false, cond}
 use Prim.Native.Nat.{ℕ, _≤_, _<_}
 use native.Mathlib.Omega.{arith}
-use lib.ListN.{length}
-use Rattle.answers.specs.Answers.{refusalNo}
 use Rattle.answers.specs.declared.Refusal.the-variants as refusal
 use Rattle.section.specs.declared.ids.MaybePid.{MaybePid}
 use Rattle.rows.specs.Rows.{touched}
@@ -17,17 +15,21 @@ use Rattle.schedules.specs.Schedules.{roomOf, scheduledUnits, tablesThere}
 use Rattle.schedules.specs.declared.ScheduleRoom.{ScheduleRoom}
 use Rattle.eit_state.specs.declared.PushAnswer.{PushAnswer}
 use Rattle.eit_state.specs.declared.PushAnswer.the-variants as answer
-use Rattle.eit_state.specs.State.{Store, store, Rows, rows, rowsOf, wholeOf, pushNumber}
+use Rattle.eit_state.specs.State.{Store, store, Rows, rows, rowsOf, wholeOf, pushNumber, emptyEit}
 use Rattle.eit_plan.specs.declared.Plan.{Plan}
 use Rattle.eit_plan.specs.declared.Plan.the-variants as plan
 use Rattle.eit_plan.specs.Plan.{planOf}
-use Rattle.eit_settle.specs.declared.Becomes.{Becomes}
-use Rattle.eit_settle.specs.declared.Becomes.the-variants as becomes
-use Rattle.eit_settle.specs.Settle.{ownTable, becomesOf, isMarked, markedHeads, scheduleEntry, enteredAnswer, enteredIn, entered, settledAs, settled, Step, keptAndSettled, carried}
+use Rattle.eit_becomes.specs.declared.Becomes.{Becomes}
+use Rattle.eit_becomes.specs.declared.Becomes.the-variants as becomes
+use Rattle.eit_becomes.specs.Becoming.{ownTable, becomesOf, isMarked}
+use Rattle.eit_settle.specs.Settle.{markedHeads, settledAs, settled}
+use Rattle.eit_carry.specs.Carried.{Step, keptAndSettled, carried, pushedWhole}
+use Rattle.eit_enter.specs.Entering.{scheduleEntry, enteredAnswer, enteredIn, entered}
 use Rattle.eit_drop.specs.declared.Filter.{Filter}
 use Rattle.eit_drop.specs.declared.Drop.{Drop}
 use Rattle.eit_drop.specs.declared.Drop.the-variants as drop
-use Rattle.eit.specs.Store.{After, after, number, done, refused, answerOf, toldStep, emptyEit, clearedOf, dropOf, carriedDrop, droppedOf, admitted, pushedWhole, pushedAs, pushedOf}
+use Rattle.eit.specs.Store.{After, after, number, done, refused, answerOf, toldStep, clearedOf, carriedDrop, droppedOf, pushedAs, pushedOf}
+use Rattle.eit_admit.specs.Admitting.{dropOf, admitted}
 
 -- a section that settles a row answers 4, 5, 6 or 23
 entering : (r : Rows) (a : Arrival) (i : ℕ) (b : ScheduleRoom) → pushNumber ((enteredIn r a i b) .answer) < 10

@@ -3,12 +3,10 @@
 use mathlib.Core.Path.{_≡_, refl, sym, ap, _∙_}
 use mathlib.Core.List.{List}
 use Prim.Native.Nat.{ℕ}
-use Rattle.answers.specs.declared.Refusal.the-variants as refusal
 use Rattle.answers.specs.declared.Outcome.{Outcome}
 use Rattle.answers.specs.declared.Outcome.the-variants as outcome
 use Rattle.section.specs.declared.ids.MaybePid.{MaybePid}
 use Rattle.readers.specs.declared.Next.{Next}
-use Rattle.eit_state.specs.declared.Eit.{Eit}
 use Rattle.eit_state.specs.declared.Turned.{Turned}
 use Rattle.eit_state.specs.declared.Pushed.{Pushed}
 use Rattle.eit_state.specs.declared.PushAnswer.{PushAnswer}

@@ -1,11 +1,9 @@
 -- What each call of the EIT collector answers and leaves, for every content of the lent memory (docs/RULES.md, "Collectors", "Cells" and
 -- "Answers"). `cond test a b` is a where the test is true, else b.
-use Prim.Native.Nat.{ℕ, zero, suc, _+_, _*_, _≤_, _<_}
-use mathlib.Core.Path.{_≡_}
+use Prim.Native.Nat.{ℕ, zero, suc, _*_}
 use mathlib.Core.List.{List, [], _∷_, map}
-use mathlib.Core.Bool.{Bool, true, cond}
+use mathlib.Core.Bool.{cond}
 use lib.ListN.{length}
-use lib.Dec.{ltb}
 use Rattle.answers.specs.Answers.{refusalNo}
 use Rattle.answers.specs.declared.Refusal.{Refusal}
 use Rattle.answers.specs.declared.Refusal.the-variants as refusal
@@ -13,30 +11,28 @@ use Rattle.answers.specs.declared.Outcome.{Outcome}
 use Rattle.answers.specs.declared.Outcome.the-variants as outcome
 use Rattle.answers.specs.declared.Reply.the-variants as reply
 use Rattle.section.specs.declared.ids.MaybePid.{MaybePid}
-use Rattle.cells.specs.Cells.{filled, nextFilled, kept}
+use Rattle.cells.specs.Cells.{filled, kept}
 use Rattle.rows.specs.Rows.{keyAt, rowSlots, lastOf, versionOf}
 use Rattle.rows.specs.declared.Key.{Key}
-use Rattle.readers.specs.Next.{noSection, slotTold}
+use Rattle.readers.specs.Next.{noSection}
 use Rattle.readers.specs.declared.Next.{Next}
-use Rattle.arrivals.specs.Arrivals.{Numbered, eitArrival}
-use Rattle.arrivals.specs.declared.Arrival.{Arrival}
 use Rattle.arrivals.specs.declared.EitArrival.{EitArrival}
 use Rattle.arrivals.specs.declared.EitArrival.the-variants as arrival
 use Rattle.segments.specs.Segments.{wordOf}
-use Rattle.units.specs.Units.{isPresent, unitSlots}
+use Rattle.units.specs.Units.{unitSlots}
 use Rattle.schedules.specs.Schedules.{tablesOf}
-use Rattle.eit_state.specs.declared.Eit.{Eit}
 use Rattle.eit_state.specs.declared.PushAnswer.{PushAnswer}
 use Rattle.eit_state.specs.declared.PushAnswer.the-variants.{Nothing, Set, Schedule, Refused}
 use Rattle.eit_state.specs.declared.Pushed.{Pushed}
 use Rattle.eit_state.specs.declared.Turned.{Turned}
-use Rattle.eit_state.specs.State.{Store, store, storeWith, rowsOf, settingsFit, wholeOf, countersFull, withSets, withSchedules, Whole, CanCount}
-use Rattle.eit_plan.specs.Plan.{planOf}
-use Rattle.eit_settle.specs.Settle.{Step, carried}
+use Rattle.eit_state.specs.State.{Store, store, storeWith, rowsOf, settingsFit, wholeOf, emptyEit}
+use Rattle.eit_carry.specs.Carried.{Step, pushedWhole}
+use Rattle.eit_next.specs.Following.{rowNext, scheduleNext}
+use Rattle.eit_admit.specs.Admitting.{dropOf, admitted}
 use Rattle.eit_drop.specs.declared.Filter.{Filter}
 use Rattle.eit_drop.specs.declared.Drop.{Drop}
 use Rattle.eit_drop.specs.declared.Drop.the-variants as drop
-use Rattle.eit_drop.specs.Drop.{dropWanted, matchingGone}
+use Rattle.eit_drop.specs.Drop.{matchingGone}
 
 -- ---- what is answered
 
@@ -151,20 +147,12 @@ openedOf s =
     (cond (settingsFit (s .eit) (length (s .heads)) (length (s .slots)) (length (s .cells)) (length (s .schedule-heads)) (length (s .units))) done (refused refusal.TooLittle))
     s
 
--- no rows; "not the eviction counts"
-abbrev pub emptyEit : Eit → Eit
-emptyEit e = withSchedules (withSets e 0 (e .sets .evictions)) 0 (e .«schedule_evictions»)
-
 -- 10, or 7
 unfoldable pub clearedOf : Store → After
 clearedOf s =
     cond (wholeOf s) (after done (store (emptyEit (s .eit)) (s .heads) (s .slots) (s .cells) (s .schedule-heads) (s .units))) (after (refused refusal.NotWhole) s)
 
 -- ---- dropping by a filter
-
--- 10, then 12
-unfoldable pub dropOf : Store → Filter → Drop
-dropOf s f = cond (wholeOf s) (dropWanted f) (drop.Refuse refusal.NotWhole)
 
 abbrev pub carriedDrop : Store → Drop → After
 carriedDrop s (drop.Refuse r) = after (refused r) s
@@ -174,15 +162,6 @@ unfoldable pub droppedOf : Store → Filter → After
 droppedOf s f = carriedDrop s (dropOf s f)
 
 -- ---- a section
-
--- 10, then 11, then what the section's bytes and its PID say (12, 14 to 19)
-unfoldable pub admitted : Store → MaybePid → (bytes : List ℕ) → EitArrival
-admitted s pid bytes =
-    cond (wholeOf s) (cond (countersFull (s .eit)) (arrival.Refused refusal.CounterFull) (eitArrival pid bytes)) (arrival.Refused refusal.NotWhole)
-
--- a section that arrived, offered to a store that is whole and can count
-unfoldable pub pushedWhole : Store → (bytes : List ℕ) → Arrival → Step
-pushedWhole s bytes a = carried s bytes (planOf s bytes a)
 
 abbrev pub pushedAs : Store → (bytes : List ℕ) → EitArrival → After
 pushedAs s bytes (arrival.Refused r) = after (refused r) s
@@ -197,36 +176,12 @@ pushedOf s pid bytes = pushedAs s bytes (admitted s pid bytes)
 unfoldable pub nextOf : Store → (row from : ℕ) → Next
 nextOf s row from =
     cond (wholeOf s)
-    (cond (ltb row (s .eit .sets .used))
-    (slotTold (s .eit .sets .size) (rowSlots (s .heads) (s .slots) row) (nextFilled (rowSlots (s .heads) (s .slots) row) from))
-    (noSection reply.No))
+    (rowNext (s .heads) (s .slots) (s .eit .sets .used) (s .eit .sets .size) row from)
     (noSection (reply.Refused refusal.NotWhole))
-
--- the same of unit u, which has no sections where it is not present
-unfoldable pub unitNext : (size : ℕ) → (units : List ℕ) → (u from : ℕ) → Next
-unitNext size units u from = cond (isPresent units u) (slotTold size (unitSlots units u) (nextFilled (unitSlots units u) from)) (noSection reply.No)
 
 -- of a table of a schedule, by its number from the first of the kind on
 unfoldable pub nextInOf : Store → (row table from : ℕ) → Next
 nextInOf s row table from =
     cond (wholeOf s)
-    (cond (ltb row (s .eit .schedules))
-    (cond (ltb table (tablesOf (s .schedule-heads) row)) (unitNext (s .eit .sets .size) (s .units) (row * 16 + table) from) (noSection reply.No))
-    (noSection reply.No))
+    (scheduleNext (s .schedule-heads) (s .units) (s .eit .schedules) (s .eit .sets .size) row table from)
     (noSection (reply.Refused refusal.NotWhole))
-
--- ---- what the functions ask of each other
-
--- what holds where a section was admitted
-pub record Admission (s : Store) (a : Arrival) : Type 0 where
-  pub whole : Whole s
-  pub numbered : Numbered (a .entry)
-  pub counts : CanCount (s .eit)
-
-abbrev pub Admitted : Store → EitArrival → Type 0
-Admitted s (arrival.Refused r) = Unit {0}
-Admitted s (arrival.Arrived a) = Admission s a
-
-abbrev pub DropOk : Store → Drop → Type 0
-DropOk s (drop.Refuse r) = Unit {0}
-DropOk s (drop.Matching f) = Whole s

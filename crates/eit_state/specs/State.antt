@@ -3,16 +3,19 @@
 use Prim.Native.Nat.{ℕ, _*_, _≤_, _<_}
 use mathlib.Core.Path.{_≡_}
 use mathlib.Core.List.{List}
-use mathlib.Core.Bool.{Bool, true, _&&_, _||_}
+use mathlib.Core.Bool.{Bool, true, cond, _&&_, _||_}
 use lib.ListN.{length}
 use lib.Dec.{leb, eqb}
 use Rattle.answers.specs.Answers.{refusalNo}
+use Rattle.answers.specs.declared.Refusal.the-variants as refusal
+use Rattle.answers.specs.declared.Outcome.the-variants as outcome
 use Rattle.store.specs.Store as sets
 use Rattle.store.specs.declared.Sets.{Sets}
 use Rattle.schedules.specs.Schedules.{schedulesWhole}
 use Rattle.eit_state.specs.declared.Eit.{Eit}
 use Rattle.eit_state.specs.declared.PushAnswer.{PushAnswer}
 use Rattle.eit_state.specs.declared.PushAnswer.the-variants.{Nothing, Set, Schedule, Refused}
+use Rattle.eit_state.specs.declared.Turned.{Turned}
 
 -- ---- a collector, with the content of the lent slices
 
@@ -73,6 +76,17 @@ withSets e used evictions = record {
 -- so the schedules
 abbrev pub withSchedules : Eit → (schedules evictions : ℕ) → Eit
 withSchedules e schedules evictions = record { sets = e .sets; schedules = schedules; «schedule_evictions» = evictions }
+
+-- no rows; "not the eviction counts"
+abbrev pub emptyEit : Eit → Eit
+emptyEit e = withSchedules (withSets e 0 (e .sets .evictions)) 0 (e .«schedule_evictions»)
+
+-- what opening hands back, 7 or 13, and what clearing does, 7 or 10
+abbrev pub openedAs : (fits : Bool) → Eit → Turned
+openedAs fits e = record { answer = cond fits outcome.Done (outcome.Refused refusal.TooLittle); eit = e }
+
+abbrev pub clearedAs : (whole : Bool) → Eit → Turned
+clearedAs whole e = cond whole (record { answer = outcome.Done; eit = emptyEit e }) (record { answer = outcome.Refused refusal.NotWhole; eit = e })
 
 -- 11 looks at both eviction counts
 abbrev pub countersFull : Eit → Bool

@@ -4,7 +4,7 @@ use answers::Outcome;
 use answers::Refusal;
 use store::Sets;
 ghost use mathlib.Core.Path.{_≡_};
-ghost use Rattle.eit_state.specs.State.{store, schedulesFit, settingsFit, wholeOf, countersFull, withSets, withSchedules, pushNumber};
+ghost use Rattle.eit_state.specs.State.{store, schedulesFit, settingsFit, wholeOf, countersFull, withSets, withSchedules, pushNumber, asked, openedAs, clearedAs};
 
 // Settings and counts. `sets` has the settings and the counts of the sets, and its limit is that of the schedules too; schedules 0 to
 // schedules - 1 are in use.
@@ -138,5 +138,60 @@ pub fn with_schedules(eit: Eit, schedules: usize, schedule_evictions: u64) -> Ei
         sets,
         schedules,
         schedule_evictions,
+    }
+}
+
+// A collector as it is opened over slices of these lengths: no rows, counts 0. A refusal (13) gives back the settings that were asked for.
+pub fn opened(
+    limit: usize,
+    size: usize,
+    count: usize,
+    heads: usize,
+    slots: usize,
+    cells: usize,
+    schedule_heads: usize,
+    units: usize,
+) -> Turned
+    ensures { λ r. ⌜ r ≡ openedAs (settingsFit (asked limit size count) heads slots cells «schedule_heads» units) (asked limit size count) ⌝ }
+{
+    let sets = Sets {
+        limit,
+        size,
+        count,
+        used: 0,
+        evictions: 0,
+    };
+    let eit = Eit {
+        sets,
+        schedules: 0,
+        schedule_evictions: 0,
+    };
+    if settings_fit(eit, heads, slots, cells, schedule_heads, units) {
+        return Turned {
+            answer: Outcome::Done,
+            eit,
+        };
+    }
+    Turned {
+        answer: Outcome::Refused(Refusal::TooLittle),
+        eit,
+    }
+}
+
+// A collector as it is cleared: every set and every schedule leaves, and the counts of evictions stay; 10 where the store is not whole.
+pub fn cleared(eit: Eit, whole: bool) -> Turned
+    ensures { λ r. ⌜ r ≡ clearedAs whole eit ⌝ }
+{
+    if whole {
+        let sets = eit.sets;
+        let then = with_sets(eit, 0, sets.evictions);
+        return Turned {
+            answer: Outcome::Done,
+            eit: with_schedules(then, 0, eit.schedule_evictions),
+        };
+    }
+    Turned {
+        answer: Outcome::Refused(Refusal::NotWhole),
+        eit,
     }
 }

@@ -19,7 +19,9 @@ use Rattle.eit_state.specs.State.{Store, store, wholeOf}
 use Rattle.eit_drop.specs.declared.Filter.{Filter}
 use Rattle.eit_drop.specs.declared.Drop.{Drop}
 use Rattle.eit_drop.specs.declared.Drop.the-variants as drop
-use Rattle.eit.specs.Store.{SetOut, setOut, Told, done, nothing, a-set, a-schedule, refused, after as leaves, emptyEit, clearedOf, dropOf, carriedDrop, droppedOf, nextOf}
+use Rattle.eit.specs.Store.{SetOut, setOut, Told, done, nothing, a-set, a-schedule, refused, after as leaves, clearedOf, carriedDrop, droppedOf, nextOf}
+use Rattle.eit_state.specs.State.{emptyEit}
+use Rattle.eit_admit.specs.Admitting.{dropOf}
 use Rattle.ties_eit.specs.View.{Given, clears, drops, section, called, keyShown, answerTold, tells, acts, Fitting, Reached}
 use Rattle.ties_eit.proofs.History.{opened-reached, opened-whole, stays-whole, acts-reached}
 use Rattle.ties_reading.proofs.Eit.{told-set, read-handed}

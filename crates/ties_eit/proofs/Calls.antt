@@ -60,10 +60,13 @@ use Rattle.arrivals.specs.declared.EitArrival.the-variants as arrival
 use Rattle.answers.specs.declared.Refusal.the-variants as refusal
 use Rattle.eit_state.specs.State.{Store, store, setStore, schedulesFit, wholeOf, Whole, countersFull}
 use Rattle.eit_plan.specs.Plan.{planPlaced, planOf}
-use Rattle.eit_settle.specs.Settle.{carried}
+use Rattle.eit_carry.specs.Carried.{carried}
 use Rattle.eit_drop.specs.Drop.{dropWanted}
 use Rattle.eit.specs.Store as eit
-use Rattle.eit.specs.Store.{after, toldStep, emptyEit, clearedOf, dropOf, carriedDrop, droppedOf, admitted, pushedWhole, pushedAs, pushedOf}
+use Rattle.eit.specs.Store.{after, toldStep, clearedOf, carriedDrop, droppedOf, pushedAs, pushedOf}
+use Rattle.eit_state.specs.State.{emptyEit}
+use Rattle.eit_admit.specs.Admitting.{dropOf, admitted}
+use Rattle.eit_carry.specs.Carried.{pushedWhole}
 use Rattle.eit_state.proofs.Whole.{whole-store, units-whole, can-count}
 use Rattle.eit_state.proofs.Whole.{long as schedules-long}
 use Rattle.ties_eit.specs.View.{pidShown, keyShown, scheduleShown, keyWords, scheduleWords, rowSeen, scheduleSeen, seen, sectionOf, readsEit, readsAs, readSection, reads, answerTold, Given, clears, drops, section, FilterFits, filterShown, Fitting, called, Reached}

@@ -27,7 +27,8 @@ use Rattle.eit_drop.specs.declared.PidWanted.{PidWanted}
 use Rattle.eit_drop.specs.declared.PidWanted.the-variants as pid-wanted
 use Rattle.eit_state.specs.State.{Store, wholeOf}
 use Rattle.eit_drop.specs.Drop.{wantedPid, fieldsOf, dropPid, matchingGone}
-use Rattle.eit.specs.Store.{dropOf, carriedDrop, droppedOf}
+use Rattle.eit_admit.specs.Admitting.{dropOf}
+use Rattle.eit.specs.Store.{carriedDrop, droppedOf}
 use Rattle.rules_eit.specs.Rules.{Answer, done, refused}
 use Rattle.ties_eit.specs.View.{theKind, kindBy, answerTold, tells, acts, drops, Reached}
 use Rattle.ties_eit.proofs.Keys.{Bit}

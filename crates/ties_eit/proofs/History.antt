@@ -45,8 +45,8 @@ use Rattle.schedules.specs.Schedules.{roomOf, tableCount, scheduledUnits, table
 use Rattle.eit_drop.specs.declared.Drop.{Drop}
 use Rattle.eit_drop.specs.declared.Drop.the-variants as plan-drop
 use Rattle.arrivals.specs.declared.Arrival.{Arrival}
-use Rattle.eit_settle.specs.declared.Becomes.{Becomes}
-use Rattle.eit_settle.specs.declared.Becomes.the-variants as becomes
+use Rattle.eit_becomes.specs.declared.Becomes.{Becomes}
+use Rattle.eit_becomes.specs.declared.Becomes.the-variants as becomes
 use Rattle.eit_plan.specs.declared.Plan.{Plan}
 use Rattle.eit_plan.specs.declared.Plan.the-variants as plan
 use Rattle.eit_state.specs.State.{Store, store, rows, rowsOf, asked, settingsFit, wholeOf}
@@ -55,9 +55,15 @@ use Rattle.arrivals.specs.declared.EitArrival.{EitArrival}
 use Rattle.arrivals.specs.declared.EitArrival.the-variants as arrival
 use Rattle.rules_shared.specs.Refusals as refusals
 use Rattle.eit_plan.specs.Plan.{planOf}
-use Rattle.eit_settle.specs.Settle.{ownTable, scheduleEntry, becomesOf, isMarked, markedHeads, enteredAnswer, enteredIn, entered, settledAs, settled, keptAndSettled, carried}
+use Rattle.eit_becomes.specs.Becoming.{ownTable, becomesOf, isMarked}
+use Rattle.eit_enter.specs.Entering.{scheduleEntry, enteredAnswer, enteredIn, entered}
+use Rattle.eit_settle.specs.Settle.{markedHeads, settledAs, settled}
+use Rattle.eit_carry.specs.Carried.{keptAndSettled, carried}
 use Rattle.eit.specs.Store as eit
-use Rattle.eit.specs.Store.{After, after, toldStep, answerOf, openedOf, emptyEit, clearedOf, dropOf, carriedDrop, droppedOf, admitted, pushedWhole, pushedAs, pushedOf}
+use Rattle.eit.specs.Store.{After, after, toldStep, answerOf, openedOf, clearedOf, carriedDrop, droppedOf, pushedAs, pushedOf}
+use Rattle.eit_state.specs.State.{emptyEit}
+use Rattle.eit_admit.specs.Admitting.{dropOf, admitted}
+use Rattle.eit_carry.specs.Carried.{pushedWhole}
 use Rattle.ties_eit.specs.View.{keyShown, scheduleShown, keyWords, scheduleWords, seen, settingsOf, sectionOf, readsEit, readsAs, readSection, reads, answerTold, tells, acts, Given, clears, drops, section, Fitting, Opened, Reached}
 use Rattle.ties_eit.proofs.Keys.{set-self, schedule-self}
 use Rattle.ties_eit.proofs.Calls.{tied, room-there, whole-seen}

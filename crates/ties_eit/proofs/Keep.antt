@@ -50,7 +50,7 @@ use Rattle.eit_plan.specs.Plan.{planPlaced}
 use Rattle.placing.specs.declared.Place.the-variants as place
 use Rattle.answers.specs.declared.Refusal.the-variants as refusal
 use Rattle.eit.specs.Store.{toldStep}
-use Rattle.eit_settle.specs.Settle.{carried, keptAndSettled}
+use Rattle.eit_carry.specs.Carried.{carried, keptAndSettled}
 use Rattle.ties_eit.specs.View.{pidShown, keyShown, keyWords, rowSeen, seen, answerTold, HeadFits, Reached}
 use Rattle.ties_eit.proofs.Keys.{set-self, key-reads}
 use Rattle.ties_eit.proofs.Rows.{row-takes}

@@ -30,16 +30,21 @@ use Rattle.schedules.specs.Schedules.{tablesOf, takenInSchedules}
 use Rattle.schedules.specs.declared.ScheduleRoom.{ScheduleRoom}
 use Rattle.schedules.specs.Schedules.{roomOf, tableCount, scheduledUnits, tablesThere}
 use Rattle.arrivals.specs.declared.Arrival.{Arrival}
-use Rattle.eit_settle.specs.declared.Becomes.{Becomes}
-use Rattle.eit_settle.specs.declared.Becomes.the-variants as becomes
+use Rattle.eit_becomes.specs.declared.Becomes.{Becomes}
+use Rattle.eit_becomes.specs.declared.Becomes.the-variants as becomes
 use Rattle.eit_plan.specs.declared.Plan.{Plan}
 use Rattle.eit_plan.specs.declared.Plan.the-variants as plan
 use Rattle.eit_state.specs.State.{Store, Rows, rows, rowsOf}
 use Rattle.arrivals.specs.declared.EitArrival.{EitArrival}
 use Rattle.arrivals.specs.declared.EitArrival.the-variants as arrival
 use Rattle.eit_plan.specs.Plan.{planOf}
-use Rattle.eit_settle.specs.Settle.{ownTable, scheduleEntry, becomesOf, isMarked, markedHeads, enteredAnswer, enteredIn, entered, settledAs, settled, keptAndSettled, carried}
-use Rattle.eit.specs.Store.{toldStep, answerOf, admitted, pushedWhole, pushedAs, pushedOf}
+use Rattle.eit_becomes.specs.Becoming.{ownTable, becomesOf, isMarked}
+use Rattle.eit_enter.specs.Entering.{scheduleEntry, enteredAnswer, enteredIn, entered}
+use Rattle.eit_settle.specs.Settle.{markedHeads, settledAs, settled}
+use Rattle.eit_carry.specs.Carried.{keptAndSettled, carried}
+use Rattle.eit.specs.Store.{toldStep, answerOf, pushedAs, pushedOf}
+use Rattle.eit_admit.specs.Admitting.{admitted}
+use Rattle.eit_carry.specs.Carried.{pushedWhole}
 use Rattle.ties_eit.specs.View.{seen, reads, answerTold, tells, acts, Given, section, Fitting, Reached}
 use Rattle.ties_eit.proofs.Rows.{row-takes}
 use Rattle.ties_eit.proofs.Places.{schedules-taken, named-units, units-named}

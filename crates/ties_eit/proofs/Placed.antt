@@ -40,7 +40,7 @@ use Rattle.schedules.specs.Schedules.{schedulesWhole}
 use Rattle.arrivals.specs.declared.Arrival.{Arrival}
 use Rattle.eit_state.specs.State.{Store, setStore, Whole}
 use Rattle.eit_plan.specs.Plan.{planPlaced}
-use Rattle.eit_settle.specs.Settle.{carried}
+use Rattle.eit_carry.specs.Carried.{carried}
 use Rattle.eit.specs.Store.{toldStep}
 use Rattle.ties_eit.specs.View.{keyShown, keyWords, rowSeen, seen, Reached}
 use Rattle.ties_eit.proofs.Keys.{set-self, key-reads}

@@ -35,10 +35,12 @@ use Rattle.arrivals.specs.Arrivals.{Numbered}
 use Rattle.segments.specs.Segments.{wordOf, setComplete}
 use Rattle.schedules.specs.Schedules.{schedulesWhole}
 use Rattle.arrivals.specs.declared.Arrival.{Arrival}
-use Rattle.eit_settle.specs.declared.Becomes.{Becomes}
-use Rattle.eit_settle.specs.declared.Becomes.the-variants as becomes
+use Rattle.eit_becomes.specs.declared.Becomes.{Becomes}
+use Rattle.eit_becomes.specs.declared.Becomes.the-variants as becomes
 use Rattle.eit_state.specs.State.{Store, store, rows, rowsOf, Whole, settingsFit, withSets}
-use Rattle.eit_settle.specs.Settle.{becomesOf, isMarked, markedHeads, entered, settledAs, settled}
+use Rattle.eit_becomes.specs.Becoming.{becomesOf, isMarked}
+use Rattle.eit_settle.specs.Settle.{markedHeads, settledAs, settled}
+use Rattle.eit_enter.specs.Entering.{entered}
 use Rattle.eit.specs.Store as eit
 use Rattle.eit.specs.Store.{After, after, a-set, setOut, filledSlots}
 use Rattle.ties_eit.specs.View.{theKind, keyShown, keyWords, rowSeen, seen, answerTold, HeadFits, Reached}

@@ -45,7 +45,8 @@ use Rattle.store.specs.Store as sets
 use Rattle.eit_state.specs.declared.Eit.{Eit}
 use Rattle.arrivals.specs.declared.Arrival.{Arrival}
 use Rattle.eit_state.specs.State.{Store, store, rowsOf, settingsFit, schedulesFit, withSchedules}
-use Rattle.eit_settle.specs.Settle.{Settled, stepped, scheduleEntry, enteredAnswer, enteredIn, entered}
+use Rattle.eit_enter.specs.Entering.{Settled, scheduleEntry, enteredAnswer, enteredIn, entered}
+use Rattle.eit_carry.specs.Carried.{stepped}
 use Rattle.eit.specs.Store.{After, toldStep, answerOf, scheduleOut, tablesOut, a-schedule}
 use Rattle.ties_eit.specs.View.{keyShown, scheduleShown, keyWords, scheduleWords, rowSeen, copySeen, placeSeen, scheduleSeen, seen, answerTold, tablesShown, HeadFits, Reached}
 use Rattle.ties_eit.proofs.Keys.{schedule-self, set-self, Bit, key-reads, schedule-reads, schedule-of, number-kind, InKind}

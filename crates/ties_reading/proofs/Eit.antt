@@ -30,8 +30,10 @@ use Rattle.eit_state.specs.declared.PushAnswer.{PushAnswer}
 use Rattle.eit_state.specs.declared.PushAnswer.the-variants as answer
 use Rattle.eit_state.specs.State.{Store, rowsOf, setStore, wholeOf, Whole}
 use Rattle.eit_state.proofs.Whole.{whole-store}
-use Rattle.eit_settle.specs.Settle.{Step}
-use Rattle.eit.specs.Store.{filledSlots, SetOut, setOut, ScheduleOut, scheduleOut, Told, done, nothing, a-set, a-schedule, refused, answerOf, admitted, pushedWhole, pushedAs, pushedOf, nextOf}
+use Rattle.eit_carry.specs.Carried.{Step}
+use Rattle.eit.specs.Store.{filledSlots, SetOut, setOut, ScheduleOut, scheduleOut, Told, done, nothing, a-set, a-schedule, refused, answerOf, pushedAs, pushedOf, nextOf}
+use Rattle.eit_admit.specs.Admitting.{admitted}
+use Rattle.eit_carry.specs.Carried.{pushedWhole}
 use Rattle.ties_eit.specs.View.{Given, section, Fitting, seen, reads, tells, acts, answerTold, Opened, Reached}
 use Rattle.ties_eit.proofs.History.{EachFitting, opened-reached, tells-seen, opened-whole, stays-whole, always-whole}
 use Rattle.ties_reading.proofs.Rows.{ToldRow, told-row}

@@ -32,10 +32,13 @@ use Rattle.eit_state.specs.State.{Store, Rows, rows, rowsOf, setStore, Whole}
 use Rattle.eit_plan.specs.declared.Plan.{Plan}
 use Rattle.eit_plan.specs.declared.Plan.the-variants as plan
 use Rattle.eit_plan.specs.Plan.{freeCell, planPlaced, planOf}
-use Rattle.eit_settle.specs.declared.Becomes.{Becomes}
-use Rattle.eit_settle.specs.declared.Becomes.the-variants as becomes
-use Rattle.eit_settle.specs.Settle.{ownTable, becomesOf, isMarked, markedHeads, Settled, scheduleEntry, enteredAnswer, enteredIn, entered, settledAs, settled, keptAndSettled, carried}
-use Rattle.eit.specs.Store.{pushedWhole}
+use Rattle.eit_becomes.specs.declared.Becomes.{Becomes}
+use Rattle.eit_becomes.specs.declared.Becomes.the-variants as becomes
+use Rattle.eit_becomes.specs.Becoming.{ownTable, becomesOf, isMarked}
+use Rattle.eit_settle.specs.Settle.{markedHeads, settledAs, settled}
+use Rattle.eit_carry.specs.Carried.{keptAndSettled, carried}
+use Rattle.eit_enter.specs.Entering.{Settled, scheduleEntry, enteredAnswer, enteredIn, entered}
+use Rattle.eit_carry.specs.Carried.{pushedWhole}
 
 -- the row that is told is in use; of a schedule all tables are there
 abbrev pub ToldRow : PushAnswer → Rows → Type 0

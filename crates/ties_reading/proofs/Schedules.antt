@@ -31,7 +31,10 @@ use Rattle.eit_state.specs.declared.PushAnswer.{PushAnswer}
 use Rattle.eit_state.specs.declared.PushAnswer.the-variants as answer
 use Rattle.eit_state.specs.State.{Store, rowsOf, wholeOf}
 use Rattle.eit_state.proofs.Whole.{whole-store, units-whole}
-use Rattle.eit.specs.Store.{filledSlots, setOut, TableOut, tableOut, tablesOut, ScheduleOut, scheduleOut, Told, done, nothing, a-set, a-schedule, refused, answerOf, admitted, pushedWhole, pushedAs, pushedOf, unitNext, nextInOf}
+use Rattle.eit.specs.Store.{filledSlots, setOut, TableOut, tableOut, tablesOut, ScheduleOut, scheduleOut, Told, done, nothing, a-set, a-schedule, refused, answerOf, pushedAs, pushedOf, nextInOf}
+use Rattle.eit_admit.specs.Admitting.{admitted}
+use Rattle.eit_carry.specs.Carried.{pushedWhole}
+use Rattle.eit_next.specs.Following.{unitNext}
 use Rattle.ties_eit.specs.View.{Given, section, scheduleShown, seen, reads, tablesShown, answerTold, tells, acts, Opened, Reached}
 use Rattle.ties_eit.proofs.Places.{units-get, schedules-get, present-get}
 use Rattle.ties_eit.proofs.History.{EachFitting, opened-reached, tells-seen, opened-whole, always-whole}

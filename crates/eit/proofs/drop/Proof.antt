@@ -4,7 +4,7 @@ use Rattle.eit.proofs.drop.Statement.{statement}
 use Rattle.eit.proofs.drop.Tie as tie
 use Rattle.eit.proofs.drop.Reads as reads
 use Rattle.eit.proofs.drop.Lts as lts
-use Rattle.eit.proofs.admit_filter.Reads as admit-filter-reads
+use Rattle.eit_admit.proofs.admit_filter.Reads as admit-filter-reads
 use Rattle.eit_drop.proofs.drop_matching.Reads as drop-matching-reads
 
 -- src/lib.rt:176:11

@@ -4,8 +4,8 @@ use Rattle.eit.proofs.push.Statement.{statement}
 use Rattle.eit.proofs.push.Tie as tie
 use Rattle.eit.proofs.push.Reads as reads
 use Rattle.eit.proofs.push.Lts as lts
-use Rattle.eit.proofs.admit.Reads as admit-reads
-use Rattle.eit.proofs.push_whole.Reads as push-whole-reads
+use Rattle.eit_admit.proofs.admit.Reads as admit-reads
+use Rattle.eit_carry.proofs.push_whole.Reads as push-whole-reads
 
 -- src/lib.rt:85:11
 admit-requires : tie.Need-admit-requires

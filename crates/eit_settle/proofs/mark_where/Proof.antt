@@ -1,4 +1,4 @@
-use Rattle.eit_settle.proofs.Doing.{mark-set}
+use Rattle.eit_settle.proofs.Ways.{mark-set}
 use borrow.Author.Needs.{needs}
 use Rattle.eit_settle.proofs.mark_where.Statement.{statement}
 use Rattle.eit_settle.proofs.mark_where.Tie as tie

@@ -1,11 +1,11 @@
-use Rattle.eit_settle.proofs.Doing.{settle-done}
+use Rattle.eit_settle.proofs.Ways.{settle-done}
 use borrow.Author.Needs.{needs}
 use Rattle.eit_settle.proofs.settle.Statement.{statement}
 use Rattle.eit_settle.proofs.settle.Tie as tie
 use Rattle.eit_settle.proofs.settle.Reads as reads
 use Rattle.eit_settle.proofs.settle.Lts as lts
-use Rattle.eit_settle.proofs.becomes_of.Reads as becomes-of-reads
-use Rattle.eit_settle.proofs.is_marked.Reads as is-marked-reads
+use Rattle.eit_becomes.proofs.becomes_of.Reads as becomes-of-reads
+use Rattle.eit_becomes.proofs.is_marked.Reads as is-marked-reads
 use Rattle.eit_settle.proofs.mark_where.Reads as mark-where-reads
 use Rattle.eit_settle.proofs.settle_as.Reads as settle-as-reads
 use Rattle.rows.proofs.touch.Reads as touch-reads

@@ -1,12 +1,12 @@
-use Rattle.eit_settle.proofs.Doing.{as-entered, as-stayed}
+use Rattle.eit_settle.proofs.Ways.{as-entered, as-stayed}
 use borrow.Author.Needs.{needs}
 use Rattle.eit_settle.proofs.settle_as.Statement.{statement}
 use Rattle.eit_settle.proofs.settle_as.Tie as tie
 use Rattle.eit_settle.proofs.settle_as.Reads as reads
 use Rattle.eit_settle.proofs.settle_as.Lts as lts
-use Rattle.eit_settle.proofs.enter.Reads as enter-reads
-use Rattle.eit_settle.proofs.enters_schedule.Reads as enters-schedule-reads
-use Rattle.eit_settle.proofs.stay_answer.Reads as stay-answer-reads
+use Rattle.eit_enter.proofs.enter.Reads as enter-reads
+use Rattle.eit_becomes.proofs.enters_schedule.Reads as enters-schedule-reads
+use Rattle.eit_becomes.proofs.stay_answer.Reads as stay-answer-reads
 
 -- src/lib.rt:178:8
 enters-schedule-requires : tie.Need-enters-schedule-requires

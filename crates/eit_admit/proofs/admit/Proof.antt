@@ -1,0 +1,45 @@
+use mathlib.Core.Path.{refl}
+use Rattle.eit_admit.proofs.Ways.{admit-broken, admit-full, admit-read, admit-may}
+use borrow.Author.Needs.{needs}
+use Rattle.eit_admit.proofs.admit.Statement.{statement}
+use Rattle.eit_admit.proofs.admit.Tie as tie
+use Rattle.eit_admit.proofs.admit.Reads as reads
+use Rattle.eit_admit.proofs.admit.Lts as lts
+use Rattle.arrivals.proofs.eit_arrival.Reads as eit-arrival-reads
+use Rattle.eit_state.proofs.counters_full.Reads as counters-full-reads
+use Rattle.eit_state.proofs.is_whole.Reads as is-whole-reads
+
+-- src/lib.rt:110:8
+is-whole-requires : tie.Need-is-whole-requires
+is-whole-requires c κs = search needs
+
+-- src/lib.rt:111:12
+counters-full-requires : tie.Need-counters-full-requires
+counters-full-requires c κs = search needs
+
+-- src/lib.rt:112:13
+returns : tie.Need-returns
+returns c = (search admit-full, tt)
+
+-- src/lib.rt:114:9
+eit-arrival-requires : tie.Need-eit-arrival-requires
+eit-arrival-requires c κs = search needs
+
+-- src/lib.rt:114:9
+returns-2 : tie.Need-returns-2
+returns-2 c = (search admit-read, search admit-may)
+
+-- src/lib.rt:97:1
+returns-3 : tie.Need-returns-3
+returns-3 c = (search admit-broken, tt)
+
+pub admit-spec : {M : Type 1} → statement M
+admit-spec =
+    tie.close
+    (tie.spec
+    is-whole-requires
+    counters-full-requires
+    returns
+    eit-arrival-requires
+    returns-2
+    returns-3)
