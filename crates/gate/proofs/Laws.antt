@@ -1,13 +1,13 @@
 -- What the tests of an offer tell as orders of numbers, and one law for each way out of a function.
 -- Assumes nothing.
 use Prim.Native.Nat.{ℕ, _≤_}
-use mathlib.Core.Path.{_≡_, refl, sym, ap, _∙_}
+use mathlib.Core.Path.{_≡_, refl, sym, _∙_}
 use mathlib.Core.List.{List}
 use mathlib.Core.Bool.{Bool, true, false, cond, not, _&&_, true≢false}
 use lib.ListN.{length, replicate}
-use lib.Dec.{ltb, leb, eqb}
+use lib.Dec.{leb, eqb}
 use native.Mathlib.Omega.{arith}
-use borrow.Author.Tests.{leb-true, eqb-false, ne-eqb, lt-ltb, le-ltb, not-true, not-false}
+use borrow.Author.Tests.{leb-true, eqb-false, ne-eqb, not-true, not-false}
 use Rattle.laws.proofs.Tests.{and-true}
 use Rattle.ring.specs.Store.{roomOf, Whole, stampOf, seenOf, keysAfter, changesAfter}
 use Rattle.ring.specs.Store.{wholeOf as ringWhole}
@@ -15,29 +15,23 @@ use Rattle.ring.specs.declared.Ring.{Ring}
 use Rattle.ring.specs.declared.Seen.{Seen}
 use Rattle.ring.proofs.Laws.{whole as ring-whole}
 use Rattle.section.specs.Header.{tableId}
-use Rattle.section.specs.Key.{keyOf}
-use Rattle.section.specs.Judged.{judgedOf}
 use Rattle.pat.specs.Pat.{readable, patOf, withPrograms}
 use Rattle.pat.specs.declared.Pat.{Pat}
 use Rattle.pat.specs.declared.Pat.the-variants.{Readable, Unreadable}
-use Rattle.section.specs.declared.header.Parts.{Parts}
-use Rattle.section.specs.declared.header.Judged.{Judged}
-use Rattle.section.specs.declared.header.Judged.the-variants.{Short, Mismatch, Sound}
-use Rattle.section.proofs.Facts.{judged-table, origin-one, origin-none}
 use Rattle.pat.proofs.Laws.{unreadable}
-use Rattle.section.specs.Ids.{originMade}
-use Rattle.section.specs.declared.ids.Origin.{Origin}
-use Rattle.section.specs.declared.ids.OriginMade.{OriginMade}
-use Rattle.section.specs.declared.ids.OriginMade.the-variants as origin
+use Rattle.offers.specs.Offers.{verdictOf}
+use Rattle.offers.specs.declared.Arrival.{Arrival}
+use Rattle.offers.specs.declared.Verdict.{Verdict}
+use Rattle.offers.specs.declared.Verdict.the-variants as verdict
 use Rattle.watched.specs.Store.{allPids, filled, following}
-use Rattle.gate.specs.Store.{begun, begunBy, hasRoom, opened, wholeOf, Fits, answerNo, answerOf, Store, Offering, storeOf, leftBy, refused, failure, seenBy, programsOf, followedPat, watchAfter, soundOf, judgedAs, consideredOf, offered}
+use Rattle.gate.specs.Store.{begun, begunBy, hasRoom, opened, wholeOf, Fits, answerNo, answerOf, Store, Offering, storeOf, leftBy, refused, failure, seenBy, programsOf, followedPat, watchAfter, admittedTo, carried, isWhole, offered}
 use Rattle.gate.specs.declared.Gate.{Gate}
 use Rattle.gate.specs.declared.Offered.{Offered}
 use Rattle.gate.specs.declared.Settings.{Settings}
 use Rattle.gate.specs.declared.Opened.{Opened}
-use Rattle.answers.specs.declared.Refusal.the-variants.{NotWhole, CounterFull, BadPid, TooLittle}
+use Rattle.answers.specs.declared.Refusal.{Refusal}
+use Rattle.answers.specs.declared.Refusal.the-variants.{BadPid, TooLittle}
 use Rattle.answers.specs.declared.Outcome.the-variants as outcome
-use Rattle.counters.specs.Counters.{anyFull}
 use Rattle.counters.specs.declared.Counters.{Counters}
 
 -- ---- answers and 10
@@ -46,9 +40,9 @@ pub answer-no : (emits : Bool) → answerNo (answerOf emits) ≡ cond emits 1 2
 answer-no true = refl
 answer-no false = refl
 
-pub fits : (g : Gate) (keys changes words : ℕ) (w : Bool) → w ≡ wholeOf g keys changes words → not w ≡ false → Fits g keys changes words
+pub fits : (g : Gate) (keys changes words : ℕ) (w : Bool) → w ≡ wholeOf g keys changes words → w ≡ true → Fits g keys changes words
 fits g keys changes words w e h =
-    let a = and-true _ _ (sym e ∙ not-false w h) in
+    let a = and-true _ _ (sym e ∙ h) in
     record { rows = ring-whole (g .ring) keys changes (ringWhole (g .ring) keys changes) refl (a .0); watch = leb-true _ _ (a .1) }
 
 -- ---- following
@@ -91,60 +85,34 @@ module _ (words section : List ℕ) where
 
 -- ---- the ways out of an offer
 
-module _ (g : Gate) (c : Counters) (keys changes words : List ℕ) (from : Origin) (section : List ℕ) where
-  pub sound-told :
-      (p : Parts) (key : ℕ) (seen : Seen) (ks ms ws : List ℕ) (o : Offered) →
-      key ≡ keyOf from (p .«table_id») (p .extension) (p .number) →
-      seen ≡ seenOf (g .ring) keys changes key (stampOf (p .version) (p .change)) →
-      ks ≡ keysAfter (g .ring) keys key →
-      ms ≡ changesAfter (g .ring) keys changes key (stampOf (p .version) (p .change)) →
-      ws ≡ watchAfter (seen .changed && g .follow) words section →
-      o ≡ seenBy g c seen →
-      leftBy o ks ms ws ≡ soundOf (storeOf g c keys changes words) from section p
-  unfolding soundOf
-  sound-told p key seen ks ms ws o e f k m w j = rw (← e, ← f, ← k, ← m, ← w, ← j)
+pub admitted-told :
+    (g : Gate) (c : Counters) (keys changes words section : List ℕ) (a : Arrival) (seen : Seen) (ks ms ws : List ℕ) (o : Offered) →
+    seen ≡ seenOf (g .ring) keys changes (a .key) (stampOf (a .version) (a .change)) →
+    ks ≡ keysAfter (g .ring) keys (a .key) →
+    ms ≡ changesAfter (g .ring) keys changes (a .key) (stampOf (a .version) (a .change)) →
+    ws ≡ watchAfter (seen .changed && g .follow) words section →
+    o ≡ seenBy g c seen →
+    leftBy o ks ms ws ≡ admittedTo (storeOf g c keys changes words) section a
+unfolding admittedTo
+admitted-told g c keys changes words section a seen ks ms ws o f k m w j = rw (← f, ← k, ← m, ← w, ← j)
 
-  module _ (v : Judged) (e : v ≡ judgedOf section) where
-    pub considered-short : (o : Offered) → v ≡ Short → o ≡ failure g c → leftBy o keys changes words ≡ consideredOf (storeOf g c keys changes words) from section
-    unfolding consideredOf judgedAs
-    considered-short o h j = rw (← e, h, j)
+module _ (s : Store) (pid : ℕ) (section : List ℕ) (w : Bool) (e : w ≡ isWhole s) (v : Verdict) (q : v ≡ verdictOf w (s .counters) pid section) where
+  carries : carried s section v ≡ offered s pid section
+  unfolding offered
+  carries = rw (← e, ← q)
 
-    pub considered-mismatch :
-        (a b : ℕ) (o : Offered) → v ≡ Mismatch a b → o ≡ failure g c → leftBy o keys changes words ≡ consideredOf (storeOf g c keys changes words) from section
-    unfolding consideredOf judgedAs
-    considered-mismatch a b o h j = rw (← e, h, j)
+  pub offered-refused :
+      (r : Refusal) (o : Offered) → v ≡ verdict.Refused r → o ≡ refused r (s .gate) (s .counters) → leftBy o (s .keys) (s .changes) (s .words) ≡ offered s pid section
+  unfolding carried
+  offered-refused r o h j = rw (j, ← carries, h)
 
-    pub considered-sound :
-        (p : Parts) (l : Offering) → v ≡ Sound p → l ≡ soundOf (storeOf g c keys changes words) from section p → l ≡ consideredOf (storeOf g c keys changes words) from section
-    unfolding consideredOf judgedAs
-    considered-sound p l h j = rw (← e, h) j
+  pub offered-failed : (o : Offered) → v ≡ verdict.Failed → o ≡ failure (s .gate) (s .counters) → leftBy o (s .keys) (s .changes) (s .words) ≡ offered s pid section
+  unfolding carried
+  offered-failed o h j = rw (j, ← carries, h)
 
-    pub sound-table : (p : Parts) → v ≡ Sound p → p .«table_id» ≡ tableId section
-    sound-table p h = judged-table section p (sym e ∙ h)
-
--- 10, 11 and 12, and what nothing refuses
-module _ (g : Gate) (c : Counters) (keys changes words : List ℕ) (pid : ℕ) (section : List ℕ) where
-  module _ (w : Bool) (e : w ≡ wholeOf g (length keys) (length changes) (length words)) where
-    pub offered-broken : (o : Offered) → not w ≡ true → o ≡ refused NotWhole g c → leftBy o keys changes words ≡ offered (storeOf g c keys changes words) pid section
-    unfolding offered
-    offered-broken o h j = rw (← e, not-true w h, j)
-
-    module _ (h : not w ≡ false) (f : Bool) (d : f ≡ anyFull c) where
-      pub offered-full : (o : Offered) → f ≡ true → o ≡ refused CounterFull g c → leftBy o keys changes words ≡ offered (storeOf g c keys changes words) pid section
-      unfolding offered
-      offered-full o k j = rw (← e, not-false w h, ← d, k, j)
-
-      module _ (k : f ≡ false) (m : OriginMade) (q : m ≡ originMade pid) where
-        pub offered-pid : (o : Offered) → m ≡ origin.BadPid → o ≡ refused BadPid g c → leftBy o keys changes words ≡ offered (storeOf g c keys changes words) pid section
-        unfolding offered
-        offered-pid o y j = rw (← e, not-false w h, ← d, k, le-ltb pid 8192 (origin-none pid m q y), j)
-
-        pub offered-considered :
-            (from : Origin) (l : Offering) → m ≡ origin.One from → l ≡ consideredOf (storeOf g c keys changes words) from section → l ≡ offered (storeOf g c keys changes words) pid section
-        unfolding offered
-        offered-considered from l y j =
-            let n = origin-one pid m q from y in
-            rw (← e, not-false w h, ← d, k, lt-ltb pid 8192 (n .1), ← (n .0)) j
+  pub offered-arrived : (a : Arrival) (l : Offering) → v ≡ verdict.Arrived a → l ≡ admittedTo s section a → l ≡ offered s pid section
+  unfolding carried
+  offered-arrived a l h j = rw (← carries, h) j
 
 -- ---- opening
 

@@ -3,16 +3,14 @@
 use Prim.Native.Nat.{ℕ}
 use mathlib.Core.List.{List, [], _∷_}
 use mathlib.Core.Bool.{Bool, cond, _&&_, _||_}
-use lib.Dec.{ltb}
 use Rattle.ring.specs.Rules.{Row, changed, evicts, offeredTo}
 use Rattle.section.specs.Facts.{Bytes}
-use Rattle.section.specs.Ids.{originOf}
-use Rattle.section.specs.Key.{keyOf}
-use Rattle.section.specs.Judged.{judgedOf}
-use Rattle.section.specs.declared.ids.Origin.{Origin}
-use Rattle.section.specs.declared.header.Parts.{Parts}
-use Rattle.section.specs.declared.header.Judged.{Judged}
-use Rattle.section.specs.declared.header.Judged.the-variants.{Short, Mismatch, Sound}
+use Rattle.answers.specs.Answers.{refusalNo}
+use Rattle.answers.specs.declared.Refusal.the-variants.{CounterFull}
+use Rattle.offers.specs.Offers.{readOf}
+use Rattle.offers.specs.declared.Arrival.{Arrival}
+use Rattle.offers.specs.declared.Verdict.{Verdict}
+use Rattle.offers.specs.declared.Verdict.the-variants.{Refused, Failed, Arrived}
 use Rattle.pat.specs.Pat.{readable, setN}
 use Rattle.watched.specs.Rules.{Watch, followedBy}
 use Rattle.counters.specs.Counters.{anyFull, countedOf, failedOf}
@@ -39,9 +37,9 @@ pub record Told : Type 0 where
   pub answer : ℕ
   pub held : Held
 
--- the row of a sound section: its key, version and change number
-abbrev pub rowFrom : Origin → Parts → Row
-rowFrom from p = record { key = keyOf from (p .«table_id») (p .extension) (p .number); version = p .version; change = p .change }
+-- the row of a section that arrived: its key, version and change number
+abbrev pub rowFrom : Arrival → Row
+rowFrom a = record { key = a .key; version = a .version; change = a .change }
 
 -- 3: completed and CRC failures, and nothing else
 abbrev pub failedIn : Held → Told
@@ -64,19 +62,15 @@ admitted m h n section =
       };
     }
 
-unfoldable pub judgedIn : Manner → Held → Origin → List ℕ → Judged → Told
-judgedIn m h from section Short = failedIn h
-judgedIn m h from section (Mismatch stored worked) = failedIn h
-judgedIn m h from section (Sound p) = admitted m h (rowFrom from p) section
+-- what a section and its PID say, carried out: a refusal leaves all as it was
+unfoldable pub carriedIn : Manner → Held → List ℕ → Verdict → Told
+carriedIn m h section (Refused r) = record { answer = refusalNo r; held = h }
+carriedIn m h section Failed = failedIn h
+carriedIn m h section (Arrived a) = admitted m h (rowFrom a) section
 
--- an offer: 11, then 12, each with all as before; else as the section is judged
+-- an offer: 11, then as the section and its PID say
 unfoldable pub told : Manner → Held → Offer → Told
-told m h o =
-    cond (anyFull (h .counters))
-    (record { answer = 11; held = h })
-    (cond (ltb (o .pid) 8192)
-    (judgedIn m h (originOf (o .pid)) (o .section) (judgedOf (o .section)))
-    (record { answer = 12; held = h }))
+told m h o = carriedIn m h (o .section) (cond (anyFull (h .counters)) (Refused CounterFull) (readOf (o .pid) (o .section)))
 
 unfoldable pub tells : Manner → Held → Offer → ℕ
 tells m h o = (told m h o) .answer

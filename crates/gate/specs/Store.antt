@@ -4,25 +4,22 @@ use Prim.Native.Nat.{ℕ, _≤_}
 use mathlib.Core.List.{List}
 use mathlib.Core.Bool.{Bool, true, false, cond, _&&_, _||_}
 use lib.ListN.{length, replicate}
-use lib.Dec.{ltb, leb}
+use lib.Dec.{leb}
 use Rattle.ring.specs.Store.{emptyRing}
 use Rattle.ring.specs.Store.{roomOf, Whole, stampOf, seenOf, keysAfter, changesAfter}
 use Rattle.ring.specs.Store.{wholeOf as ringWhole}
 use Rattle.ring.specs.declared.Ring.{Ring}
 use Rattle.ring.specs.declared.Seen.{Seen}
-use Rattle.section.specs.Ids.{originOf}
-use Rattle.section.specs.Key.{keyOf}
-use Rattle.section.specs.declared.ids.Origin.{Origin}
-use Rattle.section.specs.Judged.{judgedOf}
+use Rattle.offers.specs.Offers.{verdictOf}
+use Rattle.offers.specs.declared.Arrival.{Arrival}
+use Rattle.offers.specs.declared.Verdict.{Verdict}
+use Rattle.offers.specs.declared.Verdict.the-variants as verdict
 use Rattle.pat.specs.Pat.{readable, withPrograms}
-use Rattle.section.specs.declared.header.Parts.{Parts}
-use Rattle.section.specs.declared.header.Judged.{Judged}
-use Rattle.section.specs.declared.header.Judged.the-variants.{Short, Mismatch, Sound}
 use Rattle.watched.specs.Store.{allPids, filled, following}
 use Rattle.answers.specs.Answers.{refusalNo, outcomeNo}
 use Rattle.answers.specs.declared.Refusal.{Refusal}
 use Rattle.answers.specs.declared.Outcome.{Outcome}
-use Rattle.counters.specs.Counters.{zeroes, anyFull, countedOf, failedOf}
+use Rattle.counters.specs.Counters.{zeroes, countedOf, failedOf}
 use Rattle.counters.specs.declared.Counters.{Counters}
 use Rattle.gate.specs.declared.Settings.{Settings}
 use Rattle.gate.specs.declared.Gate.{Gate}
@@ -145,33 +142,26 @@ followedPat words section = cond (readable section) (following words (programsOf
 abbrev pub watchAfter : Bool → List ℕ → List ℕ → List ℕ
 watchAfter follows words section = cond follows (followedPat words section) words
 
--- a section that passed its CRC, with its parts
-unfoldable pub soundOf : Store → Origin → List ℕ → Parts → Offering
-soundOf s from section p =
-    let key : ℕ = keyOf from (p .«table_id») (p .extension) (p .number) in
-    let number : ℕ = stampOf (p .version) (p .change) in
-    let seen : Seen = seenOf (s .gate .ring) (s .keys) (s .changes) key number in
+-- a section that arrived
+unfoldable pub admittedTo : Store → List ℕ → Arrival → Offering
+admittedTo s section a =
+    let number : ℕ = stampOf (a .version) (a .change) in
+    let seen : Seen = seenOf (s .gate .ring) (s .keys) (s .changes) (a .key) number in
     leftBy (seenBy (s .gate) (s .counters) seen)
-    (keysAfter (s .gate .ring) (s .keys) key)
-    (changesAfter (s .gate .ring) (s .keys) (s .changes) key number)
+    (keysAfter (s .gate .ring) (s .keys) (a .key))
+    (changesAfter (s .gate .ring) (s .keys) (s .changes) (a .key) number)
     (watchAfter (seen .changed && s .gate .follow) (s .words) section)
 
--- a section as the gate judges it
-unfoldable pub judgedAs : Store → Origin → List ℕ → Judged → Offering
-judgedAs s from section Short = leftBy (failure (s .gate) (s .counters)) (s .keys) (s .changes) (s .words)
-judgedAs s from section (Mismatch stored worked) = leftBy (failure (s .gate) (s .counters)) (s .keys) (s .changes) (s .words)
-judgedAs s from section (Sound p) = soundOf s from section p
+-- a verdict carried out: a refusal leaves all as it was
+unfoldable pub carried : Store → List ℕ → Verdict → Offering
+carried s section (verdict.Refused r) = record { answer = refusalNo r; store = s }
+carried s section verdict.Failed = leftBy (failure (s .gate) (s .counters)) (s .keys) (s .changes) (s .words)
+carried s section (verdict.Arrived a) = admittedTo s section a
 
-unfoldable pub consideredOf : Store → Origin → List ℕ → Offering
-consideredOf s from section = judgedAs s from section (judgedOf section)
+-- whether the store is whole
+abbrev pub isWhole : Store → Bool
+isWhole s = wholeOf (s .gate) (length (s .keys)) (length (s .changes)) (length (s .words))
 
--- every store, PID and section: 10, 11 and 12 leave all as it was
+-- every store, PID and section: 10, 11, 12, then 3, then 1 or 2
 unfoldable pub offered : Store → ℕ → List ℕ → Offering
-offered s pid section =
-    cond (wholeOf (s .gate) (length (s .keys)) (length (s .changes)) (length (s .words)))
-    (cond (anyFull (s .counters))
-    (record { answer = 11; store = s })
-    (cond (ltb pid 8192)
-    (consideredOf s (originOf pid) section)
-    (record { answer = 12; store = s })))
-    (record { answer = 10; store = s })
+offered s pid section = carried s section (verdictOf (isWhole s) (s .counters) pid section)

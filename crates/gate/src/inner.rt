@@ -7,20 +7,16 @@ use crate::Settings;
 use answers::Outcome;
 use answers::Refusal;
 use counters::Counters;
+use offers::Arrival;
 use ring::Ring;
 use ring::Seen;
-use section::header::Judged;
-use section::header::Parts;
-use section::ids::Origin;
 ghost use mathlib.Core.Path.{_≡_};
 ghost use mathlib.Core.Bool.{Bool, true, false, _&&_};
 ghost use Prim.Native.Nat.{_<_, _≤_};
 ghost use lib.ListN.{length};
-ghost use Rattle.ring.specs.Store.{Whole, keysAfter, changesAfter, stampOf};
-ghost use Rattle.section.specs.Key.{keyOf};
 ghost use Rattle.section.specs.Header.{tableId};
 ghost use Rattle.counters.specs.Counters.{CanCount};
-ghost use Rattle.gate.specs.Store.{wholeOf, hasRoom, begun, Fits, refused, storeOf, leftBy, consideredOf, soundOf, failure, gateWith, emitsOf, answerOf, seenBy, followedPat, watchAfter};
+ghost use Rattle.gate.specs.Store.{wholeOf, hasRoom, begun, Fits, refused, failure, answerOf, seenBy, followedPat, watchAfter, storeOf, leftBy, admittedTo};
 
 // Not 10: the ring fits its slices, and the watch has its words.
 pub fn is_whole(gate: Gate, keys: usize, changes: usize, words: usize) -> bool
@@ -131,46 +127,30 @@ pub fn follow(gate: Gate, seen: Seen, table_id: u8, words: &mut [u64], section: 
     }
 }
 
-// A section that passed its CRC.
-fn admit(
+// A section that arrived: it is looked up and kept, followed where it is a changed PAT, and answered.
+pub fn admit(
     gate: Gate,
     counters: Counters,
     keys: &mut [u64],
     changes: &mut [u64],
     words: &mut [u64],
-    from: Origin,
-    parts: Parts,
+    arrival: Arrival,
     section: &[u8],
 ) -> Offered
     requires { ⌜ CanCount counters ⌝ }
     requires { ⌜ Fits gate (length (now keys)) (length (now changes)) (length (now words)) ⌝ }
-    requires { ⌜ parts .«table_id» ≡ tableId (now section) ⌝ }
-    ensures { λ r. ⌜ leftBy r (now (keys .exit)) (now (changes .exit)) (now (words .exit)) ≡ soundOf (storeOf gate counters (now (keys .entry)) (now (changes .entry)) (now (words .entry))) from (now (section .entry)) parts ⌝ }
+    requires { ⌜ arrival .«table_id» ≡ tableId (now section) ⌝ }
+    ensures { λ r. ⌜ leftBy r (now (keys .exit)) (now (changes .exit)) (now (words .exit)) ≡ admittedTo (storeOf gate counters (now (keys .entry)) (now (changes .entry)) (now (words .entry))) (now (section .entry)) arrival ⌝ }
 {
     let ring = gate.ring;
-    let key = section::header::key(from, parts.table_id, parts.extension, parts.number);
-    let seen = ring::admit(ring, keys, changes, key, parts.version, parts.change);
-    follow(gate, seen, parts.table_id, words, section);
+    let seen = ring::admit(
+        ring,
+        keys,
+        changes,
+        arrival.key,
+        arrival.version,
+        arrival.change,
+    );
+    follow(gate, seen, arrival.table_id, words, section);
     tell(gate, counters, seen)
-}
-
-// A section that nothing refuses, judged by the gate.
-pub fn consider(
-    gate: Gate,
-    counters: Counters,
-    keys: &mut [u64],
-    changes: &mut [u64],
-    words: &mut [u64],
-    from: Origin,
-    section: &[u8],
-) -> Offered
-    requires { ⌜ CanCount counters ⌝ }
-    requires { ⌜ Fits gate (length (now keys)) (length (now changes)) (length (now words)) ⌝ }
-    ensures { λ r. ⌜ leftBy r (now (keys .exit)) (now (changes .exit)) (now (words .exit)) ≡ consideredOf (storeOf gate counters (now (keys .entry)) (now (changes .entry)) (now (words .entry))) from (now (section .entry)) ⌝ }
-{
-    match section::header::judge(section) {
-        Judged::Short => fail(gate, counters),
-        Judged::Mismatch(_, _) => fail(gate, counters),
-        Judged::Sound(parts) => admit(gate, counters, keys, changes, words, from, parts, section),
-    }
 }

@@ -3,9 +3,8 @@
 use answers::Outcome;
 use answers::Refusal;
 use counters::Counters;
+use offers::Verdict;
 use ring::Ring;
-use section::ids::Origin;
-use section::ids::OriginMade;
 ghost use mathlib.Core.Path.{_≡_};
 ghost use Prim.Native.Nat.{ℕ};
 ghost use lib.ListN.{length};
@@ -118,22 +117,18 @@ pub fn offer(
 ) -> Offered
     ensures { λ r. ⌜ leftBy r (now (keys .exit)) (now (changes .exit)) (now (words .exit)) ≡ offered (storeOf gate counters (now (keys .entry)) (now (changes .entry)) (now (words .entry))) pid (now (section .entry)) ⌝ }
 {
-    if !inner::is_whole(gate, keys.len(), changes.len(), words.len()) {
-        return inner::refuse(Refusal::NotWhole, gate, counters);
-    }
-    if counters::any_full(counters) {
-        return inner::refuse(Refusal::CounterFull, gate, counters);
-    }
-    match Origin::make(pid) {
-        OriginMade::One(from) => inner::consider(
+    let whole = inner::is_whole(gate, keys.len(), changes.len(), words.len());
+    match offers::judge(whole, counters, pid, section) {
+        Verdict::Refused(refusal) => inner::refuse(refusal, gate, counters),
+        Verdict::Failed => inner::fail(gate, counters),
+        Verdict::Arrived(arrival) => inner::admit(
             gate,
             counters,
             keys,
             changes,
             words,
-            from,
+            arrival,
             section,
         ),
-        OriginMade::BadPid => inner::refuse(Refusal::BadPid, gate, counters),
     }
 }

@@ -1,31 +1,24 @@
 -- What the tests of an offer tell as orders of numbers, and one law for each way out of a function.
 -- Assumes nothing.
 use Prim.Native.Nat.{ℕ, _≤_}
-use mathlib.Core.Path.{_≡_, refl, sym, ap, _∙_}
+use mathlib.Core.Path.{_≡_, refl, sym, _∙_}
 use mathlib.Core.List.{List}
 use mathlib.Core.Bool.{Bool, true, false, cond, not, _&&_}
 use lib.ListN.{length}
-use lib.Dec.{ltb, leb}
-use borrow.Author.Tests.{leb-true, lt-ltb, le-ltb, not-true, not-false}
+use lib.Dec.{leb}
+use borrow.Author.Tests.{leb-true, not-true, not-false}
 use Rattle.laws.proofs.Tests.{and-true}
 use Rattle.ring.specs.Store.{roomOf, stampOf}
 use Rattle.ring.specs.declared.Seen.{Seen}
 use Rattle.ring_index.specs.Store.{Index, clearedBy, seenBy, keysBy, changesBy, indexBy}
-use Rattle.section.specs.Header.{tableId}
-use Rattle.section.specs.Key.{keyOf}
-use Rattle.section.specs.Judged.{judgedOf}
-use Rattle.section.specs.Ids.{originMade}
-use Rattle.section.specs.declared.header.Parts.{Parts}
-use Rattle.section.specs.declared.header.Judged.{Judged}
-use Rattle.section.specs.declared.header.Judged.the-variants.{Short, Mismatch, Sound}
-use Rattle.section.specs.declared.ids.Origin.{Origin}
-use Rattle.section.specs.declared.ids.OriginMade.{OriginMade}
-use Rattle.section.specs.declared.ids.OriginMade.the-variants as origin
-use Rattle.section.proofs.Facts.{judged-table, origin-one, origin-none}
+use Rattle.offers.specs.Offers.{verdictOf}
+use Rattle.offers.specs.declared.Arrival.{Arrival}
+use Rattle.offers.specs.declared.Verdict.{Verdict}
+use Rattle.offers.specs.declared.Verdict.the-variants as verdict
 use Rattle.watched.specs.Store.{allPids, filled}
-use Rattle.answers.specs.declared.Refusal.the-variants.{NotWhole, CounterFull, BadPid, TooLittle}
+use Rattle.answers.specs.declared.Refusal.{Refusal}
+use Rattle.answers.specs.declared.Refusal.the-variants.{BadPid, TooLittle}
 use Rattle.answers.specs.declared.Outcome.the-variants as outcome
-use Rattle.counters.specs.Counters.{anyFull}
 use Rattle.counters.specs.declared.Counters.{Counters}
 use Rattle.gate.specs.Store.{begun, hasRoom, wholeOf, Fits, refused, failure, watchAfter}
 use Rattle.gate.specs.Store.{seenBy as answeredBy}
@@ -34,14 +27,14 @@ use Rattle.gate.specs.declared.Offered.{Offered}
 use Rattle.gate.specs.declared.Settings.{Settings}
 use Rattle.gate.specs.declared.Opened.{Opened}
 use Rattle.gate.proofs.Laws.{fits}
-use Rattle.gate_indexed.specs.Store.{hasRoomFor, begunBy, openedBy, wholeBy, FitsBy, indexedOf, Offering, leftBy, soundBy, judgedBy, consideredBy, offeredBy}
+use Rattle.gate_indexed.specs.Store.{hasRoomFor, begunBy, openedBy, wholeBy, FitsBy, Indexed, indexedOf, Offering, leftBy, admittedBy, carriedBy, isWholeBy, offeredBy}
 
 -- not 10
 pub fits-by :
-    (g : Gate) (keys changes buckets links words : ℕ) (w : Bool) → w ≡ wholeBy g keys changes buckets links words → not w ≡ false →
+    (g : Gate) (keys changes buckets links words : ℕ) (w : Bool) → w ≡ wholeBy g keys changes buckets links words → w ≡ true →
     FitsBy g keys changes buckets links words
 fits-by g keys changes buckets links words w e h =
-    let a = and-true _ _ (sym e ∙ not-false w h) in
+    let a = and-true _ _ (sym e ∙ h) in
     let b = and-true _ _ (a .0) in
     record {
       rows = fits g keys changes words true (sym (b .0)) refl;
@@ -50,71 +43,38 @@ fits-by g keys changes buckets links words w e h =
 
 -- ---- the ways out of an offer
 
-module _ (g : Gate) (c : Counters) (keys changes : List ℕ) (x : Index) (words : List ℕ) (from : Origin) (section : List ℕ) where
-  pub sound-told :
-      (p : Parts) (key : ℕ) (seen : Seen) (ks ms : List ℕ) (y : Index) (ws : List ℕ) (o : Offered) →
-      key ≡ keyOf from (p .«table_id») (p .extension) (p .number) →
-      seen ≡ seenBy (g .ring) keys changes x key (stampOf (p .version) (p .change)) →
-      ks ≡ keysBy (g .ring) keys x key →
-      ms ≡ changesBy (g .ring) keys changes x key (stampOf (p .version) (p .change)) →
-      y ≡ indexBy (g .ring) keys x key →
-      ws ≡ watchAfter (seen .changed && g .follow) words section →
-      o ≡ answeredBy g c seen →
-      leftBy o ks ms y ws ≡ soundBy (indexedOf g c keys changes x words) from section p
-  unfolding soundBy
-  sound-told p key seen ks ms y ws o e f k m d w j = rw (← e, ← f, ← k, ← m, ← d, ← w, ← j)
+pub admitted-told :
+    (g : Gate) (c : Counters) (keys changes : List ℕ) (x : Index) (words section : List ℕ) (a : Arrival) (seen : Seen) (ks ms : List ℕ) (y : Index) (ws : List ℕ) (o : Offered) →
+    seen ≡ seenBy (g .ring) keys changes x (a .key) (stampOf (a .version) (a .change)) →
+    ks ≡ keysBy (g .ring) keys x (a .key) →
+    ms ≡ changesBy (g .ring) keys changes x (a .key) (stampOf (a .version) (a .change)) →
+    y ≡ indexBy (g .ring) keys x (a .key) →
+    ws ≡ watchAfter (seen .changed && g .follow) words section →
+    o ≡ answeredBy g c seen →
+    leftBy o ks ms y ws ≡ admittedBy (indexedOf g c keys changes x words) section a
+unfolding admittedBy
+admitted-told g c keys changes x words section a seen ks ms y ws o f k m d w j = rw (← f, ← k, ← m, ← d, ← w, ← j)
 
-  module _ (v : Judged) (e : v ≡ judgedOf section) where
-    pub considered-short :
-        (o : Offered) → v ≡ Short → o ≡ failure g c → leftBy o keys changes x words ≡ consideredBy (indexedOf g c keys changes x words) from section
-    unfolding consideredBy judgedBy
-    considered-short o h j = rw (← e, h, j)
+module _ (s : Indexed) (pid : ℕ) (section : List ℕ) (w : Bool) (e : w ≡ isWholeBy s) (v : Verdict) (q : v ≡ verdictOf w (s .store .counters) pid section) where
+  carries : carriedBy s section v ≡ offeredBy s pid section
+  unfolding offeredBy
+  carries = rw (← e, ← q)
 
-    pub considered-mismatch :
-        (a b : ℕ) (o : Offered) → v ≡ Mismatch a b → o ≡ failure g c →
-        leftBy o keys changes x words ≡ consideredBy (indexedOf g c keys changes x words) from section
-    unfolding consideredBy judgedBy
-    considered-mismatch a b o h j = rw (← e, h, j)
+  pub offered-refused :
+      (r : Refusal) (o : Offered) → v ≡ verdict.Refused r → o ≡ refused r (s .store .gate) (s .store .counters) →
+      leftBy o (s .store .keys) (s .store .changes) (s .index) (s .store .words) ≡ offeredBy s pid section
+  unfolding carriedBy
+  offered-refused r o h j = rw (j, ← carries, h)
 
-    pub considered-sound :
-        (p : Parts) (l : Offering) → v ≡ Sound p → l ≡ soundBy (indexedOf g c keys changes x words) from section p →
-        l ≡ consideredBy (indexedOf g c keys changes x words) from section
-    unfolding consideredBy judgedBy
-    considered-sound p l h j = rw (← e, h) j
+  pub offered-failed :
+      (o : Offered) → v ≡ verdict.Failed → o ≡ failure (s .store .gate) (s .store .counters) →
+      leftBy o (s .store .keys) (s .store .changes) (s .index) (s .store .words) ≡ offeredBy s pid section
+  unfolding carriedBy
+  offered-failed o h j = rw (j, ← carries, h)
 
-    pub sound-table : (p : Parts) → v ≡ Sound p → p .«table_id» ≡ tableId section
-    sound-table p h = judged-table section p (sym e ∙ h)
-
--- 10, 11 and 12, and what nothing refuses
-module _ (g : Gate) (c : Counters) (keys changes : List ℕ) (x : Index) (words : List ℕ) (pid : ℕ) (section : List ℕ) where
-  module _
-      (w : Bool)
-      (e : w ≡ wholeBy g (length keys) (length changes) (length (x .buckets)) (length (x .links)) (length words))
-    where
-      pub offered-broken :
-          (o : Offered) → not w ≡ true → o ≡ refused NotWhole g c → leftBy o keys changes x words ≡ offeredBy (indexedOf g c keys changes x words) pid section
-      unfolding offeredBy
-      offered-broken o h j = rw (← e, not-true w h, j)
-
-      module _ (h : not w ≡ false) (f : Bool) (d : f ≡ anyFull c) where
-        pub offered-full :
-            (o : Offered) → f ≡ true → o ≡ refused CounterFull g c → leftBy o keys changes x words ≡ offeredBy (indexedOf g c keys changes x words) pid section
-        unfolding offeredBy
-        offered-full o k j = rw (← e, not-false w h, ← d, k, j)
-
-        module _ (k : f ≡ false) (m : OriginMade) (q : m ≡ originMade pid) where
-          pub offered-pid :
-              (o : Offered) → m ≡ origin.BadPid → o ≡ refused BadPid g c → leftBy o keys changes x words ≡ offeredBy (indexedOf g c keys changes x words) pid section
-          unfolding offeredBy
-          offered-pid o y j = rw (← e, not-false w h, ← d, k, le-ltb pid 8192 (origin-none pid m q y), j)
-
-          pub offered-considered :
-              (from : Origin) (l : Offering) → m ≡ origin.One from → l ≡ consideredBy (indexedOf g c keys changes x words) from section →
-              l ≡ offeredBy (indexedOf g c keys changes x words) pid section
-          unfolding offeredBy
-          offered-considered from l y j =
-              let n = origin-one pid m q from y in
-              rw (← e, not-false w h, ← d, k, lt-ltb pid 8192 (n .1), ← (n .0)) j
+  pub offered-arrived : (a : Arrival) (l : Offering) → v ≡ verdict.Arrived a → l ≡ admittedBy s section a → l ≡ offeredBy s pid section
+  unfolding carriedBy
+  offered-arrived a l h j = rw (← carries, h) j
 
 -- ---- opening
 

@@ -4,20 +4,17 @@ use Prim.Native.Nat.{ℕ}
 use mathlib.Core.List.{List}
 use mathlib.Core.Bool.{Bool, cond, _&&_}
 use lib.ListN.{length}
-use lib.Dec.{ltb, leb}
+use lib.Dec.{leb}
 use Rattle.ring.specs.Store.{roomOf, stampOf}
 use Rattle.ring.specs.declared.Seen.{Seen}
 use Rattle.ring_index.specs.Store.{Covers, Index, indexOf, clearedBy, seenBy, keysBy, changesBy, indexBy}
-use Rattle.section.specs.Ids.{originOf}
-use Rattle.section.specs.Key.{keyOf}
-use Rattle.section.specs.declared.ids.Origin.{Origin}
-use Rattle.section.specs.Judged.{judgedOf}
-use Rattle.section.specs.declared.header.Parts.{Parts}
-use Rattle.section.specs.declared.header.Judged.{Judged}
-use Rattle.section.specs.declared.header.Judged.the-variants.{Short, Mismatch, Sound}
+use Rattle.offers.specs.Offers.{verdictOf}
+use Rattle.offers.specs.declared.Arrival.{Arrival}
+use Rattle.offers.specs.declared.Verdict.{Verdict}
+use Rattle.offers.specs.declared.Verdict.the-variants.{Refused, Failed, Arrived}
 use Rattle.watched.specs.Store.{allPids, filled}
-use Rattle.answers.specs.Answers.{outcomeNo}
-use Rattle.counters.specs.Counters.{zeroes, anyFull}
+use Rattle.answers.specs.Answers.{refusalNo, outcomeNo}
+use Rattle.counters.specs.Counters.{zeroes}
 use Rattle.counters.specs.declared.Counters.{Counters}
 use Rattle.gate.specs.Store.{answerNo, emptyGate, hasRoom, wholeOf, Fits, Store, storeOf, failure, watchAfter}
 use Rattle.gate.specs.Store.{seenBy as answeredBy}
@@ -87,38 +84,31 @@ pub record Offering : Type 0 where
 abbrev pub leftBy : Offered → List ℕ → List ℕ → Index → List ℕ → Offering
 leftBy o keys changes x words = record { answer = answerNo (o .answer); left = indexedOf (o .gate) (o .counters) keys changes x words }
 
--- a section that passed its CRC, with its parts
-unfoldable pub soundBy : Indexed → Origin → List ℕ → Parts → Offering
-soundBy s from section p =
-    let key : ℕ = keyOf from (p .«table_id») (p .extension) (p .number) in
-    let number : ℕ = stampOf (p .version) (p .change) in
-    let seen : Seen = seenBy (s .store .gate .ring) (s .store .keys) (s .store .changes) (s .index) key number in
+-- a section that arrived
+unfoldable pub admittedBy : Indexed → List ℕ → Arrival → Offering
+admittedBy s section a =
+    let number : ℕ = stampOf (a .version) (a .change) in
+    let seen : Seen = seenBy (s .store .gate .ring) (s .store .keys) (s .store .changes) (s .index) (a .key) number in
     leftBy (answeredBy (s .store .gate) (s .store .counters) seen)
-    (keysBy (s .store .gate .ring) (s .store .keys) (s .index) key)
-    (changesBy (s .store .gate .ring) (s .store .keys) (s .store .changes) (s .index) key number)
-    (indexBy (s .store .gate .ring) (s .store .keys) (s .index) key)
+    (keysBy (s .store .gate .ring) (s .store .keys) (s .index) (a .key))
+    (changesBy (s .store .gate .ring) (s .store .keys) (s .store .changes) (s .index) (a .key) number)
+    (indexBy (s .store .gate .ring) (s .store .keys) (s .index) (a .key))
     (watchAfter (seen .changed && s .store .gate .follow) (s .store .words) section)
 
 -- 3 changes neither rows nor index nor watch
 abbrev pub failedBy : Indexed → Offering
 failedBy s = leftBy (failure (s .store .gate) (s .store .counters)) (s .store .keys) (s .store .changes) (s .index) (s .store .words)
 
--- a section as the gate judges it
-unfoldable pub judgedBy : Indexed → Origin → List ℕ → Judged → Offering
-judgedBy s from section Short = failedBy s
-judgedBy s from section (Mismatch stored worked) = failedBy s
-judgedBy s from section (Sound p) = soundBy s from section p
+-- a verdict carried out: a refusal leaves all as it was
+unfoldable pub carriedBy : Indexed → List ℕ → Verdict → Offering
+carriedBy s section (Refused r) = record { answer = refusalNo r; left = s }
+carriedBy s section Failed = failedBy s
+carriedBy s section (Arrived a) = admittedBy s section a
 
-unfoldable pub consideredBy : Indexed → Origin → List ℕ → Offering
-consideredBy s from section = judgedBy s from section (judgedOf section)
+-- whether the store is whole
+abbrev pub isWholeBy : Indexed → Bool
+isWholeBy s = wholeBy (s .store .gate) (length (s .store .keys)) (length (s .store .changes)) (length (s .index .buckets)) (length (s .index .links)) (length (s .store .words))
 
--- every store, PID and section: 10, 11 and 12 leave all as it was
+-- every store, PID and section: 10, 11, 12, then 3, then 1 or 2
 unfoldable pub offeredBy : Indexed → ℕ → List ℕ → Offering
-offeredBy s pid section =
-    cond (wholeBy (s .store .gate) (length (s .store .keys)) (length (s .store .changes)) (length (s .index .buckets)) (length (s .index .links)) (length (s .store .words)))
-    (cond (anyFull (s .store .counters))
-    (record { answer = 11; left = s })
-    (cond (ltb pid 8192)
-    (consideredBy s (originOf pid) section)
-    (record { answer = 12; left = s })))
-    (record { answer = 10; left = s })
+offeredBy s pid section = carriedBy s section (verdictOf (isWholeBy s) (s .store .counters) pid section)

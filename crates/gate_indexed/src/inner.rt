@@ -2,15 +2,13 @@
 use counters::Counters;
 use gate::Gate;
 use gate::Offered;
-use section::header::Judged;
-use section::header::Parts;
-use section::ids::Origin;
+use offers::Arrival;
 ghost use mathlib.Core.Path.{_≡_};
 ghost use lib.ListN.{length};
 ghost use Rattle.section.specs.Header.{tableId};
 ghost use Rattle.ring_index.specs.Store.{indexOf};
 ghost use Rattle.counters.specs.Counters.{CanCount};
-ghost use Rattle.gate_indexed.specs.Store.{hasRoomFor, wholeBy, FitsBy, indexedOf, leftBy, soundBy, consideredBy};
+ghost use Rattle.gate_indexed.specs.Store.{hasRoomFor, wholeBy, FitsBy, indexedOf, leftBy, admittedBy};
 
 // Not 10: the ring fits its slices, a bucket and a link for each row, and the watch has its words.
 pub fn is_whole(
@@ -43,8 +41,8 @@ pub fn has_room(
     gate::inner::has_room(capacity, keys, changes, words) & (room <= buckets) & (room <= links)
 }
 
-// A section that passed its CRC.
-fn admit(
+// A section that arrived: it is looked up and kept, followed where it is a changed PAT, and answered.
+pub fn admit(
     gate: Gate,
     counters: Counters,
     keys: &mut [u64],
@@ -52,61 +50,25 @@ fn admit(
     buckets: &mut [u64],
     links: &mut [u64],
     words: &mut [u64],
-    from: Origin,
-    parts: Parts,
+    arrival: Arrival,
     section: &[u8],
 ) -> Offered
     requires { ⌜ CanCount counters ⌝ }
     requires { ⌜ FitsBy gate (length (now keys)) (length (now changes)) (length (now buckets)) (length (now links)) (length (now words)) ⌝ }
-    requires { ⌜ parts .«table_id» ≡ tableId (now section) ⌝ }
-    ensures { λ r. ⌜ leftBy r (now (keys .exit)) (now (changes .exit)) (indexOf (now (buckets .exit)) (now (links .exit))) (now (words .exit)) ≡ soundBy (indexedOf gate counters (now (keys .entry)) (now (changes .entry)) (indexOf (now (buckets .entry)) (now (links .entry))) (now (words .entry))) from (now (section .entry)) parts ⌝ }
+    requires { ⌜ arrival .«table_id» ≡ tableId (now section) ⌝ }
+    ensures { λ r. ⌜ leftBy r (now (keys .exit)) (now (changes .exit)) (indexOf (now (buckets .exit)) (now (links .exit))) (now (words .exit)) ≡ admittedBy (indexedOf gate counters (now (keys .entry)) (now (changes .entry)) (indexOf (now (buckets .entry)) (now (links .entry))) (now (words .entry))) (now (section .entry)) arrival ⌝ }
 {
     let ring = gate.ring;
-    let key = section::header::key(from, parts.table_id, parts.extension, parts.number);
     let seen = ring_index::admit(
         ring,
         keys,
         changes,
         buckets,
         links,
-        key,
-        parts.version,
-        parts.change,
+        arrival.key,
+        arrival.version,
+        arrival.change,
     );
-    gate::inner::follow(gate, seen, parts.table_id, words, section);
+    gate::inner::follow(gate, seen, arrival.table_id, words, section);
     gate::inner::tell(gate, counters, seen)
-}
-
-// A section that nothing refuses, judged by the gate.
-pub fn consider(
-    gate: Gate,
-    counters: Counters,
-    keys: &mut [u64],
-    changes: &mut [u64],
-    buckets: &mut [u64],
-    links: &mut [u64],
-    words: &mut [u64],
-    from: Origin,
-    section: &[u8],
-) -> Offered
-    requires { ⌜ CanCount counters ⌝ }
-    requires { ⌜ FitsBy gate (length (now keys)) (length (now changes)) (length (now buckets)) (length (now links)) (length (now words)) ⌝ }
-    ensures { λ r. ⌜ leftBy r (now (keys .exit)) (now (changes .exit)) (indexOf (now (buckets .exit)) (now (links .exit))) (now (words .exit)) ≡ consideredBy (indexedOf gate counters (now (keys .entry)) (now (changes .entry)) (indexOf (now (buckets .entry)) (now (links .entry))) (now (words .entry))) from (now (section .entry)) ⌝ }
-{
-    match section::header::judge(section) {
-        Judged::Short => gate::inner::fail(gate, counters),
-        Judged::Mismatch(_, _) => gate::inner::fail(gate, counters),
-        Judged::Sound(parts) => admit(
-            gate,
-            counters,
-            keys,
-            changes,
-            buckets,
-            links,
-            words,
-            from,
-            parts,
-            section,
-        ),
-    }
 }

@@ -7,8 +7,7 @@ use gate::Gate;
 use gate::Offered;
 use gate::Opened;
 use gate::Settings;
-use section::ids::Origin;
-use section::ids::OriginMade;
+use offers::Verdict;
 ghost use mathlib.Core.Path.{_≡_};
 ghost use lib.ListN.{length};
 ghost use Rattle.ring_index.specs.Store.{indexOf};
@@ -61,21 +60,18 @@ pub fn offer(
 ) -> Offered
     ensures { λ r. ⌜ leftBy r (now (keys .exit)) (now (changes .exit)) (indexOf (now (buckets .exit)) (now (links .exit))) (now (words .exit)) ≡ offeredBy (indexedOf gate counters (now (keys .entry)) (now (changes .entry)) (indexOf (now (buckets .entry)) (now (links .entry))) (now (words .entry))) pid (now (section .entry)) ⌝ }
 {
-    if !inner::is_whole(
+    let whole = inner::is_whole(
         gate,
         keys.len(),
         changes.len(),
         buckets.len(),
         links.len(),
         words.len(),
-    ) {
-        return gate::inner::refuse(Refusal::NotWhole, gate, counters);
-    }
-    if counters::any_full(counters) {
-        return gate::inner::refuse(Refusal::CounterFull, gate, counters);
-    }
-    match Origin::make(pid) {
-        OriginMade::One(from) => inner::consider(
+    );
+    match offers::judge(whole, counters, pid, section) {
+        Verdict::Refused(refusal) => gate::inner::refuse(refusal, gate, counters),
+        Verdict::Failed => gate::inner::fail(gate, counters),
+        Verdict::Arrived(arrival) => inner::admit(
             gate,
             counters,
             keys,
@@ -83,9 +79,8 @@ pub fn offer(
             buckets,
             links,
             words,
-            from,
+            arrival,
             section,
         ),
-        OriginMade::BadPid => gate::inner::refuse(Refusal::BadPid, gate, counters),
     }
 }

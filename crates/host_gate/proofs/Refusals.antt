@@ -6,56 +6,33 @@ use mathlib.Core.List.{List}
 use mathlib.Core.Bool.{Bool, true, false, cond}
 use native.Mathlib.Omega.{arith}
 use lib.ListN.{length}
-use lib.Dec.{ltb}
 use Rattle.ring.specs.Store.{stampOf, seenOf}
-use Rattle.section.specs.Ids.{originOf}
-use Rattle.section.specs.Key.{keyOf}
-use Rattle.section.specs.Judged.{judgedOf}
-use Rattle.section.specs.declared.ids.Origin.{Origin}
-use Rattle.section.specs.declared.header.Judged.{Judged}
-use Rattle.section.specs.declared.header.Judged.the-variants.{Short, Mismatch, Sound}
+use Rattle.offers.specs.Offers.{verdictOf}
+use Rattle.offers.specs.declared.Verdict.{Verdict}
+use Rattle.offers.specs.declared.Verdict.the-variants.{Refused, Failed, Arrived}
 use Rattle.watched.specs.Store.{allPids}
-use Rattle.counters.specs.Counters.{anyFull}
-use Rattle.gate.specs.Store.{answerNo, answerOf, emitsOf, hasRoom, begins, opened, wholeOf, Store, storeOf, Offering, seenBy, soundOf, judgedAs, consideredOf, offered}
+use Rattle.gate.specs.Store.{answerNo, answerOf, emitsOf, hasRoom, begins, opened, isWhole, Store, storeOf, Offering, seenBy, admittedTo, carried, offered}
 use Rattle.gate.specs.declared.Settings.{Settings}
 use Rattle.host_words.specs.Pids.{pidNumber}
 use Rattle.host_gate.specs.Words.{settingsOf, gateOf, countersOf}
 use Rattle.host_gate.specs.Calls.{begun, begunAs, gateOpened, left, leftAs, gateOffered}
 use Rattle.host_gate.proofs.Same.{gate-same}
 
--- 10, 11 and 12 are told of no section that is considered
+-- 10, 11 and 12 are told of no section that is admitted
 pub told : (emits : Bool) → answerNo (answerOf emits) < 10
 told true = omega arith
 told false = omega arith
 
-judged : (s : Store) (from : Origin) (section : List ℕ) (j : Judged) → (judgedAs s from section j) .answer < 10
-unfolding judgedAs soundOf seenBy
-judged s from section Short = omega arith
-judged s from section (Mismatch a b) = omega arith
-judged s from section (Sound p) =
-    told (emitsOf (s .gate) (seenOf (s .gate .ring) (s .keys) (s .changes) (keyOf from (p .«table_id») (p .extension) (p .number)) (stampOf (p .version) (p .change))))
-
-considered : (s : Store) (from : Origin) (section : List ℕ) → (consideredOf s from section) .answer < 10
-unfolding consideredOf
-considered s from section = judged s from section (judgedOf section)
-
-picked :
-    (s : Store) (l : Offering) → l .answer < 10 → (whole full small : Bool) →
-    10 ≤ (cond whole (cond full (record { answer = 11; store = s }) (cond small l (record { answer = 12; store = s }))) (record { answer = 10; store = s })) .answer →
-    (cond whole (cond full (record { answer = 11; store = s }) (cond small l (record { answer = 12; store = s }))) (record { answer = 10; store = s })) .store ≡ s
-picked s l k false full small h = refl
-picked s l k true true small h = refl
-picked s l k true false false h = refl
-picked s l k true false true h = absurd (omega arith)
+carried-refused : (s : Store) (section : List ℕ) (v : Verdict) → 10 ≤ (carried s section v) .answer → (carried s section v) .store ≡ s
+unfolding carried admittedTo seenBy
+carried-refused s section (Refused r) h = refl
+carried-refused s section Failed h = absurd (omega arith)
+carried-refused s section (Arrived a) h =
+    absurd (omega (arith, h, told (emitsOf (s .gate) (seenOf (s .gate .ring) (s .keys) (s .changes) (a .key) (stampOf (a .version) (a .change))))))
 
 pub offer-refused : (s : Store) (pid : ℕ) (section : List ℕ) → 10 ≤ (offered s pid section) .answer → (offered s pid section) .store ≡ s
 unfolding offered
-offer-refused s pid section h =
-    picked s (consideredOf s (originOf pid) section) (considered s (originOf pid) section)
-    (wholeOf (s .gate) (length (s .keys)) (length (s .changes)) (length (s .words)))
-    (anyFull (s .counters))
-    (ltb pid 8192)
-    h
+offer-refused s pid section h = carried-refused s section (verdictOf (isWhole s) (s .counters) pid section) h
 
 -- 10, 11 and 12
 pub gate-offer-refused :

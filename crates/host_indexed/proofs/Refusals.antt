@@ -6,18 +6,13 @@ use mathlib.Core.List.{List}
 use mathlib.Core.Bool.{Bool, true, false, cond}
 use native.Mathlib.Omega.{arith}
 use lib.ListN.{length}
-use lib.Dec.{ltb}
 use Rattle.ring.specs.Store.{stampOf}
 use Rattle.ring_index.specs.Store.{indexOf}
 use Rattle.ring_index.specs.Store.{seenBy as foundBy}
-use Rattle.section.specs.Ids.{originOf}
-use Rattle.section.specs.Key.{keyOf}
-use Rattle.section.specs.Judged.{judgedOf}
-use Rattle.section.specs.declared.ids.Origin.{Origin}
-use Rattle.section.specs.declared.header.Judged.{Judged}
-use Rattle.section.specs.declared.header.Judged.the-variants.{Short, Mismatch, Sound}
+use Rattle.offers.specs.Offers.{verdictOf}
+use Rattle.offers.specs.declared.Verdict.{Verdict}
+use Rattle.offers.specs.declared.Verdict.the-variants.{Refused, Failed, Arrived}
 use Rattle.watched.specs.Store.{allPids}
-use Rattle.counters.specs.Counters.{anyFull}
 use Rattle.gate.specs.Store.{emitsOf, seenBy}
 use Rattle.gate.specs.declared.Settings.{Settings}
 use Rattle.gate_indexed.specs.Store as indexed
@@ -27,37 +22,18 @@ use Rattle.host_gate.proofs.Same.{gate-same}
 use Rattle.host_gate.proofs.Refusals.{told}
 use Rattle.host_indexed.specs.Calls.{begun, begunAs, gateOpened, left, leftAs, gateOffered}
 
-judged-by : (s : indexed.Indexed) (from : Origin) (section : List ℕ) (j : Judged) → (indexed.judgedBy s from section j) .answer < 10
-unfolding indexed.judgedBy indexed.soundBy seenBy
-judged-by s from section Short = omega arith
-judged-by s from section (Mismatch a b) = omega arith
-judged-by s from section (Sound p) =
-    told
-    (emitsOf (s .store .gate)
-    (foundBy (s .store .gate .ring) (s .store .keys) (s .store .changes) (s .index) (keyOf from (p .«table_id») (p .extension) (p .number)) (stampOf (p .version) (p .change))))
-
-considered-by : (s : indexed.Indexed) (from : Origin) (section : List ℕ) → (indexed.consideredBy s from section) .answer < 10
-unfolding indexed.consideredBy
-considered-by s from section = judged-by s from section (judgedOf section)
-
-picked-by :
-    (s : indexed.Indexed) (l : indexed.Offering) → l .answer < 10 → (whole full small : Bool) →
-    10 ≤ (cond whole (cond full (record { answer = 11; left = s }) (cond small l (record { answer = 12; left = s }))) (record { answer = 10; left = s })) .answer →
-    (cond whole (cond full (record { answer = 11; left = s }) (cond small l (record { answer = 12; left = s }))) (record { answer = 10; left = s })) .left ≡ s
-picked-by s l k false full small h = refl
-picked-by s l k true true small h = refl
-picked-by s l k true false false h = refl
-picked-by s l k true false true h = absurd (omega arith)
+carried-refused : (s : indexed.Indexed) (section : List ℕ) (v : Verdict) → 10 ≤ (indexed.carriedBy s section v) .answer → (indexed.carriedBy s section v) .left ≡ s
+unfolding indexed.carriedBy indexed.admittedBy seenBy
+carried-refused s section (Refused r) h = refl
+carried-refused s section Failed h = absurd (omega arith)
+carried-refused s section (Arrived a) h =
+    absurd
+    (omega (arith, h, told (emitsOf (s .store .gate) (foundBy (s .store .gate .ring) (s .store .keys) (s .store .changes) (s .index) (a .key) (stampOf (a .version) (a .change))))))
 
 offer-refused-by :
     (s : indexed.Indexed) (pid : ℕ) (section : List ℕ) → 10 ≤ (indexed.offeredBy s pid section) .answer → (indexed.offeredBy s pid section) .left ≡ s
 unfolding indexed.offeredBy
-offer-refused-by s pid section h =
-    picked-by s (indexed.consideredBy s (originOf pid) section) (considered-by s (originOf pid) section)
-    (indexed.wholeBy (s .store .gate) (length (s .store .keys)) (length (s .store .changes)) (length (s .index .buckets)) (length (s .index .links)) (length (s .store .words)))
-    (anyFull (s .store .counters))
-    (ltb pid 8192)
-    h
+offer-refused-by s pid section h = carried-refused s section (verdictOf (indexed.isWholeBy s) (s .store .counters) pid section) h
 
 -- 10, 11 and 12
 pub indexed-offer-refused :

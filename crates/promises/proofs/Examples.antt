@@ -21,8 +21,11 @@ use Rattle.eit_section.proofs.Segment.{as-sent, counted-within, past-last, no-w
 use Rattle.pat.proofs.Laws.{example-pids}
 use Rattle.pat.specs.Pat.{patOf}
 use Rattle.pat.specs.declared.Pat.the-variants.{Readable}
+use Rattle.answers.specs.declared.Refusal.the-variants.{BadPid}
+use Rattle.offers.specs.Offers.{readAs, readOf}
+use Rattle.offers.specs.declared.Verdict.the-variants.{Refused}
 use Rattle.ring.specs.Rules.{Row, offeredTo, later, atCapacity}
-use Rattle.gate.specs.Rules.{Manner, Told, admitted, judgedIn, told, tells, acts}
+use Rattle.gate.specs.Rules.{Manner, Told, admitted, carriedIn, told, tells, acts}
 use Rattle.rules_sets.specs.Rules.{sameKey, partOf, full, whole, metRow, judged, judge, finish, push, admit, step}
 use Rattle.rules_sets.specs.Rules.{acts as collects}
 use Rattle.promises.specs.Examples.{pat, freshGate, heldAfter, gateKeys, collectorKeys, tableKey, CheckedExamples}
@@ -30,20 +33,21 @@ use Rattle.promises.specs.Examples.{pat, freshGate, heldAfter, gateKeys,
 -- ---- the gate
 
 says : (m : Manner) (watch : Watch) (pid : ℕ) (section : List ℕ) (j : Judged) → pid < 8192 → judgedOf section ≡ j
-    → told m (freshGate watch) (record { pid = pid; section = section }) ≡ judgedIn m (freshGate watch) (originOf pid) section j
-unfolding told
-says m watch pid section j h e = ap (λ (b : Bool). cond b (judgedIn m (freshGate watch) (originOf pid) section (judgedOf section)) (record { answer = 12; held = freshGate watch })) (lt-ltb pid 8192 h)
-    ∙ ap (judgedIn m (freshGate watch) (originOf pid) section) e
+    → told m (freshGate watch) (record { pid = pid; section = section }) ≡ carriedIn m (freshGate watch) section (readAs (originOf pid) j)
+unfolding told readOf
+says m watch pid section j h e =
+    ap (λ (b : Bool). carriedIn m (freshGate watch) section (cond b (readAs (originOf pid) (judgedOf section)) (Refused BadPid))) (lt-ltb pid 8192 h)
+    ∙ ap (λ (x : Judged). carriedIn m (freshGate watch) section (readAs (originOf pid) x)) e
 
 abbrev ones : List ℕ
 ones = 0xFF ∷ 0xFF ∷ 0xFF ∷ 0xFF ∷ []
 
 emitted : (m : Manner) (watch : Watch) (pid : ℕ) → pid < 8192 → tells m (freshGate watch) (record { pid = pid; section = ones }) ≡ 1
-unfolding tells judgedIn admitted
+unfolding tells carriedIn admitted
 emitted m watch pid h = ap (λ (t : Told). t .answer) (says m watch pid ones _ h all-ones)
 
 held : (m : Manner) (watch : Watch) (pid : ℕ) → pid < 8192 → map (λ (r : Row). r .key) ((acts m (freshGate watch) (record { pid = pid; section = ones })) .rows) ≡ keyOf (originOf pid) 0xFF 0 0 ∷ []
-unfolding acts judgedIn admitted offeredTo
+unfolding acts carriedIn admitted offeredTo
 held m watch pid h = ap (λ (t : Told). map (λ (r : Row). r .key) (t .held .rows)) (says m watch pid ones _ h all-ones) ∙ go (atCapacity (m .capacity) [])
   where
     go : (b : Bool) → map (λ (r : Row). r .key) (cond b (later []) [] ++ (record { key = keyOf (originOf pid) 0xFF 0 0; version = 0; change = 0 } ∷ [])) ≡ keyOf (originOf pid) 0xFF 0 0 ∷ []
@@ -51,7 +55,7 @@ held m watch pid h = ap (λ (t : Told). map (λ (r : Row). r .key) (t .held .row
     go false = refl
 
 fails : (m : Manner) (watch : Watch) (pid : ℕ) → pid < 8192 → tells m (freshGate watch) (record { pid = pid; section = 0x02 ∷ 0xB0 ∷ 0x00 ∷ [] }) ≡ 3
-unfolding tells judgedIn
+unfolding tells carriedIn
 fails m watch pid h = ap (λ (t : Told). t .answer) (says m watch pid (0x02 ∷ 0xB0 ∷ 0x00 ∷ []) _ h cut-off)
 
 loses-A : gateKeys 2 (10 ∷ 11 ∷ 10 ∷ 12 ∷ []) ≡ 11 ∷ 12 ∷ []

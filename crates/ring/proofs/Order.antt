@@ -1,28 +1,21 @@
--- The ring of the code and the list of the paper: from an opened ring, every offer tells and leaves what the rule on the list says.
+-- The ring of the code and the list of the rule: from an opened ring, every offer tells and leaves what the rule on the list in order of first
+-- arrival says. There a key stands once, so that the first match is the same by place and by arrival.
 -- Assumes nothing.
-use Prim.Native.Nat.{ℕ, suc, _+_, _%_, _^_, _<_, _≤_, max}
+use Prim.Native.Nat.{ℕ, suc, _+_, _%_, _^_, _<_, _≤_}
 use mathlib.Core.Path.{_≡_, refl, sym, ap, _∙_}
 use mathlib.Core.List.{List, [], _∷_, _++_, append-nil}
 use mathlib.Core.Bool.{Bool, true, false, cond, not, _&&_}
-use lib.ListN.{length, getD, take, set, length-set}
-use lib.Seq.{length-take-le, take-set-lt, getD-take, take-suc-set}
-use lib.Dec.{ltb, leb, eqb}
-use borrow.Author.Tests.{lt-ltb, le-ltb, le-leb, ltb-true, ltb-false, leb-true}
-use native.Mathlib.Nat.{mod-lt}
-use native.Mathlib.Numerals.{add-one}
+use lib.ListN.{length, set}
+use lib.Dec.{ltb, leb}
 use native.Mathlib.Omega.{arith}
-use Rattle.ring.specs.Store.{roomOf, Whole, stampOf, rowFor, isKnown, hasFree, freeRow, ringWith, renewed, arrived, seenOf, keysAfter, changesAfter}
-use Rattle.ring.specs.Rules.{Row, holds, has, updated, later, changed, atCapacity, evicts, offeredTo, countKey}
-use Rattle.ring.specs.View.{Memory, memoryAfter, rowAt, rowsOf, turned, inOrder, Reached}
-use Rattle.ring.specs.Store.{emptyRing}
-use Rattle.ring.specs.declared.Seen.{Seen}
-use Rattle.ring.proofs.Rows.{count-turned, holds-turned, has-turned, updated-turned, length-turned, count-updated, held-row, has-row, update-row, stamp-row, length-rows, rows-last, rows-set, replace-row, count-later, count-last, held-none, has-none}
+use borrow.Author.Tests.{ltb-true, ltb-false, not-true, not-false}
+use Rattle.ring.specs.Store.{roomOf, isKnown, hasFree, emptyRing}
+use Rattle.ring.specs.Rules.{Row, holds, has, updated, later, changed, atCapacity, evicts, offeredTo, countKey, Laid, laidAfter}
+use Rattle.ring.specs.View.{Memory, memoryAfter, turned, laidIn, inOrder, Reached}
+use Rattle.ring.proofs.Rows.{count-turned, holds-turned, has-turned, updated-turned, length-turned, count-updated, replace-row, count-later, count-last, held-none}
+use Rattle.ring.proofs.Places.{seenIn, Lies, lies, length-mem, full-mem, known-memory, more-memory, full-memory}
 
--- what an offer tells of a memory
-abbrev pub seenIn : Memory → Row → Seen
-seenIn m n = seenOf (m .ring) (m .keys) (m .changes) (n .key) (stampOf (n .version) (n .change))
-
--- one offer: what it tells and the list are the paper's, and the memory is again one that can be reached, with the same capacity
+-- one offer: what it tells and the list are the rule's, and the memory is again one that can be reached, with the same capacity
 pub record Step (m : Memory) (n : Row) : Type 0 where
   pub tells : (seenIn m n) .changed ≡ changed n (inOrder m)
   pub leaves : (seenIn m n) .evicted ≡ evicts (m .ring .capacity) n (inOrder m)
@@ -30,232 +23,96 @@ pub record Step (m : Memory) (n : Row) : Type 0 where
   pub reached : Reached (memoryAfter m n)
   pub capacity : memoryAfter m n .ring .capacity ≡ m .ring .capacity
 
--- capacity 0 acts as 1
-full-test : (capacity n : ℕ) → (leb capacity n && ltb 0 n) ≡ not (ltb n (roomOf capacity))
-full-test capacity n = go (ltb n (roomOf capacity)) refl
-  where
-    go : (t : Bool) → ltb n (roomOf capacity) ≡ t → (leb capacity n && ltb 0 n) ≡ not t
-    go true e = low (leb capacity n) refl
-      where
-        low : (t : Bool) → leb capacity n ≡ t → (t && ltb 0 n) ≡ false
-        low true q = le-ltb 0 n (omega (arith, ltb-true n (roomOf capacity) e, leb-true capacity n q))
-        low false q = refl
-    go false e = let h : max 1 capacity ≤ n = ltb-false _ _ e in rw (le-leb capacity n (omega arith), lt-ltb 0 n (omega arith))
+-- the rows by place in order of arrival
+abbrev arrivals : Laid → List Row
+arrivals l = turned (l .next) (l .rows)
 
-abbrev ksOf : Memory → List ℕ
-ksOf m = take (m .ring .used) (m .keys)
+-- rows by place that stand for a list in order of arrival
+record Ordered (capacity : ℕ) (l : Laid) : Type 0 where
+  young : atCapacity capacity (l .rows) ≡ false → l .next ≡ 0
+  within : atCapacity capacity (l .rows) ≡ true → l .next < length (l .rows)
+  once : (k : ℕ) → countKey k (l .rows) ≤ 1
 
-abbrev msOf : Memory → List ℕ
-msOf m = take (m .ring .used) (m .changes)
+module _ (capacity : ℕ) (n : Row) (l : Laid) (o : Ordered capacity l) where
+  at-capacity : atCapacity capacity (arrivals l) ≡ atCapacity capacity (l .rows)
+  at-capacity = ap (λ (x : ℕ). leb capacity x && ltb 0 x) (length-turned (l .next) (l .rows))
 
-abbrev memOf : Memory → List Row
-memOf m = rowsOf (ksOf m) (msOf m)
+  -- the rule by place is the rule by arrival
+  arrives : arrivals (laidAfter capacity n l) ≡ offeredTo capacity n (arrivals l)
+  unfolding laidAfter offeredTo
+  arrives = rw (holds-turned (n .key) (l .next) (l .rows), at-capacity) (go (holds (n .key) (l .rows)) (atCapacity capacity (l .rows)) refl)
+    where
+      go : (h c : Bool) → atCapacity capacity (l .rows) ≡ c →
+          arrivals (cond h (record { rows = updated n (l .rows); next = l .next }) (cond c (record { rows = set (l .rows) (l .next) n; next = (l .next + 1) % length (l .rows) }) (record { rows = l .rows ++ (n ∷ []); next = l .next })))
+          ≡ cond h (updated n (arrivals l)) (cond c (later (arrivals l)) (arrivals l) ++ (n ∷ []))
+      go true c e = updated-turned n (l .next) (l .rows) (o .once (n .key))
+      go false true e = replace-row (l .rows) n (l .next) (o .within e)
+      go false false e =
+          rw (o .young e)
+          (append-nil (l .rows ++ (n ∷ [])) ∙ ap (λ (x : List Row). x ++ (n ∷ [])) (sym (append-nil (l .rows))))
 
-abbrev stampAt : Row → ℕ
-stampAt n = stampOf (n .version) (n .change)
+  -- no key stands twice after it
+  stays-once : (k : ℕ) → countKey k (offeredTo capacity n (arrivals l)) ≤ 1
+  unfolding offeredTo
+  stays-once k = go (holds (n .key) (arrivals l)) (atCapacity capacity (arrivals l)) refl
+    where
+      each : (j : ℕ) → countKey j (arrivals l) ≤ 1
+      each j = omega (arith, o .once j, count-turned j (l .next) (l .rows))
+
+      go : (h c : Bool) → holds (n .key) (arrivals l) ≡ h → countKey k (cond h (updated n (arrivals l)) (cond c (later (arrivals l)) (arrivals l) ++ (n ∷ []))) ≤ 1
+      go true c e = rw (count-updated k n (arrivals l)) (each k)
+      go false true e =
+          count-last k (later (arrivals l)) n (omega (arith, each k, count-later k (arrivals l)))
+          (omega (arith, held-none (n .key) (arrivals l) e, count-later (n .key) (arrivals l)))
+      go false false e = count-last k (arrivals l) n (each k) (held-none (n .key) (arrivals l) e)
 
 module _ (m : Memory) (n : Row) (r : Reached m) (small : n .change < 2 ^ 32) where
-  length-ks : length (ksOf m) ≡ m .ring .used
-  length-ks = length-take-le (m .ring .used) (m .keys) (omega (arith, r .whole))
+  l : Lies m n
+  l = lies m n (r .whole) small
 
-  length-ms : length (msOf m) ≡ m .ring .used
-  length-ms = length-take-le (m .ring .used) (m .changes) (omega (arith, r .whole))
+  once-rows : (k : ℕ) → countKey k (laidIn m .rows) ≤ 1
+  once-rows k = omega (arith, r .once k, count-turned k (m .ring .first) (laidIn m .rows))
 
-  length-same : length (ksOf m) ≡ length (msOf m)
-  length-same = length-ks ∙ sym length-ms
+  ordered : Ordered (m .ring .capacity) (laidIn m)
+  ordered =
+      record {
+        young = λ e. r .young (not-full e);
+        within = λ e. omega (arith, r .whole, is-full e, length-mem m n (r .whole));
+        once = once-rows;
+      }
+    where
+      not-full : atCapacity (m .ring .capacity) (laidIn m .rows) ≡ false → m .ring .used < roomOf (m .ring .capacity)
+      not-full e = ltb-true _ _ (not-false _ (sym (full-mem m n (r .whole)) ∙ e))
 
-  once-rows : (k : ℕ) → countKey k (memOf m) ≤ 1
-  once-rows k = omega (arith, r .once k, count-turned k (m .ring .first) (memOf m))
+      is-full : atCapacity (m .ring .capacity) (laidIn m .rows) ≡ true → roomOf (m .ring .capacity) ≤ m .ring .used
+      is-full e = ltb-false _ _ (not-true _ (sym (full-mem m n (r .whole)) ∙ e))
 
-  held-order : isKnown (m .ring) (m .keys) (n .key) ≡ holds (n .key) (inOrder m)
-  held-order =
-      ap (ltb (rowFor (m .ring) (m .keys) (n .key))) (sym length-ks) ∙ held-row (ksOf m) (msOf m) (n .key) length-same
-      ∙ sym (holds-turned (n .key) (m .ring .first) (memOf m))
+  order : inOrder (memoryAfter m n) ≡ offeredTo (m .ring .capacity) n (inOrder m)
+  order = ap arrivals (l .laid) ∙ arrives (m .ring .capacity) n (laidIn m) ordered
 
-  -- the key is known
-  module _ (known : isKnown (m .ring) (m .keys) (n .key) ≡ true) where
-    here : rowFor (m .ring) (m .keys) (n .key) < m .ring .used
-    here = ltb-true _ _ known
+  -- while a row is free the first row came first
+  abbrev Young : Memory → Type 0
+  Young x = x .ring .used < roomOf (x .ring .capacity) → x .ring .first ≡ 0
 
-    found : rowFor (m .ring) (m .keys) (n .key) < length (ksOf m)
-    found = omega (arith, length-ks, here)
+  stays-young : Young (memoryAfter m n)
+  stays-young = go (isKnown (m .ring) (m .keys) (n .key)) refl (hasFree (m .ring)) refl
+    where
+      go : (t : Bool) → isKnown (m .ring) (m .keys) (n .key) ≡ t → (f : Bool) → hasFree (m .ring) ≡ f → Young (memoryAfter m n)
+      go true e f q = rw (known-memory m n (r .whole) e) (r .young)
+      go false e true q = let h = ltb-true _ _ q in rw (more-memory m n (r .whole) e h) (λ z. r .young h)
+      go false e false q = let h = ltb-false _ _ q in rw (full-memory m n (r .whole) e h) (λ z. absurd (omega (arith, h, z)))
 
-    known-rows :
-        turned (m .ring .first) (rowsOf (ksOf m) (take (m .ring .used) (set (m .changes) (rowFor (m .ring) (m .keys) (n .key)) (stampAt n)))) ≡ updated n (inOrder m)
-    known-rows =
-        rw (
-          take-set-lt (m .ring .used) (m .changes) (rowFor (m .ring) (m .keys) (n .key)) (stampAt n) here,
-          update-row (ksOf m) (msOf m) n length-same small (once-rows (n .key)) found,
-        )
-        (updated-turned n (m .ring .first) (memOf m))
-
-    known-has : has n (inOrder m) ≡ eqb (getD (m .changes) (rowFor (m .ring) (m .keys) (n .key)) 0) (stampAt n)
-    known-has =
-        has-turned n (m .ring .first) (memOf m) ∙ has-row (ksOf m) (msOf m) n length-same small (once-rows (n .key)) found
-        ∙ ap (λ (x : ℕ). eqb x (stampAt n)) (getD-take (m .ring .used) (m .changes) (rowFor (m .ring) (m .keys) (n .key)) 0 here)
-
-    known-seen : seenIn m n ≡ record { ring = m .ring; changed = not (eqb (getD (m .changes) (rowFor (m .ring) (m .keys) (n .key)) 0) (stampAt n)); evicted = false }
-    unfolding seenOf renewed
-    known-seen = rw known
-
-    pub known-memory :
-        memoryAfter m n ≡ record { ring = m .ring; keys = m .keys; changes = set (m .changes) (rowFor (m .ring) (m .keys) (n .key)) (stampAt n) }
-    unfolding memoryAfter keysAfter changesAfter
-    known-memory = rw (known-seen, known)
-
-    known-step : Step m n
-    unfolding offeredTo
-    known-step =
-        record {
-          tells = rw (known-seen, known-has);
-          leaves = rw (known-seen, ← held-order, known);
-          order = rw (known-memory, ← held-order, known) known-rows;
-          reached =
-              rw known-memory
-              (record {
-                whole = rw (length-set (m .changes) (rowFor (m .ring) (m .keys) (n .key)) (stampAt n)) (r .whole);
-                young = r .young;
-                once = λ k. rw (known-rows, count-updated k n (inOrder m)) (r .once k);
-              });
-          capacity = rw known-memory;
-        }
-
-  -- the key is new
-  module _ (new : isKnown (m .ring) (m .keys) (n .key) ≡ false) where
-    new-holds : holds (n .key) (inOrder m) ≡ false
-    new-holds = sym held-order ∙ new
-
-    new-count : countKey (n .key) (inOrder m) ≡ 0
-    new-count = held-none (n .key) (inOrder m) new-holds
-
-    new-has : has n (inOrder m) ≡ false
-    new-has = has-none n (inOrder m) new-holds
-
-    length-order : length (inOrder m) ≡ m .ring .used
-    length-order = length-turned (m .ring .first) (memOf m) ∙ length-rows (ksOf m) (msOf m) length-same ∙ length-ks
-
-    full-order : atCapacity (m .ring .capacity) (inOrder m) ≡ not (hasFree (m .ring))
-    full-order = full-test (m .ring .capacity) (length (inOrder m)) ∙ ap (λ (x : ℕ). not (ltb x (roomOf (m .ring .capacity)))) length-order
-
-    new-memory :
-        memoryAfter m n ≡ record { ring = arrived (m .ring) .ring; keys = set (m .keys) (freeRow (m .ring)) (n .key); changes = set (m .changes) (freeRow (m .ring)) (stampAt n) }
-    unfolding memoryAfter keysAfter changesAfter seenOf
-    new-memory = rw new
-
-    new-seen : seenIn m n ≡ arrived (m .ring)
-    unfolding seenOf
-    new-seen = rw new
-
-    -- a row is free
-    module _ (more : m .ring .used < roomOf (m .ring .capacity)) where
-      free : hasFree (m .ring) ≡ true
-      free = lt-ltb _ _ more
-
-      pub more-memory :
-          memoryAfter m n ≡ record { ring = ringWith (m .ring) (m .ring .used + 1) (m .ring .first); keys = set (m .keys) (m .ring .used) (n .key); changes = set (m .changes) (m .ring .used) (stampAt n) }
-      unfolding arrived
-      more-memory = new-memory ∙ rw free
-
-      more-rows :
-          turned (m .ring .first) (rowsOf (take (m .ring .used + 1) (set (m .keys) (m .ring .used) (n .key))) (take (m .ring .used + 1) (set (m .changes) (m .ring .used) (stampAt n)))) ≡
-          inOrder m ++ (n ∷ [])
-      more-rows =
-          let a : m .ring .used < length (m .keys) = omega (arith, r .whole) in
-          let b : m .ring .used < length (m .changes) = omega (arith, r .whole) in
-          rw (
-            add-one (m .ring .used),
-            take-suc-set (m .keys) (m .ring .used) (n .key) a,
-            take-suc-set (m .changes) (m .ring .used) (stampAt n) b,
-            rows-last (ksOf m) (msOf m) (n .key) (stampAt n) length-same,
-            stamp-row (n .key) (n .version) (n .change) small,
-            r .young more,
-          )
-          (append-nil (memOf m ++ (n ∷ [])) ∙ ap (λ (l : List Row). l ++ (n ∷ [])) (sym (append-nil (memOf m))))
-
-      more-step : Step m n
-      unfolding offeredTo arrived
-      more-step =
-          record {
-            tells = rw (new-seen, new-has);
-            leaves = rw (new-seen, new-holds, full-order);
-            order = rw (more-memory, new-holds, full-order, free) more-rows;
-            reached =
-                rw more-memory
-                (record {
-                  whole = record {
-                    used = omega (arith, more);
-                    first = r .whole .first;
-                    keys-long = rw (length-set (m .keys) (m .ring .used) (n .key)) (r .whole .keys-long);
-                    changes-long = rw (length-set (m .changes) (m .ring .used) (stampAt n)) (r .whole .changes-long);
-                  };
-                  young = λ q. r .young more;
-                  once = λ k. rw more-rows (count-last k (inOrder m) n (r .once k) new-count);
-                });
-            capacity = rw more-memory;
-          }
-
-    -- none is free
-    module _ (full : roomOf (m .ring .capacity) ≤ m .ring .used) where
-      none-free : hasFree (m .ring) ≡ false
-      none-free = le-ltb _ _ full
-
-      pub full-memory :
-          memoryAfter m n ≡ record { ring = ringWith (m .ring) (m .ring .used) ((m .ring .first + 1) % roomOf (m .ring .capacity)); keys = set (m .keys) (m .ring .first) (n .key); changes = set (m .changes) (m .ring .first) (stampAt n) }
-      unfolding arrived
-      full-memory = new-memory ∙ rw none-free
-
-      full-rows :
-          turned ((m .ring .first + 1) % roomOf (m .ring .capacity)) (rowsOf (take (m .ring .used) (set (m .keys) (m .ring .first) (n .key))) (take (m .ring .used) (set (m .changes) (m .ring .first) (stampAt n)))) ≡
-          later (inOrder m) ++ (n ∷ [])
-      full-rows =
-          let f : m .ring .first < m .ring .used = omega (arith, r .whole) in
-          let l : length (memOf m) ≡ m .ring .used = length-rows (ksOf m) (msOf m) length-same ∙ length-ks in
-          let a : roomOf (m .ring .capacity) ≡ length (memOf m) = omega (arith, r .whole) in
-          rw (
-            take-set-lt (m .ring .used) (m .keys) (m .ring .first) (n .key) f,
-            take-set-lt (m .ring .used) (m .changes) (m .ring .first) (stampAt n) f,
-            rows-set (ksOf m) (msOf m) (m .ring .first) (n .key) (stampAt n) length-same,
-            stamp-row (n .key) (n .version) (n .change) small,
-            a,
-          )
-          (replace-row (memOf m) n (m .ring .first) (omega arith))
-
-      full-step : Step m n
-      unfolding offeredTo arrived
-      full-step =
-          record {
-            tells = rw (new-seen, new-has);
-            leaves = rw (new-seen, new-holds, full-order);
-            order = rw (full-memory, new-holds, full-order, none-free) full-rows;
-            reached =
-                rw full-memory
-                (record {
-                  whole = record {
-                    used = r .whole .used;
-                    first = mod-lt (m .ring .first + 1) (omega arith);
-                    keys-long = rw (length-set (m .keys) (m .ring .first) (n .key)) (r .whole .keys-long);
-                    changes-long = rw (length-set (m .changes) (m .ring .first) (stampAt n)) (r .whole .changes-long);
-                  };
-                  young = λ q. absurd (omega arith);
-                  once =
-                      λ k.
-                      rw full-rows
-                      (count-last k (later (inOrder m)) n (omega (arith, r .once k, count-later k (inOrder m))) (omega (arith, new-count, count-later (n .key) (inOrder m))));
-                });
-            capacity = rw full-memory;
-          }
-
--- every offer to a memory that can be reached
-pub step : (m : Memory) (n : Row) → Reached m → n .change < 2 ^ 32 → Step m n
-step m n r small = go (isKnown (m .ring) (m .keys) (n .key)) refl
-  where
-    new : (t : Bool) → hasFree (m .ring) ≡ t → isKnown (m .ring) (m .keys) (n .key) ≡ false → Step m n
-    new true q h = more-step m n r small h (ltb-true _ _ q)
-    new false q h = full-step m n r small h (ltb-false _ _ q)
-
-    go : (t : Bool) → isKnown (m .ring) (m .keys) (n .key) ≡ t → Step m n
-    go true e = known-step m n r small e
-    go false e = new (hasFree (m .ring)) refl e
+  pub step : Step m n
+  step =
+      record {
+        tells = l .tells ∙ ap not (sym (has-turned n (m .ring .first) (laidIn m .rows) (once-rows (n .key))));
+        leaves =
+            l .leaves
+            ∙ rw (holds-turned (n .key) (m .ring .first) (laidIn m .rows), at-capacity (m .ring .capacity) n (laidIn m) ordered);
+        order = order;
+        reached = record { whole = l .whole; young = stays-young; once = λ k. rw order (stays-once (m .ring .capacity) n (laidIn m) ordered k) };
+        capacity = l .capacity;
+      }
 
 -- an opened memory can be reached, and stands for no rows
 pub opened-reached :

@@ -3,7 +3,7 @@
 use Prim.Native.Nat.{ℕ, zero, suc, _+_, _*_, _/_, _%_, _^_, _<_, _≤_}
 use mathlib.Core.Path.{_≡_, refl, sym, ap, _∙_}
 use mathlib.Core.List.{List, [], _∷_, _++_}
-use mathlib.Core.Bool.{Bool, true, false, cond, not, _&&_, _||_, or-comm, or-false, or-assoc}
+use mathlib.Core.Bool.{Bool, true, false, cond, not, _&&_, _||_, or-comm, or-assoc}
 use mathlib.Core.List.{append-assoc, append-nil}
 use lib.ListN.{length, getD, take, drop, set, take-append-drop, length-append, drop-of-length-le}
 use lib.Seq.{drop-cons, drop-set-lt, take-suc-set, set-split}
@@ -26,27 +26,42 @@ pub holds-append : (k : ℕ) (l m : List Row) → holds k (l ++ m) ≡ (holds k 
 holds-append k [] m = refl
 holds-append k (r ∷ l) m = ap (λ (b : Bool). eqb (r .key) k || b) (holds-append k l m) ∙ sym (or-assoc (eqb (r .key) k) (holds k l) (holds k m))
 
-pub has-append : (n : Row) (l m : List Row) → has n (l ++ m) ≡ (has n l || has n m)
+pub has-append : (n : Row) (l m : List Row) → has n (l ++ m) ≡ cond (holds (n .key) l) (has n l) (has n m)
 has-append n [] m = refl
-has-append n (r ∷ l) m = go (eqb (r .key) (n .key) && (eqb (r .version) (n .version) && eqb (r .change) (n .change))) (has n l) (has n m) (has-append n l m)
+has-append n (r ∷ l) m =
+    go (eqb (r .key) (n .key)) (eqb (r .version) (n .version) && eqb (r .change) (n .change)) (holds (n .key) l) (has n l) (has-append n l m)
   where
-    go : (t a b : Bool) {x : Bool} → x ≡ (a || b) → (t || x) ≡ ((t || a) || b)
-    go true a b e = refl
-    go false a b e = e
+    go : (t e h y : Bool) → has n (l ++ m) ≡ cond h y (has n m) → cond t e (has n (l ++ m)) ≡ cond (t || h) (cond t e y) (has n m)
+    go true e h y p = refl
+    go false e h y p = p
 
-pub updated-append : (n : Row) (l m : List Row) → updated n (l ++ m) ≡ updated n l ++ updated n m
+pub updated-append : (n : Row) (l m : List Row) → updated n (l ++ m) ≡ cond (holds (n .key) l) (updated n l ++ m) (l ++ updated n m)
 updated-append n [] m = refl
-updated-append n (r ∷ l) m = rw (updated-append n l m)
+updated-append n (r ∷ l) m = go (eqb (r .key) (n .key)) (holds (n .key) l) (updated-append n l m)
+  where
+    go : (t h : Bool) {x : List Row} → x ≡ cond h (updated n l ++ m) (l ++ updated n m) →
+        cond t (n ∷ (l ++ m)) (r ∷ x) ≡ cond (t || h) (cond t (n ∷ l) (r ∷ updated n l) ++ m) (r ∷ (l ++ updated n m))
+    go true h p = refl
+    go false true p = ap (λ (y : List Row). r ∷ y) p
+    go false false p = ap (λ (y : List Row). r ∷ y) p
 
 pub updated-take : (n : Row) (i : ℕ) (l : List Row) → take i (updated n l) ≡ updated n (take i l)
 updated-take n zero l = refl
 updated-take n (suc i) [] = refl
-updated-take n (suc i) (r ∷ l) = rw (updated-take n i l)
+updated-take n (suc i) (r ∷ l) = go (eqb (r .key) (n .key)) (updated-take n i l)
+  where
+    go : (t : Bool) → take i (updated n l) ≡ updated n (take i l) → take (suc i) (cond t (n ∷ l) (r ∷ updated n l)) ≡ cond t (n ∷ take i l) (r ∷ updated n (take i l))
+    go true p = refl
+    go false p = ap (λ (y : List Row). r ∷ y) p
 
-pub updated-drop : (n : Row) (i : ℕ) (l : List Row) → drop i (updated n l) ≡ updated n (drop i l)
+pub updated-drop : (n : Row) (i : ℕ) (l : List Row) → drop i (updated n l) ≡ cond (holds (n .key) (take i l)) (drop i l) (updated n (drop i l))
 updated-drop n zero l = refl
 updated-drop n (suc i) [] = refl
-updated-drop n (suc i) (r ∷ l) = updated-drop n i l
+updated-drop n (suc i) (r ∷ l) = go (eqb (r .key) (n .key)) (holds (n .key) (take i l)) (updated-drop n i l)
+  where
+    go : (t h : Bool) → drop i (updated n l) ≡ cond h (drop i l) (updated n (drop i l)) → drop (suc i) (cond t (n ∷ l) (r ∷ updated n l)) ≡ cond (t || h) (drop i l) (updated n (drop i l))
+    go true h p = refl
+    go false h p = p
 
 pub count-append : (k : ℕ) (l m : List Row) → countKey k (l ++ m) ≡ countKey k l + countKey k m
 count-append k [] m = omega arith
@@ -73,11 +88,19 @@ held-none k (r ∷ l) e = go (eqb (r .key) k) e (held-none k l)
     go true e f = no-way e
     go false e f = f e
 
+pub held-some : (k : ℕ) (l : List Row) → holds k l ≡ true → 1 ≤ countKey k l
+held-some k [] e = no-way (sym e)
+held-some k (r ∷ l) e = go (eqb (r .key) k) e (held-some k l)
+  where
+    go : (t : Bool) {n : ℕ} {h : Bool} → (t || h) ≡ true → (h ≡ true → 1 ≤ n) → 1 ≤ cond t (suc n) n
+    go true e f = omega arith
+    go false e f = f e
+
 pub has-none : (n : Row) (l : List Row) → holds (n .key) l ≡ false → has n l ≡ false
 has-none n [] e = refl
 has-none n (r ∷ l) e = go (eqb (r .key) (n .key)) _ e (has-none n l)
   where
-    go : (t x : Bool) {h g : Bool} → (t || h) ≡ false → (h ≡ false → g ≡ false) → (t && x || g) ≡ false
+    go : (t x : Bool) {h g : Bool} → (t || h) ≡ false → (h ≡ false → g ≡ false) → cond t x g ≡ false
     go true x e f = no-way e
     go false x e f = f e
 
@@ -85,7 +108,7 @@ pub updated-none : (n : Row) (l : List Row) → holds (n .key) l ≡ false → u
 updated-none n [] e = refl
 updated-none n (r ∷ l) e = go (eqb (r .key) (n .key)) e (updated-none n l)
   where
-    go : (t : Bool) {h : Bool} {m : List Row} → (t || h) ≡ false → (h ≡ false → m ≡ l) → cond t n r ∷ m ≡ r ∷ l
+    go : (t : Bool) {h : Bool} {m : List Row} → (t || h) ≡ false → (h ≡ false → m ≡ l) → cond t (n ∷ l) (r ∷ m) ≡ r ∷ l
     go true e f = no-way e
     go false e f = ap (λ (x : List Row). r ∷ x) (f e)
 
@@ -93,8 +116,8 @@ pub count-updated : (k : ℕ) (n : Row) (l : List Row) → countKey k (updated n
 count-updated k n [] = refl
 count-updated k n (r ∷ l) = go (eqb (r .key) (n .key)) refl (count-updated k n l)
   where
-    go : (t : Bool) → eqb (r .key) (n .key) ≡ t → {a b : ℕ} → a ≡ b → cond (eqb (cond t n r .key) k) (suc a) a ≡ cond (eqb (r .key) k) (suc b) b
-    go true e p = rw (eqb-true (r .key) (n .key) e, p)
+    go : (t : Bool) → eqb (r .key) (n .key) ≡ t → countKey k (updated n l) ≡ countKey k l → countKey k (cond t (n ∷ l) (r ∷ updated n l)) ≡ cond (eqb (r .key) k) (suc (countKey k l)) (countKey k l)
+    go true e p = rw (eqb-true (r .key) (n .key) e)
     go false e p = rw p
 
 -- the ring's rows, by key
@@ -127,11 +150,11 @@ stamp-eqb m v d h = go (eqb (m / 4294967296) v) (eqb (m % 4294967296) d) refl re
 
 -- the row that is found has both numbers where the list has the very row
 pub has-row :
-    (ks ms : List ℕ) (n : Row) → length ks ≡ length ms → n .change < 2 ^ 32 → countKey (n .key) (rowsOf ks ms) ≤ 1 → rowOf ks (n .key) < length ks →
+    (ks ms : List ℕ) (n : Row) → length ks ≡ length ms → n .change < 2 ^ 32 → rowOf ks (n .key) < length ks →
     has n (rowsOf ks ms) ≡ eqb (getD ms (rowOf ks (n .key)) 0) (stampOf (n .version) (n .change))
-has-row [] ms n e h c f = absurd (omega arith)
-has-row (x ∷ ks) [] n e h c f = absurd (omega arith)
-has-row (x ∷ ks) (m ∷ ms) n e h c f = go (eqb x (n .key)) c f (has-row ks ms n (omega arith) h)
+has-row [] ms n e h f = absurd (omega arith)
+has-row (x ∷ ks) [] n e h f = absurd (omega arith)
+has-row (x ∷ ks) (m ∷ ms) n e h f = go (eqb x (n .key)) f (has-row ks ms n (omega arith) h)
   where
     rest : List Row
     rest = rowsOf ks ms
@@ -146,19 +169,18 @@ has-row (x ∷ ks) (m ∷ ms) n e h c f = go (eqb x (n .key)) c f (has-row ks ms
     R = rowOf ks (n .key)
 
     go :
-        (t : Bool) → cond t (suc (countKey (n .key) rest)) (countKey (n .key) rest) ≤ 1 → cond t 0 (suc R) < suc (length ks) →
-        (countKey (n .key) rest ≤ 1 → R < length ks → has n rest ≡ eqb (getD ms R 0) S) →
-        (t && E || has n rest) ≡ eqb (getD (m ∷ ms) (cond t 0 (suc R)) 0) S
-    go true c f ih = rw (has-none n rest (none-held (n .key) rest (omega arith)), or-false E) (stamp-eqb m (n .version) (n .change) h)
-    go false c f ih = ih c (omega arith)
+        (t : Bool) → cond t 0 (suc R) < suc (length ks) → (R < length ks → has n rest ≡ eqb (getD ms R 0) S) →
+        cond t E (has n rest) ≡ eqb (getD (m ∷ ms) (cond t 0 (suc R)) 0) S
+    go true f ih = stamp-eqb m (n .version) (n .change) h
+    go false f ih = ih (omega arith)
 
 -- to store a number in the row that is found is to update the list
 pub update-row :
-    (ks ms : List ℕ) (n : Row) → length ks ≡ length ms → n .change < 2 ^ 32 → countKey (n .key) (rowsOf ks ms) ≤ 1 → rowOf ks (n .key) < length ks →
+    (ks ms : List ℕ) (n : Row) → length ks ≡ length ms → n .change < 2 ^ 32 → rowOf ks (n .key) < length ks →
     rowsOf ks (set ms (rowOf ks (n .key)) (stampOf (n .version) (n .change))) ≡ updated n (rowsOf ks ms)
-update-row [] ms n e h c f = absurd (omega arith)
-update-row (x ∷ ks) [] n e h c f = absurd (omega arith)
-update-row (x ∷ ks) (m ∷ ms) n e h c f = go (eqb x (n .key)) refl c f (update-row ks ms n (omega arith) h)
+update-row [] ms n e h f = absurd (omega arith)
+update-row (x ∷ ks) [] n e h f = absurd (omega arith)
+update-row (x ∷ ks) (m ∷ ms) n e h f = go (eqb x (n .key)) refl f (update-row ks ms n (omega arith) h)
   where
     rest : List Row
     rest = rowsOf ks ms
@@ -170,13 +192,10 @@ update-row (x ∷ ks) (m ∷ ms) n e h c f = go (eqb x (n .key)) refl c f (updat
     R = rowOf ks (n .key)
 
     go :
-        (t : Bool) → eqb x (n .key) ≡ t → cond t (suc (countKey (n .key) rest)) (countKey (n .key) rest) ≤ 1 → cond t 0 (suc R) < suc (length ks) →
-        (countKey (n .key) rest ≤ 1 → R < length ks → rowsOf ks (set ms R S) ≡ updated n rest) →
-        rowsOf (x ∷ ks) (set (m ∷ ms) (cond t 0 (suc R)) S) ≡ cond t n (rowAt x m) ∷ updated n rest
-    go true q c f ih =
-        rw (updated-none n rest (none-held (n .key) rest (omega arith)), eqb-true x (n .key) q)
-        (ap (λ (r : Row). r ∷ rest) (stamp-row (n .key) (n .version) (n .change) h))
-    go false q c f ih = ap (λ (l : List Row). rowAt x m ∷ l) (ih c (omega arith))
+        (t : Bool) → eqb x (n .key) ≡ t → cond t 0 (suc R) < suc (length ks) → (R < length ks → rowsOf ks (set ms R S) ≡ updated n rest) →
+        rowsOf (x ∷ ks) (set (m ∷ ms) (cond t 0 (suc R)) S) ≡ cond t (n ∷ rest) (rowAt x m ∷ updated n rest)
+    go true q f ih = rw (eqb-true x (n .key) q) (ap (λ (r : Row). r ∷ rest) (stamp-row (n .key) (n .version) (n .change) h))
+    go false q f ih = ap (λ (l : List Row). rowAt x m ∷ l) (ih (omega arith))
 
 pub length-rows : (ks ms : List ℕ) → length ks ≡ length ms → length (rowsOf ks ms) ≡ length ks
 length-rows [] ms e = refl
@@ -202,10 +221,6 @@ pub holds-turned : (k f : ℕ) (l : List Row) → holds k (turned f l) ≡ holds
 holds-turned k f l =
     holds-append k (drop f l) (take f l) ∙ or-comm (holds k (drop f l)) (holds k (take f l)) ∙ sym (holds-append k (take f l) (drop f l)) ∙ ap (holds k) (take-append-drop f l)
 
-pub has-turned : (n : Row) (f : ℕ) (l : List Row) → has n (turned f l) ≡ has n l
-has-turned n f l =
-    has-append n (drop f l) (take f l) ∙ or-comm (has n (drop f l)) (has n (take f l)) ∙ sym (has-append n (take f l) (drop f l)) ∙ ap (has n) (take-append-drop f l)
-
 pub count-turned : (k f : ℕ) (l : List Row) → countKey k (turned f l) ≡ countKey k l
 count-turned k f l =
     let a = count-append k (drop f l) (take f l) in
@@ -213,8 +228,38 @@ count-turned k f l =
     let d : countKey k (take f l ++ drop f l) ≡ countKey k l = ap (countKey k) (take-append-drop f l) in
     omega arith
 
-pub updated-turned : (n : Row) (f : ℕ) (l : List Row) → turned f (updated n l) ≡ updated n (turned f l)
-updated-turned n f l = rw (updated-append n (drop f l) (take f l), updated-take n f l, updated-drop n f l)
+-- a key that stands once is found, and updated, in the list turned as in the list
+module _ (n : Row) (f : ℕ) (l : List Row) (once : countKey (n .key) l ≤ 1) where
+  one-side : holds (n .key) (take f l) ≡ true → holds (n .key) (drop f l) ≡ true → ⊥
+  one-side p q =
+      let a = count-append (n .key) (take f l) (drop f l) in
+      let d : countKey (n .key) (take f l ++ drop f l) ≡ countKey (n .key) l = ap (countKey (n .key)) (take-append-drop f l) in
+      omega (arith, once, held-some (n .key) (take f l) p, held-some (n .key) (drop f l) q)
+
+  pub has-turned : has n (turned f l) ≡ has n l
+  has-turned =
+      has-append n (drop f l) (take f l)
+      ∙ go (holds (n .key) (drop f l)) (holds (n .key) (take f l)) refl refl
+      ∙ sym (has-append n (take f l) (drop f l)) ∙ ap (has n) (take-append-drop f l)
+    where
+      go : (s t : Bool) → holds (n .key) (drop f l) ≡ s → holds (n .key) (take f l) ≡ t →
+          cond s (has n (drop f l)) (has n (take f l)) ≡ cond t (has n (take f l)) (has n (drop f l))
+      go true true p q = absurd (one-side q p)
+      go true false p q = refl
+      go false true p q = refl
+      go false false p q = has-none n (take f l) q ∙ sym (has-none n (drop f l) p)
+
+  pub updated-turned : turned f (updated n l) ≡ updated n (turned f l)
+  updated-turned =
+      rw (updated-append n (drop f l) (take f l), updated-take n f l, updated-drop n f l)
+      (go (holds (n .key) (drop f l)) (holds (n .key) (take f l)) refl refl)
+    where
+      go : (s t : Bool) → holds (n .key) (drop f l) ≡ s → holds (n .key) (take f l) ≡ t →
+          cond t (drop f l) (updated n (drop f l)) ++ updated n (take f l) ≡ cond s (updated n (drop f l) ++ take f l) (drop f l ++ updated n (take f l))
+      go true true p q = absurd (one-side q p)
+      go true false p q = ap (λ (y : List Row). updated n (drop f l) ++ y) (updated-none n (take f l) q)
+      go false true p q = refl
+      go false false p q = ap (λ (y : List Row). y ++ updated n (take f l)) (updated-none n (drop f l) p)
 
 pub length-turned : (f : ℕ) (l : List Row) → length (turned f l) ≡ length l
 length-turned f l =

@@ -3,7 +3,7 @@ use Prim.Native.Nat.{ℕ, _/_, _%_, _<_, _≤_}
 use mathlib.Core.Path.{_≡_}
 use mathlib.Core.List.{List, [], _∷_, _++_}
 use lib.ListN.{length, take, drop}
-use Rattle.ring.specs.Rules.{Row, countKey}
+use Rattle.ring.specs.Rules.{Row, Laid, countKey}
 use Rattle.ring.specs.Store.{roomOf, Whole, stampOf, seenOf, keysAfter, changesAfter}
 use Rattle.ring.specs.declared.Ring.{Ring}
 
@@ -31,12 +31,16 @@ rowsOf [] ms = []
 rowsOf (k ∷ ks) [] = []
 rowsOf (k ∷ ks) (m ∷ ms) = rowAt k m ∷ rowsOf ks ms
 
+-- the rows in use by place, and the place of the row that leaves next
+abbrev pub laidIn : Memory → Laid
+laidIn m = record { rows = rowsOf (take (m .ring .used) (m .keys)) (take (m .ring .used) (m .changes)); next = m .ring .first }
+
 abbrev pub turned : ℕ → List Row → List Row
 turned first rows = drop first rows ++ take first rows
 
 -- the rows in use, from the first in order round
 abbrev pub inOrder : Memory → List Row
-inOrder m = turned (m .ring .first) (rowsOf (take (m .ring .used) (m .keys)) (take (m .ring .used) (m .changes)))
+inOrder m = turned (m .ring .first) (laidIn m .rows)
 
 -- what every memory that came from an opened one has
 pub record Reached (m : Memory) : Type 0 where

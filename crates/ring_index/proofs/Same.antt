@@ -16,7 +16,8 @@ use Rattle.ring.specs.View.{Memory, memoryAfter, rowsOf, Reached}
 use Rattle.ring.specs.Store.{emptyRing}
 use Rattle.ring.specs.declared.Ring.{Ring}
 use Rattle.ring.proofs.Rows.{count-turned}
-use Rattle.ring.proofs.Order.{step, known-memory, more-memory, full-memory, opened-reached}
+use Rattle.ring.proofs.Order.{step, opened-reached}
+use Rattle.ring.proofs.Places.{known-memory, more-memory, full-memory}
 use Rattle.ring_index.specs.Store.{bucketOf, Covers, Index, indexOf, clearedBy, linked, unlinked, entered, foundBy, isFound, seenBy, keysBy, changesBy, indexBy}
 use Rattle.ring_index.specs.Runs.{Indexed, Short, none, more, toldBy, toldOf, indexedAfter, allToldBy, allToldOf, allLeftBy, allLeftOf, openedMemory, openedIndex}
 use Rattle.ring_index.proofs.Chains.{All, Holds, chain, all-map, all-chain, chain-length, walk-reads, link-holds, unlink-holds, linked-buckets, linked-links, unlinked-buckets, unlinked-links}
@@ -121,7 +122,7 @@ module _ (m : Memory) (x : Index) (n : Row) (r : Reached m) (s : Sound m x) (sma
   index-new k = rw (found-known, k)
 
   known-sound : isKnown (m .ring) (m .keys) (n .key) ≡ true → Sound (memoryAfter m n) (indexBy (m .ring) (m .keys) x (n .key))
-  known-sound k = rw (index-known k, known-memory m n r small k) (record { covers = s .covers; holds = s .holds })
+  known-sound k = rw (index-known k, known-memory m n (r .whole) k) (record { covers = s .covers; holds = s .holds })
 
   module _ (new : isKnown (m .ring) (m .keys) (n .key) ≡ false) where
     index-free :
@@ -143,7 +144,7 @@ module _ (m : Memory) (x : Index) (n : Row) (r : Reached m) (s : Sound m x) (sma
     free-sound : m .ring .used < roomOf (m .ring .capacity) → Sound (memoryAfter m n) (indexBy (m .ring) (m .keys) x (n .key))
     free-sound h =
         let y : m .ring .first ≡ 0 = r .young h in
-        rw (index-free h, more-memory m n r small new h)
+        rw (index-free h, more-memory m n (r .whole) new h)
         (record {
           covers = record {
             buckets-long = omega (arith, s .covers, linked-buckets x (bucketOf (n .key) (roomOf (m .ring .capacity))) (m .ring .used));
@@ -176,7 +177,7 @@ module _ (m : Memory) (x : Index) (n : Row) (r : Reached m) (s : Sound m x) (sma
         unlinked-buckets x (m .ring .used) (roomOf (m .ring .capacity)) (homeIn (m .keys) (roomOf (m .ring .capacity)) (m .ring .first)) (m .ring .first) in
         let ll : length (taken .links) ≡ length (x .links) =
         unlinked-links x (m .ring .used) (roomOf (m .ring .capacity)) (homeIn (m .keys) (roomOf (m .ring .capacity)) (m .ring .first)) (m .ring .first) in
-        rw (index-full h, full-memory m n r small new h)
+        rw (index-full h, full-memory m n (r .whole) new h)
         (record {
           covers = record {
             buckets-long = omega (arith, s .covers, linked-buckets taken (bucketOf (n .key) (roomOf (m .ring .capacity))) (m .ring .first));

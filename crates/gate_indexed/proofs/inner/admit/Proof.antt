@@ -1,58 +1,38 @@
 -- `gate_indexed::inner::admit` meets its contract. Assumes nothing.
 use Rattle.ring_index.specs.Store.{indexOf}
-use Rattle.gate_indexed.proofs.Laws.{sound-told}
+use Rattle.gate_indexed.proofs.Laws.{admitted-told}
 use borrow.Author.Needs.{needs}
 use Rattle.gate_indexed.proofs.inner.admit.Statement.{statement}
 use Rattle.gate_indexed.proofs.inner.admit.Tie as tie
-use Rattle.gate_indexed.proofs.inner.admit.Reads as reads
-use Rattle.gate_indexed.proofs.inner.admit.Lts as lts
-use Rattle.gate.proofs.inner.follow.Reads as follow-reads
-use Rattle.gate.proofs.inner.tell.Reads as tell-reads
-use Rattle.ring_index.proofs.admit.Reads as admit-reads
-use Rattle.section.proofs.header.key.Reads as key-reads
 
--- src/inner.rt:65:9
-key-requires : tie.Need-key-requires
-key-requires c κs = search needs
-
--- src/inner.rt:66:9
 admit-requires : tie.Need-admit-requires
 admit-requires c κs = search needs
 
--- src/inner.rt:76:5
 follow-requires : tie.Need-follow-requires
-follow-requires c κs = (c .before .before .before .before .before .before .before .before .before .before .before .before .before .before .before .before .before .before .before .before .before .before .pre .1 .0 .rows .watch, c .before .before .before .before .before .before .before .before .before .before .before .before .before .before .before .before .before .before .before .before .before .before .pre .1 .1)
+follow-requires c κs = (c .before .before .before .before .before .before .before .before .before .before .before .before .before .before .before .before .before .before .before .before .before .pre .1 .0 .rows .watch, c .before .before .before .before .before .before .before .before .before .before .before .before .before .before .before .before .before .before .before .before .before .pre .1 .1)
 
--- src/inner.rt:77:5
 tell-requires : tie.Need-tell-requires
-tell-requires c κs = c .before .before .before .before .before .before .before .before .before .before .before .before .before .before .before .before .before .before .before .before .before .before .before .before .before .pre .0
+tell-requires c κs = c .before .before .before .before .before .before .before .before .before .before .before .before .before .before .before .before .before .before .before .before .before .before .before .before .pre .0
 
--- src/inner.rt:47:1
 same-length : tie.Need-same-length
 same-length c = search needs
 
--- src/inner.rt:47:1
 same-length-2 : tie.Need-same-length-2
 same-length-2 c = search needs
 
--- src/inner.rt:47:1
 same-length-3 : tie.Need-same-length-3
 same-length-3 c = search needs
 
--- src/inner.rt:47:1
 same-length-4 : tie.Need-same-length-4
 same-length-4 c = search needs
 
--- src/inner.rt:47:1
 same-length-5 : tie.Need-same-length-5
 same-length-5 c = search needs
 
--- src/inner.rt:47:1
 returns : tie.Need-returns
 returns c =
-    let a = c .before .before .before .before .before .before .before .before .before .before .before .before .before .before .before .before .before .before .before .before .before .before .before .before .before .before .args in
-    sound-told (a .gate) (a .counters) (a .keys .now) (a .changes .now) (indexOf (a .buckets .now) (a .links .now)) (a .words .now) (a .from) (a .section .now) (a .parts) _ _ _ _ _ _ _
-    (c .before .before .before .before .before .before .before .before .before .before .before .before .before .before .before .before .before .before .key .ensures)
+    let a = c .before .before .before .before .before .before .before .before .before .before .before .before .before .before .before .before .before .before .before .before .before .before .before .before .before .args in
+    admitted-told (a .gate) (a .counters) (a .keys .now) (a .changes .now) (indexOf (a .buckets .now) (a .links .now)) (a .words .now) (a .section .now) (a .arrival) _ _ _ _ _ _
     (c .before .before .before .before .before .before .before .before .before .before .before .before .before .admit .ensures .0)
     (c .before .before .before .before .before .before .before .before .before .before .before .before .before .admit .ensures .1 .0)
     (c .before .before .before .before .before .before .before .before .before .before .before .before .before .admit .ensures .1 .1 .0)
@@ -64,7 +44,6 @@ pub admit-spec : {M : Type 1} → statement M
 admit-spec =
     tie.close
     (tie.spec
-    key-requires
     admit-requires
     follow-requires
     tell-requires

@@ -14,27 +14,27 @@ use Rattle.ring.specs.Store.{stampOf, seenOf}
 use Rattle.ring.specs.Rules.{Row, changed}
 use Rattle.ring.specs.View.{Memory, memoryAfter, inOrder, Reached}
 use Rattle.ring.proofs.Laws.{whole-test}
-use Rattle.ring.proofs.Order.{Step, step, seenIn}
-use Rattle.section.specs.Judged.{judgedOf}
-use Rattle.section.specs.declared.header.Parts.{Parts}
-use Rattle.section.specs.declared.header.Judged.{Judged}
-use Rattle.section.specs.declared.header.Judged.the-variants.{Short, Mismatch, Sound}
+use Rattle.ring.proofs.Places.{seenIn}
+use Rattle.ring.proofs.Order.{Step, step}
+use Rattle.answers.specs.declared.Refusal.the-variants.{CounterFull}
 use Rattle.section.specs.Facts.{Bytes}
-use Rattle.section.specs.Ids.{originOf}
-use Rattle.section.specs.declared.ids.Origin.{Origin}
+use Rattle.offers.specs.Offers.{readOf, verdictOf}
+use Rattle.offers.specs.declared.Arrival.{Arrival}
+use Rattle.offers.specs.declared.Verdict.{Verdict}
+use Rattle.offers.specs.declared.Verdict.the-variants.{Refused, Failed, Arrived}
+use Rattle.offers.proofs.Facts.{arrived-small}
 use Rattle.pat.specs.Pat.{readable, setN}
-use Rattle.section.proofs.Facts.{judged-change}
 use Rattle.pat.proofs.Laws.{length-programs, has-set-n}
 use Rattle.watched.specs.Store.{following}
 use Rattle.watched.specs.Rules.{followedBy}
 use Rattle.watched.specs.View.{watchIn}
 use Rattle.watched.proofs.Meaning.{length-following, following-shown}
-use Rattle.gate.specs.Store.{wholeOf, Store, Offering, soundOf, judgedAs, consideredOf, offered, seenBy, answerNo, answerOf, programsOf, followedPat, watchAfter}
+use Rattle.gate.specs.Store.{isWhole, Store, Offering, admittedTo, carried, offered, seenBy, answerNo, answerOf, programsOf, followedPat, watchAfter}
 use Rattle.gate.specs.Rules as rules
 use Rattle.gate.proofs.Laws.{answer-no}
 use Rattle.counters.specs.Counters.{anyFull, failedOf}
-use Rattle.gate.specs.Rules.{Offer, Manner, Held, Told, rowFrom, admitted, judgedIn, told, tells, acts, OfBytes}
+use Rattle.gate.specs.Rules.{Offer, Manner, Held, Told, rowFrom, admitted, carriedIn, told, tells, acts, OfBytes}
 use Rattle.gate.specs.View.{mannerOf, memoryOf, heldBy, shownBy, Opened, storeTells, storeActs}
 
 -- one offer
 -- what a call answered and left is what a rule told, and the store is again one that came from opening, with the same settings
@@ -55,7 +55,7 @@ followed-kept words section h = go (readable section)
     go true = rw (length-following words (programsOf section) h (length-programs section (replicate 128 0) ∙ length-replicate {A = ℕ} 128 0)) h
     go false = h
 
-watch-kept : (f : Bool) (words section : List ℕ) → 384 ≤ length words → 384 ≤ length (watchAfter f words section)
+pub watch-kept : (f : Bool) (words section : List ℕ) → 384 ≤ length words → 384 ≤ length (watchAfter f words section)
 watch-kept true words section h = followed-kept words section h
 watch-kept false words section h = h
 
@@ -71,67 +71,65 @@ followed-shown words section h b = go (readable section) refl
     go true e = following-shown words (programsOf section) h n ∙ (λ i. followedBy (λ q. has-set-n section q b e i) (watchIn words))
     go false e = refl
 
-watch-shown :
+pub watch-shown :
     (f : Bool) (words section : List ℕ) → 384 ≤ length words → Bytes section → watchIn (watchAfter f words section) ≡ rules.watchAfter f (watchIn words) section
 watch-shown true words section h b = followed-shown words section h b
 watch-shown false words section h b = refl
 
--- a sound section
-module _ (s : Store) (r : Opened s) (from : Origin) (section : List ℕ) (b : Bytes section) (p : Parts) (small : p .change < 2 ^ 32) where
-  st : Step (memoryOf s) (rowFrom from p)
-  st = step (memoryOf s) (rowFrom from p) (r .reached) small
+-- a section that arrived
+module _ (s : Store) (r : Opened s) (section : List ℕ) (b : Bytes section) (a : Arrival) (small : a .change < 2 ^ 32) where
+  st : Step (memoryOf s) (rowFrom a)
+  st = step (memoryOf s) (rowFrom a) (r .reached) small
 
-  sound-same : shownBy (soundOf s from section p) ≡ admitted (mannerOf (s .gate)) (heldBy s) (rowFrom from p) section
-  unfolding soundOf seenBy admitted memoryAfter
-  sound-same =
+  admitted-same : shownBy (admittedTo s section a) ≡ admitted (mannerOf (s .gate)) (heldBy s) (rowFrom a) section
+  unfolding admittedTo seenBy admitted memoryAfter
+  admitted-same =
       rw (
         st .order,
         st .tells,
         st .leaves,
-        answer-no (changed (rowFrom from p) (inOrder (memoryOf s)) || s .gate .repeats),
-        watch-shown (changed (rowFrom from p) (inOrder (memoryOf s)) && s .gate .follow) (s .words) section (r .watch) b,
+        answer-no (changed (rowFrom a) (inOrder (memoryOf s)) || s .gate .repeats),
+        watch-shown (changed (rowFrom a) (inOrder (memoryOf s)) && s .gate .follow) (s .words) section (r .watch) b,
       )
 
-  sound-opened : Opened (soundOf s from section p .store)
-  unfolding soundOf seenBy memoryAfter
-  sound-opened = record { reached = st .reached; watch = watch-kept (seenIn (memoryOf s) (rowFrom from p) .changed && s .gate .follow) (s .words) section (r .watch) }
+  admitted-opened : Opened (admittedTo s section a .store)
+  unfolding admittedTo seenBy memoryAfter
+  admitted-opened = record { reached = st .reached; watch = watch-kept (seenIn (memoryOf s) (rowFrom a) .changed && s .gate .follow) (s .words) section (r .watch) }
 
-  sound-manner : mannerOf (soundOf s from section p .store .gate) ≡ mannerOf (s .gate)
-  unfolding soundOf seenBy memoryAfter
-  sound-manner = rw (st .capacity)
+  admitted-manner : mannerOf (admittedTo s section a .store .gate) ≡ mannerOf (s .gate)
+  unfolding admittedTo seenBy memoryAfter
+  admitted-manner = rw (st .capacity)
 
 -- a section that failed its CRC leaves the memory
 failed-follows : (s : Store) → Opened s → Opened (record { gate = s .gate; counters = failedOf (s .counters); keys = s .keys; changes = s .changes; words = s .words })
 failed-follows s r = record { reached = r .reached; watch = r .watch }
 
+-- of bytes, what arrives has a change number of 32 bits
+pub verdict-small : (o : Offer) → Bytes (o .section) → (f : Bool) (a : Arrival) → cond f (Refused CounterFull) (readOf (o .pid) (o .section)) ≡ Arrived a → a .change < 2 ^ 32
+verdict-small o b true a e = let z : _≡_ {A = ℕ} 0 1 = cc in absurd (omega arith)
+verdict-small o b false a e = arrived-small (o .section) b (o .pid) a e
+
 module _ (s : Store) (o : Offer) (r : Opened s) (b : Bytes (o .section)) where
-  judged-follows :
-      (v : Judged) → v ≡ judgedOf (o .section) →
-      (shownBy (judgedAs s (originOf (o .pid)) (o .section) v) ≡ judgedIn (mannerOf (s .gate)) (heldBy s) (originOf (o .pid)) (o .section) v)
-      × Opened (judgedAs s (originOf (o .pid)) (o .section) v .store)
-      × (mannerOf (judgedAs s (originOf (o .pid)) (o .section) v .store .gate) ≡ mannerOf (s .gate))
-  unfolding judgedAs judgedIn
-  judged-follows Short e = (refl, failed-follows s r, refl)
-  judged-follows (Mismatch stored worked) e = (refl, failed-follows s r, refl)
-  judged-follows (Sound p) e =
-      let small : p .change < 2 ^ 32 = judged-change (o .section) b p (sym e) in
-      (sound-same s r (originOf (o .pid)) (o .section) b p small, sound-opened s r (originOf (o .pid)) (o .section) b p small, sound-manner s r (originOf (o .pid)) (o .section) b p small)
+  -- a verdict carried out
+  carried-follows :
+      (v : Verdict) → ((a : Arrival) → v ≡ Arrived a → a .change < 2 ^ 32) →
+      Follows′ s (mannerOf (s .gate)) (carried s (o .section) v) (carriedIn (mannerOf (s .gate)) (heldBy s) (o .section) v)
+  unfolding carried carriedIn
+  carried-follows (Refused x) k = record { same = refl; opened = r; manner = refl }
+  carried-follows Failed k = record { same = refl; opened = failed-follows s r; manner = refl }
+  carried-follows (Arrived a) k =
+      let small : a .change < 2 ^ 32 = k a refl in
+      record { same = admitted-same s r (o .section) b a small; opened = admitted-opened s r (o .section) b a small; manner = admitted-manner s r (o .section) b a small }
 
   -- every offer to an opened store: 10 does not occur, and the rest is the rule's
   pub follows : Follows s o (offered s (o .pid) (o .section))
-  unfolding offered told consideredOf
-  follows = rw whole (refuse (anyFull (s .counters)) (ltb (o .pid) 8192))
+  unfolding offered told verdictOf
+  follows =
+      rw whole
+      (carried-follows (cond (anyFull (s .counters)) (Refused CounterFull) (readOf (o .pid) (o .section))) (verdict-small o b (anyFull (s .counters))))
     where
-      whole : wholeOf (s .gate) (length (s .keys)) (length (s .changes)) (length (s .words)) ≡ true
+      whole : isWhole s ≡ true
       whole = true-and (whole-test (s .gate .ring) (length (s .keys)) (length (s .changes)) (r .reached .whole)) (le-leb 384 (length (s .words)) (r .watch))
-
-      refuse : (f k : Bool) →
-          Follows′ s (mannerOf (s .gate))
-          (cond f (record { answer = 11; store = s }) (cond k (judgedAs s (originOf (o .pid)) (o .section) (judgedOf (o .section))) (record { answer = 12; store = s })))
-          (cond f (record { answer = 11; held = heldBy s }) (cond k (judgedIn (mannerOf (s .gate)) (heldBy s) (originOf (o .pid)) (o .section) (judgedOf (o .section))) (record { answer = 12; held = heldBy s })))
-      refuse true k = record { same = refl; opened = r; manner = refl }
-      refuse false true = let j = judged-follows (judgedOf (o .section)) refl in record { same = j .0; opened = j .1; manner = j .2 }
-      refuse false false = record { same = refl; opened = r; manner = refl }
 
 -- THE THEOREM: from an opened store, every sequence of offers of bytes has the rule's answers, and the store then stands for what the rule holds
 pub same-answers :

@@ -7,32 +7,27 @@ use mathlib.Core.Bool.{Bool, true, false, cond, _&&_}
 use lib.ListN.{length, replicate, length-replicate}
 use Rattle.laws.specs.Runs.{storeAfter}
 use Rattle.ring.specs.Store.{seenOf, stampOf}
-use Rattle.counters.specs.Counters.{anyFull}
-use Rattle.section.specs.Ids.{originOf}
-use Rattle.section.specs.Key.{keyOf}
-use Rattle.section.specs.declared.ids.Origin.{Origin}
-use Rattle.section.specs.Judged.{judgedOf}
+use Rattle.offers.specs.Offers.{verdictOf}
+use Rattle.offers.specs.declared.Arrival.{Arrival}
+use Rattle.offers.specs.declared.Verdict.{Verdict}
+use Rattle.offers.specs.declared.Verdict.the-variants.{Refused, Failed, Arrived}
 use Rattle.pat.specs.Pat.{readable}
-use Rattle.section.specs.declared.header.Parts.{Parts}
-use Rattle.section.specs.declared.header.Judged.{Judged}
-use Rattle.section.specs.declared.header.Judged.the-variants.{Short, Mismatch, Sound}
 use Rattle.pat.proofs.Laws.{length-programs}
 use Rattle.watched.specs.Store.{allPids, filled, following}
 use Rattle.watched.specs.View.{InStep}
 use Rattle.watched.proofs.Meaning.{opened-in-step, following-in-step, length-following}
-use Rattle.gate.specs.Store.{wholeOf, Store, seenBy, soundOf, judgedAs, consideredOf, offered, programsOf, followedPat, watchAfter}
+use Rattle.gate.specs.Store.{isWhole, Store, seenBy, admittedTo, carried, offered, programsOf, followedPat, watchAfter}
 use Rattle.gate.specs.Rules.{Offer}
 use Rattle.gate.specs.View.{storeActs}
-use lib.Dec.{ltb}
 
 -- the words of a watch in which exactly the protected PIDs and those of N are watched
 pub record Kept (words : List ℕ) : Type 0 where
   pub room : 384 ≤ length words
   pub step : InStep words
 
--- whether the ring finds a sound section changed
-abbrev changedBy : Store → Origin → Parts → Bool
-changedBy s from p = seenOf (s .gate .ring) (s .keys) (s .changes) (keyOf from (p .«table_id») (p .extension) (p .number)) (stampOf (p .version) (p .change)) .changed
+-- whether the ring finds a section that arrived changed
+abbrev changedBy : Store → Arrival → Bool
+changedBy s a = seenOf (s .gate .ring) (s .keys) (s .changes) (a .key) (stampOf (a .version) (a .change)) .changed
 
 -- opening begins so
 pub opened-kept : (words : List ℕ) (known : Bool) (extra : List ℕ) → allPids extra ≡ true → 384 ≤ length (filled words known extra) → Kept (filled words known extra)
@@ -53,23 +48,16 @@ watch-kept : (f : Bool) (words section : List ℕ) → Kept words → Kept (watc
 watch-kept true words section k = followed-kept words section k
 watch-kept false words section k = k
 
-sound-kept : (s : Store) (from : Origin) (section : List ℕ) (v : Judged) → Kept (s .words) → Kept (judgedAs s from section v .store .words)
-unfolding judgedAs soundOf seenBy
-sound-kept s from section Short k = k
-sound-kept s from section (Mismatch stored worked) k = k
-sound-kept s from section (Sound p) k = watch-kept (changedBy s from p && s .gate .follow) (s .words) section k
+carried-kept : (s : Store) (section : List ℕ) (v : Verdict) → Kept (s .words) → Kept (carried s section v .store .words)
+unfolding carried admittedTo seenBy
+carried-kept s section (Refused r) k = k
+carried-kept s section Failed k = k
+carried-kept s section (Arrived a) k = watch-kept (changedBy s a && s .gate .follow) (s .words) section k
 
 -- every offer to every store
 pub offer-kept : (s : Store) (o : Offer) → Kept (s .words) → Kept (storeActs s o .words)
-unfolding storeActs offered consideredOf
-offer-kept s o k = go (wholeOf (s .gate) (length (s .keys)) (length (s .changes)) (length (s .words))) (anyFull (s .counters)) (ltb (o .pid) 8192)
-  where
-    go : (w f b : Bool) →
-        Kept ((cond w (cond f (record { answer = 11; store = s }) (cond b (judgedAs s (originOf (o .pid)) (o .section) (judgedOf (o .section))) (record { answer = 12; store = s }))) (record { answer = 10; store = s })) .store .words)
-    go false f b = k
-    go true true b = k
-    go true false false = k
-    go true false true = sound-kept s (originOf (o .pid)) (o .section) (judgedOf (o .section)) k
+unfolding storeActs offered
+offer-kept s o k = carried-kept s (o .section) (verdictOf (isWhole s) (s .counters) (o .pid) (o .section)) k
 
 -- every history
 pub always-kept : (s : Store) (os : List Offer) → Kept (s .words) → Kept (storeAfter storeActs s os .words)

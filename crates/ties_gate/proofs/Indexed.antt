@@ -6,7 +6,7 @@ use mathlib.Core.Path.{_≡_, refl, sym, ap, subst, _∙_}
 use mathlib.Core.List.{List, [], _∷_}
 use mathlib.Core.Bool.{Bool, true, false, cond, _&&_}
 use lib.ListN.{length}
-use lib.Dec.{ltb, leb}
+use lib.Dec.{leb}
 use native.Mathlib.Omega.{arith}
 use borrow.Author.Tests.{le-leb, leb-true}
 use Rattle.laws.proofs.Tests.{true-and, and-true}
@@ -18,25 +18,23 @@ use Rattle.ring.proofs.Order.{opened-reached}
 use Rattle.ring_index.specs.Store.{Index, indexOf, indexBy, clearedBy}
 use Rattle.ring_index.specs.Runs.{openedIndex}
 use Rattle.ring_index.proofs.Same.{Sound as Kept, seen-same, keys-same, changes-same, sound-after, opened-sound}
-use Rattle.section.specs.Judged.{judgedOf}
 use Rattle.section.specs.Facts.{Bytes}
-use Rattle.section.specs.declared.header.Parts.{Parts}
-use Rattle.section.specs.declared.header.Judged.{Judged}
-use Rattle.section.specs.declared.header.Judged.the-variants.{Short, Mismatch, Sound}
-use Rattle.section.proofs.Facts.{judged-change}
-use Rattle.gate.specs.Store.{emptyGate, hasRoom, wholeOf, Store, storeOf, soundOf, judgedAs, consideredOf, offered}
+use Rattle.answers.specs.declared.Refusal.the-variants.{CounterFull}
+use Rattle.offers.specs.Offers.{readOf, verdictOf}
+use Rattle.offers.specs.declared.Arrival.{Arrival}
+use Rattle.offers.specs.declared.Verdict.{Verdict}
+use Rattle.offers.specs.declared.Verdict.the-variants.{Refused, Failed, Arrived}
+use Rattle.gate.specs.Store.{emptyGate, hasRoom, isWhole, Store, storeOf, admittedTo, carried, offered}
 use Rattle.counters.specs.Counters.{zeroes, anyFull}
-use Rattle.section.specs.Ids.{originOf}
-use Rattle.section.specs.declared.ids.Origin.{Origin}
 use Rattle.gate.specs.Store.{Offering as Told, seenBy as answeredBy}
 use Rattle.gate.specs.Rules.{Offer, rowFrom, OfBytes}
 use Rattle.gate.specs.View.{memoryOf, Opened, storeTells, storeActs}
 use Rattle.gate.specs.declared.Settings.{Settings}
 use Rattle.watched.specs.Store.{allPids, filled}
 use Rattle.watched.proofs.Meaning.{length-filled}
-use Rattle.gate.proofs.Order.{follows}
-use Rattle.gate_indexed.specs.Store.{hasRoomFor, Begun, begins, openedBy, wholeBy, Indexed, indexedOf, Offering, soundBy, judgedBy, consideredBy, offeredBy}
+use Rattle.ties_gate.proofs.Order.{follows, verdict-small}
+use Rattle.gate_indexed.specs.Store.{hasRoomFor, Begun, begins, openedBy, isWholeBy, Indexed, indexedOf, Offering, admittedBy, carriedBy, offeredBy}
 use Rattle.gate_indexed.specs.Runs.{tellsBy, actsBy}
 
 -- what every store has that came from an opened one
 pub record OpenedBy (s : Indexed) : Type 0 where
@@ -49,49 +47,42 @@ pub record Same (l : Offering) (k : Told) : Type 0 where
   pub store : l .left .store ≡ k .store
   pub kept : Kept (memoryOf (k .store)) (l .left .index)
 
-module _ (s : Indexed) (r : OpenedBy s) (from : Origin) (section : List ℕ) where
-  sound-same : (p : Parts) → p .change < 2 ^ 32 → Same (soundBy s from section p) (soundOf (s .store) from section p)
-  unfolding soundBy soundOf answeredBy memoryAfter
-  sound-same p small =
-      let a = seen-same (memoryOf (s .store)) (r .opened .reached) (s .index) (r .kept) (rowFrom from p .key) (stampOf (p .version) (p .change)) in
-      let b = keys-same (memoryOf (s .store)) (r .opened .reached) (s .index) (r .kept) (rowFrom from p .key) 0 in
-      let c = changes-same (memoryOf (s .store)) (r .opened .reached) (s .index) (r .kept) (rowFrom from p .key) (stampOf (p .version) (p .change)) in
+module _ (s : Indexed) (r : OpenedBy s) (section : List ℕ) where
+  admitted-same : (a : Arrival) → a .change < 2 ^ 32 → Same (admittedBy s section a) (admittedTo (s .store) section a)
+  unfolding admittedBy admittedTo answeredBy memoryAfter
+  admitted-same a small =
+      let x = seen-same (memoryOf (s .store)) (r .opened .reached) (s .index) (r .kept) (a .key) (stampOf (a .version) (a .change)) in
+      let b = keys-same (memoryOf (s .store)) (r .opened .reached) (s .index) (r .kept) (a .key) 0 in
+      let c = changes-same (memoryOf (s .store)) (r .opened .reached) (s .index) (r .kept) (a .key) (stampOf (a .version) (a .change)) in
       record {
-        answer = rw a;
-        store = rw (a, b, c);
-        kept = sound-after (memoryOf (s .store)) (s .index) (rowFrom from p) (r .opened .reached) (r .kept) small;
+        answer = rw x;
+        store = rw (x, b, c);
+        kept = sound-after (memoryOf (s .store)) (s .index) (rowFrom a) (r .opened .reached) (r .kept) small;
       }
 
-  judged-same : Bytes section → (v : Judged) → v ≡ judgedOf section → Same (judgedBy s from section v) (judgedAs (s .store) from section v)
-  unfolding judgedBy judgedAs
-  judged-same b Short e = record { answer = refl; store = refl; kept = record { covers = r .kept .covers; holds = r .kept .holds } }
-  judged-same b (Mismatch stored worked) e = record { answer = refl; store = refl; kept = record { covers = r .kept .covers; holds = r .kept .holds } }
-  judged-same b (Sound p) e = sound-same p (judged-change section b p (sym e))
+  carried-same : (v : Verdict) → ((a : Arrival) → v ≡ Arrived a → a .change < 2 ^ 32) → Same (carriedBy s section v) (carried (s .store) section v)
+  unfolding carriedBy carried
+  carried-same (Refused x) k = record { answer = refl; store = refl; kept = r .kept }
+  carried-same Failed k = record { answer = refl; store = refl; kept = record { covers = r .kept .covers; holds = r .kept .holds } }
+  carried-same (Arrived a) k = admitted-same a (k a refl)
 
 module _ (s : Indexed) (r : OpenedBy s) (pid : ℕ) (section : List ℕ) where
   -- every offer
   pub offer-same : Bytes section → Same (offeredBy s pid section) (offered (s .store) pid section)
-  unfolding offeredBy offered consideredBy consideredOf
-  offer-same b = rw (whole-by, whole) (refuse (anyFull (s .store .counters)) (ltb pid 8192))
+  unfolding offeredBy offered verdictOf
+  offer-same b =
+      rw (whole-by, whole)
+      (carried-same s r section (cond (anyFull (s .store .counters)) (Refused CounterFull) (readOf pid section)) (verdict-small (record { pid = pid; section = section }) b (anyFull (s .store .counters))))
     where
-      whole : wholeOf (s .store .gate) (length (s .store .keys)) (length (s .store .changes)) (length (s .store .words)) ≡ true
+      whole : isWhole (s .store) ≡ true
       whole =
           true-and (whole-test (s .store .gate .ring) (length (s .store .keys)) (length (s .store .changes)) (r .opened .reached .whole))
           (le-leb 384 (length (s .store .words)) (r .opened .watch))
 
-      whole-by :
-          wholeBy (s .store .gate) (length (s .store .keys)) (length (s .store .changes)) (length (s .index .buckets)) (length (s .index .links)) (length (s .store .words)) ≡ true
+      whole-by : isWholeBy s ≡ true
       whole-by =
           true-and (true-and whole (le-leb (roomOf (s .store .gate .ring .capacity)) (length (s .index .buckets)) (r .kept .covers .buckets-long)))
           (le-leb (roomOf (s .store .gate .ring .capacity)) (length (s .index .links)) (r .kept .covers .links-long))
-
-      refuse :
-          (f k : Bool) →
-          Same (cond f (record { answer = 11; left = s }) (cond k (judgedBy s (originOf pid) section (judgedOf section)) (record { answer = 12; left = s })))
-          (cond f (record { answer = 11; store = s .store }) (cond k (judgedAs (s .store) (originOf pid) section (judgedOf section)) (record { answer = 12; store = s .store })))
-      refuse true k = record { answer = refl; store = refl; kept = r .kept }
-      refuse false true = judged-same s r (originOf pid) section b (judgedOf section) refl
-      refuse false false = record { answer = refl; store = refl; kept = r .kept }
 
 -- the store that is left came from opening too
 next : (s : Indexed) (o : Offer) → OpenedBy s → Bytes (o .section) → OpenedBy (actsBy s o)

@@ -1,0 +1,73 @@
+// What an offer to the gate comes to before a row is looked at (docs/RULES.md, "Gate" and "Answers"): 10, 11, 12, a CRC failure, or a section that is
+// to be looked up. No slice of the store is lent.
+use answers::Refusal;
+use counters::Counters;
+use section::header::Judged;
+use section::header::Parts;
+use section::ids::Origin;
+use section::ids::OriginMade;
+ghost use mathlib.Core.Path.{_≡_};
+ghost use Rattle.section.specs.Judged.{judgedOf};
+ghost use Rattle.offers.specs.Offers.{arrivalOf, readAs, readOf, Taken, verdictOf, VerdictOk};
+
+// What tells one section from another at the gate: its key, the version and the change number that it came with. And its table_id.
+pub struct Arrival {
+    pub key: u64,
+    pub version: u8,
+    pub change: u32,
+    pub table_id: u8,
+}
+
+// A refusal, 3, or a section that is to be looked up.
+pub enum Verdict {
+    Refused(Refusal),
+    Failed,
+    Arrived(Arrival),
+}
+
+// 10 where the store is not whole, 11 where a counter is at its end, then what the section and its PID say.
+pub fn judge(whole: bool, counters: Counters, pid: u16, section: &[u8]) -> Verdict
+    ensures { λ r. ⌜ r ≡ verdictOf whole counters pid (now (section .entry)) ⌝ }
+    ensures { λ r. ⌜ VerdictOk whole counters (now (section .entry)) r ⌝ }
+{
+    if !whole {
+        return Verdict::Refused(Refusal::NotWhole);
+    }
+    if counters::any_full(counters) {
+        return Verdict::Refused(Refusal::CounterFull);
+    }
+    read(pid, section)
+}
+
+// 12, then 3.
+fn read(pid: u16, section: &[u8]) -> Verdict
+    ensures { λ r. ⌜ r ≡ readOf pid (now (section .entry)) ⌝ }
+    ensures { λ r. ⌜ Taken (now (section .entry)) r ⌝ }
+{
+    match Origin::make(pid) {
+        OriginMade::One(from) => read_from(from, section),
+        OriginMade::BadPid => Verdict::Refused(Refusal::BadPid),
+    }
+}
+
+// 3 where the section is too short for its CRC or the CRC does not fit.
+fn read_from(from: Origin, section: &[u8]) -> Verdict
+    ensures { λ r. ⌜ r ≡ readAs from (judgedOf (now (section .entry))) ⌝ }
+{
+    match section::header::judge(section) {
+        Judged::Short => Verdict::Failed,
+        Judged::Mismatch(_, _) => Verdict::Failed,
+        Judged::Sound(parts) => Verdict::Arrived(arrive(from, parts)),
+    }
+}
+
+fn arrive(from: Origin, parts: Parts) -> Arrival
+    ensures { λ r. ⌜ r ≡ arrivalOf from parts ⌝ }
+{
+    Arrival {
+        key: section::header::key(from, parts.table_id, parts.extension, parts.number),
+        version: parts.version,
+        change: parts.change,
+        table_id: parts.table_id,
+    }
+}

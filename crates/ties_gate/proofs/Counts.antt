@@ -1,0 +1,52 @@
+-- The counters: each offer that is judged is counted once, under its answer. From a fresh record, after each call, completed is the sum of emitted,
+-- suppressed and CRC failures, and each of them is the number of offers given that answer.
+-- Assumes nothing.
+use Prim.Native.Nat.{ℕ, _+_, _<_, _≤_}
+use mathlib.Core.Path.{_≡_}
+use mathlib.Core.List.{List, [], _∷_}
+use mathlib.Core.Bool.{_||_}
+use native.Mathlib.Omega.{arith}
+use borrow.Author.Tests.{ltb-false, ne-eqb}
+use Rattle.laws.specs.Runs.{answers, storeAfter}
+use Rattle.answers.specs.Answers.{refusalNo}
+use Rattle.answers.specs.declared.Refusal.{Refusal}
+use Rattle.answers.proofs.Laws.{refused-from-10}
+use Rattle.counters.specs.Rules.{countOf, Sums, Counts}
+use Rattle.counters.proofs.Sums.{kept, failed, counted, all-sums, balances}
+use Rattle.ring.specs.Store.{seenOf, stampOf}
+use Rattle.ring.specs.declared.Seen.{Seen}
+use Rattle.offers.specs.Offers.{verdictOf}
+use Rattle.offers.specs.declared.Arrival.{Arrival}
+use Rattle.offers.specs.declared.Verdict.{Verdict}
+use Rattle.offers.specs.declared.Verdict.the-variants.{Refused, Failed, Arrived}
+use Rattle.gate.specs.Store.{isWhole, Store, seenBy, admittedTo, carried, offered}
+use Rattle.gate.specs.Rules.{Offer}
+use Rattle.gate.specs.View.{storeTells, storeActs}
+use Rattle.gate.proofs.Laws.{answer-no}
+
+-- what the ring sees of a section that arrived
+abbrev seenFor : Store → Arrival → Seen
+seenFor s a = seenOf (s .gate .ring) (s .keys) (s .changes) (a .key) (stampOf (a .version) (a .change))
+
+-- a refusal is neither 1 nor 2 nor 3
+refused-none : (r : Refusal) (n : ℕ) → n < 10 → countOf n (refusalNo r ∷ []) ≡ 0
+refused-none r n h = let k : 10 ≤ refusalNo r = ltb-false _ _ (refused-from-10 r) in rw (ne-eqb (refusalNo r) n (λ e. omega (arith, h, k, e)))
+
+-- every call on every store
+pub counts : (s : Store) (o : Offer) → Counts (storeTells s o) (s .counters) (storeActs s o .counters)
+unfolding storeTells storeActs offered carried admittedTo seenBy
+counts s o = go (verdictOf (isWhole s) (s .counters) (o .pid) (o .section))
+  where
+    go : (v : Verdict) → Counts (carried s (o .section) v .answer) (s .counters) (carried s (o .section) v .store .counters)
+    go (Refused r) = kept (s .counters) (refusalNo r) (refused-none r 1 (omega arith)) (refused-none r 2 (omega arith)) (refused-none r 3 (omega arith))
+    go Failed = failed (s .counters)
+    go (Arrived a) = let x = seenFor s a in rw (answer-no (x .changed || s .gate .repeats)) (counted (s .counters) (x .changed || s .gate .repeats) (x .evicted))
+
+-- every sequence of calls on every store
+pub sums : (s : Store) (os : List Offer) → Sums (answers storeTells storeActs s os) (s .counters) (storeAfter storeActs s os .counters)
+sums s os = all-sums storeTells storeActs (λ (x : Store). x .counters) counts s os
+
+-- from a fresh record
+pub balanced : (s : Store) (os : List Offer) → s .counters .completed ≡ 0 → s .counters .emitted ≡ 0 → s .counters .suppressed ≡ 0 → s .counters .«crc_failures» ≡ 0 →
+    storeAfter storeActs s os .counters .completed ≡ storeAfter storeActs s os .counters .emitted + storeAfter storeActs s os .counters .suppressed + storeAfter storeActs s os .counters .«crc_failures»
+balanced s os a b c d = balances (answers storeTells storeActs s os) (s .counters) (storeAfter storeActs s os .counters) (sums s os) a b c d
