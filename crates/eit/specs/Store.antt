@@ -11,10 +11,10 @@ use Rattle.answers.specs.declared.Outcome.{Outcome}
 use Rattle.answers.specs.declared.Outcome.the-variants as outcome
 use Rattle.answers.specs.declared.Reply.the-variants as reply
 use Rattle.section.specs.declared.ids.MaybePid.{MaybePid}
-use Rattle.cells.specs.Cells.{filled, kept}
+use Rattle.cells.specs.Cells.{kept}
 use Rattle.rows.specs.Rows.{keyAt, rowSlots, lastOf, versionOf}
 use Rattle.rows.specs.declared.Key.{Key}
-use Rattle.readers.specs.Next.{noSection}
+use Rattle.readers.specs.Next.{filledSlots, noSection}
 use Rattle.readers.specs.declared.Next.{Next}
 use Rattle.arrivals.specs.declared.EitArrival.{EitArrival}
 use Rattle.arrivals.specs.declared.EitArrival.the-variants as arrival
@@ -35,11 +35,6 @@ use Rattle.eit_drop.specs.declared.Drop.the-variants as drop
 use Rattle.eit_drop.specs.Drop.{matchingGone}
 
 -- ---- what is answered
-
--- "All filled slots are handed out"
-unfoldable pub filledSlots : List ℕ → List ℕ
-filledSlots [] = []
-filledSlots (w ∷ ws) = cond (filled w) (w ∷ filledSlots ws) (filledSlots ws)
 
 -- a set that goes out: its row, its key, its version and last_section_number, and its sections' bytes in section order
 pub record SetOut : Type 0 where

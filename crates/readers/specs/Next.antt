@@ -1,14 +1,19 @@
 -- The sections of a row, one after another (docs/RULES.md, "Collectors").
 -- `cond test a b` is a where the test is true, else b.
 use Prim.Native.Nat.{ℕ, _*_}
-use mathlib.Core.List.{List}
+use mathlib.Core.List.{List, [], _∷_}
 use mathlib.Core.Bool.{cond}
 use lib.ListN.{length, getD}
 use lib.Dec.{ltb}
 use Rattle.answers.specs.declared.Reply.{Reply}
 use Rattle.answers.specs.declared.Reply.the-variants.{Yes, No}
-use Rattle.cells.specs.Cells.{cellNumber, keptLength}
+use Rattle.cells.specs.Cells.{cellNumber, keptLength, filled}
 use Rattle.readers.specs.declared.Next.{Next}
+
+-- the filled slots, in order ("All filled slots are handed out")
+unfoldable pub filledSlots : List ℕ → List ℕ
+filledSlots [] = []
+filledSlots (w ∷ ws) = cond (filled w) (w ∷ filledSlots ws) (filledSlots ws)
 
 -- an answer that tells of no section: 9, or a refusal
 abbrev pub noSection : Reply → Next

@@ -5,6 +5,7 @@ ghost use mathlib.Core.Path.{_≡_};
 ghost use Prim.Native.Nat.{_≤_};
 ghost use Rattle.cells.specs.Cells.{nextFilled, partOf};
 ghost use Rattle.readers.specs.Next.{noSection, slotTold};
+ghost use Rattle.readers.specs.Reader.{noStep, stepOf, held, begun, movedOn};
 
 // A section: its number, and where its bytes are in the lent cells. All 0 where there is none.
 pub struct Next {
@@ -60,40 +61,70 @@ pub fn section_part<'a>(cells: &'a [u8], start: usize, length: usize) -> &'a [u8
     cells::part(cells, start, length)
 }
 
-// A reader over a complete set: the lent cells, and the slot to look at next. Its user asks from that slot on, and it hands out each section as
-// a part of the cells.
+// Where a reader finds the next section, and the slot behind it. Where there is none: no bytes, and the slot at which it stood.
+pub struct Step {
+    pub start: usize,
+    pub length: usize,
+    pub next: usize,
+}
+
+fn no_step(from: usize) -> Step
+    ensures { λ r. ⌜ r ≡ noStep from ⌝ }
+{
+    Step {
+        start: 0,
+        length: 0,
+        next: from,
+    }
+}
+
+// From slot `from` of a row's slots on. No cell is larger than 4,096 bytes.
+pub fn step_from(row: &[u32], size: usize, from: usize) -> Step
+    ensures { λ r. ⌜ r ≡ stepOf size (now (row .entry)) from ⌝ }
+{
+    if 4096 < size {
+        return no_step(from);
+    }
+    let found = next_slot(row, size, from);
+    let answer = found.answer;
+    if answer.number() == 8 {
+        let next = found.number + 1;
+        return Step {
+            start: found.start,
+            length: found.length,
+            next,
+        };
+    }
+    no_step(from)
+}
+
+// A reader over a complete set: the lent cells, the slot to look at next, and the section that it handed out last, which is a part of the cells and
+// empty before the first section and behind the last.
 pub struct SetReader<'a> {
     pub cells: &'a [u8],
     pub next: usize,
+    pub part: &'a [u8],
 }
 
 // A reader at the first slot.
 pub fn reader<'a>(cells: &'a [u8]) -> SetReader<'a>
-    ensures { λ r. ⌜ (r .cells ≡ cells .entry) × (r .next ≡ 0) ⌝ }
-{
-    SetReader { cells, next: 0 }
-}
-
-// The slot from which the reader asks on.
-pub fn next_from<'a>(r: SetReader<'a>) -> usize
-    ensures { λ n. ⌜ n ≡ r .entry .next ⌝ }
-{
-    r.next
-}
-
-// The section that a question told of.
-pub fn section_at<'a>(r: SetReader<'a>, start: usize, length: usize) -> &'a [u8]
-    ensures { λ s. ⌜ now s ≡ partOf (now (r .entry .cells)) start length ⌝ }
-{
-    section_part(r.cells, start, length)
-}
-
-// The reader at another slot.
-pub fn moved<'a>(r: SetReader<'a>, next: usize) -> SetReader<'a>
-    ensures { λ q. ⌜ (q .cells ≡ r .entry .cells) × (q .next ≡ next) ⌝ }
+    ensures { λ r. ⌜ held r ≡ begun (now (cells .entry)) ⌝ }
 {
     SetReader {
+        cells,
+        next: 0,
+        part: section_part(cells, 0, 0),
+    }
+}
+
+// The next section of a row, whose slots are given: the reader, moved on behind it, with its bytes; at the end with an empty part.
+pub fn next_part<'a>(r: SetReader<'a>, row: &'a [u32], size: usize) -> SetReader<'a>
+    ensures { λ q. ⌜ held q ≡ movedOn size (now (row .entry)) (held (r .entry)) ⌝ }
+{
+    let step = step_from(row, size, r.next);
+    SetReader {
         cells: r.cells,
-        next,
+        next: step.next,
+        part: section_part(r.cells, step.start, step.length),
     }
 }

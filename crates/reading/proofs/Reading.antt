@@ -18,9 +18,9 @@ use Rattle.placing.proofs.Fits.{slot-bounds}
 use Rattle.answers.specs.declared.Reply.{Reply}
 use Rattle.answers.specs.declared.Reply.the-variants.{Yes, No}
 use Rattle.cells.specs.Cells.{keptLength, cellNumber, filled, slotWhole, allWhole, allFilled, kept, partOf}
-use Rattle.readers.specs.Next.{slotTold, noSection}
+use Rattle.readers.specs.Next.{filledSlots, slotTold, noSection}
 use Rattle.readers.specs.declared.Next.{Next}
-use Rattle.reading.specs.Reading.{filledOf, asks, Reads, ends, goesOn}
+use Rattle.reading.specs.Reading.{asks, Reads, ends, goesOn}
 
 -- two readings of the same are the same
 pub one-reading : {ask : ℕ → Next} {cells : List ℕ} {from : ℕ} {p q : List (List ℕ)} {a b : Reply} → Reads ask cells from p a → Reads ask cells from q b → (p ≡ q) × (a ≡ b)
@@ -31,7 +31,7 @@ one-reading {ask = ask} {cells = cells} {from = from} (goesOn e r) (goesOn f s) 
     let t = one-reading r s in
     (ap (λ (l : List (List ℕ)). partOf cells ((ask from) .start) ((ask from) .length) ∷ l) (t .0), t .1)
 
-no≢yes : No ≢ Yes
+pub no≢yes : No ≢ Yes
 no≢yes e = let z : _≡_ {A = ℕ} 0 1 = cc in omega arith
 
 -- where there is none, nothing is read
@@ -46,7 +46,7 @@ alike ask cells from later p a e (goesOn {parts = parts} h r) =
     (goesOn (ap (λ (x : Next). x .answer) (sym e) ∙ h) (subst (λ (x : Next). Reads ask cells (x .number + 1) parts a) e r))
 
 -- the part that a whole word tells of is what it keeps
-part-kept : (count size w : ℕ) (cells : List ℕ) → slotWhole count size w ≡ true → filled w ≡ true → count * size ≤ length cells
+pub part-kept : (count size w : ℕ) (cells : List ℕ) → slotWhole count size w ≡ true → filled w ≡ true → count * size ≤ length cells
     → partOf cells (cellNumber w * size) (keptLength w) ≡ kept cells size w
 part-kept count size w cells h f l =
     let b = slot-bounds count size w h (λ z. true≢false (sym f ∙ ap (λ (k : ℕ). not (eqb k 0)) z)) in
@@ -79,8 +79,8 @@ module _ (count size : ℕ) (cells slots : List ℕ) (whole : allWhole count siz
       let y : length slots - suc from ≡ n = omega (arith, e) in
       rw (z, y, f) refl
 
-  reads-from : (n from : ℕ) → n + from ≡ length slots → Reads (asks size slots) cells from (map (kept cells size) (filledOf (drop from slots))) No
-  unfolding filledOf
+  reads-from : (n from : ℕ) → n + from ≡ length slots → Reads (asks size slots) cells from (map (kept cells size) (filledSlots (drop from slots))) No
+  unfolding filledSlots
   reads-from zero from e =
       let q : asks size slots from ≡ noSection No = none-left from (omega (arith, e)) in
       let l : length slots ≤ from = omega (arith, e) in
@@ -91,26 +91,26 @@ module _ (count size : ℕ) (cells slots : List ℕ) (whole : allWhole count siz
       w : ℕ
       w = getD slots from 0
 
-      go : (b : Bool) → filled (getD slots from 0) ≡ b → Reads (asks size slots) cells (suc from) (map (kept cells size) (filledOf (drop (suc from) slots))) No
-          → Reads (asks size slots) cells from (map (kept cells size) (cond b (getD slots from 0 ∷ filledOf (drop (suc from) slots)) (filledOf (drop (suc from) slots)))) No
+      go : (b : Bool) → filled (getD slots from 0) ≡ b → Reads (asks size slots) cells (suc from) (map (kept cells size) (filledSlots (drop (suc from) slots))) No
+          → Reads (asks size slots) cells from (map (kept cells size) (cond b (getD slots from 0 ∷ filledSlots (drop (suc from) slots)) (filledSlots (drop (suc from) slots)))) No
       go true f r =
           let q : asks size slots from ≡ told from = is-there n from e f in
           let p : partOf cells ((asks size slots from) .start) ((asks size slots from) .length) ≡ kept cells size (getD slots from 0) =
           ap (λ (x : Next). partOf cells (x .start) (x .length)) q
           ∙ part-kept count size (getD slots from 0) cells (every-get (slotWhole count size) slots 0 from whole (omega (arith, e))) f room in
           let s : suc from ≡ (asks size slots from) .number + 1 = (let i : from ≡ (asks size slots from) .number = sym (ap (λ (x : Next). x .number) q) in omega (arith, i)) in
-          subst (λ (l : List ℕ). Reads (asks size slots) cells from (l ∷ map (kept cells size) (filledOf (drop (suc from) slots))) No) p
+          subst (λ (l : List ℕ). Reads (asks size slots) cells from (l ∷ map (kept cells size) (filledSlots (drop (suc from) slots))) No) p
           (goesOn (ap (λ (x : Next). x .answer) q)
-          (subst (λ (k : ℕ). Reads (asks size slots) cells k (map (kept cells size) (filledOf (drop (suc from) slots))) No) s r))
-      go false f r = alike (asks size slots) cells from (suc from) (map (kept cells size) (filledOf (drop (suc from) slots))) No (is-empty n from e f) r
+          (subst (λ (k : ℕ). Reads (asks size slots) cells k (map (kept cells size) (filledSlots (drop (suc from) slots))) No) s r))
+      go false f r = alike (asks size slots) cells from (suc from) (map (kept cells size) (filledSlots (drop (suc from) slots))) No (is-empty n from e f) r
 
   -- from the first slot on
-  pub reads-all : Reads (asks size slots) cells 0 (map (kept cells size) (filledOf slots)) No
+  pub reads-all : Reads (asks size slots) cells 0 (map (kept cells size) (filledSlots slots)) No
   reads-all = reads-from (length slots) 0 (omega arith)
 
 -- where every slot is filled, every slot is read
-pub all-filled : (slots : List ℕ) → allFilled slots ≡ true → filledOf slots ≡ slots
-unfolding filledOf every
+pub all-filled : (slots : List ℕ) → allFilled slots ≡ true → filledSlots slots ≡ slots
+unfolding filledSlots every
 all-filled [] h = refl
 all-filled (w ∷ ws) h =
     let b = and-true (filled w) (allFilled ws) h in

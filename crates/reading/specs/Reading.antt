@@ -4,17 +4,12 @@ use Prim.Native.Nat.{ℕ, _+_}
 use mathlib.Core.Path.{_≡_}
 use mathlib.Core.Logic.{_≢_}
 use mathlib.Core.List.{List, [], _∷_}
-use mathlib.Core.Bool.{cond}
 use Rattle.answers.specs.declared.Reply.{Reply}
 use Rattle.answers.specs.declared.Reply.the-variants.{Yes}
-use Rattle.cells.specs.Cells.{filled, nextFilled, partOf}
+use Rattle.cells.specs.Cells.{nextFilled, partOf}
 use Rattle.readers.specs.Next.{slotTold}
+use Rattle.readers.specs.Reader.{Held, movedOn}
 use Rattle.readers.specs.declared.Next.{Next}
-
--- the filled slots, in order
-unfoldable pub filledOf : List ℕ → List ℕ
-filledOf [] = []
-filledOf (w ∷ ws) = cond (filled w) (w ∷ filledOf ws) (filledOf ws)
 
 -- what a question about these slots is answered (`next_slot` of `readers`)
 abbrev pub asks : ℕ → List ℕ → ℕ → Next
@@ -25,3 +20,9 @@ pub data Reads (ask : ℕ → Next) (cells : List ℕ) : ℕ → List (List ℕ)
   ends : {from : ℕ} → (ask from) .answer ≢ Yes → Reads ask cells from [] ((ask from) .answer)
   goesOn : {from : ℕ} {parts : List (List ℕ)} {last : Reply} → (ask from) .answer ≡ Yes → Reads ask cells ((ask from) .number + 1) parts last
       → Reads ask cells from (partOf cells ((ask from) .start) ((ask from) .length) ∷ parts) last
+
+-- the parts that a reader hands out one after another, over a row that has these slots, until it hands out an empty one
+pub data HandsOut (size : ℕ) (slots : List ℕ) : Held → List (List ℕ) → Type 0 where
+  stops : {h : Held} → (movedOn size slots h) .part ≡ [] → HandsOut size slots h []
+  hands : {h : Held} {parts : List (List ℕ)} → (movedOn size slots h) .part ≢ [] → HandsOut size slots (movedOn size slots h) parts
+      → HandsOut size slots h ((movedOn size slots h) .part ∷ parts)

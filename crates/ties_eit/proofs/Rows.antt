@@ -29,7 +29,7 @@ use Rattle.ages.proofs.Slots.{place, held-get, slots-same, held-names}
 use Rattle.ages.proofs.Cells.{bytes-kept, up-get, up-cong}
 use Rattle.placing.proofs.Fits.{slot-bounds}
 use Rattle.segments.specs.Segments.{wordOf, filledTo, segmentComplete, segmentsComplete, setComplete}
-use Rattle.eit.specs.Store.{filledSlots}
+use Rattle.readers.specs.Next.{filledSlots}
 use Rattle.ties_eit.specs.View.{lastNoted, rowSeen}
 
 -- ---- a row

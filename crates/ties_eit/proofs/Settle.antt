@@ -42,7 +42,8 @@ use Rattle.eit_becomes.specs.Becoming.{becomesOf, isMarked}
 use Rattle.eit_settle.specs.Settle.{markedHeads, settledAs, settled}
 use Rattle.eit_enter.specs.Entering.{entered}
 use Rattle.eit.specs.Store as eit
-use Rattle.eit.specs.Store.{After, after, a-set, setOut, filledSlots}
+use Rattle.readers.specs.Next.{filledSlots}
+use Rattle.eit.specs.Store.{After, after, a-set, setOut}
 use Rattle.ties_eit.specs.View.{theKind, keyShown, keyWords, rowSeen, seen, answerTold, HeadFits, Reached}
 use Rattle.ties_eit.proofs.Keys.{set-self, Bit, key-reads, Kinds, present, scheduled, kinds, InKind}
 use Rattle.ties_eit.proofs.Rows.{row-same, row-marked, complete-is, sections-kept}

@@ -4,8 +4,8 @@
 use Prim.Native.Nat.{ℕ, _<_}
 use native.Mathlib.Omega.{arith}
 use mathlib.Core.Path.{_≡_, refl, sym, ap, _∙_, subst}
-use mathlib.Core.List.{List, [], _∷_, map}
-use mathlib.Core.Bool.{Bool, true, false, cond}
+use mathlib.Core.List.{List, map}
+use mathlib.Core.Bool.{true}
 use lib.ListN.{getD}
 use borrow.Author.Tests.{lt-ltb}
 use Rattle.laws.proofs.Tests.{and-true}
@@ -18,20 +18,21 @@ use Rattle.rules_eit.specs.Rules as rules
 use Rattle.rules_eit.specs.Rules.{Answer, handout}
 use Rattle.rules_eit.specs.Cells.{callTells}
 use Rattle.section.specs.declared.ids.MaybePid.{MaybePid}
-use Rattle.cells.specs.Cells.{filled, kept}
+use Rattle.cells.specs.Cells.{kept}
 use Rattle.rows.specs.Rows.{rowSlots}
 use Rattle.rows.proofs.Whole.{rows-get}
 use Rattle.arrivals.specs.declared.EitArrival.{EitArrival}
 use Rattle.arrivals.specs.declared.EitArrival.the-variants as arrival
+use Rattle.readers.specs.Next.{filledSlots}
 use Rattle.readers.specs.declared.Next.{Next}
-use Rattle.reading.specs.Reading.{filledOf, asks, Reads}
+use Rattle.reading.specs.Reading.{asks, Reads}
 use Rattle.reading.proofs.Reading.{reads-all}
 use Rattle.eit_state.specs.declared.PushAnswer.{PushAnswer}
 use Rattle.eit_state.specs.declared.PushAnswer.the-variants as answer
 use Rattle.eit_state.specs.State.{Store, rowsOf, setStore, wholeOf, Whole}
 use Rattle.eit_state.proofs.Whole.{whole-store}
 use Rattle.eit_carry.specs.Carried.{Step}
-use Rattle.eit.specs.Store.{filledSlots, SetOut, setOut, ScheduleOut, scheduleOut, Told, done, nothing, a-set, a-schedule, refused, answerOf, pushedAs, pushedOf, nextOf}
+use Rattle.eit.specs.Store.{SetOut, setOut, ScheduleOut, scheduleOut, Told, done, nothing, a-set, a-schedule, refused, answerOf, pushedAs, pushedOf, nextOf}
 use Rattle.eit_admit.specs.Admitting.{admitted}
 use Rattle.eit_carry.specs.Carried.{pushedWhole}
 use Rattle.ties_eit.specs.View.{Given, section, Fitting, seen, reads, tells, acts, answerTold, Opened, Reached}
@@ -47,20 +48,15 @@ asked-of-row s w row r from = rw (w, lt-ltb row (s .eit .sets .used) r) refl
 
 -- so what is read are its filled slots' bytes in order, each once, and then no: 10 never occurs in the reading
 pub reads-row : (s : Store) → wholeOf s ≡ true → (row : ℕ) → row < s .eit .sets .used
-    → Reads (nextOf s row) (s .cells) 0 (map (kept (s .cells) (s .eit .sets .size)) (filledOf (rowSlots (s .heads) (s .slots) row))) No
+    → Reads (nextOf s row) (s .cells) 0 (map (kept (s .cells) (s .eit .sets .size)) (filledSlots (rowSlots (s .heads) (s .slots) row))) No
 reads-row s w row r =
     let f = whole-store s w in
-    subst (λ (f : ℕ → Next). Reads f (s .cells) 0 (map (kept (s .cells) (s .eit .sets .size)) (filledOf (rowSlots (s .heads) (s .slots) row))) No)
+    subst (λ (f : ℕ → Next). Reads f (s .cells) 0 (map (kept (s .cells) (s .eit .sets .size)) (filledSlots (rowSlots (s .heads) (s .slots) row))) No)
     (λ i from. sym (asked-of-row s w row r from) i)
     (reads-all (s .eit .sets .count) (s .eit .sets .size) (s .cells) (rowSlots (s .heads) (s .slots) row)
     (rows-get (s .heads) (s .slots) (s .eit .sets .count) (s .eit .sets .size) (s .eit .sets .used) row (f .sets .rows) r) (f .sets .cells-long))
 
 -- ---- what was told
-
-pub same-filled : (ws : List ℕ) → filledSlots ws ≡ filledOf ws
-unfolding filledSlots filledOf
-same-filled [] = refl
-same-filled (w ∷ ws) = ap (λ (l : List ℕ). cond (filled w) (w ∷ l) l) (same-filled ws)
 
 unfoldable pub kind-of : Told → ℕ
 kind-of done = 0
@@ -124,7 +120,7 @@ read-handed s z w pid bytes o h e =
     let t : Store = (pushedOf s pid bytes) .store in
     let x = told-set s w pid bytes h e in
     let d : h .sections ≡ map (kept (t .cells) (t .eit .sets .size)) (filledSlots (rowSlots (t .heads) (t .slots) (h .row))) = ap (λ (y : SetOut). y .sections) (x .set) in
-    subst (λ (l : List Bytes). Reads (nextOf t (h .row)) (t .cells) 0 l No) (ap (map (kept (t .cells) (t .eit .sets .size))) (sym (same-filled (rowSlots (t .heads) (t .slots) (h .row)))) ∙ sym d)
+    subst (λ (l : List Bytes). Reads (nextOf t (h .row)) (t .cells) 0 l No) (sym d)
     (reads-row t (push-whole s z w pid bytes o) (h .row) (x .used))
 
 -- .. in every history from an opening on

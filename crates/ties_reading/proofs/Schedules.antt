@@ -24,14 +24,15 @@ use Rattle.arrivals.specs.declared.EitArrival.{EitArrival}
 use Rattle.arrivals.specs.declared.EitArrival.the-variants as arrival
 use Rattle.units.specs.Units.{isPresent, unitSlots, unitWhole, allPresent, firstTable}
 use Rattle.schedules.specs.Schedules.{tablesOf}
+use Rattle.readers.specs.Next.{filledSlots}
 use Rattle.readers.specs.declared.Next.{Next}
-use Rattle.reading.specs.Reading.{filledOf, asks, Reads}
+use Rattle.reading.specs.Reading.{asks, Reads}
 use Rattle.reading.proofs.Reading.{reads-none, reads-all}
 use Rattle.eit_state.specs.declared.PushAnswer.{PushAnswer}
 use Rattle.eit_state.specs.declared.PushAnswer.the-variants as answer
 use Rattle.eit_state.specs.State.{Store, rowsOf, wholeOf}
 use Rattle.eit_state.proofs.Whole.{whole-store, units-whole}
-use Rattle.eit.specs.Store.{filledSlots, setOut, TableOut, tableOut, tablesOut, ScheduleOut, scheduleOut, Told, done, nothing, a-set, a-schedule, refused, answerOf, pushedAs, pushedOf, nextInOf}
+use Rattle.eit.specs.Store.{setOut, TableOut, tableOut, tablesOut, ScheduleOut, scheduleOut, Told, done, nothing, a-set, a-schedule, refused, answerOf, pushedAs, pushedOf, nextInOf}
 use Rattle.eit_admit.specs.Admitting.{admitted}
 use Rattle.eit_carry.specs.Carried.{pushedWhole}
 use Rattle.eit_next.specs.Following.{unitNext}
@@ -39,7 +40,7 @@ use Rattle.ties_eit.specs.View.{Given, section, scheduleShown, seen, reads, tab
 use Rattle.ties_eit.proofs.Places.{units-get, schedules-get, present-get}
 use Rattle.ties_eit.proofs.History.{EachFitting, opened-reached, tells-seen, opened-whole, always-whole}
 use Rattle.ties_reading.proofs.Rows.{ToldRow, told-row}
-use Rattle.ties_reading.proofs.Eit.{same-filled, kind-of, scheduleIn, apart, push-whole}
+use Rattle.ties_reading.proofs.Eit.{kind-of, scheduleIn, apart, push-whole}
 
 -- ---- a table of a schedule in use
 
@@ -49,7 +50,7 @@ module _ (s : Store) (w : wholeOf s ≡ true) (row table : ℕ) (r : row < s .ei
   unfolding nextInOf unitNext
   asked-of-table from = rw (w, lt-ltb row (s .eit .schedules) r, lt-ltb table (tablesOf (s .schedule-heads) row) j, p) refl
 
-  table-whole : allWhole (s .eit .sets .count) (s .eit .sets .size) (unitSlots (s .units) (row * 16 + table)) ≡ true
+  pub table-whole : allWhole (s .eit .sets .count) (s .eit .sets .size) (unitSlots (s .units) (row * 16 + table)) ≡ true
   unfolding unitWhole
   table-whole =
       let u : unitWhole (s .units) (s .eit .sets .count) (s .eit .sets .size) (row * 16 + table) ≡ true =
@@ -58,10 +59,10 @@ module _ (s : Store) (w : wholeOf s ≡ true) (row table : ℕ) (r : row < s .ei
       rw p at u
 
   -- so what is read are its filled slots' bytes in order, each once, and then no: 10 never occurs in the reading
-  pub reads-table : Reads (nextInOf s row table) (s .cells) 0 (map (kept (s .cells) (s .eit .sets .size)) (filledOf (unitSlots (s .units) (row * 16 + table)))) No
+  pub reads-table : Reads (nextInOf s row table) (s .cells) 0 (map (kept (s .cells) (s .eit .sets .size)) (filledSlots (unitSlots (s .units) (row * 16 + table)))) No
   reads-table =
       let f = whole-store s w in
-      subst (λ (f : ℕ → Next). Reads f (s .cells) 0 (map (kept (s .cells) (s .eit .sets .size)) (filledOf (unitSlots (s .units) (row * 16 + table)))) No)
+      subst (λ (f : ℕ → Next). Reads f (s .cells) 0 (map (kept (s .cells) (s .eit .sets .size)) (filledSlots (unitSlots (s .units) (row * 16 + table)))) No)
       (λ i from. sym (asked-of-table from) i)
       (reads-all (s .eit .sets .count) (s .eit .sets .size) (s .cells) (unitSlots (s .units) (row * 16 + table)) table-whole (f .sets .cells-long))
 
@@ -148,7 +149,7 @@ read-handed s z w pid bytes o g e = record { tables = one; past = none }
     one j x h =
         let q = table-at t (g .row * 16) n j x (subst (λ (l : List TableOut). At l j x) are h) in
         let d : x .sections ≡ map (kept (t .cells) (t .eit .sets .size)) (filledSlots (unitSlots (t .units) (g .row * 16 + j))) = ap (λ (y : TableOut). y .sections) (q .1) in
-        subst (λ (l : List Bytes). Reads (nextInOf t (g .row) j) (t .cells) 0 l No) (ap (map (kept (t .cells) (t .eit .sets .size))) (sym (same-filled (unitSlots (t .units) (g .row * 16 + j)))) ∙ sym d)
+        subst (λ (l : List Bytes). Reads (nextInOf t (g .row) j) (t .cells) 0 l No) (sym d)
         (reads-table t whole (g .row) j (told .used) (q .0) (present-get (t .units) (g .row * 16) n j (told .there) (q .0)))
 
     none : (j : ℕ) → length (g .tables) ≤ j → Reads (nextInOf t (g .row) j) (t .cells) 0 [] No

@@ -20,8 +20,9 @@ use Rattle.store.specs.Store.{Store, store, WholeStore}
 use Rattle.store.proofs.Whole.{means-whole}
 use Rattle.arrivals.specs.declared.SetArrival.{SetArrival}
 use Rattle.arrivals.specs.declared.SetArrival.the-variants as arrival
+use Rattle.readers.specs.Next.{filledSlots}
 use Rattle.readers.specs.declared.Next.{Next}
-use Rattle.reading.specs.Reading.{filledOf, asks, Reads}
+use Rattle.reading.specs.Reading.{asks, Reads}
 use Rattle.reading.proofs.Reading.{reads-all, all-filled}
 use Rattle.sets_plan.specs.declared.Plan.{Plan}
 use Rattle.sets_plan.specs.declared.Plan.the-variants as plan
@@ -43,9 +44,9 @@ asked-of-row s w row r from = rw (means-whole s w, lt-ltb row (s .sets .used) r)
 
 -- so what is read are its filled slots' bytes in order, each once, and then no: 10 never occurs in the reading
 pub reads-row : (s : Store) → WholeStore s → (row : ℕ) → row < s .sets .used
-    → Reads (nextOf s row) (s .cells) 0 (map (kept (s .cells) (s .sets .size)) (filledOf (rowSlots (s .heads) (s .slots) row))) No
+    → Reads (nextOf s row) (s .cells) 0 (map (kept (s .cells) (s .sets .size)) (filledSlots (rowSlots (s .heads) (s .slots) row))) No
 reads-row s w row r =
-    subst (λ (f : ℕ → Next). Reads f (s .cells) 0 (map (kept (s .cells) (s .sets .size)) (filledOf (rowSlots (s .heads) (s .slots) row))) No)
+    subst (λ (f : ℕ → Next). Reads f (s .cells) 0 (map (kept (s .cells) (s .sets .size)) (filledSlots (rowSlots (s .heads) (s .slots) row))) No)
     (λ i from. sym (asked-of-row s w row r from) i)
     (reads-all (s .sets .count) (s .sets .size) (s .cells) (rowSlots (s .heads) (s .slots) row)
     (rows-get (s .heads) (s .slots) (s .sets .count) (s .sets .size) (s .sets .used) row (w .rows) r) (w .cells-long))

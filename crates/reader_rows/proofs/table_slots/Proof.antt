@@ -1,0 +1,58 @@
+use native.Mathlib.Omega.{arith}
+use Rattle.reader_rows.proofs.Ways.{table-no-row, table-past, table-there, table-broken, head-there, unit-long}
+use borrow.Author.Needs.{needs}
+use Rattle.reader_rows.proofs.table_slots.Statement.{statement}
+use Rattle.reader_rows.proofs.table_slots.Tie as tie
+
+returns-3 : tie.Need-returns-3
+returns-3 c = search table-there
+
+returns : tie.Need-returns
+returns c = search table-no-row
+
+returns-2 : tie.Need-returns-2
+returns-2 c = search table-past
+
+returns-4 : tie.Need-returns-4
+returns-4 c = search table-broken
+
+is-whole-requires : tie.Need-is-whole-requires
+is-whole-requires c κs = search needs
+
+none-of-requires : tie.Need-none-of-requires
+none-of-requires c κs = search needs
+
+tables-of-requires : tie.Need-tables-of-requires
+tables-of-requires c κs = let a = c .before .before .before .before .before .before .before .before .before .args in head-there (a .eit) (a .heads .now) (a .slots .now) (a .cells .now) (a .schedule-heads .now) (a .units .now) _ (c .before .before .before .is-whole .ensures) (c .before .before .if1 .taken) (a .row) (c .if2 .left)
+
+none-of-requires-2 : tie.Need-none-of-requires-2
+none-of-requires-2 c κs = search needs
+
+mul-unit-taken : tie.Need-mul-unit-taken
+mul-unit-taken c = let a = c .before .before .before .before .before .before .before .before .before .before .before .args in omega (arith, unit-long (a .eit) (a .heads .now) (a .slots .now) (a .cells .now) (a .schedule-heads .now) (a .units .now) _ (c .before .before .before .before .before .is-whole .ensures) (c .before .before .before .before .if1 .taken) (a .row) (a .table) _ (c .before .before .if2 .left) (c .before .tables-of .ensures .1) (c .if3 .left))
+
+add-unit-taken : tie.Need-add-unit-taken
+add-unit-taken c = let a = c .before .before .before .before .before .before .before .before .before .before .before .args in omega (arith, unit-long (a .eit) (a .heads .now) (a .slots .now) (a .cells .now) (a .schedule-heads .now) (a .units .now) _ (c .before .before .before .before .before .is-whole .ensures) (c .before .before .before .before .if1 .taken) (a .row) (a .table) _ (c .before .before .if2 .left) (c .before .tables-of .ensures .1) (c .if3 .left))
+
+unit-taken-requires : tie.Need-unit-taken-requires
+unit-taken-requires c κs = let a = c .before .before .before .before .before .before .before .before .before .before .before .args in unit-long (a .eit) (a .heads .now) (a .slots .now) (a .cells .now) (a .schedule-heads .now) (a .units .now) _ (c .before .before .before .before .before .is-whole .ensures) (c .before .before .before .before .if1 .taken) (a .row) (a .table) _ (c .before .before .if2 .left) (c .before .tables-of .ensures .1) (c .if3 .left)
+
+none-of-requires-3 : tie.Need-none-of-requires-3
+none-of-requires-3 c κs = search needs
+
+pub table-slots-spec : {M : Type 1} → statement M
+table-slots-spec =
+    tie.close
+    (tie.spec
+    is-whole-requires
+    none-of-requires
+    returns
+    tables-of-requires
+    none-of-requires-2
+    returns-2
+    mul-unit-taken
+    add-unit-taken
+    unit-taken-requires
+    returns-3
+    none-of-requires-3
+    returns-4)
