@@ -52,3 +52,12 @@ pub fn say_section(v: usize, section: &[u8]) {
         io::write_all(STDOUT_FILENO, b"\n");
     }
 }
+
+// The line of a section that a reader handed out, which stands behind it at slot `behind`. Nothing where it is empty: there was no further one.
+pub fn say_part(behind: usize, part: &[u8]) {
+    if part.len() > 0 {
+        if behind > 0 {
+            say_section(behind - 1, part);
+        }
+    }
+}

@@ -9,26 +9,17 @@ ghost use Prim.Native.Nat.{_≤_};
 ghost use lib.ListN.{length};
 
 mod lines;
+mod reading;
 
 // ---- the set collector
 
-// Each section of the set in a row; there are at most 256.
-fn read_set(sets: Sets, heads: &[u64], slots: &[u32], cells: &[u8], row: usize) {
-    let mut from = 0;
-    let mut left = 256u64;
-    while left > 0 {
-        let next = sets::next_section(sets, heads, slots, cells, row, from);
-        let answer = next.answer;
-        if answer.number() != 8 {
-            return;
-        }
-        lines::say_section(
-            next.number,
-            readers::section_part(cells, next.start, next.length),
-        );
-        from = std::num::wrapping_add_usize(next.number, 1);
-        left -= 1;
-    }
+// Each section of the set in a row.
+fn read_set<'a>(sets: Sets, heads: &[u64], slots: &'a [u32], cells: &'a [u8], row: usize) {
+    reading::read_row(
+        cells,
+        reader_rows::set_slots(sets, heads, slots, cells, row),
+        sets.size,
+    );
 }
 
 fn collect(
@@ -79,79 +70,51 @@ fn schedule_row(out: PushAnswer) -> usize {
 }
 
 // Each section of the set in a row.
-fn read_eit_set(
+fn read_eit_set<'a>(
     eit: Eit,
     heads: &[u64],
-    slots: &[u32],
-    cells: &[u8],
+    slots: &'a [u32],
+    cells: &'a [u8],
     schedule_heads: &[u64],
     units: &[u32],
     row: usize,
 ) {
-    let mut from = 0;
-    let mut left = 256u64;
-    while left > 0 {
-        let next = eit::next_section(eit, heads, slots, cells, schedule_heads, units, row, from);
-        let answer = next.answer;
-        if answer.number() != 8 {
-            return;
-        }
-        lines::say_section(
-            next.number,
-            readers::section_part(cells, next.start, next.length),
-        );
-        from = std::num::wrapping_add_usize(next.number, 1);
-        left -= 1;
-    }
+    let sets = eit.sets;
+    reading::read_row(
+        cells,
+        reader_rows::eit_slots(eit, heads, slots, cells, schedule_heads, units, row),
+        sets.size,
+    );
 }
 
 // Each section of a table of the schedule in a row; tables are counted from the first of the kind.
-fn read_table(
+fn read_table<'a>(
     eit: Eit,
     heads: &[u64],
     slots: &[u32],
-    cells: &[u8],
+    cells: &'a [u8],
     schedule_heads: &[u64],
-    units: &[u32],
+    units: &'a [u32],
     row: usize,
     table: usize,
 ) {
-    let mut from = 0;
-    let mut left = 256u64;
-    while left > 0 {
-        let next = eit::next_in_schedule(
-            eit,
-            heads,
-            slots,
-            cells,
-            schedule_heads,
-            units,
-            row,
-            table,
-            from,
-        );
-        let answer = next.answer;
-        if answer.number() != 8 {
-            return;
-        }
-        lines::say_section(
-            next.number,
-            readers::section_part(cells, next.start, next.length),
-        );
-        from = std::num::wrapping_add_usize(next.number, 1);
-        left -= 1;
-    }
+    let sets = eit.sets;
+    reading::read_row(
+        cells,
+        reader_rows::table_slots(eit, heads, slots, cells, schedule_heads, units, row, table),
+        sets.size,
+    );
 }
 
 // Says the answer, and reads out what goes out; the examples' schedules have two tables.
-fn read_out(
+fn read_out<'a>(
     out: PushAnswer,
     eit: Eit,
     heads: &[u64],
-    slots: &[u32],
-    cells: &[u8],
+    slots: &'a [u32],
+    cells: &'a [u8],
     schedule_heads: &[u64],
-    units: &[u32],
+    units: &'a [u32],
 ) {
     lines::say_line(b"eit ", out.number() as u64);
     let set = set_row(out);
