@@ -24,21 +24,18 @@ use Rattle.offers.specs.declared.Arrival.{Arrival}
 use Rattle.offers.specs.declared.Verdict.{Verdict}
 use Rattle.offers.specs.declared.Verdict.the-variants as verdict
 use Rattle.watched.specs.Store.{allPids, filled, following}
-use Rattle.gate.specs.Store.{begun, begunBy, hasRoom, opened, wholeOf, Fits, answerNo, answerOf, Store, Offering, storeOf, leftBy, refused, failure, seenBy, programsOf, followedPat, watchAfter, admittedTo, carried, isWhole, offered}
-use Rattle.gate.specs.declared.Gate.{Gate}
-use Rattle.gate.specs.declared.Offered.{Offered}
-use Rattle.gate.specs.declared.Settings.{Settings}
-use Rattle.gate.specs.declared.Opened.{Opened}
+use Rattle.gate_state.specs.State.{begun, refused, failure, seenBy}
+use Rattle.gate.specs.Store.{begunBy, hasRoom, opened, wholeOf, Fits, Store, Offering, storeOf, leftBy, programsOf, followedPat, watchAfter, admittedTo, carried, isWhole, offered}
+use Rattle.gate_state.specs.declared.Gate.{Gate}
+use Rattle.gate_state.specs.declared.Offered.{Offered}
+use Rattle.gate_state.specs.declared.Settings.{Settings}
+use Rattle.gate_state.specs.declared.Opened.{Opened}
 use Rattle.answers.specs.declared.Refusal.{Refusal}
 use Rattle.answers.specs.declared.Refusal.the-variants.{BadPid, TooLittle}
 use Rattle.answers.specs.declared.Outcome.the-variants as outcome
 use Rattle.counters.specs.declared.Counters.{Counters}
 
--- ---- answers and 10
-
-pub answer-no : (emits : Bool) → answerNo (answerOf emits) ≡ cond emits 1 2
-answer-no true = refl
-answer-no false = refl
+-- ---- 10
 
 pub fits : (g : Gate) (keys changes words : ℕ) (w : Bool) → w ≡ wholeOf g keys changes words → w ≡ true → Fits g keys changes words
 fits g keys changes words w e h =

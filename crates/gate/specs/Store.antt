@@ -21,36 +21,17 @@ use Rattle.answers.specs.declared.Refusal.{Refusal}
 use Rattle.answers.specs.declared.Outcome.{Outcome}
 use Rattle.counters.specs.Counters.{zeroes, countedOf, failedOf}
 use Rattle.counters.specs.declared.Counters.{Counters}
-use Rattle.gate.specs.declared.Settings.{Settings}
-use Rattle.gate.specs.declared.Gate.{Gate}
-use Rattle.gate.specs.declared.Offered.{Offered}
-use Rattle.gate.specs.declared.Opened.{Opened}
-use Rattle.gate.specs.declared.Answer.{Answer}
-use Rattle.gate.specs.declared.Answer.the-variants.{Emitted, Suppressed, CrcFailure, Refused}
-
--- capacity 65,536, repeats off, following on, the well-known PIDs watched
-abbrev pub defaults : Settings
-defaults = record { capacity = 65536; repeats = false; follow = true; «well_known» = true }
-
--- the number of each answer (docs/RULES.md, "Answers")
-abbrev pub answerNo : Answer → ℕ
-answerNo Emitted = 1
-answerNo Suppressed = 2
-answerNo CrcFailure = 3
-answerNo (Refused r) = refusalNo r
+use Rattle.gate_state.specs.State.{answerNo, emptyGate, failure, seenBy}
+use Rattle.gate_state.specs.declared.Settings.{Settings}
+use Rattle.gate_state.specs.declared.Gate.{Gate}
+use Rattle.gate_state.specs.declared.Offered.{Offered}
+use Rattle.gate_state.specs.declared.Opened.{Opened}
 
 -- ---- opening
-
--- a gate with no rows
-abbrev pub emptyGate : Settings → Gate
-emptyGate s = record { ring = emptyRing (s .capacity); repeats = s .repeats; follow = s .follow }
 
 -- not 13: max(1, capacity) rows of each slice, and the watch's 384 words
 abbrev pub hasRoom : ℕ → ℕ → ℕ → ℕ → Bool
 hasRoom capacity keys changes words = leb (roomOf capacity) keys && leb (roomOf capacity) changes && leb 384 words
-
-abbrev pub begun : Outcome → Settings → Opened
-begun a s = record { answer = a; gate = emptyGate s; counters = zeroes }
 
 -- the number of opening's answer, the gate and the counters, and the words of the watch
 pub record Begun : Type 0 where
@@ -103,32 +84,6 @@ pub record Offering : Type 0 where
 -- what a call handed back, with the slices as it left them
 abbrev pub leftBy : Offered → List ℕ → List ℕ → List ℕ → Offering
 leftBy o keys changes words = record { answer = answerNo (o .answer); store = storeOf (o .gate) (o .counters) keys changes words }
-
--- a refusal leaves the gate and its counters as they were
-abbrev pub refused : Refusal → Gate → Counters → Offered
-refused r g c = record { answer = Refused r; gate = g; counters = c }
-
--- 3 touches only completed and CRC failures
-abbrev pub failure : Gate → Counters → Offered
-failure g c = record { answer = CrcFailure; gate = g; counters = failedOf c }
-
-abbrev pub answerOf : Bool → Answer
-answerOf emits = cond emits Emitted Suppressed
-
-abbrev pub gateWith : Gate → Ring → Gate
-gateWith g ring = record { ring = ring; repeats = g .repeats; follow = g .follow }
-
--- changed, or repeats on: emitted; else suppressed
-abbrev pub emitsOf : Gate → Seen → Bool
-emitsOf g seen = seen .changed || g .repeats
-
-unfoldable pub seenBy : Gate → Counters → Seen → Offered
-seenBy g c seen =
-    record {
-      answer = answerOf (emitsOf g seen);
-      gate = gateWith g (seen .ring);
-      counters = countedOf c (emitsOf g seen) (seen .evicted);
-    }
 
 -- the set N of a PAT: the PIDs of its programs, as the 128 words of a set that was empty
 abbrev pub programsOf : List ℕ → List ℕ

@@ -5,7 +5,7 @@ use Rattle.ring.specs.View.{Memory, inOrder, Reached}
 use Rattle.watched.specs.View.{watchIn}
 use Rattle.gate.specs.Rules.{Offer, Manner, Held, Told}
 use Rattle.gate.specs.Store.{Store, Offering, offered}
-use Rattle.gate.specs.declared.Gate.{Gate}
+use Rattle.gate_state.specs.declared.Gate.{Gate}
 
 abbrev pub mannerOf : Gate → Manner
 mannerOf g = record { capacity = g .ring .capacity; repeats = g .repeats; follow = g .follow }

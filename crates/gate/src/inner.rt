@@ -1,14 +1,8 @@
 // The gate's parts: what an offer that nothing refuses does, step by step.
-use crate::Answer;
-use crate::Gate;
-use crate::Offered;
-use crate::Opened;
-use crate::Settings;
-use answers::Outcome;
-use answers::Refusal;
 use counters::Counters;
+use gate_state::Gate;
+use gate_state::Offered;
 use offers::Arrival;
-use ring::Ring;
 use ring::Seen;
 ghost use mathlib.Core.Path.{_≡_};
 ghost use mathlib.Core.Bool.{Bool, true, false, _&&_};
@@ -16,7 +10,7 @@ ghost use Prim.Native.Nat.{_<_, _≤_};
 ghost use lib.ListN.{length};
 ghost use Rattle.section.specs.Header.{tableId};
 ghost use Rattle.counters.specs.Counters.{CanCount};
-ghost use Rattle.gate.specs.Store.{wholeOf, hasRoom, begun, Fits, refused, failure, answerOf, seenBy, followedPat, watchAfter, storeOf, leftBy, admittedTo};
+ghost use Rattle.gate.specs.Store.{wholeOf, hasRoom, Fits, followedPat, watchAfter, storeOf, leftBy, admittedTo};
 
 // Not 10: the ring fits its slices, and the watch has its words.
 pub fn is_whole(gate: Gate, keys: usize, changes: usize, words: usize) -> bool
@@ -32,76 +26,6 @@ pub fn has_room(capacity: u64, keys: usize, changes: usize, words: usize) -> boo
 {
     let all = ring::room(capacity);
     (all <= keys) & (all <= changes) & (watched::WORDS <= words)
-}
-
-// An answer of opening, with the gate that was asked for.
-pub fn begin(answer: Outcome, settings: Settings) -> Opened
-    ensures { λ r. ⌜ r ≡ begun answer settings ⌝ }
-{
-    Opened {
-        answer: answer,
-        gate: Gate {
-            ring: Ring {
-                capacity: settings.capacity,
-                used: 0,
-                first: 0,
-            },
-            repeats: settings.repeats,
-            follow: settings.follow,
-        },
-        counters: counters::fresh(),
-    }
-}
-
-// A refusal leaves the gate and its counters as they were.
-pub fn refuse(refusal: Refusal, gate: Gate, counters: Counters) -> Offered
-    ensures { λ r. ⌜ r ≡ refused refusal gate counters ⌝ }
-{
-    Offered {
-        answer: Answer::Refused(refusal),
-        gate: gate,
-        counters: counters,
-    }
-}
-
-// 3: one more section and one more CRC failure, and nothing else.
-pub fn fail(gate: Gate, counters: Counters) -> Offered
-    requires { ⌜ CanCount counters ⌝ }
-    ensures { λ r. ⌜ r ≡ failure gate counters ⌝ }
-{
-    Offered {
-        answer: Answer::CrcFailure,
-        gate: gate,
-        counters: counters::failed(counters),
-    }
-}
-
-fn answered(emits: bool) -> Answer
-    ensures { λ r. ⌜ r ≡ answerOf emits ⌝ }
-{
-    if emits {
-        Answer::Emitted
-    } else {
-        Answer::Suppressed
-    }
-}
-
-// The answer to a section that the ring has seen: changed, or repeats on, is emitted.
-pub fn tell(gate: Gate, counters: Counters, seen: Seen) -> Offered
-    requires { ⌜ CanCount counters ⌝ }
-    ensures { λ r. ⌜ r ≡ seenBy gate counters seen ⌝ }
-{
-    let emits = seen.changed | gate.repeats;
-    let ring = seen.ring;
-    Offered {
-        answer: answered(emits),
-        gate: Gate {
-            ring: ring,
-            repeats: gate.repeats,
-            follow: gate.follow,
-        },
-        counters: counters::counted(counters, emits, seen.evicted),
-    }
 }
 
 // Replaces the PIDs that the last PAT added to the watch by those of this one. What is no readable PAT changes no watch.
@@ -152,5 +76,5 @@ pub fn admit(
         arrival.change,
     );
     follow(gate, seen, arrival.table_id, words, section);
-    tell(gate, counters, seen)
+    gate_state::tell(gate, counters, seen)
 }

@@ -20,12 +20,13 @@ use Rattle.answers.specs.declared.Refusal.{Refusal}
 use Rattle.answers.specs.declared.Refusal.the-variants.{BadPid, TooLittle}
 use Rattle.answers.specs.declared.Outcome.the-variants as outcome
 use Rattle.counters.specs.declared.Counters.{Counters}
-use Rattle.gate.specs.Store.{begun, hasRoom, wholeOf, Fits, refused, failure, watchAfter}
-use Rattle.gate.specs.Store.{seenBy as answeredBy}
-use Rattle.gate.specs.declared.Gate.{Gate}
-use Rattle.gate.specs.declared.Offered.{Offered}
-use Rattle.gate.specs.declared.Settings.{Settings}
-use Rattle.gate.specs.declared.Opened.{Opened}
+use Rattle.gate_state.specs.State.{begun, refused, failure}
+use Rattle.gate.specs.Store.{hasRoom, wholeOf, Fits, watchAfter}
+use Rattle.gate_state.specs.State.{seenBy as answeredBy}
+use Rattle.gate_state.specs.declared.Gate.{Gate}
+use Rattle.gate_state.specs.declared.Offered.{Offered}
+use Rattle.gate_state.specs.declared.Settings.{Settings}
+use Rattle.gate_state.specs.declared.Opened.{Opened}
 use Rattle.gate.proofs.Laws.{fits}
 use Rattle.gate_indexed.specs.Store.{hasRoomFor, begunBy, openedBy, wholeBy, FitsBy, Indexed, indexedOf, Offering, leftBy, admittedBy, carriedBy, isWholeBy, offeredBy}
 

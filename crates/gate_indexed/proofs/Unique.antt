@@ -7,10 +7,10 @@ use mathlib.Core.List.{List}
 use Rattle.laws.proofs.Unique.{one-result}
 use Rattle.answers.proofs.Laws.{outcome-apart}
 use Rattle.ring_index.specs.Store.{Index}
-use Rattle.gate.specs.declared.Settings.{Settings}
-use Rattle.gate.specs.declared.Opened.{Opened}
-use Rattle.gate.specs.declared.Offered.{Offered}
-use Rattle.gate.proofs.Unique.{answer-one}
+use Rattle.gate_state.specs.declared.Settings.{Settings}
+use Rattle.gate_state.specs.declared.Opened.{Opened}
+use Rattle.gate_state.specs.declared.Offered.{Offered}
+use Rattle.gate_state.proofs.Unique.{answer-one}
 use Rattle.gate_indexed.specs.Store.{Begun, begunBy, openedBy, Indexed, Offering, leftBy, offeredBy}
 
 pub open-unique :

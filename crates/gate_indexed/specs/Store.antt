@@ -16,12 +16,13 @@ use Rattle.watched.specs.Store.{allPids, filled}
 use Rattle.answers.specs.Answers.{refusalNo, outcomeNo}
 use Rattle.counters.specs.Counters.{zeroes}
 use Rattle.counters.specs.declared.Counters.{Counters}
-use Rattle.gate.specs.Store.{answerNo, emptyGate, hasRoom, wholeOf, Fits, Store, storeOf, failure, watchAfter}
-use Rattle.gate.specs.Store.{seenBy as answeredBy}
-use Rattle.gate.specs.declared.Settings.{Settings}
-use Rattle.gate.specs.declared.Gate.{Gate}
-use Rattle.gate.specs.declared.Offered.{Offered}
-use Rattle.gate.specs.declared.Opened.{Opened}
+use Rattle.gate_state.specs.State.{answerNo, emptyGate, failure}
+use Rattle.gate.specs.Store.{hasRoom, wholeOf, Fits, Store, storeOf, watchAfter}
+use Rattle.gate_state.specs.State.{seenBy as answeredBy}
+use Rattle.gate_state.specs.declared.Settings.{Settings}
+use Rattle.gate_state.specs.declared.Gate.{Gate}
+use Rattle.gate_state.specs.declared.Offered.{Offered}
+use Rattle.gate_state.specs.declared.Opened.{Opened}
 
 -- ---- opening
 

@@ -1,7 +1,7 @@
 // The parts of the gate that know its index.
 use counters::Counters;
-use gate::Gate;
-use gate::Offered;
+use gate_state::Gate;
+use gate_state::Offered;
 use offers::Arrival;
 ghost use mathlib.Core.Path.{_≡_};
 ghost use lib.ListN.{length};
@@ -70,5 +70,5 @@ pub fn admit(
         arrival.change,
     );
     gate::inner::follow(gate, seen, arrival.table_id, words, section);
-    gate::inner::tell(gate, counters, seen)
+    gate_state::tell(gate, counters, seen)
 }

@@ -3,10 +3,10 @@
 use answers::Outcome;
 use answers::Refusal;
 use counters::Counters;
-use gate::Gate;
-use gate::Offered;
-use gate::Opened;
-use gate::Settings;
+use gate_state::Gate;
+use gate_state::Offered;
+use gate_state::Opened;
+use gate_state::Settings;
 use offers::Verdict;
 ghost use mathlib.Core.Path.{_≡_};
 ghost use lib.ListN.{length};
@@ -29,7 +29,7 @@ pub fn open(
     ensures { λ r. ⌜ begunBy r (now (buckets .exit)) (now (words .exit)) ≡ openedBy settings (now (extra .entry)) (length (now (keys .entry))) (length (now (changes .entry))) (length (now (links .entry))) (now (buckets .entry)) (now (words .entry)) ⌝ }
 {
     if !watched::inner::pids_good(extra) {
-        return gate::inner::begin(Outcome::Refused(Refusal::BadPid), settings);
+        return gate_state::begin(Outcome::Refused(Refusal::BadPid), settings);
     }
     if !inner::has_room(
         settings.capacity,
@@ -39,11 +39,11 @@ pub fn open(
         links.len(),
         words.len(),
     ) {
-        return gate::inner::begin(Outcome::Refused(Refusal::TooLittle), settings);
+        return gate_state::begin(Outcome::Refused(Refusal::TooLittle), settings);
     }
     ring_index::clear(buckets, ring::room(settings.capacity));
     watched::inner::fill(words, settings.well_known, extra);
-    gate::inner::begin(Outcome::Done, settings)
+    gate_state::begin(Outcome::Done, settings)
 }
 
 // Offers a section that came on a PID, watched or not. Every input has one answer: 10, 11 and 12 change nothing at all.
@@ -69,8 +69,8 @@ pub fn offer(
         words.len(),
     );
     match offers::judge(whole, counters, pid, section) {
-        Verdict::Refused(refusal) => gate::inner::refuse(refusal, gate, counters),
-        Verdict::Failed => gate::inner::fail(gate, counters),
+        Verdict::Refused(refusal) => gate_state::refuse(refusal, gate, counters),
+        Verdict::Failed => gate_state::fail(gate, counters),
         Verdict::Arrived(arrival) => inner::admit(
             gate,
             counters,

@@ -7,7 +7,7 @@ use mathlib.Core.List.{List}
 use Rattle.laws.proofs.Unique.{one-result}
 use Rattle.gate.specs.Store.{Store, Offering, offered}
 use Rattle.counters.specs.declared.Counters.{Counters}
-use Rattle.gate.proofs.Unique.{answer-one}
+use Rattle.gate_state.proofs.Unique.{answer-one}
 use Rattle.gate_lent.specs.Told.{toldBy}
 use Rattle.gate_lent.specs.declared.Told.{Told}
 

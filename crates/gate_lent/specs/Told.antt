@@ -1,7 +1,8 @@
 -- What the gate's offer over lent counters leaves, as the gate's own promise says it (docs/RULES.md, "Gate").
 use mathlib.Core.List.{List}
 use Prim.Native.Nat.{ℕ}
-use Rattle.gate.specs.Store.{answerNo, storeOf, Offering}
+use Rattle.gate_state.specs.State.{answerNo}
+use Rattle.gate.specs.Store.{storeOf, Offering}
 use Rattle.counters.specs.declared.Counters.{Counters}
 use Rattle.gate_lent.specs.declared.Told.{Told}
 

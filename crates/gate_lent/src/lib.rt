@@ -1,7 +1,7 @@
 // The gate for a host that keeps one record of five counters and lends it: they are counted up where they stand.
 use counters::Counters;
-use gate::Answer;
-use gate::Gate;
+use gate_state::Answer;
+use gate_state::Gate;
 ghost use mathlib.Core.Path.{_≡_};
 ghost use Rattle.gate.specs.Store.{storeOf, offered};
 ghost use Rattle.gate_lent.specs.Told.{toldBy};

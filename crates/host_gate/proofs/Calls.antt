@@ -16,10 +16,10 @@ use Rattle.answers.proofs.Laws.{refused-from-10}
 use Rattle.counters.specs.declared.Counters.{Counters}
 use Rattle.watched.specs.Store.{asked}
 use Rattle.gate.specs.Store.{begunBy, opened, leftBy, storeOf, offered}
-use Rattle.gate.specs.declared.Settings.{Settings}
-use Rattle.gate.specs.declared.Gate.{Gate}
-use Rattle.gate.specs.declared.Opened.{Opened}
-use Rattle.gate.specs.declared.Offered.{Offered}
+use Rattle.gate_state.specs.declared.Settings.{Settings}
+use Rattle.gate_state.specs.declared.Gate.{Gate}
+use Rattle.gate_state.specs.declared.Opened.{Opened}
+use Rattle.gate_state.specs.declared.Offered.{Offered}
 use Rattle.host_words.specs.Pids.{pidNumber}
 use Rattle.host_words.specs.Answers.{Words, words}
 use Rattle.host_gate.specs.Words.{settingsOf, heldIn, wordsOf, wordsOpened, tellsOpened, tellsOffered}

@@ -6,7 +6,7 @@ use Prim.Native.Nat.{ℕ}
 use Rattle.answers.specs.declared.Outcome.{Outcome}
 use Rattle.answers.specs.declared.Outcome.the-variants.{Done}
 use Rattle.counters.specs.declared.Counters.{Counters}
-use Rattle.gate.specs.declared.Gate.{Gate}
+use Rattle.gate_state.specs.declared.Gate.{Gate}
 use Rattle.host_gate.specs.declared.words.Held.{Held}
 use Rattle.host_gate.specs.Words.{gateOf, countersOf, heldIn, wordsOf, wordsOpened}
 

@@ -11,8 +11,9 @@ use Rattle.offers.specs.Offers.{verdictOf}
 use Rattle.offers.specs.declared.Verdict.{Verdict}
 use Rattle.offers.specs.declared.Verdict.the-variants.{Refused, Failed, Arrived}
 use Rattle.watched.specs.Store.{allPids}
-use Rattle.gate.specs.Store.{answerNo, answerOf, emitsOf, hasRoom, begins, opened, isWhole, Store, storeOf, Offering, seenBy, admittedTo, carried, offered}
-use Rattle.gate.specs.declared.Settings.{Settings}
+use Rattle.gate_state.specs.State.{answerNo, answerOf, emitsOf, seenBy}
+use Rattle.gate.specs.Store.{hasRoom, begins, opened, isWhole, Store, storeOf, Offering, admittedTo, carried, offered}
+use Rattle.gate_state.specs.declared.Settings.{Settings}
 use Rattle.host_words.specs.Pids.{pidNumber}
 use Rattle.host_gate.specs.Words.{settingsOf, gateOf, countersOf}
 use Rattle.host_gate.specs.Calls.{begun, begunAs, gateOpened, left, leftAs, gateOffered}

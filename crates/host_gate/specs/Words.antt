@@ -9,11 +9,11 @@ use Rattle.answers.specs.declared.Outcome.{Outcome}
 use Rattle.answers.specs.declared.Outcome.the-variants as outcome
 use Rattle.counters.specs.Counters.{counts}
 use Rattle.counters.specs.declared.Counters.{Counters}
-use Rattle.gate.specs.Store.{answerNo}
-use Rattle.gate.specs.declared.Settings.{Settings}
-use Rattle.gate.specs.declared.Gate.{Gate}
-use Rattle.gate.specs.declared.Opened.{Opened}
-use Rattle.gate.specs.declared.Offered.{Offered}
+use Rattle.gate_state.specs.State.{answerNo}
+use Rattle.gate_state.specs.declared.Settings.{Settings}
+use Rattle.gate_state.specs.declared.Gate.{Gate}
+use Rattle.gate_state.specs.declared.Opened.{Opened}
+use Rattle.gate_state.specs.declared.Offered.{Offered}
 use Rattle.host_words.specs.Answers.{Words, words, at}
 use Rattle.host_gate.specs.declared.words.Held.{Held}
 

@@ -2,10 +2,10 @@
 // 8 crc_failures, 9 evictions.
 use answers::Outcome;
 use counters::Counters;
-use gate::Gate;
-use gate::Offered;
-use gate::Opened;
-use gate::Settings;
+use gate_state::Gate;
+use gate_state::Offered;
+use gate_state::Opened;
+use gate_state::Settings;
 use ring::Ring;
 ghost use mathlib.Core.Path.{_≡_};
 ghost use Rattle.host_words.specs.Answers.{words};

@@ -4,9 +4,9 @@ use Prim.Native.Nat.{ℕ}
 use mathlib.Core.Path.{_≡_, sym, ap}
 use mathlib.Core.List.{List}
 use lib.ListN.{length}
-use Rattle.gate.specs.declared.Settings.{Settings}
-use Rattle.gate.specs.declared.Opened.{Opened}
-use Rattle.gate.specs.declared.Offered.{Offered}
+use Rattle.gate_state.specs.declared.Settings.{Settings}
+use Rattle.gate_state.specs.declared.Opened.{Opened}
+use Rattle.gate_state.specs.declared.Offered.{Offered}
 use Rattle.ring_index.specs.Store.{indexOf}
 use Rattle.gate_indexed.specs.Store as indexed
 use Rattle.host_words.specs.Pids.{pidNumber}

@@ -13,8 +13,8 @@ use Rattle.offers.specs.Offers.{verdictOf}
 use Rattle.offers.specs.declared.Verdict.{Verdict}
 use Rattle.offers.specs.declared.Verdict.the-variants.{Refused, Failed, Arrived}
 use Rattle.watched.specs.Store.{allPids}
-use Rattle.gate.specs.Store.{emitsOf, seenBy}
-use Rattle.gate.specs.declared.Settings.{Settings}
+use Rattle.gate_state.specs.State.{emitsOf, seenBy}
+use Rattle.gate_state.specs.declared.Settings.{Settings}
 use Rattle.gate_indexed.specs.Store as indexed
 use Rattle.host_words.specs.Pids.{pidNumber}
 use Rattle.host_gate.specs.Words.{settingsOf, gateOf, countersOf}

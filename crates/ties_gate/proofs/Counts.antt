@@ -19,10 +19,11 @@ use Rattle.offers.specs.Offers.{verdictOf}
 use Rattle.offers.specs.declared.Arrival.{Arrival}
 use Rattle.offers.specs.declared.Verdict.{Verdict}
 use Rattle.offers.specs.declared.Verdict.the-variants.{Refused, Failed, Arrived}
-use Rattle.gate.specs.Store.{isWhole, Store, seenBy, admittedTo, carried, offered}
+use Rattle.gate_state.specs.State.{seenBy}
+use Rattle.gate.specs.Store.{isWhole, Store, admittedTo, carried, offered}
 use Rattle.gate.specs.Rules.{Offer}
 use Rattle.gate.specs.View.{storeTells, storeActs}
-use Rattle.gate.proofs.Laws.{answer-no}
+use Rattle.gate_state.proofs.Laws.{answer-no}
 
 -- what the ring sees of a section that arrived
 abbrev seenFor : Store → Arrival → Seen

@@ -24,12 +24,14 @@ use Rattle.offers.specs.Offers.{readOf, verdictOf}
 use Rattle.offers.specs.declared.Arrival.{Arrival}
 use Rattle.offers.specs.declared.Verdict.{Verdict}
 use Rattle.offers.specs.declared.Verdict.the-variants.{Refused, Failed, Arrived}
-use Rattle.gate.specs.Store.{emptyGate, hasRoom, isWhole, Store, storeOf, admittedTo, carried, offered}
+use Rattle.gate_state.specs.State.{emptyGate}
+use Rattle.gate.specs.Store.{hasRoom, isWhole, Store, storeOf, admittedTo, carried, offered}
 use Rattle.counters.specs.Counters.{zeroes, anyFull}
-use Rattle.gate.specs.Store.{Offering as Told, seenBy as answeredBy}
+use Rattle.gate_state.specs.State.{seenBy as answeredBy}
+use Rattle.gate.specs.Store.{Offering as Told}
 use Rattle.gate.specs.Rules.{Offer, rowFrom, OfBytes}
 use Rattle.gate.specs.View.{memoryOf, Opened, storeTells, storeActs}
-use Rattle.gate.specs.declared.Settings.{Settings}
+use Rattle.gate_state.specs.declared.Settings.{Settings}
 use Rattle.watched.specs.Store.{allPids, filled}
 use Rattle.watched.proofs.Meaning.{length-filled}
 use Rattle.ties_gate.proofs.Order.{follows, verdict-small}

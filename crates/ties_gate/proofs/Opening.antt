@@ -18,10 +18,11 @@ use Rattle.watched.specs.Store.{allPids, filled, protectedPids}
 use Rattle.watched.specs.View.{watchIn}
 use Rattle.watched.proofs.Meaning.{opened-watched, opened-protected, opened-followed, length-filled}
 use Rattle.counters.specs.Counters.{zeroes}
-use Rattle.gate.specs.Store.{Begun, begins, hasRoom, opened, emptyGate, Store, storeOf}
+use Rattle.gate_state.specs.State.{emptyGate}
+use Rattle.gate.specs.Store.{Begun, begins, hasRoom, opened, Store, storeOf}
 use Rattle.gate.specs.Rules.{Held}
 use Rattle.gate.specs.View.{heldBy, Opened}
-use Rattle.gate.specs.declared.Settings.{Settings}
+use Rattle.gate_state.specs.declared.Settings.{Settings}
 use Rattle.ties_gate.specs.Watching.{isProtected, noPid, emptyHeld}
 
 is-listed : (q : ℕ) (ps : List ℕ) → among q ps ≡ listed q ps

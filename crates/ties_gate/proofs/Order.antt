@@ -29,9 +29,10 @@ use Rattle.watched.specs.Store.{following}
 use Rattle.watched.specs.Rules.{followedBy}
 use Rattle.watched.specs.View.{watchIn}
 use Rattle.watched.proofs.Meaning.{length-following, following-shown}
-use Rattle.gate.specs.Store.{isWhole, Store, Offering, admittedTo, carried, offered, seenBy, answerNo, answerOf, programsOf, followedPat, watchAfter}
+use Rattle.gate_state.specs.State.{seenBy, answerNo, answerOf}
+use Rattle.gate.specs.Store.{isWhole, Store, Offering, admittedTo, carried, offered, programsOf, followedPat, watchAfter}
 use Rattle.gate.specs.Rules as rules
-use Rattle.gate.proofs.Laws.{answer-no}
+use Rattle.gate_state.proofs.Laws.{answer-no}
 use Rattle.counters.specs.Counters.{anyFull, failedOf}
 use Rattle.gate.specs.Rules.{Offer, Manner, Held, Told, rowFrom, admitted, carriedIn, told, tells, acts, OfBytes}
 use Rattle.gate.specs.View.{mannerOf, memoryOf, heldBy, shownBy, Opened, storeTells, storeActs}

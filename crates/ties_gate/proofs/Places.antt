@@ -20,10 +20,12 @@ use Rattle.ring.specs.Rules.{changed}
 use Rattle.ring.specs.View.{memoryAfter, laidIn}
 use Rattle.ring.proofs.Laws.{whole-test}
 use Rattle.ring.proofs.Places.{seenIn, Lies, lies}
-use Rattle.gate.specs.Store.{isWhole, Fits, Store, Offering, admittedTo, carried, offered, seenBy}
+use Rattle.gate_state.specs.State.{seenBy}
+use Rattle.gate.specs.Store.{isWhole, Fits, Store, Offering, admittedTo, carried, offered}
 use Rattle.gate.specs.Rules.{Offer, Manner, rowFrom, admitted, OfBytes}
 use Rattle.gate.specs.View.{mannerOf, memoryOf, storeTells, storeActs}
-use Rattle.gate.proofs.Laws.{fits, answer-no}
+use Rattle.gate.proofs.Laws.{fits}
+use Rattle.gate_state.proofs.Laws.{answer-no}
 use Rattle.ties_gate.specs.Places.{Placed, heldAt, Said, carriedAt, said, saysAt, actsAt, placedBy, saidBy}
 use Rattle.ties_gate.proofs.Order.{watch-kept, watch-shown, verdict-small}
 

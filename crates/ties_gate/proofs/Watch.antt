@@ -16,7 +16,8 @@ use Rattle.pat.proofs.Laws.{length-programs}
 use Rattle.watched.specs.Store.{allPids, filled, following}
 use Rattle.watched.specs.View.{InStep}
 use Rattle.watched.proofs.Meaning.{opened-in-step, following-in-step, length-following}
-use Rattle.gate.specs.Store.{isWhole, Store, seenBy, admittedTo, carried, offered, programsOf, followedPat, watchAfter}
+use Rattle.gate_state.specs.State.{seenBy}
+use Rattle.gate.specs.Store.{isWhole, Store, admittedTo, carried, offered, programsOf, followedPat, watchAfter}
 use Rattle.gate.specs.Rules.{Offer}
 use Rattle.gate.specs.View.{storeActs}
 

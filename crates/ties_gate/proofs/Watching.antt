@@ -22,7 +22,7 @@ use Rattle.watched.specs.Store.{watchedOf, asked}
 use Rattle.gate.specs.Store.{opened, Store, offered}
 use Rattle.gate.specs.Rules.{Offer, Manner, Held, Told, rowFrom, admitted, carriedIn, told, acts, OfBytes}
 use Rattle.gate.specs.View.{mannerOf, heldBy, Opened, storeActs}
-use Rattle.gate.specs.declared.Settings.{Settings}
+use Rattle.gate_state.specs.declared.Settings.{Settings}
 use Rattle.ties_gate.specs.Watching.{isProtected, noPid, emptyHeld, isChanged, isFollowed, nAfter, answered}
 use Rattle.ties_gate.proofs.Order.{follows, same-view}
 use Rattle.ties_gate.proofs.Opening.{leftOpen, seven, opening-opens, opened-empty}

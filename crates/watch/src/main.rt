@@ -3,9 +3,9 @@
 use answers::Refusal;
 use answers::Reply;
 use counters::Counters;
-use gate::Answer;
-use gate::Gate;
-use gate::Settings;
+use gate_state::Answer;
+use gate_state::Gate;
+use gate_state::Settings;
 use libc::STDIN_FILENO;
 use libc::STDOUT_FILENO;
 ghost use mathlib.Core.Path.{_≡_};

@@ -5,7 +5,7 @@ use Rattle.gate.proofs.open.Statement.{statement}
 use Rattle.gate.proofs.open.Tie as tie
 use Rattle.gate.proofs.open.Reads as reads
 use Rattle.gate.proofs.open.Lts as lts
-use Rattle.gate.proofs.inner.begin.Reads as begin-reads
+use Rattle.gate_state.proofs.begin.Reads as begin-reads
 use Rattle.gate.proofs.inner.has_room.Reads as has-room-reads
 use Rattle.watched.proofs.inner.fill.Reads as fill-reads
 use Rattle.watched.proofs.inner.pids_good.Reads as pids-good-reads

@@ -5,7 +5,7 @@ use Rattle.gate_indexed.proofs.open.Statement.{statement}
 use Rattle.gate_indexed.proofs.open.Tie as tie
 use Rattle.gate_indexed.proofs.open.Reads as reads
 use Rattle.gate_indexed.proofs.open.Lts as lts
-use Rattle.gate.proofs.inner.begin.Reads as begin-reads
+use Rattle.gate_state.proofs.begin.Reads as begin-reads
 use Rattle.ring_index.proofs.clear.Reads as clear-reads
 use Rattle.gate_indexed.proofs.inner.has_room.Reads as has-room-reads
 use Rattle.ring.proofs.room.Reads as room-reads

@@ -43,16 +43,16 @@ use denote.Triple.Walked.{says, Stays, stay-ref, stay-dropped, gave-slice, walkO
 use denote.Triple.Clauses.{ensured, lasts}
 use denote.Exit.{yes}
 use Rattle.gate.specs.Store.{storeOf, leftBy, offered}
-use Rattle.gate.specs.declared.Gate.{Gate}
+use Rattle.gate_state.specs.declared.Gate.{Gate}
 use Rattle.counters.specs.declared.Counters.{Counters}
-use Rattle.gate.specs.declared.Offered.{Offered}
-use Rattle.gate.proofs.Answer.Laws as R′
-use Rattle.gate.proofs.Gate as G
-use Rattle.gate.proofs.Gate.Laws as G′
+use Rattle.gate_state.specs.declared.Offered.{Offered}
+use Rattle.gate_state.proofs.Answer.Laws as R′
+use Rattle.gate_state.proofs.Gate as G
+use Rattle.gate_state.proofs.Gate.Laws as G′
 use Rattle.counters.proofs.Counters as N
 use Rattle.counters.proofs.Counters.Laws as N′
-use Rattle.gate.proofs.Offered as O
-use Rattle.gate.proofs.Offered.Laws as O′
+use Rattle.gate_state.proofs.Offered as O
+use Rattle.gate_state.proofs.Offered.Laws as O′
 use Rattle.gate.proofs.offer as by-value
 use Rattle.gate.proofs.offer.Symbol as by-value-def
 use Rattle.gate.proofs.offer.Symbol.{name as #gate·offer}

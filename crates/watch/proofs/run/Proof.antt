@@ -8,7 +8,7 @@ use Rattle.watch.proofs.run.Statement.{statement}
 use Rattle.watch.proofs.run.Tie as tie
 use Rattle.watch.proofs.run.Reads as reads
 use Rattle.watch.proofs.run.Lts as lts
-use Rattle.gate.proofs.Settings.by_default.Reads as by-default-reads
+use Rattle.gate_state.proofs.Settings.by_default.Reads as by-default-reads
 use Rattle.gate.proofs.open.Reads as open-reads
 use Rattle.watch.proofs.say_totals.Reads as say-totals-reads
 use Rattle.watch.proofs.turn.Reads as turn-reads

@@ -5,7 +5,7 @@ use Rattle.host_gate.proofs.words.write_offered.Tie as tie
 use Rattle.host_gate.proofs.words.write_offered.Reads as reads
 use Rattle.host_gate.proofs.words.write_offered.Lts as lts
 use Rattle.host_gate.proofs.words.write_counts.Reads as write-counts-reads
-use Rattle.gate.proofs.Answer.number.Reads as number-reads
+use Rattle.gate_state.proofs.Answer.number.Reads as number-reads
 
 -- src/gates.rt:137:5
 write-counts-requires : tie.Need-write-counts-requires

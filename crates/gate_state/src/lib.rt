@@ -1,0 +1,152 @@
+// The gate without its slices: its settings, what it holds by value, its answers, and the record of an answer with what it leaves by value. No slice is
+// lent here.
+use answers::Outcome;
+use answers::Refusal;
+use counters::Counters;
+use ring::Ring;
+use ring::Seen;
+ghost use mathlib.Core.Path.{_≡_};
+ghost use Rattle.counters.specs.Counters.{CanCount};
+ghost use Rattle.gate_state.specs.State.{defaults, answerNo, begun, refused, failure, answerOf, seenBy};
+
+// What a gate is opened with.
+pub struct Settings {
+    // How many keys are kept; 0 acts as 1.
+    pub capacity: u64,
+    // Whether a section that repeats what was seen is emitted too.
+    pub repeats: bool,
+    // Whether a changed PAT changes the watch.
+    pub follow: bool,
+    // Whether the eight well-known PIDs are watched.
+    pub well_known: bool,
+}
+
+impl Settings {
+    pub const CAPACITY: u64 = 65536;
+
+    pub const REPEATS: bool = false;
+
+    pub const FOLLOW: bool = true;
+
+    pub const WELL_KNOWN: bool = true;
+
+    pub fn by_default() -> Settings
+        ensures { λ r. ⌜ r ≡ defaults ⌝ }
+    {
+        Settings {
+            capacity: Settings::CAPACITY,
+            repeats: Settings::REPEATS,
+            follow: Settings::FOLLOW,
+            well_known: Settings::WELL_KNOWN,
+        }
+    }
+}
+
+pub struct Gate {
+    pub ring: Ring,
+    pub repeats: bool,
+    pub follow: bool,
+}
+
+// What an offer answers: 1, 2, 3, or a refusal.
+pub enum Answer {
+    Emitted,
+    Suppressed,
+    CrcFailure,
+    Refused(Refusal),
+}
+
+impl Answer {
+    pub fn number(self) -> u8
+        ensures { λ r. ⌜ r ≡ answerNo self ⌝ }
+    {
+        match self {
+            Answer::Emitted => 1,
+            Answer::Suppressed => 2,
+            Answer::CrcFailure => 3,
+            Answer::Refused(refusal) => refusal.number(),
+        }
+    }
+}
+
+pub struct Offered {
+    pub answer: Answer,
+    pub gate: Gate,
+    pub counters: Counters,
+}
+
+pub struct Opened {
+    pub answer: Outcome,
+    pub gate: Gate,
+    pub counters: Counters,
+}
+
+// An answer of opening, with the gate that was asked for.
+pub fn begin(answer: Outcome, settings: Settings) -> Opened
+    ensures { λ r. ⌜ r ≡ begun answer settings ⌝ }
+{
+    Opened {
+        answer: answer,
+        gate: Gate {
+            ring: Ring {
+                capacity: settings.capacity,
+                used: 0,
+                first: 0,
+            },
+            repeats: settings.repeats,
+            follow: settings.follow,
+        },
+        counters: counters::fresh(),
+    }
+}
+
+// A refusal leaves the gate and its counters as they were.
+pub fn refuse(refusal: Refusal, gate: Gate, counters: Counters) -> Offered
+    ensures { λ r. ⌜ r ≡ refused refusal gate counters ⌝ }
+{
+    Offered {
+        answer: Answer::Refused(refusal),
+        gate: gate,
+        counters: counters,
+    }
+}
+
+// 3: one more section and one more CRC failure, and nothing else.
+pub fn fail(gate: Gate, counters: Counters) -> Offered
+    requires { ⌜ CanCount counters ⌝ }
+    ensures { λ r. ⌜ r ≡ failure gate counters ⌝ }
+{
+    Offered {
+        answer: Answer::CrcFailure,
+        gate: gate,
+        counters: counters::failed(counters),
+    }
+}
+
+fn answered(emits: bool) -> Answer
+    ensures { λ r. ⌜ r ≡ answerOf emits ⌝ }
+{
+    if emits {
+        Answer::Emitted
+    } else {
+        Answer::Suppressed
+    }
+}
+
+// The answer to a section that the ring has seen: changed, or repeats on, is emitted.
+pub fn tell(gate: Gate, counters: Counters, seen: Seen) -> Offered
+    requires { ⌜ CanCount counters ⌝ }
+    ensures { λ r. ⌜ r ≡ seenBy gate counters seen ⌝ }
+{
+    let emits = seen.changed | gate.repeats;
+    let ring = seen.ring;
+    Offered {
+        answer: answered(emits),
+        gate: Gate {
+            ring: ring,
+            repeats: gate.repeats,
+            follow: gate.follow,
+        },
+        counters: counters::counted(counters, emits, seen.evicted),
+    }
+}
