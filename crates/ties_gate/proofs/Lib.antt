@@ -4,4 +4,5 @@ pub mod Watch
 pub mod Places
 pub mod Opening
 pub mod Watching
+pub mod Counting
 pub mod Indexed

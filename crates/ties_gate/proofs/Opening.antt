@@ -9,6 +9,7 @@ use lib.Dec.{leb, eqb}
 use native.Mathlib.Omega.{arith}
 use borrow.Author.Tests.{leb-true}
 use Rattle.laws.proofs.Tests.{and-true}
+use Rattle.laws.specs.Runs.{answers, storeAfter}
 use Rattle.ring.specs.Store.{roomOf}
 use Rattle.ring.proofs.Order.{opened-reached}
 use Rattle.pat.specs.Pat.{listed}
@@ -20,10 +21,11 @@ use Rattle.watched.proofs.Meaning.{opened-watched, opened-protected, opened-fol
 use Rattle.counters.specs.Counters.{zeroes}
 use Rattle.gate_state.specs.State.{emptyGate}
 use Rattle.gate.specs.Store.{Begun, begins, hasRoom, opened, Store, storeOf}
-use Rattle.gate.specs.Rules.{Held}
-use Rattle.gate.specs.View.{heldBy, Opened}
+use Rattle.gate.specs.Rules.{Offer, Manner, Held, tells, acts, OfBytes}
+use Rattle.gate.specs.View.{mannerOf, heldBy, Opened, storeTells, storeActs}
 use Rattle.gate_state.specs.declared.Settings.{Settings}
 use Rattle.ties_gate.specs.Watching.{isProtected, noPid, emptyHeld}
+use Rattle.ties_gate.proofs.Order.{same-answers, same-view}
 
 is-listed : (q : ℕ) (ps : List ℕ) → among q ps ≡ listed q ps
 is-listed q [] = refl
@@ -92,3 +94,30 @@ module _
     opened-empty =
         ap (λ (b : Begun). heldBy (leftOpen b keys changes)) (z .left)
         ∙ (λ i. record { rows = []; counters = zeroes; watch = watch-empty i })
+
+-- the settings that an offer looks at
+abbrev pub mannerFor : Settings → Manner
+mannerFor st = record { capacity = st .capacity; repeats = st .repeats; follow = st .follow }
+
+-- from an opening that answers 7 every sequence of offers of bytes has the rule's answers from the empty gate, and leaves what the rule leaves
+module _
+    (st : Settings) (extra keys changes words : List ℕ)
+    (h : opened st extra (length keys) (length changes) words .answer ≡ 7)
+    (os : List Offer) (b : OfBytes os)
+  where
+    abbrev start : Store
+    start = leftOpen (opened st extra (length keys) (length changes) words) keys changes
+
+    same-manner : mannerOf (start .gate) ≡ mannerFor st
+    same-manner = ap (λ (x : Begun). mannerOf (leftOpen x keys changes .gate)) (seven st extra (length keys) (length changes) words h .left)
+
+    pub answers-from-open :
+        answers storeTells storeActs start os ≡ answers (tells (mannerFor st)) (acts (mannerFor st)) (emptyHeld (isProtected (st .«well_known») extra)) os
+    answers-from-open =
+        same-answers start os (opening-opens st extra keys changes words h) b
+        ∙ (λ i. answers (tells (same-manner i)) (acts (same-manner i)) (opened-empty st extra keys changes words h i) os)
+
+    pub view-from-open : heldBy (storeAfter storeActs start os) ≡ storeAfter (acts (mannerFor st)) (emptyHeld (isProtected (st .«well_known») extra)) os
+    view-from-open =
+        same-view start os (opening-opens st extra keys changes words h) b
+        ∙ (λ i. storeAfter (acts (same-manner i)) (opened-empty st extra keys changes words h i) os)

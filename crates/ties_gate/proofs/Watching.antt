@@ -21,11 +21,11 @@ use Rattle.watched.specs.Rules.{Watch, staysWatched, followedBy}
 use Rattle.watched.specs.Store.{watchedOf, asked}
 use Rattle.gate.specs.Store.{opened, Store, offered}
 use Rattle.gate.specs.Rules.{Offer, Manner, Held, Told, rowFrom, admitted, carriedIn, told, acts, OfBytes}
-use Rattle.gate.specs.View.{mannerOf, heldBy, Opened, storeActs}
+use Rattle.gate.specs.View.{Opened, storeActs}
 use Rattle.gate_state.specs.declared.Settings.{Settings}
 use Rattle.ties_gate.specs.Watching.{isProtected, noPid, emptyHeld, isChanged, isFollowed, nAfter, answered}
-use Rattle.ties_gate.proofs.Order.{follows, same-view}
-use Rattle.ties_gate.proofs.Opening.{leftOpen, seven, opening-opens, opened-empty}
+use Rattle.ties_gate.proofs.Order.{follows}
+use Rattle.ties_gate.proofs.Opening.{leftOpen, mannerFor, opening-opens, view-from-open}
 
 -- a watch with these protected PIDs and this N
 pub record Watches (w : Watch) (p n : ℕ → Bool) : Type 0 where
@@ -82,33 +82,22 @@ module _
     (h : opened st extra (length keys) (length changes) words .answer ≡ 7)
     (os : List Offer) (b : OfBytes os)
   where
-    -- the store that opening left, and the one after the offers
+    -- the store that opening left
     abbrev start : Store
     start = leftOpen (opened st extra (length keys) (length changes) words) keys changes
-
-    abbrev manner : Manner
-    manner = record { capacity = st .capacity; repeats = st .repeats; follow = st .follow }
-
-    same-manner : mannerOf (start .gate) ≡ manner
-    same-manner = ap (λ x. mannerOf (leftOpen x keys changes .gate)) (seven st extra (length keys) (length changes) words h .left)
 
     abbrev protects : ℕ → Bool
     protects = isProtected (st .«well_known») extra
 
-    rule : Watches (storeAfter (acts manner) (emptyHeld protects) os .watch) protects (nAfter manner (emptyHeld protects) noPid os)
-    rule = watches manner protects (emptyHeld protects) noPid os (record { watched = λ q. sym (or-false (protects q)); protected = λ q. refl; followed = λ q. refl })
-
-    shown : heldBy (storeAfter storeActs start os) ≡ storeAfter (acts manner) (emptyHeld protects) os
-    shown =
-        same-view start os (opening-opens st extra keys changes words h) b
-        ∙ (λ i. storeAfter (acts (same-manner i)) (opened-empty st extra keys changes words h i) os)
+    rule : Watches (storeAfter (acts (mannerFor st)) (emptyHeld protects) os .watch) protects (nAfter (mannerFor st) (emptyHeld protects) noPid os)
+    rule = watches (mannerFor st) protects (emptyHeld protects) noPid os (record { watched = λ q. sym (or-false (protects q)); protected = λ q. refl; followed = λ q. refl })
 
     -- THE THEOREM
     pub ask-in-every-history : (pid : ℕ) → pid < 8192 →
-        asked (storeAfter storeActs start os .words) pid ≡ answered protects (nAfter manner (emptyHeld protects) noPid os) pid
+        asked (storeAfter storeActs start os .words) pid ≡ answered protects (nAfter (mannerFor st) (emptyHeld protects) noPid os) pid
     unfolding asked
     ask-in-every-history pid k =
         let l : 384 ≤ length (storeAfter storeActs start os .words) = always-opened start os (opening-opens st extra keys changes words h) b .watch in
-        let e : hasBit (watchedOf (storeAfter storeActs start os .words)) pid ≡ protects pid || nAfter manner (emptyHeld protects) noPid os pid =
-        ap (λ (x : Held). x .watch .watched pid) shown ∙ rule .watched pid in
+        let e : hasBit (watchedOf (storeAfter storeActs start os .words)) pid ≡ protects pid || nAfter (mannerFor st) (emptyHeld protects) noPid os pid =
+        ap (λ (x : Held). x .watch .watched pid) (view-from-open st extra keys changes words h os b) ∙ rule .watched pid in
         rw (le-leb 384 (length (storeAfter storeActs start os .words)) l, lt-ltb pid 8192 k, e)
