@@ -25,16 +25,24 @@ use Rattle.offers.specs.declared.Arrival.{Arrival}
 use Rattle.offers.specs.declared.Verdict.{Verdict}
 use Rattle.offers.specs.declared.Verdict.the-variants.{Refused, Failed, Arrived}
 use Rattle.gate_state.specs.State.{emptyGate}
-use Rattle.gate.specs.Store.{hasRoom, isWhole, Store, storeOf, admittedTo, carried, offered}
+use Rattle.gate.specs.Store.{hasRoom, isWhole, Store, storeOf, admittedTo, carried, opened, offered}
 use Rattle.counters.specs.Counters.{zeroes, anyFull}
 use Rattle.gate_state.specs.State.{seenBy as answeredBy}
 use Rattle.gate.specs.Store.{Offering as Told}
-use Rattle.gate.specs.Rules.{Offer, rowFrom, OfBytes}
+use Rattle.gate.specs.Rules.{Offer, Held, rowFrom, tells, acts, OfBytes}
 use Rattle.gate.specs.View.{memoryOf, Opened, storeTells, storeActs}
 use Rattle.gate_state.specs.declared.Settings.{Settings}
 use Rattle.watched.specs.Store.{allPids, filled}
 use Rattle.watched.proofs.Meaning.{length-filled}
+use Rattle.gate.specs.Store as plain
 use Rattle.ties_gate.proofs.Order.{follows, verdict-small}
+use Rattle.watched.specs.Store.{asked}
+use Rattle.ties_gate.specs.Watching.{isProtected, noPid, emptyHeld, nAfter, answered}
+use Rattle.ties_gate.specs.Counting.{evictionsIn}
+use Rattle.ties_gate.proofs.Opening.{mannerFor}
+use Rattle.ties_gate.proofs.Opening.{leftOpen as leftStore}
+use Rattle.ties_gate.proofs.Watching.{ask-in-every-history}
+use Rattle.ties_gate.proofs.Counting.{Tells, counters-in-every-history}
 use Rattle.gate_indexed.specs.Store.{hasRoomFor, Begun, begins, openedBy, isWholeBy, Indexed, indexedOf, Offering, admittedBy, carriedBy, offeredBy}
 use Rattle.gate_indexed.specs.Runs.{tellsBy, actsBy}
 
@@ -159,3 +167,55 @@ opening-opens st extra keys changes buckets links words = go (allPids extra) (ha
     go true true e h = room e
     go true false e h = absurd (omega arith)
     go false q e h = absurd (omega arith)
+
+-- the store that it leaves is, but for the index, the one that opening without an index leaves: what holds in every history from that holds here too
+pub opening-same : (st : Settings) (extra keys changes buckets links words : List ℕ)
+    → openedBy st extra (length keys) (length changes) (length links) buckets words .answer ≡ 7
+    → (opened st extra (length keys) (length changes) words .answer ≡ 7)
+    × (leftOpen (openedBy st extra (length keys) (length changes) (length links) buckets words) keys changes links .store ≡ leftStore (opened st extra (length keys) (length changes) words) keys changes)
+unfolding openedBy opened
+opening-same st extra keys changes buckets links words = go (allPids extra) (hasRoom (st .capacity) (length keys) (length changes) (length words)) (leb (roomOf (st .capacity)) (length buckets)) (leb (roomOf (st .capacity)) (length links))
+  where
+    ws : List ℕ
+    ws = filled words (st .«well_known») extra
+
+    go : (p q b l : Bool)
+        → cond p (cond (q && b && l) (begins 7 st (clearedBy (roomOf (st .capacity)) buckets) ws) (begins 13 st buckets words)) (begins 12 st buckets words) .answer ≡ 7
+        → (cond p (cond q (plain.begins 7 st ws) (plain.begins 13 st words)) (plain.begins 12 st words) .answer ≡ 7)
+        × (leftOpen (cond p (cond (q && b && l) (begins 7 st (clearedBy (roomOf (st .capacity)) buckets) ws) (begins 13 st buckets words)) (begins 12 st buckets words)) keys changes links .store
+        ≡ leftStore (cond p (cond q (plain.begins 7 st ws) (plain.begins 13 st words)) (plain.begins 12 st words)) keys changes)
+    go true true true true h = (refl, refl)
+    go true true true false h = absurd (omega arith)
+    go true true false l h = absurd (omega arith)
+    go true false b l h = absurd (omega arith)
+    go false q b l h = absurd (omega arith)
+
+-- what is watched and what is counted, in every history from an opening of the gate with an index
+module _
+    (st : Settings) (extra keys changes buckets links words : List ℕ)
+    (h : openedBy st extra (length keys) (length changes) (length links) buckets words .answer ≡ 7)
+    (os : List Offer) (b : OfBytes os)
+  where
+    abbrev start : Indexed
+    start = leftOpen (openedBy st extra (length keys) (length changes) (length links) buckets words) keys changes links
+
+    abbrev empty : Held
+    empty = emptyHeld (isProtected (st .«well_known») extra)
+
+    -- the store after the offers is that of the gate without an index
+    same-after : storeAfter actsBy start os .store ≡ storeAfter storeActs (leftStore (opened st extra (length keys) (length changes) words) keys changes) os
+    same-after =
+        same-store start os (opening-opens st extra keys changes buckets links words h) b
+        ∙ ap (λ (t : Store). storeAfter storeActs t os) (opening-same st extra keys changes buckets links words h .1)
+
+    pub indexed-ask-in-every-history : (pid : ℕ) → pid < 8192 →
+        asked (storeAfter actsBy start os .store .words) pid ≡ answered (isProtected (st .«well_known») extra) (nAfter (mannerFor st) empty noPid os) pid
+    indexed-ask-in-every-history pid k =
+        ap (λ (t : Store). asked (t .words) pid) same-after
+        ∙ ask-in-every-history st extra keys changes words (opening-same st extra keys changes buckets links words h .0) os b pid k
+
+    pub indexed-counters-in-every-history :
+        Tells (answers (tells (mannerFor st)) (acts (mannerFor st)) empty os) (evictionsIn (mannerFor st) empty os) (storeAfter actsBy start os .store .counters)
+    indexed-counters-in-every-history =
+        subst (λ (t : Store). Tells (answers (tells (mannerFor st)) (acts (mannerFor st)) empty os) (evictionsIn (mannerFor st) empty os) (t .counters)) (sym same-after)
+        (counters-in-every-history st extra keys changes words (opening-same st extra keys changes buckets links words h .0) os b)
