@@ -19,7 +19,8 @@ use Rattle.sets_plan.specs.declared.Plan.{Plan}
 use Rattle.sets_plan.specs.declared.Plan.the-variants as plan
 use Rattle.sets_plan.specs.Plan.{planOf}
 use Rattle.sets_settle.specs.Settle.{nothing, handed, refused, setIn, answerOf, goesOut, settledAnswer, settledHeads, settled, keptIn, carried}
-use Rattle.sets.specs.Store.{wholePushed, admitted, pushedAs, pushedOf}
+use Rattle.sets_push.specs.Pushing.{wholePushed, admitted}
+use Rattle.sets.specs.Store.{pushedAs, pushedOf}
 
 -- what a row that is settled tells is 4 or 5
 settled-tells : (s : Store) (i : ℕ) (r : Refusal) → (settled s i) .told ≢ refused r

@@ -36,10 +36,11 @@ use Rattle.sets_plan.specs.declared.Plan.{Plan}
 use Rattle.sets_plan.specs.declared.Plan.the-variants as plan
 use Rattle.sets_plan.specs.Plan.{planKeep, planOf, KeepOk, PlanOk}
 use Rattle.sets_settle.specs.Settle.{Told, done, nothing, handed, refused, answerOf, goesOut, settledAnswer, settledHeads, settled, keptIn, carried}
-use Rattle.sets.specs.Store.{wholePushed, admitted, pushedAs, pushedOf, clearedOf, openedOf, AdmittedOk}
+use Rattle.sets_push.specs.Pushing.{wholePushed, admitted, AdmittedOk}
+use Rattle.sets.specs.Store.{pushedAs, pushedOf, clearedOf, openedOf}
 use Rattle.sets.specs.History.{Call, offer, empty, called, afterAll, Bytes, AllBytes, OpenedStore}
 use Rattle.sets_plan.proofs.May.{plan-ok}
-use Rattle.sets.proofs.Admit.{admitted-ok}
+use Rattle.sets_push.proofs.Ways.{admitted-ok}
 use Rattle.sets_plan.proofs.Every.{plan-by}
 
 -- ---- heads that differ in no last_section_number

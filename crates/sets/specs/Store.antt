@@ -4,23 +4,21 @@ use Prim.Native.Nat.{ℕ}
 use mathlib.Core.List.{List}
 use mathlib.Core.Bool.{cond}
 use lib.ListN.{length}
-use lib.Dec.{ltb, eqb}
-use Rattle.answers.specs.declared.Refusal.the-variants.{NotWhole, CounterFull, TooLittle}
+use lib.Dec.{ltb}
+use Rattle.answers.specs.declared.Refusal.the-variants.{NotWhole, TooLittle}
 use Rattle.answers.specs.declared.Outcome.{Outcome}
 use Rattle.answers.specs.declared.Outcome.the-variants as outcome
 use Rattle.answers.specs.declared.Reply.the-variants as reply
 use Rattle.section.specs.declared.ids.MaybePid.{MaybePid}
 use Rattle.cells.specs.Cells.{nextFilled}
 use Rattle.rows.specs.Rows.{rowSlots}
-use Rattle.rows.specs.declared.Entry.{Entry}
 use Rattle.store.specs.Store.{Store, store, emptySets, settingsFit, wholeOf}
-use Rattle.arrivals.specs.Arrivals.{setArrival, Taken}
 use Rattle.arrivals.specs.declared.SetArrival.{SetArrival}
 use Rattle.arrivals.specs.declared.SetArrival.the-variants as arrival
 use Rattle.readers.specs.Next.{noSection, slotTold}
 use Rattle.readers.specs.declared.Next.{Next}
-use Rattle.sets_plan.specs.Plan.{planOf, Ready}
-use Rattle.sets_settle.specs.Settle.{Told, done, refused, SetsAfter, after, answered, carried}
+use Rattle.sets_push.specs.Pushing.{admitted, wholePushed}
+use Rattle.sets_settle.specs.Settle.{Told, done, refused, SetsAfter, after, answered}
 use Rattle.sets_settle.specs.declared.PushAnswer.the-variants as push-answer
 use Rattle.sets.specs.declared.Opened.{Opened}
 use Rattle.sets.specs.declared.Cleared.{Cleared}
@@ -49,15 +47,6 @@ clearedOf s = cond (wholeOf s) (after done (store (emptySets (s .sets)) (s .head
 
 -- ---- a section is pushed
 
--- into a store that is whole
-unfoldable pub wholePushed : Store → Entry → List ℕ → SetsAfter
-wholePushed s e bytes = carried s bytes (planOf s e bytes)
-
--- 10, 11, then what the section's bytes and its PID say
-unfoldable pub admitted : Store → MaybePid → List ℕ → SetArrival
-admitted s pid bytes =
-    cond (wholeOf s) (cond (eqb (s .sets .evictions) 18446744073709551615) (arrival.Refused CounterFull) (setArrival pid bytes)) (arrival.Refused NotWhole)
-
 abbrev pub pushedAs : Store → List ℕ → SetArrival → SetsAfter
 pushedAs s bytes (arrival.Refused r) = answered (push-answer.Refused r) s
 pushedAs s bytes (arrival.Arrived e) = wholePushed s e bytes
@@ -75,10 +64,3 @@ nextOf s row from =
     (slotTold (s .sets .size) (rowSlots (s .heads) (s .slots) row) (nextFilled (rowSlots (s .heads) (s .slots) row) from))
     (noSection reply.No))
     (noSection (reply.Refused NotWhole))
-
--- ---- what the functions ask of each other
-
--- of the store and of the section
-abbrev pub AdmittedOk : Store → List ℕ → SetArrival → Type 0
-AdmittedOk s bytes (arrival.Refused r) = Unit {0}
-AdmittedOk s bytes (arrival.Arrived e) = Ready s × Taken bytes e

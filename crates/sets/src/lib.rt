@@ -15,8 +15,6 @@ ghost use Rattle.store.specs.Store.{store, asked};
 ghost use Rattle.sets_settle.specs.Settle.{afterPush};
 ghost use Rattle.sets.specs.Store.{afterOpen, afterClear, openedOf, pushedOf, clearedOf, nextOf};
 
-pub mod inner;
-
 pub struct Opened {
     pub answer: Outcome,
     pub sets: Sets,
@@ -69,12 +67,14 @@ pub fn push(
 ) -> Pushed
     ensures { λ r. ⌜ afterPush r (now (heads .exit)) (now (slots .exit)) (now (cells .exit)) ≡ pushedOf (store sets (now (heads .entry)) (now (slots .entry)) (now (cells .entry))) pid (now (bytes .entry)) ⌝ }
 {
-    match inner::admit(sets, heads, slots, cells, pid, bytes) {
+    match sets_push::admit(sets, heads, slots, cells, pid, bytes) {
         SetArrival::Refused(refusal) => Pushed {
             answer: PushAnswer::Refused(refusal),
             sets,
         },
-        SetArrival::Arrived(entry) => inner::push_whole(sets, heads, slots, cells, entry, bytes),
+        SetArrival::Arrived(entry) => {
+            sets_push::push_whole(sets, heads, slots, cells, entry, bytes)
+        }
     }
 }
 

@@ -72,7 +72,7 @@ use Rattle.eit_state.proofs.Whole.{long as schedules-long}
 use Rattle.ties_eit.specs.View.{pidShown, keyShown, scheduleShown, keyWords, scheduleWords, rowSeen, scheduleSeen, seen, sectionOf, readsEit, readsAs, readSection, reads, answerTold, Given, clears, drops, section, FilterFits, filterShown, Fitting, called, Reached}
 use Rattle.ties_eit.proofs.Keys.{set-self, schedule-self}
 use Rattle.ties_eit.proofs.Places.{copyWhole, schedules-whole}
-use Rattle.ties_eit.proofs.Shelve.{Tied, fits-schedules}
+use Rattle.ties_eit.proofs.Entered.{Tied, fits-schedules}
 use Rattle.ties_eit.proofs.Settle.{Arrives}
 use Rattle.ties_eit.proofs.Keep.{sectionFor}
 use Rattle.ties_eit.proofs.Placed.{placed-tied}

@@ -38,7 +38,7 @@ use Rattle.ties_eit.specs.View.{pidShown, kindBy, keyShown, scheduleShow
 use Rattle.ties_eit.proofs.Keys.{Bit}
 use Rattle.ties_eit.proofs.Rows.{row-as}
 use Rattle.ties_eit.proofs.Units.{copy-as}
-use Rattle.ties_eit.proofs.Shelve.{Tied, fits-schedules}
+use Rattle.ties_eit.proofs.Entered.{Tied, fits-schedules}
 use Rattle.ties_eit.proofs.Retained.{Stays, stays}
 use Rattle.ties_eit.proofs.Filters.{pid-any, pid-without, pid-exactly, sets-match, schedules-match, kind-word}
 

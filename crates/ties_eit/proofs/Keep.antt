@@ -55,7 +55,7 @@ use Rattle.ties_eit.specs.View.{pidShown, keyShown, keyWords, rowSeen, s
 use Rattle.ties_eit.proofs.Keys.{set-self, key-reads}
 use Rattle.ties_eit.proofs.Rows.{row-takes}
 use Rattle.ties_eit.proofs.Places.{schedules-taken}
-use Rattle.ties_eit.proofs.Shelve.{Tied, goes-room, goes-count}
+use Rattle.ties_eit.proofs.Entered.{Tied, goes-room, goes-count}
 use Rattle.ties_eit.proofs.Settle.{Arrives, Ready, settle-tied, head-same}
 use Rattle.ties_eit.proofs.Kept.{after-length, after-other, after-own, after-fresh, word-other, lasts-own, lasts-fresh}
 

@@ -2,7 +2,7 @@ pub mod Keys
 pub mod Rows
 pub mod Units
 pub mod Places
-pub mod Shelve
+pub mod Entered
 pub mod Settle
 pub mod Kept
 pub mod Keep

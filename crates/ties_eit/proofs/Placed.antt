@@ -44,7 +44,7 @@ use Rattle.eit_carry.specs.Carried.{carried}
 use Rattle.eit.specs.Store.{toldStep}
 use Rattle.ties_eit.specs.View.{keyShown, keyWords, rowSeen, seen, Reached}
 use Rattle.ties_eit.proofs.Keys.{set-self, key-reads}
-use Rattle.ties_eit.proofs.Shelve.{Tied, new-fresh}
+use Rattle.ties_eit.proofs.Entered.{Tied, new-fresh}
 use Rattle.ties_eit.proofs.Settle.{Arrives, Ready, settle-tied, conflict-tied}
 use Rattle.ties_eit.proofs.Keep.{sectionFor, anew, goesOn, keep-tied}
 

@@ -94,17 +94,17 @@ module _ {A : Type 0} (test : A → Bool) where
 
 -- ---- one place
 
-tables-few : (tops : List ℕ) (k : ℕ) → tablesOf tops k ≤ 16
+tables-few : (schedule-heads : List ℕ) (k : ℕ) → tablesOf schedule-heads k ≤ 16
 unfolding tablesOf
-tables-few tops k = omega arith
+tables-few schedule-heads k = omega arith
 
-pub place-in : (tops units : List ℕ) (k j : ℕ) → j < tablesOf tops k → placeSeen tops units k j ≡ copySeen units (k * 16 + j)
+pub place-in : (schedule-heads units : List ℕ) (k j : ℕ) → j < tablesOf schedule-heads k → placeSeen schedule-heads units k j ≡ copySeen units (k * 16 + j)
 unfolding placeSeen
-place-in tops units k j h = rw (lt-ltb j (tablesOf tops k) h)
+place-in schedule-heads units k j h = rw (lt-ltb j (tablesOf schedule-heads k) h)
 
-pub place-past : (tops units : List ℕ) (k j : ℕ) → tablesOf tops k ≤ j → placeSeen tops units k j ≡ none
+pub place-past : (schedule-heads units : List ℕ) (k j : ℕ) → tablesOf schedule-heads k ≤ j → placeSeen schedule-heads units k j ≡ none
 unfolding placeSeen
-place-past tops units k j h = rw (le-ltb j (tablesOf tops k) h)
+place-past schedule-heads units k j h = rw (le-ltb j (tablesOf schedule-heads k) h)
 
 -- ---- 10: every slot of every table
 
@@ -125,20 +125,20 @@ module _ (units : List ℕ) (count size base : ℕ) where
   units-all zero f = refl
   units-all (suc n) f = rw (f n (omega arith)) (units-all n (λ i h. f i (omega arith)))
 
-module _ (tops units : List ℕ) (count size : ℕ) where
-  pub schedules-get : (n k : ℕ) → schedulesWhole tops units count size n ≡ true → k < n → unitsWhole units count size (k * 16) (tablesOf tops k) ≡ true
+module _ (schedule-heads units : List ℕ) (count size : ℕ) where
+  pub schedules-get : (n k : ℕ) → schedulesWhole schedule-heads units count size n ≡ true → k < n → unitsWhole units count size (k * 16) (tablesOf schedule-heads k) ≡ true
   unfolding schedulesWhole
   schedules-get zero k e h = absurd (not-suc-le-zero h)
   schedules-get (suc n) k e h =
-      let a = and-true (unitsWhole units count size (n * 16) (tablesOf tops n)) (schedulesWhole tops units count size n) e in
+      let a = and-true (unitsWhole units count size (n * 16) (tablesOf schedule-heads n)) (schedulesWhole schedule-heads units count size n) e in
       go (ℕ-discrete k n) (a .0) (λ q. schedules-get n k (a .1) q)
     where
-      go : Dec (k ≡ n) → unitsWhole units count size (n * 16) (tablesOf tops n) ≡ true → (k < n → unitsWhole units count size (k * 16) (tablesOf tops k) ≡ true)
-          → unitsWhole units count size (k * 16) (tablesOf tops k) ≡ true
+      go : Dec (k ≡ n) → unitsWhole units count size (n * 16) (tablesOf schedule-heads n) ≡ true → (k < n → unitsWhole units count size (k * 16) (tablesOf schedule-heads k) ≡ true)
+          → unitsWhole units count size (k * 16) (tablesOf schedule-heads k) ≡ true
       go (yes q) p ih = rw q p
       go (no d) p ih = ih (omega arith)
 
-  schedules-all : (n : ℕ) → ((k : ℕ) → k < n → unitsWhole units count size (k * 16) (tablesOf tops k) ≡ true) → schedulesWhole tops units count size n ≡ true
+  schedules-all : (n : ℕ) → ((k : ℕ) → k < n → unitsWhole units count size (k * 16) (tablesOf schedule-heads k) ≡ true) → schedulesWhole schedule-heads units count size n ≡ true
   unfolding schedulesWhole
   schedules-all zero f = refl
   schedules-all (suc n) f = rw (f n (omega arith)) (schedules-all n (λ i h. f i (omega arith)))
@@ -157,25 +157,25 @@ module _ (o : Settings) (cells : Cells) where
       go false = refl
 
   -- every place of a schedule whose tables are whole
-  pub place-whole : (tops units : List ℕ) (k : ℕ) → unitsWhole units (length cells) (o .cellSize) (k * 16) (tablesOf tops k) ≡ true → (j : ℕ) → heldPasses copyWhole (placeSeen tops units k j) ≡ true
-  place-whole tops units k e j = go (decLt j (tablesOf tops k))
+  pub place-whole : (schedule-heads units : List ℕ) (k : ℕ) → unitsWhole units (length cells) (o .cellSize) (k * 16) (tablesOf schedule-heads k) ≡ true → (j : ℕ) → heldPasses copyWhole (placeSeen schedule-heads units k j) ≡ true
+  place-whole schedule-heads units k e j = go (decLt j (tablesOf schedule-heads k))
     where
-      go : Dec (j < tablesOf tops k) → heldPasses copyWhole (placeSeen tops units k j) ≡ true
-      go (yes h) = rw (place-in tops units k j h) (copy-whole units (k * 16 + j) ∙ units-get units (length cells) (o .cellSize) (k * 16) (tablesOf tops k) j e h)
-      go (no h) = rw (place-past tops units k j (omega arith))
+      go : Dec (j < tablesOf schedule-heads k) → heldPasses copyWhole (placeSeen schedule-heads units k j) ≡ true
+      go (yes h) = rw (place-in schedule-heads units k j h) (copy-whole units (k * 16 + j) ∙ units-get units (length cells) (o .cellSize) (k * 16) (tablesOf schedule-heads k) j e h)
+      go (no h) = rw (place-past schedule-heads units k j (omega arith))
 
   -- the rules' test of every schedule is the code's test of every table that a schedule in use may have
-  pub schedules-whole : (tops units : List ℕ) (used : ℕ) → Ages (ageOf tops) used
-      → everyRow (λ (g : ScheduleOf Held). everyHeld copyWhole (g .copies)) (rowsSeen scheduleShown tops used (scheduleSeen tops units)) ≡ schedulesWhole tops units (length cells) (o .cellSize) used
+  pub schedules-whole : (schedule-heads units : List ℕ) (used : ℕ) → Ages (ageOf schedule-heads) used
+      → everyRow (λ (g : ScheduleOf Held). everyHeld copyWhole (g .copies)) (rowsSeen scheduleShown schedule-heads used (scheduleSeen schedule-heads units)) ≡ schedulesWhole schedule-heads units (length cells) (o .cellSize) used
   unfolding rowsSeen scheduleSeen
-  schedules-whole tops units used w =
-      same-test _ (schedulesWhole tops units (length cells) (o .cellSize) used)
-      (λ t. schedules-all tops units (length cells) (o .cellSize) used (λ k h. units-all units (length cells) (o .cellSize) (k * 16) (tablesOf tops k) (λ j m.
-      let few = tables-few tops k in
-      sym (copy-whole units (k * 16 + j)) ∙ ap (heldPasses copyWhole) (sym (place-in tops units k j m))
-      ∙ places-every copyWhole (placeSeen tops units k) 16 0 (every-order (λ (g : ScheduleOf Held). everyHeld copyWhole (g .copies)) (ageOf tops) used w _ k t h) j (omega arith) (omega arith))))
-      (λ t. order-every (λ (g : ScheduleOf Held). everyHeld copyWhole (g .copies)) (ageOf tops) used w _ (λ k h.
-      every-places copyWhole (placeSeen tops units k) 16 0 (λ j a b. place-whole tops units k (schedules-get tops units (length cells) (o .cellSize) used k t h) j)))
+  schedules-whole schedule-heads units used w =
+      same-test _ (schedulesWhole schedule-heads units (length cells) (o .cellSize) used)
+      (λ t. schedules-all schedule-heads units (length cells) (o .cellSize) used (λ k h. units-all units (length cells) (o .cellSize) (k * 16) (tablesOf schedule-heads k) (λ j m.
+      let few = tables-few schedule-heads k in
+      sym (copy-whole units (k * 16 + j)) ∙ ap (heldPasses copyWhole) (sym (place-in schedule-heads units k j m))
+      ∙ places-every copyWhole (placeSeen schedule-heads units k) 16 0 (every-order (λ (g : ScheduleOf Held). everyHeld copyWhole (g .copies)) (ageOf schedule-heads) used w _ k t h) j (omega arith) (omega arith))))
+      (λ t. order-every (λ (g : ScheduleOf Held). everyHeld copyWhole (g .copies)) (ageOf schedule-heads) used w _ (λ k h.
+      every-places copyWhole (placeSeen schedule-heads units k) 16 0 (λ j a b. place-whole schedule-heads units k (schedules-get schedule-heads units (length cells) (o .cellSize) used k t h) j)))
 
 -- ---- the cells that schedules name
 
@@ -208,30 +208,30 @@ module _ (units : List ℕ) (c : ℕ) where
   taken-all base zero f = refl
   taken-all base (suc n) f = rw (f n (omega arith)) (taken-all base n (λ i h. f i (omega arith)))
 
-  module _ (tops : List ℕ) where
-    named-get : (n k : ℕ) → takenInSchedules tops units n c ≡ false → k < n → takenInUnits units (k * 16) (tablesOf tops k) c ≡ false
+  module _ (schedule-heads : List ℕ) where
+    named-get : (n k : ℕ) → takenInSchedules schedule-heads units n c ≡ false → k < n → takenInUnits units (k * 16) (tablesOf schedule-heads k) c ≡ false
     unfolding takenInSchedules
     named-get zero k e h = absurd (not-suc-le-zero h)
     named-get (suc n) k e h =
-        let a = or-false (takenInUnits units (n * 16) (tablesOf tops n) c) (takenInSchedules tops units n c) e in
+        let a = or-false (takenInUnits units (n * 16) (tablesOf schedule-heads n) c) (takenInSchedules schedule-heads units n c) e in
         go (ℕ-discrete k n) (a .0) (λ q. named-get n k (a .1) q)
       where
-        go : Dec (k ≡ n) → takenInUnits units (n * 16) (tablesOf tops n) c ≡ false → (k < n → takenInUnits units (k * 16) (tablesOf tops k) c ≡ false)
-            → takenInUnits units (k * 16) (tablesOf tops k) c ≡ false
+        go : Dec (k ≡ n) → takenInUnits units (n * 16) (tablesOf schedule-heads n) c ≡ false → (k < n → takenInUnits units (k * 16) (tablesOf schedule-heads k) c ≡ false)
+            → takenInUnits units (k * 16) (tablesOf schedule-heads k) c ≡ false
         go (yes q) p ih = rw q p
         go (no d) p ih = ih (omega arith)
 
-    named-all : (n : ℕ) → ((k : ℕ) → k < n → takenInUnits units (k * 16) (tablesOf tops k) c ≡ false) → takenInSchedules tops units n c ≡ false
+    named-all : (n : ℕ) → ((k : ℕ) → k < n → takenInUnits units (k * 16) (tablesOf schedule-heads k) c ≡ false) → takenInSchedules schedule-heads units n c ≡ false
     unfolding takenInSchedules
     named-all zero f = refl
     named-all (suc n) f = rw (f n (omega arith)) (named-all n (λ i h. f i (omega arith)))
 
-    place-free : (k : ℕ) → takenInUnits units (k * 16) (tablesOf tops k) c ≡ false → (j : ℕ) → heldNames (copyTakes c) (placeSeen tops units k j) ≡ false
-    place-free k e j = go (decLt j (tablesOf tops k))
+    place-free : (k : ℕ) → takenInUnits units (k * 16) (tablesOf schedule-heads k) c ≡ false → (j : ℕ) → heldNames (copyTakes c) (placeSeen schedule-heads units k j) ≡ false
+    place-free k e j = go (decLt j (tablesOf schedule-heads k))
       where
-        go : Dec (j < tablesOf tops k) → heldNames (copyTakes c) (placeSeen tops units k j) ≡ false
-        go (yes h) = rw (place-in tops units k j h) (unit-names (k * 16 + j) ∙ taken-get (k * 16) (tablesOf tops k) j e h)
-        go (no h) = rw (place-past tops units k j (omega arith))
+        go : Dec (j < tablesOf schedule-heads k) → heldNames (copyTakes c) (placeSeen schedule-heads units k j) ≡ false
+        go (yes h) = rw (place-in schedule-heads units k j h) (unit-names (k * 16 + j) ∙ taken-get (k * 16) (tablesOf schedule-heads k) j e h)
+        go (no h) = rw (place-past schedule-heads units k j (omega arith))
 
 same-fails : (p q : Bool) → (p ≡ false → q ≡ false) → (q ≡ false → p ≡ false) → p ≡ q
 same-fails false q f g = sym (f refl)
@@ -239,27 +239,27 @@ same-fails true false f g = g refl
 same-fails true true f g = refl
 
 -- "no slot or schedule copy of a row in use names it"
-pub schedules-taken : (tops units : List ℕ) (used c : ℕ) → Ages (ageOf tops) used
-    → someRow (scheduleTakes c) (rowsSeen scheduleShown tops used (scheduleSeen tops units)) ≡ takenInSchedules tops units used c
+pub schedules-taken : (schedule-heads units : List ℕ) (used c : ℕ) → Ages (ageOf schedule-heads) used
+    → someRow (scheduleTakes c) (rowsSeen scheduleShown schedule-heads used (scheduleSeen schedule-heads units)) ≡ takenInSchedules schedule-heads units used c
 unfolding rowsSeen scheduleSeen scheduleTakes
-schedules-taken tops units used c w =
-    same-fails _ (takenInSchedules tops units used c)
-    (λ t. named-all units c tops used (λ k h. taken-all units c (k * 16) (tablesOf tops k) (λ j m.
-    let few = tables-few tops k in
-    sym (unit-names units c (k * 16 + j)) ∙ ap (heldNames (copyTakes c)) (sym (place-in tops units k j m))
-    ∙ places-none (copyTakes c) (placeSeen tops units k) 16 0 (none-order (scheduleTakes c) (ageOf tops) used w _ k t h) j (omega arith) (omega arith))))
-    (λ t. order-none (scheduleTakes c) (ageOf tops) used w _ (λ k h.
-    none-places (copyTakes c) (placeSeen tops units k) 16 0 (λ j a b. place-free units c tops k (named-get units c tops used k t h) j)))
+schedules-taken schedule-heads units used c w =
+    same-fails _ (takenInSchedules schedule-heads units used c)
+    (λ t. named-all units c schedule-heads used (λ k h. taken-all units c (k * 16) (tablesOf schedule-heads k) (λ j m.
+    let few = tables-few schedule-heads k in
+    sym (unit-names units c (k * 16 + j)) ∙ ap (heldNames (copyTakes c)) (sym (place-in schedule-heads units k j m))
+    ∙ places-none (copyTakes c) (placeSeen schedule-heads units k) 16 0 (none-order (scheduleTakes c) (ageOf schedule-heads) used w _ k t h) j (omega arith) (omega arith))))
+    (λ t. order-none (scheduleTakes c) (ageOf schedule-heads) used w _ (λ k h.
+    none-places (copyTakes c) (placeSeen schedule-heads units k) 16 0 (λ j a b. place-free units c schedule-heads k (named-get units c schedule-heads used k t h) j)))
 
 -- table by table
-pub named-units : (tops units : List ℕ) (used c : ℕ) → takenInSchedules tops units used c ≡ false
-    → (k j : ℕ) → k < used → j < tablesOf tops k → isPresent units (k * 16 + j) ≡ true → someNames c (unitSlots units (k * 16 + j)) ≡ false
-named-units tops units used c h k j l m p = rw p at (taken-get units c (k * 16) (tablesOf tops k) j (named-get units c tops used k h l) m)
+pub named-units : (schedule-heads units : List ℕ) (used c : ℕ) → takenInSchedules schedule-heads units used c ≡ false
+    → (k j : ℕ) → k < used → j < tablesOf schedule-heads k → isPresent units (k * 16 + j) ≡ true → someNames c (unitSlots units (k * 16 + j)) ≡ false
+named-units schedule-heads units used c h k j l m p = rw p at (taken-get units c (k * 16) (tablesOf schedule-heads k) j (named-get units c schedule-heads used k h l) m)
 
-pub units-named : (tops units : List ℕ) (used c : ℕ)
-    → ((k j : ℕ) → k < used → j < tablesOf tops k → isPresent units (k * 16 + j) ≡ true → someNames c (unitSlots units (k * 16 + j)) ≡ false) → takenInSchedules tops units used c ≡ false
-units-named tops units used c f =
-    named-all units c tops used (λ k l. taken-all units c (k * 16) (tablesOf tops k) (λ j m. go (isPresent units (k * 16 + j)) (someNames c (unitSlots units (k * 16 + j))) (f k j l m)))
+pub units-named : (schedule-heads units : List ℕ) (used c : ℕ)
+    → ((k j : ℕ) → k < used → j < tablesOf schedule-heads k → isPresent units (k * 16 + j) ≡ true → someNames c (unitSlots units (k * 16 + j)) ≡ false) → takenInSchedules schedule-heads units used c ≡ false
+units-named schedule-heads units used c f =
+    named-all units c schedule-heads used (λ k l. taken-all units c (k * 16) (tablesOf schedule-heads k) (λ j m. go (isPresent units (k * 16 + j)) (someNames c (unitSlots units (k * 16 + j))) (f k j l m)))
   where
     go : (a b : Bool) → (a ≡ true → b ≡ false) → (a && b) ≡ false
     go true b f = f refl
@@ -293,17 +293,17 @@ present-is units u = go (isPresent units u)
     go true = refl
     go false = refl
 
-module _ (tops units : List ℕ) (row : ℕ) where
+module _ (schedule-heads units : List ℕ) (row : ℕ) where
   abbrev places : List (Option (CopyOf Held))
-  places = upFrom (placeSeen tops units row) 16 0
+  places = upFrom (placeSeen schedule-heads units row) 16 0
 
-  place-at : (j : ℕ) → j < tablesOf tops row → getD places j none ≡ copySeen units (row * 16 + j)
+  place-at : (j : ℕ) → j < tablesOf schedule-heads row → getD places j none ≡ copySeen units (row * 16 + j)
   place-at j h =
-      let few = tables-few tops row in
+      let few = tables-few schedule-heads row in
       let z : 0 + j ≡ j = omega arith in
-      up-get (placeSeen tops units row) 16 0 j none (omega arith) ∙ ap (placeSeen tops units row) z ∙ place-in tops units row j h
+      up-get (placeSeen schedule-heads units row) 16 0 j none (omega arith) ∙ ap (placeSeen schedule-heads units row) z ∙ place-in schedule-heads units row j h
 
-  all-there : (n : ℕ) → n ≤ tablesOf tops row → heldFrom places 0 n ≡ allPresent units (row * 16) n
+  all-there : (n : ℕ) → n ≤ tablesOf schedule-heads row → heldFrom places 0 n ≡ allPresent units (row * 16) n
   unfolding allPresent
   all-there zero h = held-none places 0
   all-there (suc n) h =
@@ -314,7 +314,7 @@ module _ (tops units : List ℕ) (row : ℕ) where
   unfolding isHeld
   none-past d h =
       let z : 0 + d ≡ d = omega arith in
-      let l = length-up (placeSeen tops units row) 16 0 in
+      let l = length-up (placeSeen schedule-heads units row) 16 0 in
       held-last places 0 d ∙ rw (z, past places d (omega arith))
     where
       past : {A : Type 0} (os : List (Option A)) (k : ℕ) → length os ≤ k → getD os k none ≡ none
@@ -323,20 +323,20 @@ module _ (tops units : List ℕ) (row : ℕ) where
       past (o ∷ os) (suc k) l = past os k (omega arith)
 
 -- "A schedule with all tables from 0x50 or 0x60 to last_table_id": never where last_table_id is past the kind
-pub tables-there : (tops units : List ℕ) (row : ℕ) (e : Entry) → lastOf tops row ≡ e .last → word tops row 1 ≡ e .key .«table_id»
-    → allTables (firstTable (e .key .«table_id»)) (scheduleSeen tops units row) ≡ tablesThere units row e
+pub tables-there : (schedule-heads units : List ℕ) (row : ℕ) (e : Entry) → lastOf schedule-heads row ≡ e .last → word schedule-heads row 1 ≡ e .key .«table_id»
+    → allTables (firstTable (e .key .«table_id»)) (scheduleSeen schedule-heads units row) ≡ tablesThere units row e
 unfolding allTables scheduleSeen tablesThere tablesOf
-tables-there tops units row e p f = rw p (go (decLt (e .last - firstTable (e .key .«table_id»)) 16))
+tables-there schedule-heads units row e p f = rw p (go (decLt (e .last - firstTable (e .key .«table_id»)) 16))
   where
     d : ℕ
     d = e .last - firstTable (e .key .«table_id»)
 
-    n : tablesOf tops row ≡ min d 15 + 1
+    n : tablesOf schedule-heads row ≡ min d 15 + 1
     n = rw (p, f)
 
-    go : Dec (d < 16) → heldFrom (upFrom (placeSeen tops units row) 16 0) 0 (suc d) ≡ (ltb d 16 && allPresent units (row * 16) (min d 15 + 1))
-    go (yes h) = let m = n in let z : min d 15 + 1 ≡ suc d = omega arith in rw (lt-ltb d 16 h, z) (all-there tops units row (suc d) (omega arith))
-    go (no h) = rw (le-ltb d 16 (omega arith)) (none-past tops units row d (omega arith))
+    go : Dec (d < 16) → heldFrom (upFrom (placeSeen schedule-heads units row) 16 0) 0 (suc d) ≡ (ltb d 16 && allPresent units (row * 16) (min d 15 + 1))
+    go (yes h) = let m = n in let z : min d 15 + 1 ≡ suc d = omega arith in rw (lt-ltb d 16 h, z) (all-there schedule-heads units row (suc d) (omega arith))
+    go (no h) = rw (le-ltb d 16 (omega arith)) (none-past schedule-heads units row d (omega arith))
 
 -- ---- a schedule that goes out
 

@@ -47,7 +47,7 @@ use Rattle.eit.specs.Store.{After, after, a-set, setOut}
 use Rattle.ties_eit.specs.View.{theKind, keyShown, keyWords, rowSeen, seen, answerTold, HeadFits, Reached}
 use Rattle.ties_eit.proofs.Keys.{set-self, Bit, key-reads, Kinds, present, scheduled, kinds, InKind}
 use Rattle.ties_eit.proofs.Rows.{row-same, row-marked, complete-is, sections-kept}
-use Rattle.ties_eit.proofs.Shelve.{Tied, afterSettled, Shelving, shelve-tied}
+use Rattle.ties_eit.proofs.Entered.{Tied, afterSettled, Entering, enter-tied}
 
 -- what a section that is taken has
 pub record Arrives (a : Arrival) (kind : Kind) : Type 0 where
@@ -231,8 +231,8 @@ module _ (s : Store) (z : Reached s) (f : Whole s)
       gives (told l first q (allTables first q)) (scheduleTouched (s .eit .sets .limit) l q e))
 
   module _ (first : ℕ) (in-kind : InKind kind first table) (range : table ≤ a .tables) where
-    shelving : Shelving (leftStore true) a kind first i
-    shelving = record {
+    entering : Entering (leftStore true) a kind first i
+    entering = record {
       in-kind = in-kind;
       table = arr .table;
       number = arr .number;
@@ -242,7 +242,7 @@ module _ (s : Store) (z : Reached s) (f : Whole s)
       limit = pos;
       heads-long = rw (left-length true) (r .long);
       slots-long = r .slots-long;
-      tops-long = f .schedule-heads-long;
+      schedule-heads-long = f .schedule-heads-long;
       units-long = f .units-long;
       few = f .schedules;
       counts = more;
@@ -255,10 +255,10 @@ module _ (s : Store) (z : Reached s) (f : Whole s)
     others-found q e =
         sym (ap (λ (o : TouchOrder SetKey (SetOf Held)). find sameSet q (o .rows)) (ap (λ (t : Shown). t .eit .sets) (left-shown true)) ∙ find-newest q k (marked rowThere) (beside .sets) e)
 
-    shelved-tied : Tied (afterSettled (entered (rowsOf (leftStore true)) a i) cells₁)
+    entering-tied : Tied (afterSettled (entered (rowsOf (leftStore true)) a i) cells₁)
         (turnOf first ((seen (leftStore true)) .eit) (copyOf (rowSeen (leftHeads true) slots₁ i)))
     unfolding seen shows rest setAside
-    shelved-tied = shelve-tied (leftStore true) (left-reached true) a kind first i shelving (beside .sets .rows) others-found
+    entering-tied = enter-tied (leftStore true) (left-reached true) a kind first i entering (beside .sets .rows) others-found
 
     copy-marked : copyOf (rowSeen (leftHeads true) slots₁ i) ≡ copyOf rowThere
     unfolding copyOf marked
@@ -269,7 +269,7 @@ module _ (s : Store) (z : Reached s) (f : Whole s)
     enters-tied =
         let p : (seen (leftStore true)) .eit ≡ setNewest k (marked rowThere) beside = ap (λ (t : Shown). t .eit) (left-shown true) in
         let q = copy-marked in
-        subst (Tied (afterSettled (entered (rowsOf (leftStore true)) a i) cells₁)) (λ t. turnOf first (p t) (q t)) shelved-tied
+        subst (Tied (afterSettled (entered (rowsOf (leftStore true)) a i) cells₁)) (λ t. turnOf first (p t) (q t)) entering-tied
 
   -- ---- what becomes of the set
 

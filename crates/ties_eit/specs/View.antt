@@ -121,11 +121,11 @@ copySeen units u =
 
 -- place j of the schedule in row k is unit 16k + j; places past its last_table_id are not in use
 unfoldable pub placeSeen : List ℕ → List ℕ → ℕ → ℕ → Option (CopyOf Held)
-placeSeen tops units k j = cond (ltb j (tablesOf tops k)) (copySeen units (k * 16 + j)) none
+placeSeen schedule-heads units k j = cond (ltb j (tablesOf schedule-heads k)) (copySeen units (k * 16 + j)) none
 
 -- the schedule in row k: word 7 is its last_table_id
 unfoldable pub scheduleSeen : List ℕ → List ℕ → ℕ → ScheduleOf Held
-scheduleSeen tops units k = record { lastTable = lastOf tops k; copies = upFrom (placeSeen tops units k) 16 0 }
+scheduleSeen schedule-heads units k = record { lastTable = lastOf schedule-heads k; copies = upFrom (placeSeen schedule-heads units k) 16 0 }
 
 abbrev pub settingsOf : Store → Settings
 settingsOf s = record { limit = s .eit .sets .limit; cellSize = s .eit .sets .size }

@@ -30,9 +30,10 @@ use Rattle.sets_plan.specs.Plan.{planOf, PlanOk}
 use Rattle.sets_plan.proofs.May.{plan-ok}
 use Rattle.sets_settle.specs.declared.PushAnswer.the-variants as push-answer
 use Rattle.sets_settle.specs.Settle.{Handed, Told, done, nothing, handed, refused, setIn, SetsAfter, answered, goesOut, settledAnswer, settledHeads, settled, keptIn, carried}
-use Rattle.sets.specs.Store.{nextOf, wholePushed, admitted, pushedAs, pushedOf, AdmittedOk}
+use Rattle.sets.specs.Store.{nextOf, pushedAs, pushedOf}
+use Rattle.sets_push.specs.Pushing.{wholePushed, admitted, AdmittedOk}
 use Rattle.sets.specs.History.{Call, offer, AllBytes, afterAll, OpenedStore}
-use Rattle.sets.proofs.Admit.{admitted-ok}
+use Rattle.sets_push.proofs.Ways.{admitted-ok}
 use Rattle.sets.proofs.Stays.{push-stays, stays, opened-whole}
 
 -- ---- a row in use

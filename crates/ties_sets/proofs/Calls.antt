@@ -56,7 +56,8 @@ use Rattle.placing.proofs.Fits.{slot-bounds, same-last}
 use Rattle.sets_plan.specs.declared.Plan.the-variants as plan
 use Rattle.sets_plan.specs.Plan.{planKeep, planPlaced, planOf}
 use Rattle.sets_settle.specs.Settle.{after, done, refused, carried}
-use Rattle.sets.specs.Store.{clearedOf, wholePushed, admitted, pushedAs, pushedOf}
+use Rattle.sets.specs.Store.{clearedOf, pushedAs, pushedOf}
+use Rattle.sets_push.specs.Pushing.{wholePushed, admitted}
 use Rattle.sets.specs.History.{Call as Given, empty as clears, offer as section, Bytes as OfBytes, called}
 use Rattle.ties_sets.specs.View.{originShown, keyShown, keyWords, rowSeen, seen, readsAs, readSection, reads, answerTold, Reached}
 use Rattle.ties_sets.proofs.Rows.{same-self, written-shown, written-reads}

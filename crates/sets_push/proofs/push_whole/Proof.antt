@@ -1,10 +1,10 @@
 use Rattle.sets_plan.proofs.May.{plan-may}
-use Rattle.sets.proofs.Admit.{pushed-whole}
+use Rattle.sets_push.proofs.Ways.{pushed-whole}
 use Rattle.store.specs.Store.{store}
 use Rattle.sets_settle.specs.Settle.{afterPush}
 use borrow.Author.Needs.{needs}
-use Rattle.sets.proofs.inner.push_whole.Statement.{statement}
-use Rattle.sets.proofs.inner.push_whole.Tie as tie
+use Rattle.sets_push.proofs.push_whole.Statement.{statement}
+use Rattle.sets_push.proofs.push_whole.Tie as tie
 
 decide-requires : tie.Need-decide-requires
 decide-requires c κs = search needs

@@ -10,7 +10,7 @@ ghost use Rattle.store.specs.Store.{store};
 ghost use Rattle.arrivals.specs.Arrivals.{Taken};
 ghost use Rattle.sets_plan.specs.Plan.{Ready};
 ghost use Rattle.sets_settle.specs.Settle.{afterPush};
-ghost use Rattle.sets.specs.Store.{admitted, wholePushed, AdmittedOk};
+ghost use Rattle.sets_push.specs.Pushing.{admitted, wholePushed, AdmittedOk};
 
 // 10, 11, then what the section's bytes and its PID say.
 pub fn admit(

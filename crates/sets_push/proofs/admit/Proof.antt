@@ -1,9 +1,9 @@
-use Rattle.sets.proofs.Admit.{admit-broken, admit-full, admit-section}
-use Rattle.sets.proofs.Admit.{admitted-may}
+use Rattle.sets_push.proofs.Ways.{admit-broken, admit-full, admit-section}
+use Rattle.sets_push.proofs.Ways.{admitted-may}
 use Rattle.store.specs.Store.{store}
 use borrow.Author.Needs.{needs}
-use Rattle.sets.proofs.inner.admit.Statement.{statement}
-use Rattle.sets.proofs.inner.admit.Tie as tie
+use Rattle.sets_push.proofs.admit.Statement.{statement}
+use Rattle.sets_push.proofs.admit.Tie as tie
 
 is-whole-requires : tie.Need-is-whole-requires
 is-whole-requires c κs = search needs

@@ -83,7 +83,7 @@ fits-schedules e h l c t u n v q k =
     rw (a .0, b .0, le-leb n (e .sets .limit) k)
 
 -- what is known of a set that goes into its schedule: it stands in row i of a store L, complete, and its section's last_table_id is no smaller than its table_id
-pub record Shelving (L : Store) (a : Arrival) (kind : Kind) (first i : ℕ) : Type 0 where
+pub record Entering (L : Store) (a : Arrival) (kind : Kind) (first i : ℕ) : Type 0 where
   pub in-kind : InKind kind first (a .entry .key .«table_id»)
   pub table : kindOf (a .entry .key .«table_id») ≡ some kind
   pub number : a .kind ≡ kindNumber kind
@@ -93,7 +93,7 @@ pub record Shelving (L : Store) (a : Arrival) (kind : Kind) (first i : ℕ) : Ty
   pub limit : 0 < L .eit .sets .limit
   pub heads-long : L .eit .sets .used * 12 ≤ length (L .heads)
   pub slots-long : L .eit .sets .used * 288 ≤ length (L .slots)
-  pub tops-long : L .eit .sets .limit * 12 ≤ length (L .schedule-heads)
+  pub schedule-heads-long : L .eit .sets .limit * 12 ≤ length (L .schedule-heads)
   pub units-long : L .eit .sets .limit * 4608 ≤ length (L .units)
   pub few : L .eit .schedules ≤ L .eit .sets .limit
   pub counts : L .eit .«schedule_evictions» < 18446744073709551615
@@ -137,10 +137,10 @@ new-fresh heads limit used evictions = go (ltb used limit)
     go false = refl
 
 -- place j of the schedule in row k
-place-get : (tops units : List ℕ) (k j : ℕ) → j < 16 → getD (upFrom (placeSeen tops units k) 16 0) j none ≡ placeSeen tops units k j
-place-get tops units k j h = let z : 0 + j ≡ j = omega arith in up-get (placeSeen tops units k) 16 0 j none h ∙ ap (placeSeen tops units k) z
+place-get : (schedule-heads units : List ℕ) (k j : ℕ) → j < 16 → getD (upFrom (placeSeen schedule-heads units k) 16 0) j none ≡ placeSeen schedule-heads units k j
+place-get schedule-heads units k j h = let z : 0 + j ≡ j = omega arith in up-get (placeSeen schedule-heads units k) 16 0 j none h ∙ ap (placeSeen schedule-heads units k) z
 
-module _ (L : Store) (z : Reached L) (a : Arrival) (kind : Kind) (first i : ℕ) (h : Shelving L a kind first i) (others : Rows SetKey (SetOf Held))
+module _ (L : Store) (z : Reached L) (a : Arrival) (kind : Kind) (first i : ℕ) (h : Entering L a kind first i) (others : Rows SetKey (SetOf Held))
     (beside : (k : SetKey) → sameSet k (keyShown (a .entry .key)) ≡ false → find sameSet k others ≡ find sameSet k ((seen L) .eit .sets .rows)) where
   abbrev key : Key
   key = a .entry .key
@@ -158,8 +158,8 @@ module _ (L : Store) (z : Reached L) (a : Arrival) (kind : Kind) (first i : ℕ)
   abbrev entry : Entry
   entry = scheduleEntry a
 
-  abbrev tops : List ℕ
-  tops = L .schedule-heads
+  abbrev schedule-heads : List ℕ
+  schedule-heads = L .schedule-heads
 
   abbrev held : ℕ
   held = L .eit .schedules
@@ -235,12 +235,12 @@ module _ (L : Store) (z : Reached L) (a : Arrival) (kind : Kind) (first i : ℕ)
   ok = heldPasses (copyWhole ((seen L) .settings) ((seen L) .cells))
 
   -- a schedule in use is whole
-  schedule-ok : (k : ℕ) → k < held → (j : ℕ) → ok (placeSeen tops (L .units) k j) ≡ true
+  schedule-ok : (k : ℕ) → k < held → (j : ℕ) → ok (placeSeen schedule-heads (L .units) k j) ≡ true
   unfolding seen
   schedule-ok k m =
-      place-whole ((seen L) .settings) ((seen L) .cells) tops (L .units) k
-      (ap (λ (n : ℕ). unitsWhole (L .units) n (L .eit .sets .size) (k * 16) (tablesOf tops k)) (cells-length (L .cells) (L .eit .sets .size) (L .eit .sets .count))
-      ∙ schedules-get tops (L .units) (L .eit .sets .count) (L .eit .sets .size) held k (h .units-ok) m)
+      place-whole ((seen L) .settings) ((seen L) .cells) schedule-heads (L .units) k
+      (ap (λ (n : ℕ). unitsWhole (L .units) n (L .eit .sets .size) (k * 16) (tablesOf schedule-heads k)) (cells-length (L .cells) (L .eit .sets .size) (L .eit .sets .count))
+      ∙ schedules-get schedule-heads (L .units) (L .eit .sets .count) (L .eit .sets .size) held k (h .units-ok) m)
 
   -- a set's copy is whole
   set-ok : (r : ℕ) → r < L .eit .sets .used → ok (some (copyOf (rowSeen (L .heads) (L .slots) r))) ≡ true
@@ -259,67 +259,67 @@ module _ (L : Store) (z : Reached L) (a : Arrival) (kind : Kind) (first i : ℕ)
       go false c q = refl
 
   abbrev there : ℕ
-  there = rowOf tops skey held
+  there = rowOf schedule-heads skey held
 
   abbrev found : Option (ScheduleOf Held)
   found = find sameSchedule l ((seen L) .eit .schedules .rows)
 
-  found-known : there < held → found ≡ some (scheduleSeen tops (L .units) there)
+  found-known : there < held → found ≡ some (scheduleSeen schedule-heads (L .units) there)
   unfolding seen
   found-known k =
       ap (λ (q : ScheduleKey). find sameSchedule q ((seen L) .eit .schedules .rows)) (sym skey-shown)
-      ∙ finds-known scheduleShown scheduleWords sameSchedule sameSchedule-true schedule-self tops limit held evictions skey (z .schedules) skey-proper (scheduleSeen tops (L .units)) there k (row-has-key tops skey held k)
+      ∙ finds-known scheduleShown scheduleWords sameSchedule sameSchedule-true schedule-self schedule-heads limit held evictions skey (z .schedules) skey-proper (scheduleSeen schedule-heads (L .units)) there k (row-has-key schedule-heads skey held k)
 
   found-none : held ≤ there → found ≡ none
   unfolding seen
   found-none k =
       ap (λ (q : ScheduleKey). find sameSchedule q ((seen L) .eit .schedules .rows)) (sym skey-shown)
-      ∙ finds-none scheduleShown scheduleWords sameSchedule sameSchedule-true schedule-self tops limit held evictions skey (z .schedules) skey-proper (scheduleSeen tops (L .units)) (no-row-has-key tops skey held k)
+      ∙ finds-none scheduleShown scheduleWords sameSchedule sameSchedule-true schedule-self schedule-heads limit held evictions skey (z .schedules) skey-proper (scheduleSeen schedule-heads (L .units)) (no-row-has-key schedule-heads skey held k)
 
   -- a schedule's tables, by its head
-  tables-are : (tops′ : List ℕ) (k : ℕ) → lastOf tops′ k ≡ a .tables → word tops′ k 1 ≡ a .kind → tablesOf tops′ k ≡ countOf a
+  tables-are : (schedule-heads′ : List ℕ) (k : ℕ) → lastOf schedule-heads′ k ≡ a .tables → word schedule-heads′ k 1 ≡ a .kind → tablesOf schedule-heads′ k ≡ countOf a
   unfolding tablesOf
-  tables-are tops′ k e f = rw (e, f)
+  tables-are schedule-heads′ k e f = rw (e, f)
 
   places-few : countOf a ≤ 16
   places-few = omega arith
 
   -- the schedule is there, with the same last_table_id
-  same-room : there < held → lastOf tops there ≡ a .tables → Roomed L a first others (record { room = roomIn held evictions there; refill = false }) (scheduleSeen tops (L .units) there)
+  same-room : there < held → lastOf schedule-heads there ≡ a .tables → Roomed L a first others (record { room = roomIn held evictions there; refill = false }) (scheduleSeen schedule-heads (L .units) there)
   unfolding begin scheduleSeen readyUnits
   same-room k e =
-      let t = h .tops-long in
+      let t = h .schedule-heads-long in
       let f = h .few in
       let r : Room = roomIn held evictions there in
-      let long : there * 12 + 12 ≤ length tops = omega arith in
-      let n : tablesOf tops there ≡ countOf a = tables-are tops there e (ap (λ (q : Key). q .«table_id») (row-has-key tops skey held k)) in
+      let long : there * 12 + 12 ≤ length schedule-heads = omega arith in
+      let n : tablesOf schedule-heads there ≡ countOf a = tables-are schedule-heads there e (ap (λ (q : Key). q .«table_id») (row-has-key schedule-heads skey held k)) in
       let few = places-few in
       record {
-        age = ageOf tops there;
-        goes = goes-known tops limit held evictions skey k;
-        own = key-same tops (keptHeads r entry tops) there (λ m q. kept-known r entry tops long refl m (omega arith) (omega arith)) ∙ row-has-key tops skey held k;
-        aged = kept-known r entry tops long refl 9 (omega arith) (omega arith);
-        last = kept-known r entry tops long refl 7 (omega arith) (omega arith) ∙ e;
-        begun = rw (found-known k, eq-eqb (lastOf tops there) (a .tables) e);
+        age = ageOf schedule-heads there;
+        goes = goes-known schedule-heads limit held evictions skey k;
+        own = key-same schedule-heads (keptHeads r entry schedule-heads) there (λ m q. kept-known r entry schedule-heads long refl m (omega arith) (omega arith)) ∙ row-has-key schedule-heads skey held k;
+        aged = kept-known r entry schedule-heads long refl 9 (omega arith) (omega arith);
+        last = kept-known r entry schedule-heads long refl 7 (omega arith) (omega arith) ∙ e;
+        begun = rw (found-known k, eq-eqb (lastOf schedule-heads there) (a .tables) e);
         old-last = e;
-        sixteen = length-up (placeSeen tops (L .units) there) 16 0;
-        places = λ j q ne. sym (place-get tops (L .units) there j (omega arith) ∙ place-in tops (L .units) there j (omega arith));
-        past = λ j q m. place-get tops (L .units) there j q ∙ place-past tops (L .units) there j (omega arith);
+        sixteen = length-up (placeSeen schedule-heads (L .units) there) 16 0;
+        places = λ j q ne. sym (place-get schedule-heads (L .units) there j (omega arith) ∙ place-in schedule-heads (L .units) there j (omega arith));
+        past = λ j q m. place-get schedule-heads (L .units) there j q ∙ place-past schedule-heads (L .units) there j (omega arith);
         beside = λ u o. refl;
         ready-length = refl;
-        ok = λ j q ne. rw (place-get tops (L .units) there j q) (schedule-ok there k j);
+        ok = λ j q ne. rw (place-get schedule-heads (L .units) there j q) (schedule-ok there k j);
       }
 
   -- the head of a schedule that begins anew
-  module _ (r : Room) (f : r .fresh ≡ true) (long : r .row * 12 + 12 ≤ length tops) where
-    fresh-own : keyAt (keptHeads r entry tops) (r .row) ≡ skey
-    fresh-own = kept-fresh-key r entry tops long f
+  module _ (r : Room) (f : r .fresh ≡ true) (long : r .row * 12 + 12 ≤ length schedule-heads) where
+    fresh-own : keyAt (keptHeads r entry schedule-heads) (r .row) ≡ skey
+    fresh-own = kept-fresh-key r entry schedule-heads long f
 
-    fresh-age : ageOf (keptHeads r entry tops) (r .row) ≡ r .age
-    fresh-age = kept-fresh r entry tops long f 9 (omega arith)
+    fresh-age : ageOf (keptHeads r entry schedule-heads) (r .row) ≡ r .age
+    fresh-age = kept-fresh r entry schedule-heads long f 9 (omega arith)
 
-    fresh-last : lastOf (keptHeads r entry tops) (r .row) ≡ a .tables
-    fresh-last = kept-fresh r entry tops long f 7 (omega arith)
+    fresh-last : lastOf (keptHeads r entry schedule-heads) (r .row) ≡ a .tables
+    fresh-last = kept-fresh r entry schedule-heads long f 7 (omega arith)
 
   refill-places : (t n : ℕ) → length (refill others l (a .tables) t n) ≡ n
   unfolding refill
@@ -327,24 +327,24 @@ module _ (L : Store) (z : Reached L) (a : Arrival) (kind : Kind) (first i : ℕ)
   refill-places t (suc n) = ap suc (refill-places (suc t) n)
 
   -- "If last_table_id differs from an existing schedule's, that row is emptied first and refilled"
-  other-room : there < held → lastOf tops there ≢ a .tables
-      → Roomed L a first others (record { room = roomRenewed held evictions there (ageOf tops there); refill = true }) (record { lastTable = a .tables; copies = refill others l (a .tables) first 16 })
+  other-room : there < held → lastOf schedule-heads there ≢ a .tables
+      → Roomed L a first others (record { room = roomRenewed held evictions there (ageOf schedule-heads there); refill = true }) (record { lastTable = a .tables; copies = refill others l (a .tables) first 16 })
   unfolding begin scheduleSeen readyUnits
   other-room k e =
-      let t = h .tops-long in
+      let t = h .schedule-heads-long in
       let f = h .few in
       let u = h .units-long in
-      let r : Room = roomRenewed held evictions there (ageOf tops there) in
-      let long : there * 12 + 12 ≤ length tops = omega arith in
+      let r : Room = roomRenewed held evictions there (ageOf schedule-heads there) in
+      let long : there * 12 + 12 ≤ length schedule-heads = omega arith in
       let low : first ≤ a .tables = let p = h .in-kind .from in let q = h .range in omega arith in
       let d = same in
       record {
-        age = ageOf tops there;
-        goes = goes-known tops limit held evictions skey k;
+        age = ageOf schedule-heads there;
+        goes = goes-known schedule-heads limit held evictions skey k;
         own = fresh-own r refl long;
         aged = fresh-age r refl long;
         last = fresh-last r refl long;
-        begun = rw (found-known k, ne-eqb (lastOf tops there) (a .tables) e);
+        begun = rw (found-known k, ne-eqb (lastOf schedule-heads there) (a .tables) e);
         old-last = refl;
         sixteen = refill-places first 16;
         places = λ j q ne. place low k j q ne;
@@ -384,17 +384,17 @@ module _ (L : Store) (z : Reached L) (a : Arrival) (kind : Kind) (first i : ℕ)
       refilled-ok low j q ne (no m) = rw (refill-past others l (a .tables) 16 first j (omega arith))
 
   -- a schedule that was not there
-  new-room : held ≤ there → Roomed L a first others (record { room = roomNew tops limit held evictions; refill = false }) (record { lastTable = a .tables; copies = replicate 16 none })
+  new-room : held ≤ there → Roomed L a first others (record { room = roomNew schedule-heads limit held evictions; refill = false }) (record { lastTable = a .tables; copies = replicate 16 none })
   unfolding begin readyUnits
   new-room k =
-      let r : Room = roomNew tops limit held evictions in
-      let g = goes-new tops limit held evictions skey k (h .limit) in
+      let r : Room = roomNew schedule-heads limit held evictions in
+      let g = goes-new schedule-heads limit held evictions skey k (h .limit) in
       let i = goes-row g in
       let w = goes-room g (h .few) in
-      let t = h .tops-long in
+      let t = h .schedule-heads-long in
       let u = h .units-long in
-      let f : r .fresh ≡ true = new-fresh tops limit held evictions in
-      let long : r .row * 12 + 12 ≤ length tops = omega arith in
+      let f : r .fresh ≡ true = new-fresh schedule-heads limit held evictions in
+      let long : r .row * 12 + 12 ≤ length schedule-heads = omega arith in
       record {
         age = r .age;
         goes = g;
@@ -412,18 +412,18 @@ module _ (L : Store) (z : Reached L) (a : Arrival) (kind : Kind) (first i : ℕ)
       }
 
   abbrev found-room : ScheduleRoom
-  found-room = roomOf tops limit held evictions entry
+  found-room = roomOf schedule-heads limit held evictions entry
 
   roomed : (old : ScheduleOf Held) × Roomed L a first others found-room old
   unfolding roomOf roomKnown
-  roomed = go (ltb there held) (eqb (lastOf tops there) (a .tables)) refl refl
+  roomed = go (ltb there held) (eqb (lastOf schedule-heads there) (a .tables)) refl refl
     where
-      go : (b c : Bool) → ltb there held ≡ b → eqb (lastOf tops there) (a .tables) ≡ c
+      go : (b c : Bool) → ltb there held ≡ b → eqb (lastOf schedule-heads there) (a .tables) ≡ c
           → (old : ScheduleOf Held) × Roomed L a first others (cond b
-          (cond c (record { room = roomIn held evictions there; refill = false }) (record { room = roomRenewed held evictions there (ageOf tops there); refill = true }))
-          (record { room = roomNew tops limit held evictions; refill = false })) old
-      go true true p q = (scheduleSeen tops (L .units) there, same-room (ltb-true there held p) (eqb-true (lastOf tops there) (a .tables) q))
-      go true false p q = (record { lastTable = a .tables; copies = refill others l (a .tables) first 16 }, other-room (ltb-true there held p) (eqb-false (lastOf tops there) (a .tables) q))
+          (cond c (record { room = roomIn held evictions there; refill = false }) (record { room = roomRenewed held evictions there (ageOf schedule-heads there); refill = true }))
+          (record { room = roomNew schedule-heads limit held evictions; refill = false })) old
+      go true true p q = (scheduleSeen schedule-heads (L .units) there, same-room (ltb-true there held p) (eqb-true (lastOf schedule-heads there) (a .tables) q))
+      go true false p q = (record { lastTable = a .tables; copies = refill others l (a .tables) first 16 }, other-room (ltb-true there held p) (eqb-false (lastOf schedule-heads there) (a .tables) q))
       go false c p q = (record { lastTable = a .tables; copies = replicate 16 none }, new-room (ltb-false there held p))
 
   -- ---- the set is put in, and the schedule becomes the newest
@@ -438,11 +438,11 @@ module _ (L : Store) (z : Reached L) (a : Arrival) (kind : Kind) (first i : ℕ)
     abbrev units₁ : List ℕ
     units₁ = withSet (L .heads) (L .slots) i own-unit (readyOf L a b)
 
-    abbrev tops₁ : List ℕ
-    tops₁ = touched (b .room .used) row (keptHeads (b .room) entry tops)
+    abbrev schedule-heads₁ : List ℕ
+    schedule-heads₁ = touched (b .room .used) row (keptHeads (b .room) entry schedule-heads)
 
     abbrev after : Store
-    after = store (withSchedules (L .eit) (b .room .used) (b .room .evictions)) (L .heads) (L .slots) (L .cells) tops₁ units₁
+    after = store (withSchedules (L .eit) (b .room .used) (b .room .evictions)) (L .heads) (L .slots) (L .cells) schedule-heads₁ units₁
 
     abbrev copy : CopyOf Held
     copy = copyOf (rowSeen (L .heads) (L .slots) i)
@@ -477,30 +477,30 @@ module _ (L : Store) (z : Reached L) (a : Arrival) (kind : Kind) (first i : ℕ)
     not-own : (j : ℕ) → j ≢ table - first → first + j ≢ table
     not-own j ne = let p = h .in-kind .from in omega arith
 
-    tops-in : row * 12 + 12 ≤ length tops
-    tops-in = let p = row-in in let q = within in let r = h .tops-long in omega arith
+    schedule-heads-in : row * 12 + 12 ≤ length schedule-heads
+    schedule-heads-in = let p = row-in in let q = within in let r = h .schedule-heads-long in omega arith
 
-    kept-length : length (keptHeads (b .room) entry tops) ≡ length tops
-    kept-length = length-kept (b .room) entry tops tops-in
+    kept-length : length (keptHeads (b .room) entry schedule-heads) ≡ length schedule-heads
+    kept-length = length-kept (b .room) entry schedule-heads schedule-heads-in
 
-    then-touched : Touched tops tops₁ skey row (w .age) (b .room .used)
+    then-touched : Touched schedule-heads schedule-heads₁ skey row (w .age) (b .room .used)
     then-touched =
         let p = kept-length in
         let q = within in
-        let r = h .tops-long in
-        ready-touched tops (keptHeads (b .room) entry tops) skey row (w .age) (b .room .used) (omega arith) row-in (w .own) (w .aged) (λ j m k ne c. kept-row (b .room) entry tops tops-in j m ne c)
+        let r = h .schedule-heads-long in
+        ready-touched schedule-heads (keptHeads (b .room) entry schedule-heads) skey row (w .age) (b .room .used) (omega arith) row-in (w .own) (w .aged) (λ j m k ne c. kept-row (b .room) entry schedule-heads schedule-heads-in j m ne c)
 
-    key-after : keyAt tops₁ row ≡ skey
+    key-after : keyAt schedule-heads₁ row ≡ skey
     key-after = then-touched .own
 
-    last-is : lastOf tops₁ row ≡ a .tables
-    last-is = touched-not (b .room .used) row (keptHeads (b .room) entry tops) row 7 (omega arith) (omega arith) ∙ w .last
+    last-is : lastOf schedule-heads₁ row ≡ a .tables
+    last-is = touched-not (b .room .used) row (keptHeads (b .room) entry schedule-heads) row 7 (omega arith) (omega arith) ∙ w .last
 
-    kind-is : word tops₁ row 1 ≡ a .kind
+    kind-is : word schedule-heads₁ row 1 ≡ a .kind
     kind-is = ap (λ (k : Key). k .«table_id») key-after
 
-    own-tables : tablesOf tops₁ row ≡ countOf a
-    own-tables = tables-are tops₁ row last-is kind-is
+    own-tables : tablesOf schedule-heads₁ row ≡ countOf a
+    own-tables = tables-are schedule-heads₁ row last-is kind-is
 
     own-in : table - first < countOf a
     own-in = let p = h .in-kind .from in let q = h .range in let r = in-place in let s = first-is in omega arith
@@ -522,25 +522,25 @@ module _ (L : Store) (z : Reached L) (a : Arrival) (kind : Kind) (first i : ℕ)
             ∙ w .places j k (not-own j ne) ∙ sym (getD-set-other (old .copies) (table - first) j (some copy) none ne)
 
     -- .. or past it
-    place-is : (j : ℕ) → j < 16 → placeSeen tops₁ units₁ row j ≡ getD (set (old .copies) (table - first) (some copy)) j none
+    place-is : (j : ℕ) → j < 16 → placeSeen schedule-heads₁ units₁ row j ≡ getD (set (old .copies) (table - first) (some copy)) j none
     place-is j k = go (decLt j (countOf a))
       where
-        go : Dec (j < countOf a) → placeSeen tops₁ units₁ row j ≡ getD (set (old .copies) (table - first) (some copy)) j none
-        go (yes m) = let n = own-tables in place-in tops₁ units₁ row j (omega arith) ∙ copy-is j m
+        go : Dec (j < countOf a) → placeSeen schedule-heads₁ units₁ row j ≡ getD (set (old .copies) (table - first) (some copy)) j none
+        go (yes m) = let n = own-tables in place-in schedule-heads₁ units₁ row j (omega arith) ∙ copy-is j m
         go (no m) =
             let n = own-tables in
             let o = own-in in
-            place-past tops₁ units₁ row j (omega arith) ∙ sym (getD-set-other (old .copies) (table - first) j (some copy) none (omega arith) ∙ w .past j k (omega arith))
+            place-past schedule-heads₁ units₁ row j (omega arith) ∙ sym (getD-set-other (old .copies) (table - first) j (some copy) none (omega arith) ∙ w .past j k (omega arith))
 
-    copies-are : upFrom (placeSeen tops₁ units₁ row) 16 0 ≡ set (old .copies) (table - first) (some copy)
+    copies-are : upFrom (placeSeen schedule-heads₁ units₁ row) 16 0 ≡ set (old .copies) (table - first) (some copy)
     copies-are =
-        let p = length-up (placeSeen tops₁ units₁ row) 16 0 in
+        let p = length-up (placeSeen schedule-heads₁ units₁ row) 16 0 in
         let q = length-set (old .copies) (table - first) (some copy) in
         let s = w .sixteen in
-        ext-getD none (upFrom (placeSeen tops₁ units₁ row) 16 0) (set (old .copies) (table - first) (some copy)) (omega arith) (λ j k.
-        place-get tops₁ units₁ row j (omega arith) ∙ place-is j (omega arith))
+        ext-getD none (upFrom (placeSeen schedule-heads₁ units₁ row) 16 0) (set (old .copies) (table - first) (some copy)) (omega arith) (λ j k.
+        place-get schedule-heads₁ units₁ row j (omega arith) ∙ place-is j (omega arith))
 
-    own-schedule : scheduleSeen tops₁ units₁ row ≡ g
+    own-schedule : scheduleSeen schedule-heads₁ units₁ row ≡ g
     unfolding scheduleSeen enter
     own-schedule =
         let p = last-is ∙ sym (w .old-last) in
@@ -548,10 +548,10 @@ module _ (L : Store) (z : Reached L) (a : Arrival) (kind : Kind) (first i : ℕ)
         λ t. record { lastTable = p t; copies = q t }
 
     -- the other schedules are as they were
-    other-word : (j m : ℕ) → j ≢ row → m < 12 → m ≢ 9 → word tops₁ j m ≡ word tops j m
-    other-word j m ne l n9 = touched-not (b .room .used) row (keptHeads (b .room) entry tops) j m n9 l ∙ kept-row (b .room) entry tops tops-in j m ne l
+    other-word : (j m : ℕ) → j ≢ row → m < 12 → m ≢ 9 → word schedule-heads₁ j m ≡ word schedule-heads j m
+    other-word j m ne l n9 = touched-not (b .room .used) row (keptHeads (b .room) entry schedule-heads) j m n9 l ∙ kept-row (b .room) entry schedule-heads schedule-heads-in j m ne l
 
-    other-tables : (j : ℕ) → j ≢ row → tablesOf tops₁ j ≡ tablesOf tops j
+    other-tables : (j : ℕ) → j ≢ row → tablesOf schedule-heads₁ j ≡ tablesOf schedule-heads j
     unfolding tablesOf
     other-tables j ne = rw (other-word j 7 ne (omega arith) (omega arith), other-word j 1 ne (omega arith) (omega arith))
 
@@ -565,23 +565,23 @@ module _ (L : Store) (z : Reached L) (a : Arrival) (kind : Kind) (first i : ℕ)
         side (yes l) = inl (omega arith)
         side (no l) = inr (omega arith)
 
-    other-place : (j : ℕ) → j ≢ row → (n : ℕ) → n < 16 → placeSeen tops₁ units₁ j n ≡ placeSeen tops (L .units) j n
+    other-place : (j : ℕ) → j ≢ row → (n : ℕ) → n < 16 → placeSeen schedule-heads₁ units₁ j n ≡ placeSeen schedule-heads (L .units) j n
     unfolding placeSeen
     other-place j ne n q = rw (other-tables j ne, other-copy j ne n q)
 
-    other-schedule : (j : ℕ) → j < held → j ≢ row → scheduleSeen tops₁ units₁ j ≡ scheduleSeen tops (L .units) j
+    other-schedule : (j : ℕ) → j < held → j ≢ row → scheduleSeen schedule-heads₁ units₁ j ≡ scheduleSeen schedule-heads (L .units) j
     unfolding scheduleSeen
     other-schedule j k ne =
         let p = other-word j 7 ne (omega arith) (omega arith) in
-        let q = up-cong (placeSeen tops₁ units₁ j) (placeSeen tops (L .units) j) 16 0 (λ n c d. other-place j ne n (omega arith)) in
+        let q = up-cong (placeSeen schedule-heads₁ units₁ j) (placeSeen schedule-heads (L .units) j) 16 0 (λ n c d. other-place j ne n (omega arith)) in
         λ t. record { lastTable = p t; copies = q t }
 
-    schedules-are : orderSeen scheduleShown tops₁ (b .room .used) (b .room .evictions) (scheduleSeen tops₁ units₁) ≡ touch sameSchedule limit l g ((seen L) .eit .schedules)
+    schedules-are : orderSeen scheduleShown schedule-heads₁ (b .room .used) (b .room .evictions) (scheduleSeen schedule-heads₁ units₁) ≡ touch sameSchedule limit l g ((seen L) .eit .schedules)
     unfolding seen touch
     schedules-are =
-        touched-seen scheduleShown scheduleWords sameSchedule sameSchedule-true schedule-self tops limit held evictions skey (z .schedules) skey-proper (scheduleSeen tops (L .units)) tops₁ (scheduleSeen tops₁ units₁)
+        touched-seen scheduleShown scheduleWords sameSchedule sameSchedule-true schedule-self schedule-heads limit held evictions skey (z .schedules) skey-proper (scheduleSeen schedule-heads (L .units)) schedule-heads₁ (scheduleSeen schedule-heads₁ units₁)
         (w .goes) then-touched other-schedule
-        ∙ ap (λ (q : ScheduleKey). newest q (scheduleSeen tops₁ units₁ row) (aside sameSchedule limit q ((seen L) .eit .schedules))) skey-shown
+        ∙ ap (λ (q : ScheduleKey). newest q (scheduleSeen schedule-heads₁ units₁ row) (aside sameSchedule limit q ((seen L) .eit .schedules))) skey-shown
         ∙ ap (λ (q : ScheduleOf Held). newest l q (aside sameSchedule limit l ((seen L) .eit .schedules))) own-schedule
 
     shown-after : seen after ≡ record { settings = (seen L) .settings; eit = scheduleTouched limit l g ((seen L) .eit); cells = (seen L) .cells }
@@ -592,13 +592,13 @@ module _ (L : Store) (z : Reached L) (a : Arrival) (kind : Kind) (first i : ℕ)
 
     reached-after : Reached after
     reached-after = record {
-      fits = rw (length-touched (b .room .used) row (keptHeads (b .room) entry tops), kept-length, units-length)
-          (fits-schedules (L .eit) (length (L .heads)) (length (L .slots)) (length (L .cells)) (length tops) (length (L .units)) (b .room .used) (b .room .evictions) (z .fits) within);
+      fits = rw (length-touched (b .room .used) row (keptHeads (b .room) entry schedule-heads), kept-length, units-length)
+          (fits-schedules (L .eit) (length (L .heads)) (length (L .slots)) (length (L .cells)) (length schedule-heads) (length (L .units)) (b .room .used) (b .room .evictions) (z .fits) within);
       counts = z .counts;
       schedule-counts = let p = goes-count (w .goes) in let q = h .counts in omega arith;
       heads-fit = z .heads-fit;
       sets = z .sets;
-      schedules = touched-stands scheduleShown scheduleWords sameSchedule sameSchedule-true schedule-self tops limit held evictions skey (z .schedules) skey-proper tops₁ (w .goes) then-touched;
+      schedules = touched-stands scheduleShown scheduleWords sameSchedule sameSchedule-true schedule-self schedule-heads limit held evictions skey (z .schedules) skey-proper schedule-heads₁ (w .goes) then-touched;
     }
 
     -- every table of the schedule is whole
@@ -620,7 +620,7 @@ module _ (L : Store) (z : Reached L) (a : Arrival) (kind : Kind) (first i : ℕ)
         ap (λ (m : ℕ). allWhole m (L .eit .sets .size) (unitSlots units₁ (row * 16 + j))) (sym (cells-length (L .cells) (L .eit .sets .size) (L .eit .sets .count))) ∙ q
 
     -- "A schedule with all tables .. goes out"
-    first-after : firstTable (word tops₁ row 1) ≡ first
+    first-after : firstTable (word schedule-heads₁ row 1) ≡ first
     first-after = ap (λ (k : Key). firstTable (k .«table_id»)) key-after ∙ first-is
 
     abbrev count : ℕ
@@ -630,33 +630,33 @@ module _ (L : Store) (z : Reached L) (a : Arrival) (kind : Kind) (first i : ℕ)
     read = bytesOf ((seen L) .cells)
 
     shown-tables : a .tables - first < 16 → allPresent units₁ (row * 16) count ≡ true
-        → tablesShown l first (tablesOut after (row * 16) count) ≡ map (onWhole read) (wholes l first (take count (upFrom (placeSeen tops₁ units₁ row) 16 0)))
+        → tablesShown l first (tablesOut after (row * 16) count) ≡ map (onWhole read) (wholes l first (take count (upFrom (placeSeen schedule-heads₁ units₁ row) 16 0)))
     unfolding seen
     shown-tables d e =
         let n = own-tables in
         let f = first-is in
-        sym (tables-out after l (placeSeen tops₁ units₁ row) count 16 0 (row * 16) first (omega arith)
-        (λ j k. let y : 0 + j ≡ j = omega arith in ap (placeSeen tops₁ units₁ row) y ∙ place-in tops₁ units₁ row j (omega arith) ∙ copy-there units₁ (row * 16 + j) (present-get units₁ (row * 16) count j e k))
+        sym (tables-out after l (placeSeen schedule-heads₁ units₁ row) count 16 0 (row * 16) first (omega arith)
+        (λ j k. let y : 0 + j ≡ j = omega arith in ap (placeSeen schedule-heads₁ units₁ row) y ∙ place-in schedule-heads₁ units₁ row j (omega arith) ∙ copy-there units₁ (row * 16 + j) (present-get units₁ (row * 16) count j e k))
         (λ j k. unit-whole j (omega arith) (present-get units₁ (row * 16) count j e k)))
 
     schedule-out : a .tables - first < 16 → allPresent units₁ (row * 16) count ≡ true → answerTold (a-schedule (scheduleOut after row)) ≡ onAnswer read (schedule (guide l first g))
     unfolding answerTold scheduleOut onAnswer onGuide guide enter
     schedule-out d e =
-        let k : scheduleShown (keyAt tops₁ row) ≡ l = ap scheduleShown key-after ∙ skey-shown in
-        let v : lastOf tops₁ row ≡ old .lastTable = last-is ∙ sym (w .old-last) in
+        let k : scheduleShown (keyAt schedule-heads₁ row) ≡ l = ap scheduleShown key-after ∙ skey-shown in
+        let v : lastOf schedule-heads₁ row ≡ old .lastTable = last-is ∙ sym (w .old-last) in
         let f = first-after in
         let n : countOf a ≡ count = let b = first-is in omega arith in
-        let p : tablesShown (scheduleShown (keyAt tops₁ row)) (firstTable (word tops₁ row 1)) (tablesOut after (row * 16) (tablesOf tops₁ row)) ≡ tablesShown l first (tablesOut after (row * 16) (countOf a))
+        let p : tablesShown (scheduleShown (keyAt schedule-heads₁ row)) (firstTable (word schedule-heads₁ row 1)) (tablesOut after (row * 16) (tablesOf schedule-heads₁ row)) ≡ tablesShown l first (tablesOut after (row * 16) (countOf a))
         = λ t. tablesShown (k t) (f t) (tablesOut after (row * 16) (own-tables t)) in
         let q : tablesShown l first (tablesOut after (row * 16) (countOf a)) ≡ tablesShown l first (tablesOut after (row * 16) count) = ap (λ (m : ℕ). tablesShown l first (tablesOut after (row * 16) m)) n in
-        let r : map (onWhole read) (wholes l first (take count (upFrom (placeSeen tops₁ units₁ row) 16 0))) ≡ map (onWhole read) (wholes l first (take (suc (old .lastTable - first)) (set (old .copies) (table - first) (some copy)))) =
+        let r : map (onWhole read) (wholes l first (take count (upFrom (placeSeen schedule-heads₁ units₁ row) 16 0))) ≡ map (onWhole read) (wholes l first (take (suc (old .lastTable - first)) (set (old .copies) (table - first) (some copy)))) =
         let y : a .tables ≡ old .lastTable = sym (w .old-last) in λ t. map (onWhole read) (wholes l first (take (suc (y t - first)) (copies-are t))) in
         let s = p ∙ q ∙ shown-tables d e ∙ r in
         λ t. schedule (record { key = k t; lastTable = v t; tables = s t })
 
     all-tables : allTables first g ≡ tablesThere units₁ row entry
     all-tables =
-        ap (allTables first) (sym own-schedule) ∙ ap (λ (f : ℕ). allTables f (scheduleSeen tops₁ units₁ row)) (sym first-is) ∙ tables-there tops₁ units₁ row entry last-is kind-is
+        ap (allTables first) (sym own-schedule) ∙ ap (λ (f : ℕ). allTables f (scheduleSeen schedule-heads₁ units₁ row)) (sym first-is) ∙ tables-there schedule-heads₁ units₁ row entry last-is kind-is
 
     told-after : (t : Bool) → tablesThere units₁ row entry ≡ t → answerTold (answerOf (enteredAnswer t row) after) ≡ onAnswer read (told l first g t)
     unfolding tablesThere told answerTold onAnswer
@@ -673,9 +673,9 @@ module _ (L : Store) (z : Reached L) (a : Arrival) (kind : Kind) (first i : ℕ)
     unfolding enteredIn scheduledUnits scheduledHeads shows
     in-tied = rw all-tables (record { told = told-after (tablesThere units₁ row entry) refl; shown = shown-after; reached = reached-after })
 
-  pub shelve-tied : Tied (afterSettled (entered (rowsOf L) a i) (L .cells))
+  pub enter-tied : Tied (afterSettled (entered (rowsOf L) a i) (L .cells))
       (shows (seen L) ((seen L) .cells)
       (let g = enter (table - first) (copyOf (rowSeen (L .heads) (L .slots) i)) (begin others l first (a .tables) found) in
       gives (told l first g (allTables first g)) (scheduleTouched limit l g ((seen L) .eit))))
   unfolding entered
-  shelve-tied = rw (roomed .1 .begun) (in-tied found-room (roomed .0) (roomed .1))
+  enter-tied = rw (roomed .1 .begun) (in-tied found-room (roomed .0) (roomed .1))

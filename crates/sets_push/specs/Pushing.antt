@@ -1,0 +1,29 @@
+-- What pushing is made of, for every content of the lent memory (docs/RULES.md, "Collectors" and "Answers"). `cond test a b` is a where the test
+-- is true, else b.
+use Prim.Native.Nat.{ℕ}
+use mathlib.Core.List.{List}
+use mathlib.Core.Bool.{cond}
+use lib.Dec.{eqb}
+use Rattle.answers.specs.declared.Refusal.the-variants.{NotWhole, CounterFull}
+use Rattle.section.specs.declared.ids.MaybePid.{MaybePid}
+use Rattle.rows.specs.declared.Entry.{Entry}
+use Rattle.store.specs.Store.{Store, wholeOf}
+use Rattle.arrivals.specs.Arrivals.{setArrival, Taken}
+use Rattle.arrivals.specs.declared.SetArrival.{SetArrival}
+use Rattle.arrivals.specs.declared.SetArrival.the-variants as arrival
+use Rattle.sets_plan.specs.Plan.{planOf, Ready}
+use Rattle.sets_settle.specs.Settle.{SetsAfter, carried}
+
+-- a section that arrived, into a store that is whole
+unfoldable pub wholePushed : Store → Entry → List ℕ → SetsAfter
+wholePushed s e bytes = carried s bytes (planOf s e bytes)
+
+-- 10, 11, then what the section's bytes and its PID say
+unfoldable pub admitted : Store → MaybePid → List ℕ → SetArrival
+admitted s pid bytes =
+    cond (wholeOf s) (cond (eqb (s .sets .evictions) 18446744073709551615) (arrival.Refused CounterFull) (setArrival pid bytes)) (arrival.Refused NotWhole)
+
+-- what holds of the store and of the section where it was admitted
+abbrev pub AdmittedOk : Store → List ℕ → SetArrival → Type 0
+AdmittedOk s bytes (arrival.Refused r) = Unit {0}
+AdmittedOk s bytes (arrival.Arrived e) = Ready s × Taken bytes e
