@@ -16,8 +16,9 @@ use Rattle.offers.specs.Offers.{readOf, verdictOf}
 use Rattle.offers.specs.declared.Arrival.{Arrival}
 use Rattle.offers.specs.declared.Verdict.{Verdict}
 use Rattle.offers.specs.declared.Verdict.the-variants.{Refused, Failed, Arrived}
-use Rattle.ring.specs.Rules.{changed}
-use Rattle.ring.specs.View.{memoryAfter, laidIn}
+use Rattle.ring.specs.Rules.{Row, changed}
+use Rattle.ring.specs.Store.{stampOf, renewed, seenOf}
+use Rattle.ring.specs.View.{Memory, memoryAfter, laidIn, inOrder}
 use Rattle.ring.proofs.Laws.{whole-test}
 use Rattle.ring.proofs.Places.{seenIn, Lies, lies}
 use Rattle.gate_state.specs.State.{seenBy}
@@ -113,3 +114,15 @@ module _ (s : Store) (h : isWhole s ≡ true) (os : List Offer) (b : OfBytes os)
 
   pub whole-view : placedBy (storeAfter storeActs s os) ≡ storeAfter (actsAt (mannerOf (s .gate))) (placedBy s) os
   whole-view = all-views s os passes b
+
+-- In order of arrival the first match can be another one: in this ring, which has turned, key 5 stands with change number 1 at place 0 and with 2 at place
+-- 1, which came first. Offered with 1 it is not changed, by the ring and by the rule on the rows by place; by the order of arrival it would be.
+abbrev turnedTwice : Memory
+turnedTwice = record { ring = record { capacity = 2; used = 2; first = 1 }; keys = 5 ∷ 5 ∷ []; changes = stampOf 0 1 ∷ stampOf 0 2 ∷ [] }
+
+abbrev five : Row
+five = record { key = 5; version = 0; change = 1 }
+
+pub arrival-differs : (seenIn turnedTwice five .changed ≡ false) × (changed five (laidIn turnedTwice .rows) ≡ false) × (changed five (inOrder turnedTwice) ≡ true)
+unfolding seenOf renewed
+arrival-differs = (refl, refl, refl)
