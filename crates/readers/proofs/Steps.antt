@@ -53,7 +53,7 @@ module _ (slots : List ℕ) (size from : ℕ) where
 -- ---- what a reader holds
 
 -- a part of no bytes
-empty-part : (cells : List ℕ) → partOf cells 0 0 ≡ []
+pub empty-part : (cells : List ℕ) → partOf cells 0 0 ≡ []
 empty-part cells = rw (le-leb 0 (length cells) (omega arith), le-leb 0 (length cells - 0) (omega arith)) refl
 
 -- a reader that is made of the cells, slot 0 and no bytes

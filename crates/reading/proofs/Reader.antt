@@ -20,6 +20,7 @@ use Rattle.answers.specs.declared.Reply.the-variants.{Yes, No, Refused}
 use Rattle.cells.specs.Cells.{keptLength, cellNumber, filled, nextFilled, slotWhole, allWhole, kept, partOf}
 use Rattle.readers.specs.Next.{slotTold}
 use Rattle.readers.specs.Reader.{Held, noStep, stepOf, stepped, movedOn}
+use Rattle.readers.proofs.Steps.{empty-part}
 use Rattle.readers.specs.declared.Next.{Next}
 use Rattle.readers.specs.declared.Step.{Step}
 use Rattle.reading.proofs.Reading.{no≢yes, part-kept}
@@ -31,9 +32,6 @@ one-handing (stops e) (stops f) = refl
 one-handing (stops e) (hands n r) = absurd (n e)
 one-handing (hands n r) (stops e) = absurd (n e)
 one-handing {size = size} {slots = slots} {h = h} (hands n r) (hands m s) = ap (λ (l : List (List ℕ)). (movedOn size slots h) .part ∷ l) (one-handing r s)
-
-empty-part : (cells : List ℕ) → partOf cells 0 0 ≡ []
-empty-part cells = rw (le-leb 0 (length cells) (omega arith), le-leb 0 (length cells - 0) (omega arith)) refl
 
 module _ (size : ℕ) (slots : List ℕ) (small : size ≤ 4096) where
   -- a step, by what a question is answered

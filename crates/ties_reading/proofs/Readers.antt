@@ -26,6 +26,7 @@ use Rattle.readers.specs.Next.{noSection}
 use Rattle.readers.specs.Reader.{begun}
 use Rattle.readers.specs.declared.Next.{Next}
 use Rattle.reading.specs.Reading.{asks, Reads, ends, goesOn, HandsOut}
+use Rattle.reading.proofs.Reading.{no≢yes}
 use Rattle.reading.proofs.Reader.{reader-hands, none-handed}
 use Rattle.reader_rows.specs.Rows.{setSlots, eitSlots, unitTaken, tableSlots}
 use Rattle.sets.specs.Store as sets
@@ -54,9 +55,6 @@ same-read : (ask : ℕ → Next) (count size : ℕ) (cells slots : List ℕ) →
     → {parts : List (List ℕ)} {last : Reply} → Reads ask cells 0 parts last → HandsOut size slots (begun cells) parts
 same-read ask count size cells slots e small whole room {parts = parts} {last = last} r =
     reader-hands size slots small count cells whole room [] (subst (λ (f : ℕ → Next). Reads f cells 0 parts last) (λ i from. e from i) r)
-
-no≢yes : No ≢ Yes
-no≢yes e = let z : _≡_ {A = ℕ} 0 1 = cc in omega arith
 
 refused≢yes : Refused refusal.NotWhole ≢ Yes
 refused≢yes e = let z : _≡_ {A = ℕ} 0 1 = cc in omega arith

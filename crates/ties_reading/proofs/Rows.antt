@@ -14,7 +14,7 @@ use Rattle.answers.specs.declared.Refusal.the-variants as refusal
 use Rattle.rows.specs.declared.Key.{Key}
 use Rattle.rows.specs.declared.Entry.{Entry}
 use Rattle.rows.specs.declared.Room.{Room}
-use Rattle.rows.specs.Rows.{word, rowOf, touched, roomIn, roomRenewed, roomNew, keptHeads, ageOf, lastOf, oldestOf}
+use Rattle.rows.specs.Rows.{word, rowOf, touched, roomIn, roomRenewed, roomNew, keptHeads, ageOf, lastOf}
 use Rattle.rows.proofs.Words.{touched-not, kept-fresh, kept-known}
 use Rattle.ages.proofs.Touch.{row-has-key}
 use Rattle.arrivals.specs.declared.Arrival.{Arrival}
@@ -26,6 +26,7 @@ use Rattle.units.specs.Units.{firstTable, allPresent}
 use Rattle.schedules.specs.Schedules.{tableCount, tablesOf, roomKnown, roomOf, scheduledHeads, scheduledUnits, tablesThere, RoomFits}
 use Rattle.schedules.specs.declared.ScheduleRoom.{ScheduleRoom}
 use Rattle.schedules.proofs.Laws.{room-may}
+use Rattle.ties_eit.proofs.Entered.{new-fresh}
 use Rattle.eit_state.specs.declared.PushAnswer.{PushAnswer}
 use Rattle.eit_state.specs.declared.PushAnswer.the-variants as answer
 use Rattle.eit_state.specs.State.{Store, Rows, rows, rowsOf, setStore, Whole}
@@ -69,14 +70,6 @@ module _ (heads : List ℕ) (limit held evictions : ℕ) (e : Entry) (few : held
   row-in : (r : ScheduleRoom) → RoomFits limit r → r .room .row * 12 + 12 ≤ length heads
   row-in r f = omega (arith, f .row, f .room, long)
 
-  new-fresh : (roomNew heads limit held evictions) .fresh ≡ true
-  unfolding roomNew
-  new-fresh = go (ltb held limit)
-    where
-      go : (b : Bool) → (cond b (roomRenewed (held + 1) evictions held held) (roomRenewed held (evictions + 1) (oldestOf heads held) (ageOf heads (oldestOf heads held)))) .fresh ≡ true
-      go true = refl
-      go false = refl
-
   head-is : Head ((roomOf heads limit held evictions e) .room)
   unfolding roomOf roomKnown
   head-is = go (ltb there held) (eqb (lastOf heads there) (e .last)) refl refl (room-may heads limit held evictions e (roomOf heads limit held evictions e) some few refl)
@@ -90,7 +83,7 @@ module _ (heads : List ℕ) (limit held evictions : ℕ) (e : Entry) (few : held
       go : (b c : Bool) → ltb there held ≡ b → eqb (lastOf heads there) (e .last) ≡ c → RoomFits limit (found b c) → Head ((found b c) .room)
       go true true p q f = known-head (ltb-true there held p) (eqb-true (lastOf heads there) (e .last) q)
       go true false p q f = fresh-head (roomRenewed held evictions there (ageOf heads there)) refl (row-in (record { room = roomRenewed held evictions there (ageOf heads there); refill = true }) f)
-      go false c p q f = fresh-head (roomNew heads limit held evictions) new-fresh (row-in (record { room = roomNew heads limit held evictions; refill = false }) f)
+      go false c p q f = fresh-head (roomNew heads limit held evictions) (new-fresh heads limit held evictions) (row-in (record { room = roomNew heads limit held evictions; refill = false }) f)
 
   -- so its tables are those of the entry
   tables-are : (r : ScheduleRoom) → r ≡ roomOf heads limit held evictions e → tablesOf (scheduledHeads (r .room) e heads) (r .room .row) ≡ tableCount (e .key .«table_id») (e .last)
