@@ -9,9 +9,8 @@ use lib.Dec.{leb, eqb}
 use native.Mathlib.Omega.{arith}
 use borrow.Author.Tests.{leb-true, eqb-false, ne-eqb, not-true, not-false}
 use Rattle.laws.proofs.Tests.{and-true}
-use Rattle.ring.specs.Store.{roomOf, Whole, stampOf, seenOf, keysAfter, changesAfter}
+use Rattle.ring.specs.Store.{roomOf, stampOf, seenOf, keysAfter, changesAfter}
 use Rattle.ring.specs.Store.{wholeOf as ringWhole}
-use Rattle.ring.specs.declared.Ring.{Ring}
 use Rattle.ring.specs.declared.Seen.{Seen}
 use Rattle.ring.proofs.Laws.{whole as ring-whole}
 use Rattle.section.specs.Header.{tableId}
@@ -25,7 +24,7 @@ use Rattle.offers.specs.declared.Verdict.{Verdict}
 use Rattle.offers.specs.declared.Verdict.the-variants as verdict
 use Rattle.watched.specs.Store.{allPids, filled, following}
 use Rattle.gate_state.specs.State.{begun, refused, failure, seenBy}
-use Rattle.gate.specs.Store.{begunBy, hasRoom, opened, wholeOf, Fits, Store, Offering, storeOf, leftBy, programsOf, followedPat, watchAfter, admittedTo, carried, isWhole, offered}
+use Rattle.gate.specs.Store.{begunBy, hasRoom, opened, wholeOf, Fits, Store, Offering, storeOf, leftBy, followedPat, watchAfter, admittedTo, carried, isWhole, offered}
 use Rattle.gate_state.specs.declared.Gate.{Gate}
 use Rattle.gate_state.specs.declared.Offered.{Offered}
 use Rattle.gate_state.specs.declared.Settings.{Settings}

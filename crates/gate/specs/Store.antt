@@ -2,13 +2,11 @@
 -- of the lent slices. `cond test a b` is a where the test is true, else b.
 use Prim.Native.Nat.{ℕ, _≤_}
 use mathlib.Core.List.{List}
-use mathlib.Core.Bool.{Bool, true, false, cond, _&&_, _||_}
+use mathlib.Core.Bool.{Bool, true, cond, _&&_}
 use lib.ListN.{length, replicate}
 use lib.Dec.{leb}
-use Rattle.ring.specs.Store.{emptyRing}
 use Rattle.ring.specs.Store.{roomOf, Whole, stampOf, seenOf, keysAfter, changesAfter}
 use Rattle.ring.specs.Store.{wholeOf as ringWhole}
-use Rattle.ring.specs.declared.Ring.{Ring}
 use Rattle.ring.specs.declared.Seen.{Seen}
 use Rattle.offers.specs.Offers.{verdictOf}
 use Rattle.offers.specs.declared.Arrival.{Arrival}
@@ -17,9 +15,7 @@ use Rattle.offers.specs.declared.Verdict.the-variants as verdict
 use Rattle.pat.specs.Pat.{readable, withPrograms}
 use Rattle.watched.specs.Store.{allPids, filled, following}
 use Rattle.answers.specs.Answers.{refusalNo, outcomeNo}
-use Rattle.answers.specs.declared.Refusal.{Refusal}
-use Rattle.answers.specs.declared.Outcome.{Outcome}
-use Rattle.counters.specs.Counters.{zeroes, countedOf, failedOf}
+use Rattle.counters.specs.Counters.{zeroes}
 use Rattle.counters.specs.declared.Counters.{Counters}
 use Rattle.gate_state.specs.State.{answerNo, emptyGate, failure, seenBy}
 use Rattle.gate_state.specs.declared.Settings.{Settings}

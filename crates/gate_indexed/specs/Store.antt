@@ -7,7 +7,7 @@ use lib.ListN.{length}
 use lib.Dec.{leb}
 use Rattle.ring.specs.Store.{roomOf, stampOf}
 use Rattle.ring.specs.declared.Seen.{Seen}
-use Rattle.ring_index.specs.Store.{Covers, Index, indexOf, clearedBy, seenBy, keysBy, changesBy, indexBy}
+use Rattle.ring_index.specs.Store.{Covers, Index, clearedBy, seenBy, keysBy, changesBy, indexBy}
 use Rattle.offers.specs.Offers.{verdictOf}
 use Rattle.offers.specs.declared.Arrival.{Arrival}
 use Rattle.offers.specs.declared.Verdict.{Verdict}

@@ -2,22 +2,21 @@
 -- completed is their sum, and evictions is for how many offers a key left.
 -- Assumes nothing.
 use Prim.Native.Nat.{ℕ, suc, _+_}
-use mathlib.Core.Path.{_≡_, refl, sym, ap, subst, _∙_}
+use mathlib.Core.Path.{_≡_, refl, ap, subst, _∙_}
 use mathlib.Core.List.{List, [], _∷_}
-use mathlib.Core.Bool.{Bool, true, false, cond, _||_}
+use mathlib.Core.Bool.{Bool, true, false, cond}
 use lib.ListN.{length}
 use native.Mathlib.Omega.{arith}
 use Rattle.laws.specs.Runs.{answers, storeAfter}
 use Rattle.answers.specs.declared.Refusal.the-variants.{CounterFull}
 use Rattle.counters.specs.Counters.{zeroes, anyFull, plusOf}
-use Rattle.counters.specs.Rules.{countOf, judgedIn, Sums}
+use Rattle.counters.specs.Rules.{countOf, Sums}
 use Rattle.counters.specs.declared.Counters.{Counters}
 use Rattle.offers.specs.Offers.{readOf}
 use Rattle.offers.specs.declared.Verdict.{Verdict}
 use Rattle.offers.specs.declared.Verdict.the-variants.{Refused, Failed, Arrived}
-use Rattle.ring.specs.Rules.{evicts}
 use Rattle.gate.specs.Store.{opened, Store}
-use Rattle.gate.specs.Rules.{Offer, Manner, Held, rowFrom, admitted, carriedIn, told, tells, acts, OfBytes}
+use Rattle.gate.specs.Rules.{Offer, Manner, Held, admitted, carriedIn, told, tells, acts, OfBytes}
 use Rattle.gate.specs.View.{storeActs}
 use Rattle.gate_state.specs.declared.Settings.{Settings}
 use Rattle.ties_gate.specs.Watching.{isProtected, emptyHeld}

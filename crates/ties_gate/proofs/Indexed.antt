@@ -15,7 +15,7 @@ use Rattle.ring.specs.Store.{roomOf, stampOf}
 use Rattle.ring.specs.View.{memoryAfter}
 use Rattle.ring.proofs.Laws.{whole-test}
 use Rattle.ring.proofs.Order.{opened-reached}
-use Rattle.ring_index.specs.Store.{Index, indexOf, indexBy, clearedBy}
+use Rattle.ring_index.specs.Store.{indexOf, clearedBy}
 use Rattle.ring_index.specs.Runs.{openedIndex}
 use Rattle.ring_index.proofs.Same.{Sound as Kept, seen-same, keys-same, changes-same, sound-after, opened-sound}
 use Rattle.section.specs.Facts.{Bytes}
@@ -25,7 +25,7 @@ use Rattle.offers.specs.declared.Arrival.{Arrival}
 use Rattle.offers.specs.declared.Verdict.{Verdict}
 use Rattle.offers.specs.declared.Verdict.the-variants.{Refused, Failed, Arrived}
 use Rattle.gate_state.specs.State.{emptyGate}
-use Rattle.gate.specs.Store.{hasRoom, isWhole, Store, storeOf, admittedTo, carried, opened, offered}
+use Rattle.gate.specs.Store.{hasRoom, isWhole, Store, admittedTo, carried, opened, offered}
 use Rattle.counters.specs.Counters.{zeroes, anyFull}
 use Rattle.gate_state.specs.State.{seenBy as answeredBy}
 use Rattle.gate.specs.Store.{Offering as Told}

@@ -14,17 +14,15 @@ use Rattle.ring.specs.Store.{roomOf}
 use Rattle.ring.proofs.Order.{opened-reached}
 use Rattle.pat.specs.Pat.{listed}
 use Rattle.laws.proofs.Bits.{among}
-use Rattle.watched.specs.Rules.{Watch}
 use Rattle.watched.specs.Store.{allPids, filled, protectedPids}
 use Rattle.watched.specs.View.{watchIn}
 use Rattle.watched.proofs.Meaning.{opened-watched, opened-protected, opened-followed, length-filled}
 use Rattle.counters.specs.Counters.{zeroes}
-use Rattle.gate_state.specs.State.{emptyGate}
 use Rattle.gate.specs.Store.{Begun, begins, hasRoom, opened, Store, storeOf}
-use Rattle.gate.specs.Rules.{Offer, Manner, Held, tells, acts, OfBytes}
+use Rattle.gate.specs.Rules.{Offer, Manner, tells, acts, OfBytes}
 use Rattle.gate.specs.View.{mannerOf, heldBy, Opened, storeTells, storeActs}
 use Rattle.gate_state.specs.declared.Settings.{Settings}
-use Rattle.ties_gate.specs.Watching.{isProtected, noPid, emptyHeld}
+use Rattle.ties_gate.specs.Watching.{isProtected, emptyHeld}
 use Rattle.ties_gate.proofs.Order.{same-answers, same-view}
 
 is-listed : (q : ℕ) (ps : List ℕ) → among q ps ≡ listed q ps

@@ -1,18 +1,16 @@
 -- The store over lent memory and the rule: from an opened store every offer answers and leaves what docs/RULES.md says.
 -- Assumes nothing.
-use Prim.Native.Nat.{ℕ, _+_, _*_, _^_, _<_, _≤_}
-use mathlib.Core.Path.{_≡_, refl, sym, ap, _∙_}
+use Prim.Native.Nat.{ℕ, _^_, _<_, _≤_}
+use mathlib.Core.Path.{_≡_, refl, ap, _∙_}
 use mathlib.Core.List.{List, [], _∷_}
 use mathlib.Core.Bool.{Bool, true, false, cond, _&&_, _||_}
-use lib.ListN.{length, getD, replicate, length-replicate}
-use lib.Dec.{ltb, leb}
+use lib.ListN.{length, replicate, length-replicate}
 use native.Mathlib.Omega.{arith}
 use borrow.Author.Tests.{le-leb}
 use Rattle.laws.proofs.Tests.{true-and}
 use Rattle.laws.specs.Runs.{answers, storeAfter}
-use Rattle.ring.specs.Store.{stampOf, seenOf}
-use Rattle.ring.specs.Rules.{Row, changed}
-use Rattle.ring.specs.View.{Memory, memoryAfter, inOrder, Reached}
+use Rattle.ring.specs.Rules.{changed}
+use Rattle.ring.specs.View.{memoryAfter, inOrder}
 use Rattle.ring.proofs.Laws.{whole-test}
 use Rattle.ring.proofs.Places.{seenIn}
 use Rattle.ring.proofs.Order.{Step, step}
@@ -29,12 +27,12 @@ use Rattle.watched.specs.Store.{following}
 use Rattle.watched.specs.Rules.{followedBy}
 use Rattle.watched.specs.View.{watchIn}
 use Rattle.watched.proofs.Meaning.{length-following, following-shown}
-use Rattle.gate_state.specs.State.{seenBy, answerNo, answerOf}
+use Rattle.gate_state.specs.State.{seenBy}
 use Rattle.gate.specs.Store.{isWhole, Store, Offering, admittedTo, carried, offered, programsOf, followedPat, watchAfter}
 use Rattle.gate.specs.Rules as rules
 use Rattle.gate_state.proofs.Laws.{answer-no}
 use Rattle.counters.specs.Counters.{anyFull, failedOf}
-use Rattle.gate.specs.Rules.{Offer, Manner, Held, Told, rowFrom, admitted, carriedIn, told, tells, acts, OfBytes}
+use Rattle.gate.specs.Rules.{Offer, Manner, Told, rowFrom, admitted, carriedIn, told, tells, acts, OfBytes}
 use Rattle.gate.specs.View.{mannerOf, memoryOf, heldBy, shownBy, Opened, storeTells, storeActs}
 
 -- one offer

@@ -1,10 +1,10 @@
 -- Every store that passes the test of 10, whatever its rows hold: every sequence of offers of bytes has the answers of the rule by the first matching row,
 -- and the store then stands for what that rule holds.
 -- Assumes nothing.
-use Prim.Native.Nat.{ℕ, _^_, _<_, _≤_}
-use mathlib.Core.Path.{_≡_, refl, sym, ap, _∙_}
+use Prim.Native.Nat.{ℕ, _^_, _<_}
+use mathlib.Core.Path.{_≡_, refl, ap}
 use mathlib.Core.List.{List, [], _∷_}
-use mathlib.Core.Bool.{Bool, true, false, cond, _&&_, _||_}
+use mathlib.Core.Bool.{true, false, cond, _&&_, _||_}
 use lib.ListN.{length}
 use borrow.Author.Tests.{le-leb}
 use Rattle.laws.proofs.Tests.{true-and}
@@ -27,7 +27,7 @@ use Rattle.gate.specs.Rules.{Offer, Manner, rowFrom, admitted, OfBytes}
 use Rattle.gate.specs.View.{mannerOf, memoryOf, storeTells, storeActs}
 use Rattle.gate.proofs.Laws.{fits}
 use Rattle.gate_state.proofs.Laws.{answer-no}
-use Rattle.ties_gate.specs.Places.{Placed, heldAt, Said, carriedAt, said, saysAt, actsAt, placedBy, saidBy}
+use Rattle.ties_gate.specs.Places.{Said, carriedAt, said, saysAt, actsAt, placedBy, saidBy}
 use Rattle.ties_gate.proofs.Order.{watch-kept, watch-shown, verdict-small}
 
 -- a store that passes the test of 10

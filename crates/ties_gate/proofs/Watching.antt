@@ -6,7 +6,6 @@ use mathlib.Core.Path.{_≡_, refl, sym, ap, _∙_}
 use mathlib.Core.List.{List, [], _∷_}
 use mathlib.Core.Bool.{Bool, true, false, cond, _&&_, _||_, or-false}
 use lib.ListN.{length}
-use lib.Dec.{ltb, leb}
 use borrow.Author.Tests.{le-leb, lt-ltb}
 use Rattle.laws.specs.Bits.{hasBit}
 use Rattle.laws.specs.Runs.{storeAfter}
@@ -20,7 +19,7 @@ use Rattle.offers.specs.declared.Verdict.the-variants.{Refused, Failed, Arrived
 use Rattle.watched.specs.Rules.{Watch, staysWatched, followedBy}
 use Rattle.watched.specs.Store.{watchedOf, asked}
 use Rattle.gate.specs.Store.{opened, Store, offered}
-use Rattle.gate.specs.Rules.{Offer, Manner, Held, Told, rowFrom, admitted, carriedIn, told, acts, OfBytes}
+use Rattle.gate.specs.Rules.{Offer, Manner, Held, rowFrom, admitted, carriedIn, told, acts, OfBytes}
 use Rattle.gate.specs.View.{Opened, storeActs}
 use Rattle.gate_state.specs.declared.Settings.{Settings}
 use Rattle.ties_gate.specs.Watching.{isProtected, noPid, emptyHeld, isChanged, isFollowed, nAfter, answered}
