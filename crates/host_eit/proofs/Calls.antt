@@ -23,7 +23,7 @@ use Rattle.eit_state.specs.declared.PushAnswer.the-variants.{Nothing, Set, Sche
 use Rattle.eit_drop.specs.declared.Filter.{Filter}
 use Rattle.eit.specs.Store.{number, outcomeOf, setOut, scheduleOut, answerOf, turned, pushed, openedOf, pushedOf, clearedOf, droppedOf, nextOf, nextInOf}
 use Rattle.eit.proofs.Refusals.{told-number}
-use Rattle.host_eit.specs.Words.{eitOf, wordsOf, wordsOpened, rowBy, tellsOpened, tellsPushed, tellsTurned, filterOf}
+use Rattle.host_eit_words.specs.Words.{eitOf, wordsOf, wordsOpened, rowBy, tellsOpened, tellsPushed, tellsTurned, filterOf}
 use Rattle.host_eit.specs.Calls.{eitOpened, eitCleared, eitLeft, rowAfter, eitPushed, eitDroppedTo, eitDropped, eitNext, eitNextIn}
 
 outcome-number : (a : Outcome) → outcomeNo a ≡ number (outcomeOf a)

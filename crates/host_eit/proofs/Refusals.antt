@@ -14,9 +14,9 @@ use Rattle.eit_state.specs.State.{Store, store, wholeOf}
 use Rattle.eit.specs.Store as eit
 use Rattle.eit.specs.Store.{Told, a-set, a-schedule, number, After, after, clearedOf, pushedOf, droppedOf, nextOf, nextInOf}
 use Rattle.eit.proofs.Refusals.{push-keeps, drop-keeps}
-use Rattle.host_eit.specs.Words.{eitOf, filterOf}
+use Rattle.host_eit_words.specs.Words.{eitOf, filterOf}
 use Rattle.host_eit.specs.Calls.{eitOpened, clearedAs, eitCleared, eitLeft, rowAfter, pushedAs, eitPushed, eitDroppedTo, droppedAs, eitDropped, eitNext, eitNextIn}
-use Rattle.host_eit.proofs.Same.{eit-same}
+use Rattle.host_eit_words.proofs.Same.{eit-same}
 
 -- 13
 pub eit-open-refused :

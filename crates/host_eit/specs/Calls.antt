@@ -9,7 +9,7 @@ use Rattle.host_words.specs.Pids.{maybePid}
 use Rattle.host_words.specs.Sections.{tellsNext}
 use Rattle.eit_state.specs.State.{store, asked}
 use Rattle.eit.specs.Store.{Told, done, nothing, a-set, a-schedule, refused, number, After, openedOf, pushedOf, clearedOf, droppedOf, nextOf, nextInOf}
-use Rattle.host_eit.specs.Words.{eitOf, wordsOf, wordsAfter, filterOf}
+use Rattle.host_eit_words.specs.Words.{eitOf, wordsOf, wordsAfter, filterOf}
 
 -- 7 writes all seven words; a refused opening leaves them as they were
 abbrev pub openedAs : List ℕ → After → Words

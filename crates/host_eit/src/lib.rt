@@ -4,8 +4,6 @@ ghost use mathlib.Core.Path.{_≡_};
 ghost use Rattle.host_words.specs.Answers.{words};
 ghost use Rattle.host_eit.specs.Calls.{eitOpened, eitLeft, eitPushed, eitCleared, eitDroppedTo, eitDropped, eitNext, eitNextIn};
 
-pub mod words;
-
 // Opens an EIT collector: 7 or 13. A refusal leaves the words as they were; nothing else lent is written.
 pub fn open(
     eit: &mut [u64; 7],
@@ -30,7 +28,7 @@ pub fn open(
         schedule_heads,
         units,
     );
-    words::write_opened(eit, opened)
+    host_eit_words::write_opened(eit, opened)
 }
 
 // Offers a section, with the PID that it came on or, for 0xFFFFFFFF, without. 5 writes the set's row into `row`, 6 the schedule's.
@@ -47,7 +45,7 @@ pub fn push(
 ) -> u8
     ensures { λ r. ⌜ eitLeft r (now (eit .exit)) (now (heads .exit)) (now (slots .exit)) (now (cells .exit)) (now («schedule_heads» .exit)) (now (units .exit)) (now (row .exit)) ≡ eitPushed (now (eit .entry)) (now (heads .entry)) (now (slots .entry)) (now (cells .entry)) (now («schedule_heads» .entry)) (now (units .entry)) pid (now (section .entry)) (now (row .entry)) ⌝ }
 {
-    let before = words::eit(eit);
+    let before = host_eit_words::eit(eit);
     let from = host_words::pids::maybe(pid);
     let pushed = eit::push(
         before,
@@ -59,7 +57,7 @@ pub fn push(
         from,
         section,
     );
-    words::write_pushed(eit, row, pushed)
+    host_eit_words::write_pushed(eit, row, pushed)
 }
 
 // Every set and every schedule leaves: 7, or 10.
@@ -73,9 +71,9 @@ pub fn clear(
 ) -> u8
     ensures { λ r. ⌜ words r (now (eit .exit)) ≡ eitCleared (now (eit .entry)) (now (heads .entry)) (now (slots .entry)) (now (cells .entry)) (now («schedule_heads» .entry)) (now (units .entry)) ⌝ }
 {
-    let before = words::eit(eit);
+    let before = host_eit_words::eit(eit);
     let cleared = eit::clear(before, heads, slots, cells, schedule_heads, units);
-    words::write_turned(eit, cleared)
+    host_eit_words::write_turned(eit, cleared)
 }
 
 // Sets and schedules that match the filter go: 7, 10, or 12 for a PID of the filter that is none. A word with all 64 bits set is free, the PID 0xFFFFFFFF
@@ -91,10 +89,10 @@ pub fn drop(
 ) -> u8
     ensures { λ r. ⌜ eitDroppedTo r (now (eit .exit)) (now (heads .exit)) (now (slots .exit)) (now («schedule_heads» .exit)) (now (units .exit)) ≡ eitDropped (now (eit .entry)) (now (heads .entry)) (now (slots .entry)) (now (cells .entry)) (now («schedule_heads» .entry)) (now (units .entry)) (now (filter .entry)) ⌝ }
 {
-    let before = words::eit(eit);
-    let wanted = words::filter(filter);
+    let before = host_eit_words::eit(eit);
+    let wanted = host_eit_words::filter(filter);
     let dropped = eit::drop(before, heads, slots, cells, schedule_heads, units, wanted);
-    words::write_turned(eit, dropped)
+    host_eit_words::write_turned(eit, dropped)
 }
 
 // Has the set in a row another section, from a slot on? 8, 9 or 10; 8 writes its number into `next`, and where its bytes are in the cells.
@@ -111,7 +109,7 @@ pub fn next(
 ) -> u8
     ensures { λ r. ⌜ words r (now (next .exit)) ≡ eitNext (now (eit .entry)) (now (heads .entry)) (now (slots .entry)) (now (cells .entry)) (now («schedule_heads» .entry)) (now (units .entry)) row from (now (next .entry)) ⌝ }
 {
-    let collector = words::eit(eit);
+    let collector = host_eit_words::eit(eit);
     let told = eit::next_section(
         collector,
         heads,
@@ -140,7 +138,7 @@ pub fn next_in_schedule(
 ) -> u8
     ensures { λ r. ⌜ words r (now (next .exit)) ≡ eitNextIn (now (eit .entry)) (now (heads .entry)) (now (slots .entry)) (now (cells .entry)) (now («schedule_heads» .entry)) (now (units .entry)) row table from (now (next .entry)) ⌝ }
 {
-    let collector = words::eit(eit);
+    let collector = host_eit_words::eit(eit);
     let told = eit::next_in_schedule(
         collector,
         heads,

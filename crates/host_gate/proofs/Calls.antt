@@ -22,9 +22,9 @@ use Rattle.gate_state.specs.declared.Opened.{Opened}
 use Rattle.gate_state.specs.declared.Offered.{Offered}
 use Rattle.host_words.specs.Pids.{pidNumber}
 use Rattle.host_words.specs.Answers.{Words, words}
-use Rattle.host_gate.specs.Words.{settingsOf, heldIn, wordsOf, wordsOpened, tellsOpened, tellsOffered}
+use Rattle.host_gate_words.specs.Words.{settingsOf, heldIn, wordsOf, wordsOpened, tellsOpened, tellsOffered}
 use Rattle.host_gate.specs.Calls.{begun, gateOpened, left, gateOffered, watchAsked}
-use Rattle.host_gate.specs.declared.words.Held.{Held}
+use Rattle.host_gate_words.specs.declared.Held.{Held}
 
 pub opened-words : (a : Outcome) (g : Gate) (c : Counters) (w : List ℕ) → wordsOpened a g c w ≡ cond (eqb (outcomeNo a) 7) (wordsOf g c) w
 opened-words outcome.Done g c w = refl

@@ -15,9 +15,9 @@ use Rattle.gate_state.specs.State.{answerNo, answerOf, emitsOf, seenBy}
 use Rattle.gate.specs.Store.{hasRoom, begins, opened, isWhole, Store, storeOf, Offering, admittedTo, carried, offered}
 use Rattle.gate_state.specs.declared.Settings.{Settings}
 use Rattle.host_words.specs.Pids.{pidNumber}
-use Rattle.host_gate.specs.Words.{settingsOf, gateOf, countersOf}
+use Rattle.host_gate_words.specs.Words.{settingsOf, gateOf, countersOf}
 use Rattle.host_gate.specs.Calls.{begun, begunAs, gateOpened, left, leftAs, gateOffered}
-use Rattle.host_gate.proofs.Same.{gate-same}
+use Rattle.host_gate_words.proofs.Same.{gate-same}
 
 -- 10, 11 and 12 are told of no section that is admitted
 pub told : (emits : Bool) → answerNo (answerOf emits) < 10

@@ -6,7 +6,7 @@ use mathlib.Core.Bool.{cond}
 use lib.ListN.{length}
 use lib.Dec.{eqb}
 use Rattle.host_words.specs.Pids.{pidNumber}
-use Rattle.host_gate.specs.Words.{settingsOf, gateOf, countersOf, wordsOf, wordsAfter}
+use Rattle.host_gate_words.specs.Words.{settingsOf, gateOf, countersOf, wordsOf, wordsAfter}
 use Rattle.watched.specs.Store.{asked}
 use Rattle.gate.specs.Store.{Begun, opened, Offering, storeOf, offered}
 

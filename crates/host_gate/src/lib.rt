@@ -3,8 +3,6 @@
 ghost use mathlib.Core.Path.{_≡_};
 ghost use Rattle.host_gate.specs.Calls.{begun, gateOpened, left, gateOffered, watchAsked};
 
-pub mod words;
-
 // Opens a gate and its watch: 7, 12 or 13. `settings` are bits: 1 repeats, 2 follow, 4 well-known PIDs. A refusal writes nothing.
 pub fn open(
     gate: &mut [u64; 10],
@@ -17,9 +15,9 @@ pub fn open(
 ) -> u8
     ensures { λ r. ⌜ begun r (now (gate .exit)) (now (watch .exit)) ≡ gateOpened (now (gate .entry)) capacity settings (now (extra .entry)) (now (keys .entry)) (now (changes .entry)) (now (watch .entry)) ⌝ }
 {
-    let asked = words::settings(capacity, settings);
+    let asked = host_gate_words::settings(capacity, settings);
     let opened = gate::open(asked, extra, keys, changes, watch);
-    words::write_opened(gate, opened)
+    host_gate_words::write_opened(gate, opened)
 }
 
 // Offers a section that came on a PID, watched or not: 1, 2, 3, 10, 11 or 12.
@@ -33,7 +31,7 @@ pub fn offer(
 ) -> u8
     ensures { λ r. ⌜ left r (now (gate .exit)) (now (keys .exit)) (now (changes .exit)) (now (watch .exit)) ≡ gateOffered (now (gate .entry)) (now (keys .entry)) (now (changes .entry)) (now (watch .entry)) pid (now (section .entry)) ⌝ }
 {
-    let held = words::read(gate);
+    let held = host_gate_words::read(gate);
     let number = host_words::pids::number(pid);
     let offered = gate::offer(
         held.gate,
@@ -44,7 +42,7 @@ pub fn offer(
         number,
         section,
     );
-    words::write_offered(gate, offered)
+    host_gate_words::write_offered(gate, offered)
 }
 
 // Whether a PID is watched: 8, 9, 10 or 12.

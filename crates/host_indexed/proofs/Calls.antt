@@ -11,8 +11,8 @@ use Rattle.ring_index.specs.Store.{indexOf}
 use Rattle.gate_indexed.specs.Store as indexed
 use Rattle.host_words.specs.Pids.{pidNumber}
 use Rattle.host_words.specs.Answers.{Words, words}
-use Rattle.host_gate.specs.Words.{settingsOf, heldIn, tellsOpened, tellsOffered}
-use Rattle.host_gate.specs.declared.words.Held.{Held}
+use Rattle.host_gate_words.specs.Words.{settingsOf, heldIn, tellsOpened, tellsOffered}
+use Rattle.host_gate_words.specs.declared.Held.{Held}
 use Rattle.host_gate.proofs.Calls.{opened-words}
 use Rattle.host_indexed.specs.Calls.{begun, gateOpened, left, gateOffered}
 

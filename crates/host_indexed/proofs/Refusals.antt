@@ -17,8 +17,8 @@ use Rattle.gate_state.specs.State.{emitsOf, seenBy}
 use Rattle.gate_state.specs.declared.Settings.{Settings}
 use Rattle.gate_indexed.specs.Store as indexed
 use Rattle.host_words.specs.Pids.{pidNumber}
-use Rattle.host_gate.specs.Words.{settingsOf, gateOf, countersOf}
-use Rattle.host_gate.proofs.Same.{gate-same}
+use Rattle.host_gate_words.specs.Words.{settingsOf, gateOf, countersOf}
+use Rattle.host_gate_words.proofs.Same.{gate-same}
 use Rattle.host_gate.proofs.Refusals.{told}
 use Rattle.host_indexed.specs.Calls.{begun, begunAs, gateOpened, left, leftAs, gateOffered}
 

@@ -6,7 +6,7 @@ use mathlib.Core.Bool.{cond}
 use lib.ListN.{length}
 use lib.Dec.{eqb}
 use Rattle.host_words.specs.Pids.{pidNumber}
-use Rattle.host_gate.specs.Words.{settingsOf, gateOf, countersOf, wordsOf, wordsAfter}
+use Rattle.host_gate_words.specs.Words.{settingsOf, gateOf, countersOf, wordsOf, wordsAfter}
 use Rattle.ring_index.specs.Store.{indexOf}
 use Rattle.gate_indexed.specs.Store as indexed
 

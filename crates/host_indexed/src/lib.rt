@@ -16,9 +16,9 @@ pub fn open(
 ) -> u8
     ensures { λ r. ⌜ begun r (now (gate .exit)) (now (buckets .exit)) (now (watch .exit)) ≡ gateOpened (now (gate .entry)) capacity settings (now (extra .entry)) (now (keys .entry)) (now (changes .entry)) (now (buckets .entry)) (now (links .entry)) (now (watch .entry)) ⌝ }
 {
-    let asked = host_gate::words::settings(capacity, settings);
+    let asked = host_gate_words::settings(capacity, settings);
     let opened = gate_indexed::open(asked, extra, keys, changes, buckets, links, watch);
-    host_gate::words::write_opened(gate, opened)
+    host_gate_words::write_opened(gate, opened)
 }
 
 // `petrizolu_gate_offer` through the index.
@@ -34,7 +34,7 @@ pub fn offer(
 ) -> u8
     ensures { λ r. ⌜ left r (now (gate .exit)) (now (keys .exit)) (now (changes .exit)) (now (buckets .exit)) (now (links .exit)) (now (watch .exit)) ≡ gateOffered (now (gate .entry)) (now (keys .entry)) (now (changes .entry)) (now (buckets .entry)) (now (links .entry)) (now (watch .entry)) pid (now (section .entry)) ⌝ }
 {
-    let held = host_gate::words::read(gate);
+    let held = host_gate_words::read(gate);
     let number = host_words::pids::number(pid);
     let offered = gate_indexed::offer(
         held.gate,
@@ -47,5 +47,5 @@ pub fn offer(
         number,
         section,
     );
-    host_gate::words::write_offered(gate, offered)
+    host_gate_words::write_offered(gate, offered)
 }

@@ -23,7 +23,7 @@ use Rattle.sets_settle.specs.declared.Pushed.{Pushed}
 use Rattle.sets.specs.declared.Cleared.{Cleared}
 use Rattle.sets_settle.specs.declared.PushAnswer.{PushAnswer}
 use Rattle.sets_settle.specs.declared.PushAnswer.the-variants.{Nothing, Set, Refused}
-use Rattle.host_sets.specs.Words.{setsOf, wordsOf, wordsOpened, rowBy, tellsOpened, tellsPushed, tellsCleared}
+use Rattle.host_sets_words.specs.Words.{setsOf, wordsOf, wordsOpened, rowBy, tellsOpened, tellsPushed, tellsCleared}
 use Rattle.host_sets.specs.Calls.{setsOpened, setsCleared, setsLeft, rowAfter, setsPushed, setsNext}
 
 outcome-number : (a : Outcome) → outcomeNo a ≡ toldNo (outcomeOf a)

@@ -17,9 +17,9 @@ use Rattle.store.specs.Store.{Store, store, wholeOf}
 use Rattle.sets_settle.specs.Settle.{Told, done, nothing, handed, refused, toldNo, SetsAfter, after}
 use Rattle.sets.specs.Store.{clearedOf, pushedOf, nextOf}
 use Rattle.sets.proofs.Refusals.{refusal-keeps}
-use Rattle.host_sets.specs.Words.{setsOf}
+use Rattle.host_sets_words.specs.Words.{setsOf}
 use Rattle.host_sets.specs.Calls.{setsOpened, clearedAs, setsCleared, setsLeft, rowAfter, pushedAs, setsPushed, setsNext}
-use Rattle.host_sets.proofs.Same.{sets-same}
+use Rattle.host_sets_words.proofs.Same.{sets-same}
 
 -- 13
 pub sets-open-refused :

@@ -10,7 +10,7 @@ use Rattle.host_words.specs.Sections.{tellsNext}
 use Rattle.store.specs.Store.{store, asked}
 use Rattle.sets_settle.specs.Settle.{Told, done, nothing, handed, refused, toldNo, SetsAfter}
 use Rattle.sets.specs.Store.{openedOf, pushedOf, clearedOf, nextOf}
-use Rattle.host_sets.specs.Words.{setsOf, wordsOf, wordsAfter}
+use Rattle.host_sets_words.specs.Words.{setsOf, wordsOf, wordsAfter}
 
 -- 7 writes all five words; a refused opening leaves them as they were
 abbrev pub openedAs : List ℕ → SetsAfter → Words

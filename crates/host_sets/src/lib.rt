@@ -4,8 +4,6 @@ ghost use mathlib.Core.Path.{_≡_};
 ghost use Rattle.host_words.specs.Answers.{words};
 ghost use Rattle.host_sets.specs.Calls.{setsLeft, setsOpened, setsPushed, setsCleared, setsNext};
 
-pub mod words;
-
 // Opens a set collector: 7 or 13. A refusal leaves the words as they were; nothing else lent is written.
 pub fn open(
     sets: &mut [u64; 5],
@@ -26,7 +24,7 @@ pub fn open(
         slots,
         cells,
     );
-    words::write_opened(sets, opened)
+    host_sets_words::write_opened(sets, opened)
 }
 
 // Offers a section, with the PID that it came on or, for 0xFFFFFFFF, without. 5 writes the set's row into `row`.
@@ -41,19 +39,19 @@ pub fn push(
 ) -> u8
     ensures { λ r. ⌜ setsLeft r (now (sets .exit)) (now (heads .exit)) (now (slots .exit)) (now (cells .exit)) (now (row .exit)) ≡ setsPushed (now (sets .entry)) (now (heads .entry)) (now (slots .entry)) (now (cells .entry)) pid (now (section .entry)) (now (row .entry)) ⌝ }
 {
-    let before = words::sets(sets);
+    let before = host_sets_words::sets(sets);
     let from = host_words::pids::maybe(pid);
     let pushed = sets::push(before, heads, slots, cells, from, section);
-    words::write_pushed(sets, row, pushed)
+    host_sets_words::write_pushed(sets, row, pushed)
 }
 
 // Empties all rows: 7, or 10.
 pub fn clear(sets: &mut [u64; 5], heads: &[u64], slots: &[u32], cells: &[u8]) -> u8
     ensures { λ r. ⌜ words r (now (sets .exit)) ≡ setsCleared (now (sets .entry)) (now (heads .entry)) (now (slots .entry)) (now (cells .entry)) ⌝ }
 {
-    let before = words::sets(sets);
+    let before = host_sets_words::sets(sets);
     let cleared = sets::clear(before, heads, slots, cells);
-    words::write_cleared(sets, cleared)
+    host_sets_words::write_cleared(sets, cleared)
 }
 
 // Has the set in a row another section, from a slot on? 8, 9 or 10; 8 writes its number into `next`, and where its bytes are in the cells.
@@ -68,7 +66,7 @@ pub fn next(
 ) -> u8
     ensures { λ r. ⌜ words r (now (next .exit)) ≡ setsNext (now (sets .entry)) (now (heads .entry)) (now (slots .entry)) (now (cells .entry)) row from (now (next .entry)) ⌝ }
 {
-    let collector = words::sets(sets);
+    let collector = host_sets_words::sets(sets);
     let told = sets::next_section(collector, heads, slots, cells, row as usize, from as usize);
     host_words::sections::write_next(next, told)
 }

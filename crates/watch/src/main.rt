@@ -124,18 +124,20 @@ fn wide16(x: u8) -> u16
     x as u16
 }
 
-// One record: offered where its PID is watched, and said.
+// One record of n bytes: offered where its PID is watched, and said.
 fn judge(
     gate: Gate,
     counters: Counters,
-    keys: &mut [u64],
-    changes: &mut [u64],
-    words: &mut [u64],
-    pid: u16,
-    section: &[u8],
+    keys: &mut [u64; 512],
+    changes: &mut [u64; 512],
+    words: &mut [u64; 384],
+    buf: &[u8],
+    n: usize,
 ) -> Between
-    requires { ⌜ (3 ≤ length (now section)) × (length (now section) ≤ 4098) ⌝ }
+    requires { ⌜ (5 ≤ n) × (n ≤ 4100) × (4100 ≡ length (now buf)) ⌝ }
 {
+    let pid = wide16(buf[0]) * 256 + wide16(buf[1]);
+    let section = &buf[2..n];
     match watched::ask(words, pid) {
         Reply::Yes => offer(gate, counters, keys, changes, words, pid, section),
         Reply::No => leave(say_pid(b"unwatched ", pid), gate, counters),
@@ -154,9 +156,9 @@ fn leave(more: bool, gate: Gate, counters: Counters) -> Between {
 fn offer(
     gate: Gate,
     counters: Counters,
-    keys: &mut [u64],
-    changes: &mut [u64],
-    words: &mut [u64],
+    keys: &mut [u64; 512],
+    changes: &mut [u64; 512],
+    words: &mut [u64; 384],
     pid: u16,
     section: &[u8],
 ) -> Between
@@ -173,18 +175,13 @@ fn offer(
 fn turn(
     gate: Gate,
     counters: Counters,
-    keys: &mut [u64],
-    changes: &mut [u64],
-    words: &mut [u64],
-    buf: &mut [u8],
-) -> Between
-    requires { ⌜ 4100 ≡ length (now buf) ⌝ }
-{
+    keys: &mut [u64; 512],
+    changes: &mut [u64; 512],
+    words: &mut [u64; 384],
+    buf: &mut [u8; 4100],
+) -> Between {
     match read_record(buf) {
-        Next::Record(n) => {
-            let pid = wide16(buf[0]) * 256 + wide16(buf[1]);
-            judge(gate, counters, keys, changes, words, pid, &buf[2..n])
-        }
+        Next::Record(n) => judge(gate, counters, keys, changes, words, buf, n),
         Next::End => leave(false, gate, counters),
         Next::Cut => {
             io::write_all(STDOUT_FILENO, b"cut\n");
@@ -194,9 +191,12 @@ fn turn(
 }
 
 // A proved loop has to end, and nothing says that an input does: the turns are counted down from a number that no run uses up.
-fn run(keys: &mut [u64], changes: &mut [u64], words: &mut [u64], buf: &mut [u8])
-    requires { ⌜ 4100 ≡ length (now buf) ⌝ }
-{
+fn run(
+    keys: &mut [u64; 512],
+    changes: &mut [u64; 512],
+    words: &mut [u64; 384],
+    buf: &mut [u8; 4100],
+) {
     let mut settings = Settings::by_default();
     settings.capacity = 512;
     let none = [0u16; 1];

@@ -4,8 +4,8 @@ use Rattle.host_indexed.proofs.open.Statement.{statement}
 use Rattle.host_indexed.proofs.open.Tie as tie
 use Rattle.host_indexed.proofs.open.Reads as reads
 use Rattle.host_indexed.proofs.open.Lts as lts
-use Rattle.host_gate.proofs.words.settings.Reads as settings-reads
-use Rattle.host_gate.proofs.words.write_opened.Reads as write-opened-reads
+use Rattle.host_gate_words.proofs.settings.Reads as settings-reads
+use Rattle.host_gate_words.proofs.write_opened.Reads as write-opened-reads
 use Rattle.gate_indexed.proofs.open.Reads as open-reads
 
 -- src/lib.rt:77:9

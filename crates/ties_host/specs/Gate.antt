@@ -1,0 +1,45 @@
+-- Offers to a gate as a host in another language makes them, one after another, on the words and slices that it lends.
+use Prim.Native.Nat.{ℕ}
+use mathlib.Core.Path.{_≡_}
+use mathlib.Core.List.{List}
+use Rattle.gate.specs.Rules.{Offer}
+use Rattle.gate.specs.Store.{Store, storeOf}
+use Rattle.host_words.specs.Pids.{pidNumber}
+use Rattle.host_gate_words.specs.Words.{gateOf, countersOf}
+use Rattle.host_gate.specs.Calls.{gateOpened, gateOffered}
+
+-- what the host keeps from call to call: the ten words of the gate and its counters, and the three slices that it lends
+pub record Lent : Type 0 where
+  pub words : List ℕ
+  pub keys : List ℕ
+  pub changes : List ℕ
+  pub watch : List ℕ
+
+-- `petrizolu_gate_offer`: a PID of 32 bits and a section. The number that is answered
+unfoldable pub tells : Lent → Offer → ℕ
+tells l o = (gateOffered (l .words) (l .keys) (l .changes) (l .watch) (o .pid) (o .section)) .answer
+
+-- what stands in the words and slices then
+unfoldable pub acts : Lent → Offer → Lent
+acts l o =
+    let r = gateOffered (l .words) (l .keys) (l .changes) (l .watch) (o .pid) (o .section) in
+    record { words = r .gate; keys = r .keys; changes = r .changes; watch = r .watch }
+
+-- the gate and the counters that the words stand for
+abbrev pub storeIn : Lent → Store
+storeIn l = storeOf (gateOf (l .words)) (countersOf (l .words)) (l .keys) (l .changes) (l .watch)
+
+-- the offer to the crate gate that is made of it: a number of more than 16 bits stays no PID
+abbrev pub offerOf : Offer → Offer
+offerOf o = record { pid = pidNumber (o .pid); section = o .section }
+
+-- as `petrizolu_gate_open` leaves the words and the watch where it answers 7, whatever stood in them
+pub record OpenedBy (l : Lent) : Type 0 where
+  pub before : List ℕ
+  pub capacity : ℕ
+  pub settings : ℕ
+  pub extra : List ℕ
+  pub watched : List ℕ
+  pub answer : (gateOpened before capacity settings extra (l .keys) (l .changes) watched) .answer ≡ 7
+  pub words : l .words ≡ (gateOpened before capacity settings extra (l .keys) (l .changes) watched) .gate
+  pub watch : l .watch ≡ (gateOpened before capacity settings extra (l .keys) (l .changes) watched) .watch

@@ -1,0 +1,5 @@
+pub mod Gate
+pub mod Indexed
+pub mod Sets
+pub mod Eit
+pub mod Demand3
