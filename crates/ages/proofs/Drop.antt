@@ -10,8 +10,8 @@ use native.Mathlib.Omega.{arith}
 use borrow.Author.Tests.{eq-eqb, ne-eqb, lt-ltb, le-ltb}
 use Rattle.rules_shared.specs.Touch.{Rows, Entry, under, retain}
 use Rattle.rows.specs.declared.Key.{Key}
-use Rattle.rows.specs.Rows.{keyAt, ageOf}
-use Rattle.ages.specs.Order.{downFrom, rowOfAge, inOrder, rowsSeen, Ages, Stands, movedFrom, younger, Dropped}
+use Rattle.rows.specs.Rows.{keyAt, ageOf, younger}
+use Rattle.ages.specs.Order.{downFrom, rowOfAge, inOrder, rowsSeen, Ages, Stands, movedFrom, Dropped}
 use Rattle.ages.proofs.Ages.{down-cong, skip, skip-low, skip-high, skip-not, skip-below, row-below, row-age, the-row, without}
 
 -- ---- over any ages

@@ -6,11 +6,11 @@ use mathlib.Core.Path.{_≡_}
 use mathlib.Core.Logic.{_≢_}
 use mathlib.Core.List.{List, [], _∷_}
 use mathlib.Core.Bool.{cond}
-use lib.Dec.{eqb, ltb}
+use lib.Dec.{eqb}
 use Rattle.laws.specs.Lists.{firstFrom}
 use Rattle.rules_shared.specs.Touch.{Rows, TouchOrder, under}
 use Rattle.rows.specs.declared.Key.{Key}
-use Rattle.rows.specs.Rows.{keyAt, oldestOf, older, ageOf}
+use Rattle.rows.specs.Rows.{keyAt, oldestOf, older, ageOf, younger}
 
 -- f (n - 1), and so on down to f 0
 unfoldable pub downFrom : {A : Type 0} → (ℕ → A) → ℕ → List A
@@ -69,10 +69,6 @@ pub record Touched (heads heads′ : List ℕ) (key : Key) (i a used′ : ℕ) :
 -- the row that stands in row j's place once row i was dropped
 abbrev pub movedFrom : (used i j : ℕ) → ℕ
 movedFrom used i j = cond (eqb j i) (used - 1) j
-
--- an age above a goes down by 1
-abbrev pub younger : ℕ → ℕ → ℕ
-younger a age = cond (ltb a age) (age - 1) age
 
 -- heads′ are heads with row i dropped
 pub record Dropped (heads heads′ : List ℕ) (i used : ℕ) : Type 0 where

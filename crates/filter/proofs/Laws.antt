@@ -1,12 +1,12 @@
 -- One law for each turn, each end and each way out of the functions that drop rows.
 -- Assumes nothing.
-use mathlib.Core.Path.{_≡_, refl, sym, ap, _∙_}
+use mathlib.Core.Path.{_≡_, sym, ap, _∙_}
 use mathlib.Core.List.{List}
-use mathlib.Core.Bool.{Bool, true, false, cond, _&&_}
-use Prim.Native.Nat.{ℕ, zero, suc, _+_, _-_, _*_, _≤_, _<_}
+use mathlib.Core.Bool.{Bool, true, false, _&&_}
+use Prim.Native.Nat.{ℕ, suc, _+_, _-_, _*_, _≤_, _<_}
 use native.Mathlib.Nat.{suc-mul, mul-le-mul-right}
 use native.Mathlib.Omega.{arith}
-use borrow.Author.Tests.{lt-ltb, le-ltb, eq-eqb, ne-eqb, le-leb, lt-leb}
+use borrow.Author.Tests.{lt-ltb, le-ltb, ne-eqb, le-leb, lt-leb}
 use lib.Dec.{eqb}
 use lib.ListN.{length, getD, take, drop, set, length-drop}
 use lib.Seq.{paste, getD-take, getD-drop, length-take-le}
@@ -16,13 +16,13 @@ use Rattle.eit_section.specs.declared.Kind.{Kind}
 use Rattle.eit_section.specs.declared.Kind.the-variants as kind
 use Rattle.arrivals.specs.Arrivals.{kindNumber}
 use Rattle.rows.specs.declared.Key.{Key}
-use Rattle.rows.specs.Rows.{keyAt, ageOf, withAge}
+use Rattle.rows.specs.Rows.{keyAt, ageOf, withAge, younger}
 use Rattle.filter.specs.declared.Wanted.{Wanted}
 use Rattle.filter.specs.declared.Wanted.the-variants as wanted
 use Rattle.filter.specs.declared.Fields.{Fields}
 use Rattle.filter.specs.declared.Of.{Of}
 use Rattle.filter.specs.declared.Of.the-variants as of
-use Rattle.filter.specs.Drops.{younger, matches, wants, kindWord, kindIn, widthOf, movedTo, youngered, removedHeads, removedWords, Rest, rest, removed, droppedRow, droppedRows, Fits}
+use Rattle.filter.specs.Drops.{matches, wants, kindWord, kindIn, widthOf, movedTo, youngered, removedHeads, removedWords, Rest, rest, droppedRow, droppedRows, Fits}
 
 before : (n : ℕ) → 0 < n → n ≡ suc (n - 1)
 before n h = omega arith

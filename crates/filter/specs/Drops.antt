@@ -5,11 +5,11 @@ use mathlib.Core.List.{List}
 use mathlib.Core.Bool.{Bool, true, cond, _&&_}
 use lib.ListN.{length, take, drop}
 use lib.Seq.{paste}
-use lib.Dec.{eqb, ltb}
+use lib.Dec.{eqb}
 use Rattle.eit_section.specs.Eit.{kindOf}
 use Rattle.arrivals.specs.Arrivals.{kindNumber}
 use Rattle.rows.specs.declared.Key.{Key}
-use Rattle.rows.specs.Rows.{keyAt, ageOf, withAge}
+use Rattle.rows.specs.Rows.{keyAt, ageOf, withAge, younger}
 use Rattle.filter.specs.declared.Wanted.{Wanted}
 use Rattle.filter.specs.declared.Wanted.the-variants as wanted
 use Rattle.filter.specs.declared.Fields.{Fields}
@@ -48,10 +48,6 @@ widthOf of.Schedules = 4608
 -- the n words from `from` on stand from `to` on, too
 abbrev pub movedTo : (to from n : ℕ) → List ℕ → List ℕ
 movedTo to from n words = paste words to (take n (drop from words)) n
-
--- an age above a goes down by 1
-abbrev pub younger : ℕ → ℕ → ℕ
-younger a age = cond (ltb a age) (age - 1) age
 
 -- each of the first n rows whose age is above a is one younger
 unfoldable pub youngered : ℕ → ℕ → List ℕ → List ℕ

@@ -7,7 +7,8 @@ ghost use mathlib.Core.Path.{_≡_};
 ghost use mathlib.Core.Bool.{Bool, true, false};
 ghost use Prim.Native.Nat.{ℕ, _+_, _-_, _*_, _<_, _≤_};
 ghost use lib.ListN.{length};
-ghost use Rattle.filter.specs.Drops.{younger, wants, kindWord, kindIn, matches, widthOf, movedTo, youngered, removedHeads, removedWords};
+ghost use Rattle.rows.specs.Rows.{younger};
+ghost use Rattle.filter.specs.Drops.{wants, kindWord, kindIn, matches, widthOf, movedTo, youngered, removedHeads, removedWords};
 ghost use Rattle.filter.specs.Drops.{Fits, rest, droppedRow, droppedRows};
 
 // A field of a filter: free, or exactly a word.

@@ -1,6 +1,6 @@
 -- The rows of a collector: what their heads and slots say, for every content of the two lent slices.
 -- `cond test a b` is a where the test is true, else b.
-use Prim.Native.Nat.{ℕ, zero, suc, _+_, _*_, min}
+use Prim.Native.Nat.{ℕ, zero, suc, _+_, _-_, _*_, min}
 use mathlib.Core.List.{List, [], _∷_}
 use mathlib.Core.Bool.{Bool, true, false, cond, not, _&&_, _||_}
 use lib.ListN.{getD, take, drop, set, replicate}
@@ -22,7 +22,10 @@ word heads i k = getD heads (i * 12 + k) 0
 abbrev pub put : ℕ → ℕ → ℕ → List ℕ → List ℕ
 put i k v heads = set heads (i * 12 + k) v
 
--- of row i's head: the version, last_section_number (a schedule's: last_table_id), the mark (not 0: handed out) and the age
+-- of row i's head: the table_id (a schedule's: the kind), the version, last_section_number (a schedule's: last_table_id), the mark (not 0: handed out) and the age
+abbrev pub tableWord : List ℕ → ℕ → ℕ
+tableWord heads i = word heads i 1
+
 abbrev pub versionOf : List ℕ → ℕ → ℕ
 versionOf heads i = word heads i 6
 
@@ -74,6 +77,10 @@ oldestOf heads (suc n) = elderOf heads (oldestOf heads n) n
 -- an age below a goes up by 1
 abbrev pub older : ℕ → ℕ → ℕ
 older a age = cond (ltb age a) (age + 1) age
+
+-- an age above a goes down by 1
+abbrev pub younger : ℕ → ℕ → ℕ
+younger a age = cond (ltb a age) (age - 1) age
 
 -- each of the first n rows whose age is below a is one older
 unfoldable pub aged : ℕ → ℕ → List ℕ → List ℕ

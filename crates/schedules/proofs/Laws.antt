@@ -3,12 +3,11 @@
 use mathlib.Core.Path.{_≡_, refl, sym, ap, subst, _∙_}
 use mathlib.Core.List.{List}
 use mathlib.Core.Bool.{Bool, true, false, cond, _&&_, and-assoc, and-true}
-use Prim.Native.Nat.{ℕ, _+_, _-_, _*_, _%_, _≤_, _<_, min}
+use Prim.Native.Nat.{ℕ, _+_, _-_, _*_, _%_, _≤_, _<_}
 use native.Mathlib.Omega.{arith}
 use borrow.Author.Tests.{eq-eqb, ne-eqb, lt-ltb, le-ltb, ltb-true, ltb-false}
 use lib.Dec.{eqb, ltb}
-use lib.ListN.{length}
-use Rattle.rows.specs.Rows.{word, keyAt, oldestOf, rowOf, touched, roomIn, roomRenewed, roomNew, keptHeads, ageOf, lastOf}
+use Rattle.rows.specs.Rows.{tableWord, keyAt, oldestOf, rowOf, touched, roomIn, roomRenewed, roomNew, keptHeads, ageOf, lastOf}
 use Rattle.rows.specs.declared.Key.{Key}
 use Rattle.rows.specs.declared.Entry.{Entry}
 use Rattle.rows.specs.declared.Room.{Room}
@@ -30,10 +29,10 @@ module _ (kind last first : ℕ) (f : (first ≡ firstTable kind) × (first ≤ 
   pub count-all : first ≤ last → 15 ≤ last - first → (16 ≡ tableCount kind last) × (16 ≤ 16)
   count-all h l = rw (← f .0) (omega arith, omega arith)
 
-pub kind-word : (schedule-heads : List ℕ) (k : ℕ) (key : Key) → key ≡ keyAt schedule-heads k → key .«table_id» ≡ word schedule-heads k 1
+pub kind-word : (schedule-heads : List ℕ) (k : ℕ) (key : Key) → key ≡ keyAt schedule-heads k → key .«table_id» ≡ tableWord schedule-heads k
 kind-word schedule-heads k key e = rw e
 
-pub tables-counted : (schedule-heads : List ℕ) (k kind last r : ℕ) → kind ≡ word schedule-heads k 1 → last ≡ lastOf schedule-heads k → (r ≡ tableCount kind last) × (r ≤ 16)
+pub tables-counted : (schedule-heads : List ℕ) (k kind last r : ℕ) → kind ≡ tableWord schedule-heads k → last ≡ lastOf schedule-heads k → (r ≡ tableCount kind last) × (r ≤ 16)
     → (r ≡ tablesOf schedule-heads k) × (r ≤ 16)
 unfolding tablesOf
 tables-counted schedule-heads k kind last r e f q = (rw (← e, ← f) (q .0), q .1)

@@ -5,7 +5,7 @@ use Prim.Native.Nat.{ℕ, zero, suc, _+_, _-_, _*_, _%_, _≤_, _<_, min}
 use mathlib.Core.List.{List}
 use mathlib.Core.Bool.{Bool, true, false, cond, _&&_, _||_}
 use lib.Dec.{ltb, eqb}
-use Rattle.rows.specs.Rows.{word, rowOf, touched, takenIn, roomIn, roomRenewed, roomNew, keptHeads, ageOf, lastOf}
+use Rattle.rows.specs.Rows.{tableWord, rowOf, touched, takenIn, roomIn, roomRenewed, roomNew, keptHeads, ageOf, lastOf}
 use Rattle.rows.specs.declared.Entry.{Entry}
 use Rattle.rows.specs.declared.Room.{Room}
 use Rattle.units.specs.Units.{firstTable, unitsWhole, takenInUnits, markedUnits, allPresent, withoutUnits, withSet, refilled}
@@ -19,7 +19,7 @@ tableCount kind last = min (last - firstTable kind) 15 + 1
 
 -- of the schedule in row k. Units past them are not looked at
 unfoldable pub tablesOf : (schedule-heads : List ℕ) → ℕ → ℕ
-tablesOf schedule-heads k = tableCount (word schedule-heads k 1) (lastOf schedule-heads k)
+tablesOf schedule-heads k = tableCount (tableWord schedule-heads k) (lastOf schedule-heads k)
 
 -- ---- all schedules in use
 

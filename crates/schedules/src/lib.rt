@@ -7,7 +7,7 @@ ghost use mathlib.Core.Bool.{Bool, true, false, cond, _&&_};
 ghost use Prim.Native.Nat.{ℕ, _+_, _-_, _*_, _%_, _<_, _≤_};
 ghost use lib.ListN.{length};
 ghost use Rattle.cells.specs.Cells.{lowestFree};
-ghost use Rattle.rows.specs.Rows.{word};
+ghost use Rattle.rows.specs.Rows.{tableWord};
 ghost use Rattle.schedules.specs.Schedules.{tableCount, tablesOf, schedulesWhole, markedSchedules, takenAnywhere};
 ghost use Rattle.schedules.specs.Schedules.{roomKnown, roomOf, scheduledHeads, readyUnits, scheduledUnits, tablesThere};
 
@@ -42,7 +42,7 @@ fn table_count(kind: u64, last: u64) -> usize
 // The kind of the schedule of row k.
 fn kind_at(heads: &[u64], k: usize) -> u64
     requires { ⌜ k * 12 + 12 ≤ length (now heads) ⌝ }
-    ensures { λ r. ⌜ r ≡ word (now (heads .entry)) k 1 ⌝ }
+    ensures { λ r. ⌜ r ≡ tableWord (now (heads .entry)) k ⌝ }
 {
     let key = rows::key_at(heads, k);
     key.table_id

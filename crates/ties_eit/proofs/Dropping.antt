@@ -10,13 +10,12 @@ use borrow.Author.Tests.{lt-leb, le-leb, ltb-true, ltb-false}
 use lib.Dec.{ltb, leb}
 use lib.ListN.{length, take, drop, getD}
 use Rattle.rules_shared.specs.Touch.{retained}
-use Rattle.rules_eit.specs.Keys.{kindNumber, ScheduleKey, SetKey, badPid, pidPasses}
-use Rattle.rules_eit.specs.Keys.{matches as keyMatches}
+use Rattle.rules_eit.specs.Keys.{kindNumber, ScheduleKey, SetKey, badPid, pidPasses, matches as keyMatches}
 use Rattle.rules_eit.specs.Rules.{done, gives, dropped}
 use Rattle.rules_eit.specs.Cells.{onAnswer, shows, dropIn}
 use Rattle.section.specs.declared.ids.Made.the-variants as made
 use Rattle.rows.specs.declared.Key.{Key}
-use Rattle.rows.specs.Rows.{word, keyAt, slotCount, slotsAt}
+use Rattle.rows.specs.Rows.{tableWord, keyAt, slotCount, slotsAt}
 use Rattle.ages.specs.Order.{movedFrom}
 use Rattle.ages.proofs.Cells.{up-cong}
 use Rattle.segments.specs.Segments.{wordOf}
@@ -122,7 +121,7 @@ module _ (f : Filter) (fit : FilterFits f) (w : Wanted) (pid : (p : ℕ) → wan
 
   set-agrees : (heads : List ℕ) (j : ℕ) → HeadFits heads j → keyWords (keyShown (keyAt heads j)) ≡ keyAt heads j → matches of.Sets (fieldsOf w f) (keyAt heads j) ≡ not (setStays (keyShown (keyAt heads j)))
   set-agrees heads j h e =
-      sets-match f fit w pid (keyAt heads j) (set-bit (keyAt heads j) e) (kind-word (word heads j 1) (h .kind)) ∙ not-twice (keyMatches (filterShown f) ((keyShown (keyAt heads j)) .schedule))
+      sets-match f fit w pid (keyAt heads j) (set-bit (keyAt heads j) e) (kind-word (tableWord heads j) (h .kind)) ∙ not-twice (keyMatches (filterShown f) ((keyShown (keyAt heads j)) .schedule))
 
   abbrev Any : List ℕ → ℕ → Type 0
   Any heads j = Unit {0}

@@ -2,10 +2,10 @@
 -- Assumes nothing.
 use mathlib.Core.Path.{_≡_, refl, sym, ap, _∙_}
 use mathlib.Core.Logic.{_≢_, _⊎_, inl, inr}
-use mathlib.Core.Bool.{Bool, true, false, cond, not, _&&_}
+use mathlib.Core.Bool.{Bool, true, false, cond, _&&_}
 use mathlib.Core.Option.{Option, none, some}
 use mathlib.Core.List.{List, map}
-use Prim.Native.Nat.{ℕ, zero, suc, _+_, _-_, _*_, _%_, _≤_, _<_, min}
+use Prim.Native.Nat.{ℕ, zero, suc, _+_, _-_, _*_, _%_, _≤_, _<_}
 use native.Mathlib.Decide.{ℕ-discrete, decLe, decLt}
 use native.Mathlib.Omega.{arith}
 use borrow.Author.Tests.{eq-eqb, ne-eqb, eqb-true, eqb-false, ltb-true, ltb-false, le-leb}
@@ -17,9 +17,9 @@ use Rattle.laws.proofs.Lists.{getD-none}
 use Rattle.rules_shared.specs.Touch.{Rows, find, aside, newest, touch}
 use Rattle.rules_shared.specs.Cells.{Held, bytesOf}
 use Rattle.rules_eit.specs.Keys.{Kind, kindOf, kindNumber, ScheduleKey, SetKey, sameSchedule, sameSet}
-use Rattle.rules_eit.specs.Segments.{SetOf, complete}
+use Rattle.rules_eit.specs.Segments.{SetOf}
 use Rattle.rules_eit.specs.Schedules.{CopyOf, ScheduleOf, tableOf, copyOf, copied, refill, begin, enter, allTables, wholes, guide}
-use Rattle.rules_eit.specs.Rules.{nothing, schedule, gives, told, scheduleTouched}
+use Rattle.rules_eit.specs.Rules.{schedule, gives, told, scheduleTouched}
 use Rattle.rules_eit.specs.Cells.{Turn, onWhole, onGuide, onAnswer, shows}
 use Rattle.rules_eit.proofs.Keys.{sameSchedule-true, sameSet-true}
 use Rattle.rules_eit.proofs.Schedules.{refill-inside, refill-past}
@@ -27,7 +27,7 @@ use Rattle.cells.specs.Cells.{allWhole}
 use Rattle.rows.specs.declared.Key.{Key}
 use Rattle.rows.specs.declared.Entry.{Entry}
 use Rattle.rows.specs.declared.Room.{Room}
-use Rattle.rows.specs.Rows.{word, keyAt, rowOf, touched, keptHeads, roomIn, roomRenewed, roomNew, rowSlots, rowsWhole, oldestOf, ageOf, lastOf}
+use Rattle.rows.specs.Rows.{tableWord, word, keyAt, rowOf, touched, keptHeads, roomIn, roomRenewed, roomNew, rowSlots, rowsWhole, oldestOf, ageOf, lastOf}
 use Rattle.rows.proofs.Words.{length-kept, kept-row, kept-fresh, kept-known, length-touched, touched-not}
 use Rattle.rows.proofs.Whole.{rows-get}
 use Rattle.ages.specs.Order.{orderSeen, Goes, Touched}
@@ -38,8 +38,7 @@ use Rattle.ages.proofs.Slots.{held-whole}
 use Rattle.ages.proofs.Cells.{cells-length, length-up, up-get, up-cong}
 use Rattle.segments.specs.Segments.{setComplete}
 use Rattle.units.specs.Units.{firstTable, isPresent, unitSlots, unitWhole, unitsWhole, withoutUnits, withSet, withTable, refilled, allPresent}
-use Rattle.schedules.specs.Schedules.{tablesOf, schedulesWhole}
-use Rattle.schedules.specs.Schedules.{roomKnown, roomOf, scheduledHeads, tableCount, readyUnits, scheduledUnits, tablesThere}
+use Rattle.schedules.specs.Schedules.{tablesOf, schedulesWhole, roomKnown, roomOf, scheduledHeads, tableCount, readyUnits, scheduledUnits, tablesThere}
 use Rattle.schedules.specs.declared.ScheduleRoom.{ScheduleRoom}
 use Rattle.store.specs.Store as sets
 use Rattle.eit_state.specs.declared.Eit.{Eit}
@@ -277,7 +276,7 @@ module _ (L : Store) (z : Reached L) (a : Arrival) (kind : Kind) (first i : ℕ)
       ∙ finds-none scheduleShown scheduleWords sameSchedule sameSchedule-true schedule-self schedule-heads limit held evictions skey (z .schedules) skey-proper (scheduleSeen schedule-heads (L .units)) (no-row-has-key schedule-heads skey held k)
 
   -- a schedule's tables, by its head
-  tables-are : (schedule-heads′ : List ℕ) (k : ℕ) → lastOf schedule-heads′ k ≡ a .tables → word schedule-heads′ k 1 ≡ a .kind → tablesOf schedule-heads′ k ≡ countOf a
+  tables-are : (schedule-heads′ : List ℕ) (k : ℕ) → lastOf schedule-heads′ k ≡ a .tables → tableWord schedule-heads′ k ≡ a .kind → tablesOf schedule-heads′ k ≡ countOf a
   unfolding tablesOf
   tables-are schedule-heads′ k e f = rw (e, f)
 
@@ -496,7 +495,7 @@ module _ (L : Store) (z : Reached L) (a : Arrival) (kind : Kind) (first i : ℕ)
     last-is : lastOf schedule-heads₁ row ≡ a .tables
     last-is = touched-not (b .room .used) row (keptHeads (b .room) entry schedule-heads) row 7 (omega arith) (omega arith) ∙ w .last
 
-    kind-is : word schedule-heads₁ row 1 ≡ a .kind
+    kind-is : tableWord schedule-heads₁ row ≡ a .kind
     kind-is = ap (λ (k : Key). k .«table_id») key-after
 
     own-tables : tablesOf schedule-heads₁ row ≡ countOf a
@@ -620,7 +619,7 @@ module _ (L : Store) (z : Reached L) (a : Arrival) (kind : Kind) (first i : ℕ)
         ap (λ (m : ℕ). allWhole m (L .eit .sets .size) (unitSlots units₁ (row * 16 + j))) (sym (cells-length (L .cells) (L .eit .sets .size) (L .eit .sets .count))) ∙ q
 
     -- "A schedule with all tables .. goes out"
-    first-after : firstTable (word schedule-heads₁ row 1) ≡ first
+    first-after : firstTable (tableWord schedule-heads₁ row) ≡ first
     first-after = ap (λ (k : Key). firstTable (k .«table_id»)) key-after ∙ first-is
 
     abbrev count : ℕ
@@ -646,7 +645,7 @@ module _ (L : Store) (z : Reached L) (a : Arrival) (kind : Kind) (first i : ℕ)
         let v : lastOf schedule-heads₁ row ≡ old .lastTable = last-is ∙ sym (w .old-last) in
         let f = first-after in
         let n : countOf a ≡ count = let b = first-is in omega arith in
-        let p : tablesShown (scheduleShown (keyAt schedule-heads₁ row)) (firstTable (word schedule-heads₁ row 1)) (tablesOut after (row * 16) (tablesOf schedule-heads₁ row)) ≡ tablesShown l first (tablesOut after (row * 16) (countOf a))
+        let p : tablesShown (scheduleShown (keyAt schedule-heads₁ row)) (firstTable (tableWord schedule-heads₁ row)) (tablesOut after (row * 16) (tablesOf schedule-heads₁ row)) ≡ tablesShown l first (tablesOut after (row * 16) (countOf a))
         = λ t. tablesShown (k t) (f t) (tablesOut after (row * 16) (own-tables t)) in
         let q : tablesShown l first (tablesOut after (row * 16) (countOf a)) ≡ tablesShown l first (tablesOut after (row * 16) count) = ap (λ (m : ℕ). tablesShown l first (tablesOut after (row * 16) m)) n in
         let r : map (onWhole read) (wholes l first (take count (upFrom (placeSeen schedule-heads₁ units₁ row) 16 0))) ≡ map (onWhole read) (wholes l first (take (suc (old .lastTable - first)) (set (old .copies) (table - first) (some copy)))) =

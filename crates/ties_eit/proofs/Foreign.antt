@@ -1,9 +1,7 @@
 -- A filter that names a kind or a current_next that there is none of: nothing matches, and the memory is as before.
 -- Assumes nothing.
-use mathlib.Core.Path.{_≡_, refl, sym, ap, _∙_}
-use mathlib.Core.Logic.{_⊎_, inl, inr}
+use mathlib.Core.Path.{_≡_, refl, ap, _∙_}
 use mathlib.Core.Bool.{Bool, true, false, cond, not, _&&_}
-use mathlib.Core.List.{List}
 use Prim.Native.Nat.{ℕ, zero, suc, _≤_, _<_}
 use native.Mathlib.Omega.{arith}
 use borrow.Author.Tests.{ne-eqb}
@@ -12,7 +10,7 @@ use Rattle.laws.proofs.Tests.{and-none}
 use Rattle.rules_eit.specs.Keys.{Kind, presentActual, presentOther, scheduleActual, scheduleOther, kindOf, kindNumber}
 use Rattle.answers.specs.declared.Refusal.the-variants as refusal
 use Rattle.rows.specs.declared.Key.{Key}
-use Rattle.rows.specs.Rows.{word, keyAt}
+use Rattle.rows.specs.Rows.{tableWord, word, keyAt}
 use Rattle.arrivals.specs.Arrivals.{bitOf}
 use Rattle.filter.specs.declared.Of.{Of}
 use Rattle.filter.specs.declared.Of.the-variants as of
@@ -21,7 +19,6 @@ use Rattle.filter.specs.declared.Wanted.the-variants as wanted
 use Rattle.filter.specs.declared.Fields.{Fields}
 use Rattle.filter.specs.Drops.{wants, kindIn, matches, Rest, rest, droppedRow, droppedRows}
 use Rattle.eit_drop.specs.declared.Filter.{Filter}
-use Rattle.eit_drop.specs.declared.Drop.{Drop}
 use Rattle.eit_drop.specs.declared.Drop.the-variants as drop
 use Rattle.eit_drop.specs.declared.PidWanted.{PidWanted}
 use Rattle.eit_drop.specs.declared.PidWanted.the-variants as pid-wanted
@@ -79,7 +76,7 @@ module _ (s : Store) (z : Reached s) (f : Filter) (g : Foreign f) (w : Wanted) w
   sets-stay : droppedRows of.Sets (fieldsOf w f) (s .eit .sets .used) (rest (s .heads) (s .slots) (s .eit .sets .used)) ≡ rest (s .heads) (s .slots) (s .eit .sets .used)
   sets-stay =
       none-leave of.Sets (fieldsOf w f) (s .eit .sets .used) (rest (s .heads) (s .slots) (s .eit .sets .used)) (λ j h.
-      let t : ℕ = word (s .heads) j 1 in
+      let t : ℕ = tableWord (s .heads) j in
       let n = kind-word t (z .heads-fit j h .kind) in
       let k = kind-below (theKind (kindOf t)) in
       let b = set-bit (keyAt (s .heads) j) (z .sets .proper j h) in
@@ -90,8 +87,8 @@ module _ (s : Store) (z : Reached s) (f : Filter) (g : Foreign f) (w : Wanted) w
   schedules-stay =
       none-leave of.Schedules (fieldsOf w f) (s .eit .schedules) (rest (s .schedule-heads) (s .units) (s .eit .schedules)) (λ j h.
       let b = schedule-bit (keyAt (s .schedule-heads) j) (z .schedules .proper j h) in
-      let n : word (s .schedule-heads) j 1 ≡ kindNumber (kindBy (word (s .schedule-heads) j 1)) = b .1 in
-      let k = kind-below (kindBy (word (s .schedule-heads) j 1)) in
+      let n : tableWord (s .schedule-heads) j ≡ kindNumber (kindBy (tableWord (s .schedule-heads) j)) = b .1 in
+      let k = kind-below (kindBy (tableWord (s .schedule-heads) j)) in
       let d : Bit (word (s .schedule-heads) j 3) = b .0 in
       let c = bit-below (not (eqb (word (s .schedule-heads) j 3) 0)) in
       no-match of.Schedules f w g (keyAt (s .schedule-heads) j) (omega arith) (omega arith))

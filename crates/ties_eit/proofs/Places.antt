@@ -21,7 +21,7 @@ use Rattle.rules_eit.specs.Schedules.{CopyOf, ScheduleOf, tableOf, whole, whole
 use Rattle.rules_eit.specs.Cells.{copyTakes, scheduleTakes, onWhole}
 use Rattle.cells.specs.Cells.{allWhole, someNames}
 use Rattle.rows.specs.declared.Entry.{Entry}
-use Rattle.rows.specs.Rows.{word, lastOf, ageOf}
+use Rattle.rows.specs.Rows.{tableWord, lastOf, ageOf}
 use Rattle.ages.specs.Order.{rowsSeen, Ages}
 use Rattle.ages.specs.Slots.{heldSlots, upFrom, cellsSeen}
 use Rattle.ages.proofs.Ages.{order-every, every-order, order-none, none-order}
@@ -29,8 +29,7 @@ use Rattle.ages.proofs.Slots.{held-whole, held-names}
 use Rattle.ages.proofs.Cells.{length-up, up-get}
 use Rattle.segments.specs.Segments.{wordOf}
 use Rattle.units.specs.Units.{firstTable, isPresent, unitSlots, unitWhole, unitsWhole, takenInUnits, allPresent}
-use Rattle.schedules.specs.Schedules.{tablesOf, schedulesWhole, takenInSchedules}
-use Rattle.schedules.specs.Schedules.{tablesThere}
+use Rattle.schedules.specs.Schedules.{tablesOf, schedulesWhole, takenInSchedules, tablesThere}
 use Rattle.eit_state.specs.State.{Store}
 use Rattle.eit.specs.Store.{tableOut, tablesOut}
 use Rattle.ties_eit.specs.View.{scheduleShown, copySeen, placeSeen, scheduleSeen, tablesShown}
@@ -323,7 +322,7 @@ module _ (schedule-heads units : List ℕ) (row : ℕ) where
       past (o ∷ os) (suc k) l = past os k (omega arith)
 
 -- "A schedule with all tables from 0x50 or 0x60 to last_table_id": never where last_table_id is past the kind
-pub tables-there : (schedule-heads units : List ℕ) (row : ℕ) (e : Entry) → lastOf schedule-heads row ≡ e .last → word schedule-heads row 1 ≡ e .key .«table_id»
+pub tables-there : (schedule-heads units : List ℕ) (row : ℕ) (e : Entry) → lastOf schedule-heads row ≡ e .last → tableWord schedule-heads row ≡ e .key .«table_id»
     → allTables (firstTable (e .key .«table_id»)) (scheduleSeen schedule-heads units row) ≡ tablesThere units row e
 unfolding allTables scheduleSeen tablesThere tablesOf
 tables-there schedule-heads units row e p f = rw p (go (decLt (e .last - firstTable (e .key .«table_id»)) 16))

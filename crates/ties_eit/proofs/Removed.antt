@@ -12,12 +12,11 @@ use native.Mathlib.Omega.{arith}
 use borrow.Author.Tests.{eq-eqb, ne-eqb}
 use lib.Dec.{eqb}
 use lib.ListN.{length, getD, take, drop, length-drop}
-use lib.Seq.{paste, getD-take, getD-drop, length-take-le, length-paste, ext-getD}
+use lib.Seq.{getD-take, getD-drop, length-take-le, length-paste, ext-getD}
 use Rattle.laws.proofs.Lists.{paste-past, paste-before, paste-in}
-use Rattle.rows.specs.declared.Key.{Key}
-use Rattle.rows.specs.Rows.{word, keyAt, slotCount, rowSlots, ageOf, lastOf, withAge}
+use Rattle.rows.specs.Rows.{word, keyAt, slotCount, rowSlots, ageOf, lastOf, withAge, younger}
 use Rattle.rows.proofs.Words.{put-same, put-row, put-not, length-put}
-use Rattle.ages.specs.Order.{movedFrom, younger, Dropped}
+use Rattle.ages.specs.Order.{movedFrom, Dropped}
 use Rattle.filter.specs.declared.Of.{Of}
 use Rattle.filter.specs.declared.Of.the-variants as of
 use Rattle.filter.specs.Drops.{widthOf, movedTo, youngered, removedHeads, removedWords}

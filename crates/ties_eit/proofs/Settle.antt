@@ -23,7 +23,7 @@ use Rattle.rules_eit.specs.Cells.{Store as Shown, Turn, onWhole, onAnswer, show
 use Rattle.rules_eit.proofs.Keys.{sameSet-true}
 use Rattle.cells.specs.Cells.{allWhole, kept}
 use Rattle.rows.specs.declared.Key.{Key}
-use Rattle.rows.specs.Rows.{word, keyAt, touched, rowSlots, rowsWhole, lastOf, markOf, versionOf, withMark, ageOf}
+use Rattle.rows.specs.Rows.{tableWord, word, keyAt, touched, rowSlots, rowsWhole, lastOf, markOf, versionOf, withMark, ageOf}
 use Rattle.rows.proofs.Words.{put-same, put-not, put-row, length-put, length-touched, touched-not}
 use Rattle.rows.proofs.Whole.{rows-get, rows-all}
 use Rattle.ages.specs.Order.{orderSeen, Goes, Touched}
@@ -68,7 +68,7 @@ find-newest : {R : Type 0} (k k′ : SetKey) (r : R) (t : TouchOrder SetKey R) �
 unfolding newest
 find-newest k k′ r t e = find-before k k′ r e (t .rows)
 
-pub head-same : (heads heads′ : List ℕ) (j : ℕ) → word heads′ j 1 ≡ word heads j 1 → versionOf heads′ j ≡ versionOf heads j → lastOf heads′ j ≡ lastOf heads j → HeadFits heads j → HeadFits heads′ j
+pub head-same : (heads heads′ : List ℕ) (j : ℕ) → tableWord heads′ j ≡ tableWord heads j → versionOf heads′ j ≡ versionOf heads j → lastOf heads′ j ≡ lastOf heads j → HeadFits heads j → HeadFits heads′ j
 head-same heads heads′ j a b c f = record { version = rw b (f .version); last = rw c (f .last); kind = rw a (f .kind) }
 
 -- heads, slots and cells with row i made ready for the key, of age `age`; no other row in use differs

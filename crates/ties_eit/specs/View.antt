@@ -9,8 +9,7 @@ use lib.Dec.{eqb, ltb}
 use lib.ListN.{length, getD}
 use Rattle.rules_shared.specs.Same.{Bytes}
 use Rattle.rules_shared.specs.Cells.{Settings, Held}
-use Rattle.rules_eit.specs.Keys.{Kind, presentActual, presentOther, scheduleActual, scheduleOther, kindOf, kindNumber, ScheduleKey, SetKey, PidTest, anyPid, exactly}
-use Rattle.rules_eit.specs.Keys.{Filter as KeyFilter}
+use Rattle.rules_eit.specs.Keys.{Kind, presentActual, presentOther, scheduleActual, scheduleOther, kindOf, kindNumber, ScheduleKey, SetKey, PidTest, anyPid, exactly, Filter as KeyFilter}
 use Rattle.rules_eit.specs.Segments.{SetOf}
 use Rattle.rules_eit.specs.Schedules.{CopyOf, ScheduleOf, WholeOf, tableOf}
 use Rattle.answers.specs.declared.Refusal.the-variants as refusal
@@ -28,19 +27,18 @@ use Rattle.eit_section.specs.declared.Reading.the-variants as reading
 use Rattle.section.specs.declared.ids.MaybePid.{MaybePid}
 use Rattle.section.specs.declared.ids.MaybePid.the-variants as maybe
 use Rattle.rows.specs.declared.Key.{Key}
-use Rattle.rows.specs.Rows.{word, rowSlots, lastOf, markOf, versionOf}
+use Rattle.rows.specs.Rows.{tableWord, rowSlots, lastOf, markOf, versionOf}
 use Rattle.ages.specs.Order.{orderSeen, Stands}
 use Rattle.ages.specs.Slots.{heldSlots, upFrom, cellsSeen}
 use Rattle.arrivals.specs.Arrivals.{bitOf}
 use Rattle.segments.specs.Segments.{wordOf}
-use Rattle.units.specs.Units.{isPresent, unitSlots}
+use Rattle.units.specs.Units.{isPresent, unitSlots, firstTable}
 use Rattle.schedules.specs.Schedules.{tablesOf}
 use Rattle.filter.specs.declared.Wanted.{Wanted}
 use Rattle.filter.specs.declared.Wanted.the-variants as wanted
 use Rattle.eit_drop.specs.declared.Filter.{Filter}
 use Rattle.eit_drop.specs.declared.WantedPid.{WantedPid}
 use Rattle.eit_drop.specs.declared.WantedPid.the-variants as wanted-pid
-use Rattle.units.specs.Units.{firstTable}
 use Rattle.eit_state.specs.State.{Store, settingsFit}
 use Rattle.eit.specs.Store as eit
 use Rattle.eit.specs.Store.{Told, a-set, a-schedule, TableOut, After, openedOf, clearedOf, droppedOf, pushedOf}
@@ -270,7 +268,7 @@ pub record Opened (s : Store) : Type 0 where
 pub record HeadFits (heads : List ℕ) (i : ℕ) : Type 0 where
   pub version : versionOf heads i < 4294967296
   pub last : lastOf heads i < 256
-  pub kind : kindOf (word heads i 1) ≡ some (theKind (kindOf (word heads i 1)))
+  pub kind : kindOf (tableWord heads i) ≡ some (theKind (kindOf (tableWord heads i)))
 
 -- settings that opening takes, eviction counts that fit their 64 bits, heads that fit, and ages that are touch orders of keys, none of which stands twice
 pub record Reached (s : Store) : Type 0 where

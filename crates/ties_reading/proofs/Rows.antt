@@ -2,19 +2,18 @@
 -- Assumes nothing.
 use Prim.Native.Nat.{ℕ, _+_, _-_, _*_, _≤_, _<_}
 use native.Mathlib.Omega.{arith}
-use mathlib.Core.Path.{_≡_, refl, sym, ap, _∙_}
+use mathlib.Core.Path.{_≡_, refl, ap, _∙_}
 use mathlib.Core.List.{List}
-use mathlib.Core.Bool.{Bool, true, false, cond, _&&_}
+use mathlib.Core.Bool.{Bool, true, false, cond}
 use lib.ListN.{length}
-use lib.Seq.{paste}
-use lib.Dec.{ltb, leb, eqb}
-use borrow.Author.Tests.{ltb-true, ltb-false, eqb-true, eqb-false}
+use lib.Dec.{ltb, eqb}
+use borrow.Author.Tests.{ltb-true, eqb-true, eqb-false}
 use Rattle.laws.proofs.Tests.{and-true}
 use Rattle.answers.specs.declared.Refusal.the-variants as refusal
 use Rattle.rows.specs.declared.Key.{Key}
 use Rattle.rows.specs.declared.Entry.{Entry}
 use Rattle.rows.specs.declared.Room.{Room}
-use Rattle.rows.specs.Rows.{word, rowOf, touched, roomIn, roomRenewed, roomNew, keptHeads, ageOf, lastOf}
+use Rattle.rows.specs.Rows.{tableWord, rowOf, touched, roomIn, roomRenewed, roomNew, keptHeads, ageOf, lastOf}
 use Rattle.rows.proofs.Words.{touched-not, kept-fresh, kept-known}
 use Rattle.ages.proofs.Touch.{row-has-key}
 use Rattle.arrivals.specs.declared.Arrival.{Arrival}
@@ -37,9 +36,8 @@ use Rattle.eit_becomes.specs.declared.Becomes.{Becomes}
 use Rattle.eit_becomes.specs.declared.Becomes.the-variants as becomes
 use Rattle.eit_becomes.specs.Becoming.{ownTable, becomesOf, isMarked}
 use Rattle.eit_settle.specs.Settle.{markedHeads, settledAs, settled}
-use Rattle.eit_carry.specs.Carried.{keptAndSettled, carried}
-use Rattle.eit_enter.specs.Entering.{Settled, scheduleEntry, enteredAnswer, enteredIn, entered}
-use Rattle.eit_carry.specs.Carried.{pushedWhole}
+use Rattle.eit_carry.specs.Carried.{keptAndSettled, carried, pushedWhole}
+use Rattle.eit_enter.specs.Entering.{scheduleEntry, enteredAnswer, enteredIn, entered}
 
 -- the row that is told is in use; of a schedule all tables are there
 abbrev pub ToldRow : PushAnswer → Rows → Type 0
@@ -56,7 +54,7 @@ module _ (heads : List ℕ) (limit held evictions : ℕ) (e : Entry) (few : held
 
   -- what the head says of its kind and of its last table
   abbrev Head : Room → Type 0
-  Head r = (word (keptHeads r e heads) (r .row) 1 ≡ e .key .«table_id») × (lastOf (keptHeads r e heads) (r .row) ≡ e .last)
+  Head r = (tableWord (keptHeads r e heads) (r .row) ≡ e .key .«table_id») × (lastOf (keptHeads r e heads) (r .row) ≡ e .last)
 
   fresh-head : (r : Room) → r .fresh ≡ true → r .row * 12 + 12 ≤ length heads → Head r
   fresh-head r f l = (kept-fresh r e heads l f 1 (omega arith), kept-fresh r e heads l f 7 (omega arith))
