@@ -50,7 +50,7 @@ pub record Stands {K : Type 0} (shown : Key → K) (words : K → Key) (heads : 
 -- ---- one touch
 
 -- where the key of a section goes: the row, its age before it becomes the newest, and the rows in use and the evictions from then on.
--- 01: "A new key at a full limit removes the least recently touched key and counts one eviction"
+-- docs/RULES.md, "Collectors": "A new key at a full limit removes the least recently touched key and counts one eviction"
 pub data Goes (heads : List ℕ) (limit used evictions : ℕ) (key : Key) : (row age used′ evictions′ : ℕ) → Type 0 where
   known : (i : ℕ) → i < used → keyAt heads i ≡ key → Goes heads limit used evictions key i (ageOf heads i) used evictions
   added : ((j : ℕ) → j < used → keyAt heads j ≢ key) → used < limit → Goes heads limit used evictions key used used (used + 1) evictions

@@ -29,7 +29,7 @@ module _ (start number last : ℕ) where
   unfolding segmentEnd
   end-as-sent z h l m = omega arith
 
--- 01: segment end (start, number, last)
+-- docs/RULES.md, "Examples": segment end (start, number, last)
 pub as-sent : segmentEnd 8 11 20 ≡ 11
 unfolding segmentEnd
 as-sent = refl
