@@ -15,7 +15,7 @@ use Rattle.eit_section.specs.declared.Kind.{Kind}
 use Rattle.eit_section.specs.declared.Kind.the-variants.{PresentFollowingActual, PresentFollowingOther, ScheduleActual, ScheduleOther, None}
 use Rattle.eit_section.specs.declared.Eit.{Eit}
 use Rattle.eit_section.specs.declared.Reading.the-variants.{NotEit, Broken, Good}
-use Rattle.eit_section.specs.Eit.{within, kindOf, isEit, fieldsOf, layoutGood, eitOf, readingNo}
+use Rattle.eit_section.specs.Eit.{within, kindOf, isEit, fieldsOf, layoutGood, eitOf}
 
 module _ (t : ℕ) where
   pub following-actual : t ≡ 0x4E → kindOf t ≡ PresentFollowingActual
@@ -98,12 +98,12 @@ module _ (s : List ℕ) (t : ℕ) (k : Kind) (b : Bool) (et : t ≡ byteAt s 0) 
     unfolding eitOf
     read-good e v ee = rw (kind-here, not-false b h, ← ew, not-false w v, ee, ek, et)
 
--- the numbers: 18 by table_id alone, 19 where the table_id is an EIT's, and no refusal else
-pub refused-18 : (s : List ℕ) → isEit (kindOf (byteAt s 0)) ≡ false → readingNo (eitOf s) ≡ 18
+-- 18 by table_id alone, 19 where the table_id is an EIT's and the layout is broken, and no refusal else
+pub refused-18 : (s : List ℕ) → isEit (kindOf (byteAt s 0)) ≡ false → eitOf s ≡ NotEit
 unfolding eitOf
 refused-18 s h = rw h
 
-pub refused-19 : (s : List ℕ) → isEit (kindOf (byteAt s 0)) ≡ true → layoutGood s ≡ false → readingNo (eitOf s) ≡ 19
+pub refused-19 : (s : List ℕ) → isEit (kindOf (byteAt s 0)) ≡ true → layoutGood s ≡ false → eitOf s ≡ Broken
 unfolding eitOf
 refused-19 s h l = rw (h, l)
 

@@ -53,9 +53,3 @@ layoutGood s = leb 18 (length s) && wholeEntries 12 (take (length s - 18) (drop 
 -- a section read as an EIT
 unfoldable pub eitOf : List ℕ → Reading
 eitOf s = cond (isEit (kindOf (byteAt s 0))) (cond (layoutGood s) (Good (fieldsOf s (kindOf (byteAt s 0)))) Broken) NotEit
-
--- the number of a refusal; 0 where there is none
-abbrev pub readingNo : Reading → ℕ
-readingNo NotEit = 18
-readingNo Broken = 19
-readingNo (Good e) = 0
