@@ -1,1 +1,2 @@
 pub mod Doing
+pub mod Unique
