@@ -2,25 +2,12 @@
 // schedule are collected and read out section by section. What is printed is held to what the second implementation says of the same sections
 // (compare/examples.txt).
 use eit_state::Eit;
-use eit_state::PushAnswer;
 use section::ids::MaybePid;
 use store::Sets;
 ghost use Prim.Native.Nat.{_≤_};
 ghost use lib.ListN.{length};
 
-mod lines;
-mod reading;
-
 // ---- the set collector
-
-// Each section of the set in a row.
-fn read_set<'a>(sets: Sets, heads: &[u64], slots: &'a [u32], cells: &'a [u8], row: usize) {
-    reading::read_row(
-        cells,
-        reader_rows::set_slots(sets, heads, slots, cells, row),
-        sets.size,
-    );
-}
 
 fn collect(
     sets: Sets,
@@ -32,9 +19,9 @@ fn collect(
     let pushed = sets::push(sets, heads, slots, cells, MaybePid::Some(0x0011), section);
     let answer = pushed.answer;
     let then = pushed.sets;
-    lines::say_line(b"sets ", answer.number() as u64);
+    examples_read::lines::say_line(b"sets ", answer.number() as u64);
     if let sets_settle::PushAnswer::Set(row) = answer {
-        read_set(then, heads, slots, cells, row);
+        examples_read::read_set(then, heads, slots, cells, row);
     }
     then
 }
@@ -44,7 +31,7 @@ fn set_of_two(heads: &mut [u64], slots: &mut [u32], cells: &mut [u8]) {
     let opened = sets::open(1, 64, 2, heads, slots, cells);
     let answer = opened.answer;
     let begun = opened.sets;
-    lines::say_line(b"sets ", answer.number() as u64);
+    examples_read::lines::say_line(b"sets ", answer.number() as u64);
     let first = b"\x42\xB0\x0A\x00\x01\xC1\x00\x01\xAA\x83\x15\x53\xFC";
     let second = b"\x42\xB0\x0B\x00\x01\xC1\x01\x01\xBB\xBB\xA2\xED\x60\x9A";
     let sets = collect(begun, heads, slots, cells, first);
@@ -52,77 +39,6 @@ fn set_of_two(heads: &mut [u64], slots: &mut [u32], cells: &mut [u8]) {
 }
 
 // ---- the EIT collector
-
-// The row of the set that goes out; a row past all others where none does.
-fn set_row(out: PushAnswer) -> usize {
-    if let PushAnswer::Set(row) = out {
-        return row;
-    }
-    usize::MAX
-}
-
-// The same of a schedule.
-fn schedule_row(out: PushAnswer) -> usize {
-    if let PushAnswer::Schedule(row) = out {
-        return row;
-    }
-    usize::MAX
-}
-
-// Each section of the set in a row.
-fn read_eit_set<'a>(
-    eit: Eit,
-    heads: &[u64],
-    slots: &'a [u32],
-    cells: &'a [u8],
-    schedule_heads: &[u64],
-    units: &[u32],
-    row: usize,
-) {
-    let sets = eit.sets;
-    reading::read_row(
-        cells,
-        reader_rows::eit_slots(eit, heads, slots, cells, schedule_heads, units, row),
-        sets.size,
-    );
-}
-
-// Each section of a table of the schedule in a row; tables are counted from the first of the kind.
-fn read_table<'a>(
-    eit: Eit,
-    heads: &[u64],
-    slots: &[u32],
-    cells: &'a [u8],
-    schedule_heads: &[u64],
-    units: &'a [u32],
-    row: usize,
-    table: usize,
-) {
-    let sets = eit.sets;
-    reading::read_row(
-        cells,
-        reader_rows::table_slots(eit, heads, slots, cells, schedule_heads, units, row, table),
-        sets.size,
-    );
-}
-
-// Says the answer, and reads out what goes out; the examples' schedules have two tables.
-fn read_out<'a>(
-    out: PushAnswer,
-    eit: Eit,
-    heads: &[u64],
-    slots: &'a [u32],
-    cells: &'a [u8],
-    schedule_heads: &[u64],
-    units: &'a [u32],
-) {
-    lines::say_line(b"eit ", out.number() as u64);
-    let set = set_row(out);
-    let schedule = schedule_row(out);
-    read_eit_set(eit, heads, slots, cells, schedule_heads, units, set);
-    read_table(eit, heads, slots, cells, schedule_heads, units, schedule, 0);
-    read_table(eit, heads, slots, cells, schedule_heads, units, schedule, 1);
-}
 
 fn collect_eit(
     eit: Eit,
@@ -145,7 +61,7 @@ fn collect_eit(
     );
     let answer = pushed.answer;
     let then = pushed.eit;
-    read_out(answer, then, heads, slots, cells, schedule_heads, units);
+    examples_read::read_out(answer, then, heads, slots, cells, schedule_heads, units);
     then
 }
 
@@ -162,7 +78,7 @@ fn collect_all(
 {
     let opened = eit::open(3, 64, 8, heads, slots, cells, schedule_heads, units);
     let answer = opened.answer;
-    lines::say_line(b"eit ", answer.number() as u64);
+    examples_read::lines::say_line(b"eit ", answer.number() as u64);
     let mut eit = opened.eit;
     let mut at = 0;
     while sections.len() - at >= 18 {

@@ -1,9 +1,7 @@
 // Reads standard input, records of a PID (two bytes, high byte first) and a section, and says of each what the gate makes of it: a line for each
 // record, and the totals last. Default settings but a gate of 512 keys. It holds one record at a time, so an input may be of any length.
-use answers::Refusal;
 use answers::Reply;
 use counters::Counters;
-use gate_state::Answer;
 use gate_state::Gate;
 use gate_state::Settings;
 use libc::STDIN_FILENO;
@@ -53,71 +51,6 @@ fn read_record(buf: &mut [u8]) -> Next
     Next::Record(5 + n)
 }
 
-// A line that names a PID alone.
-fn say_pid(word: &[u8], pid: u16) -> bool
-    requires { ⌜ length (now word) ≤ 12 ⌝ }
-{
-    let mut line = [0u8; 20];
-    let a = text::put(&mut line, 0, word);
-    let b = text::put_hex4(&mut line, a, pid);
-    let c = text::put(&mut line, b, b"\n");
-    io::write_all(STDOUT_FILENO, &line[0..c])
-}
-
-// A line of a section that was offered.
-fn say_section(word: &[u8], pid: u16, section: &[u8]) -> bool
-    requires { ⌜ (length (now word) ≤ 12) × (3 ≤ length (now section)) × (length (now section) ≤ 4098) ⌝ }
-{
-    let mut line = [0u8; 48];
-    let a = text::put(&mut line, 0, word);
-    let b = text::put_hex4(&mut line, a, pid);
-    let c = text::put(&mut line, b, b" ");
-    let d = text::put_hex2(&mut line, c, section[0]);
-    let e = text::put(&mut line, d, b" ");
-    let f = text::put_dec(&mut line, e, section.len() as u64);
-    let g = text::put(&mut line, f, b"\n");
-    io::write_all(STDOUT_FILENO, &line[0..g])
-}
-
-// A word of the totals and its count.
-fn say_count(word: &[u8], count: u64) -> bool
-    requires { ⌜ length (now word) ≤ 12 ⌝ }
-{
-    let mut line = [0u8; 32];
-    let a = text::put(&mut line, 0, word);
-    let b = text::put_dec(&mut line, a, count);
-    io::write_all(STDOUT_FILENO, &line[0..b])
-}
-
-fn say_totals(c: Counters) -> bool {
-    say_count(b"completed ", c.completed);
-    say_count(b" emitted ", c.emitted);
-    say_count(b" suppressed ", c.suppressed);
-    say_count(b" crc ", c.crc_failures);
-    say_count(b" evicted ", c.evictions);
-    io::write_all(STDOUT_FILENO, b"\n")
-}
-
-// The line of a refused PID. A gate that was opened here refuses nothing else; if it did, the run would end.
-fn say_refusal(refusal: Refusal, pid: u16) -> bool {
-    match refusal {
-        Refusal::BadPid => say_pid(b"badpid ", pid),
-        _ => false,
-    }
-}
-
-// The line of a section that was offered.
-fn say_answer(answer: Answer, pid: u16, section: &[u8]) -> bool
-    requires { ⌜ (3 ≤ length (now section)) × (length (now section) ≤ 4098) ⌝ }
-{
-    match answer {
-        Answer::Emitted => say_section(b"emitted ", pid, section),
-        Answer::Suppressed => say_section(b"suppressed ", pid, section),
-        Answer::CrcFailure => say_section(b"crc ", pid, section),
-        Answer::Refused(refusal) => say_refusal(refusal, pid),
-    }
-}
-
 fn wide16(x: u8) -> u16
     ensures { λ r. ⌜ (r ≡ x) × (r < 256) ⌝ }
 {
@@ -140,8 +73,8 @@ fn judge(
     let section = &buf[2..n];
     match watched::ask(words, pid) {
         Reply::Yes => offer(gate, counters, keys, changes, words, pid, section),
-        Reply::No => leave(say_pid(b"unwatched ", pid), gate, counters),
-        Reply::Refused(refusal) => leave(say_refusal(refusal, pid), gate, counters),
+        Reply::No => leave(watch_lines::say_pid(b"unwatched ", pid), gate, counters),
+        Reply::Refused(refusal) => leave(watch_lines::say_refusal(refusal, pid), gate, counters),
     }
 }
 
@@ -168,7 +101,7 @@ fn offer(
     let answer = offered.answer;
     let then = offered.gate;
     let counted = offered.counters;
-    leave(say_answer(answer, pid, section), then, counted)
+    leave(watch_lines::say_answer(answer, pid, section), then, counted)
 }
 
 // Reads a record into the buffer and judges it.
@@ -212,7 +145,7 @@ fn run(
         more = t.more;
         turns -= 1;
     }
-    say_totals(counters);
+    watch_lines::say_totals(counters);
 }
 
 fn main() {

@@ -2,10 +2,10 @@ use native.Mathlib.Omega.{arith}
 use lib.ListN.{length}
 use Rattle.text.proofs.Laws.{length-dec}
 use borrow.Author.Needs.{needs}
-use Rattle.watch.proofs.say_section.Statement.{statement}
-use Rattle.watch.proofs.say_section.Tie as tie
-use Rattle.watch.proofs.say_section.Reads as reads
-use Rattle.watch.proofs.say_section.Lts as lts
+use Rattle.watch_lines.proofs.say_section.Statement.{statement}
+use Rattle.watch_lines.proofs.say_section.Tie as tie
+use Rattle.watch_lines.proofs.say_section.Reads as reads
+use Rattle.watch_lines.proofs.say_section.Lts as lts
 use Rattle.io.proofs.write_all.Reads as write-all-reads
 use Rattle.text.proofs.put.Reads as put-reads
 use Rattle.text.proofs.put_dec.Reads as put-dec-reads

@@ -1,10 +1,10 @@
 use native.Mathlib.Omega.{arith}
 use Rattle.text.proofs.Laws.{length-u64}
 use borrow.Author.Needs.{needs}
-use Rattle.watch.proofs.say_count.Statement.{statement}
-use Rattle.watch.proofs.say_count.Tie as tie
-use Rattle.watch.proofs.say_count.Reads as reads
-use Rattle.watch.proofs.say_count.Lts as lts
+use Rattle.watch_lines.proofs.say_count.Statement.{statement}
+use Rattle.watch_lines.proofs.say_count.Tie as tie
+use Rattle.watch_lines.proofs.say_count.Reads as reads
+use Rattle.watch_lines.proofs.say_count.Lts as lts
 use Rattle.io.proofs.write_all.Reads as write-all-reads
 use Rattle.text.proofs.put.Reads as put-reads
 use Rattle.text.proofs.put_dec.Reads as put-dec-reads

@@ -52,14 +52,14 @@ use Rattle.readers.proofs.next_part as next
 use Rattle.readers.proofs.next_part.Symbol as next-def
 use Rattle.readers.proofs.next_part.Symbol.{name as #readers·next-part}
 use Rattle.readers.proofs.next_part.Met as next-thm
-use Rattle.examples_run.proofs.lines.say_part as say
-use Rattle.examples_run.proofs.lines.say_part.Symbol as say-def
-use Rattle.examples_run.proofs.lines.say_part.Symbol.{name as #lines·say-part}
-use Rattle.examples_run.proofs.lines.say_part.Met as say-thm
-use Rattle.examples_run.proofs.reading.say_next.Key.{name as #reading·say-next}
-use Rattle.examples_run.proofs.reading.say_next as said
-use Rattle.examples_run.proofs.reading.say_next.Statement as stated
-use Rattle.examples_run.proofs.reading.say_next.Code as code
+use Rattle.examples_read.proofs.lines.say_part as say
+use Rattle.examples_read.proofs.lines.say_part.Symbol as say-def
+use Rattle.examples_read.proofs.lines.say_part.Symbol.{name as #lines·say-part}
+use Rattle.examples_read.proofs.lines.say_part.Met as say-thm
+use Rattle.examples_read.proofs.reading.say_next.Key.{name as #reading·say-next}
+use Rattle.examples_read.proofs.reading.say_next as said
+use Rattle.examples_read.proofs.reading.say_next.Statement as stated
+use Rattle.examples_read.proofs.reading.say_next.Code as code
 
 -- the struct's type, over the signature's lifetimes
 abbrev B : Lfts 1 → RattleType
@@ -219,4 +219,4 @@ say-next-spec 𝓤 H 𝓜 𝓖 𝓡 =
     (tables 𝓤 H 𝓜 𝓡 code.env .C) (tables 𝓤 H 𝓜 𝓡 code.env .Λ) #reading·say-next code.function (code.unfolded 𝓤 H 𝓜 𝓡)
     (say-next-meets 𝓤 H (𝓖 .A) (givenOf 𝓤 H 𝓜 𝓖) (𝓜 .mem) (𝓡 .run) (tablesOf 𝓤 H 𝓜 (tables 𝓤 H 𝓜 𝓡 code.env))
     (cited 𝓤 H (Next 𝓤 H (𝓖 .A) (𝓜 .mem) (𝓡 .run)) 𝓜 𝓡 code.env #readers·next-part next-def.routine code.calls-readers·next-part (next-thm.met 𝓤 H 𝓜 𝓖 𝓡))
-    (cited 𝓤 H (Say 𝓤 H (𝓖 .A) (𝓜 .mem) (𝓡 .run)) 𝓜 𝓡 code.env #lines·say-part say-def.routine code.calls-examples-run·lines·say-part (say-thm.met 𝓤 H 𝓜 𝓖 𝓡)))
+    (cited 𝓤 H (Say 𝓤 H (𝓖 .A) (𝓜 .mem) (𝓡 .run)) 𝓜 𝓡 code.env #lines·say-part say-def.routine code.calls-examples-read·lines·say-part (say-thm.met 𝓤 H 𝓜 𝓖 𝓡)))

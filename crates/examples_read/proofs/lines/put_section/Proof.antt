@@ -3,8 +3,8 @@ use borrow.Author.Needs.{needs}
 use mathlib.Core.Path.{_≡_}
 use Prim.Native.Nat.{_≤_, _-_}
 use lib.ListN.{length}
-use Rattle.examples_run.proofs.lines.put_section.Statement.{statement}
-use Rattle.examples_run.proofs.lines.put_section.Tie as tie
+use Rattle.examples_read.proofs.lines.put_section.Statement.{statement}
+use Rattle.examples_read.proofs.lines.put_section.Tie as tie
 
 abbrev Inv-loop : tie.InvT-loop
 Inv-loop line₀ section i₀ line i = (i ≤ length section) × (length line ≡ 128)

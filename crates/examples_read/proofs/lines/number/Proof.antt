@@ -2,8 +2,8 @@
 use native.Mathlib.Omega.{arith}
 use Rattle.text.proofs.Laws.{length-u64}
 use borrow.Author.Needs.{needs}
-use Rattle.examples_run.proofs.lines.number.Statement.{statement}
-use Rattle.examples_run.proofs.lines.number.Tie as tie
+use Rattle.examples_read.proofs.lines.number.Statement.{statement}
+use Rattle.examples_read.proofs.lines.number.Tie as tie
 
 put-dec-requires : tie.Need-put-dec-requires
 put-dec-requires c κs = omega (arith, length-u64 (c .before .before .args .v) (omega arith))

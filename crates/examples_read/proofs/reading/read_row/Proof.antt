@@ -48,14 +48,14 @@ use Rattle.readers.proofs.reader as start
 use Rattle.readers.proofs.reader.Symbol as start-def
 use Rattle.readers.proofs.reader.Symbol.{name as #readers·reader}
 use Rattle.readers.proofs.reader.Met as start-thm
-use Rattle.examples_run.proofs.reading.say_next as next
-use Rattle.examples_run.proofs.reading.say_next.Symbol as next-def
-use Rattle.examples_run.proofs.reading.say_next.Symbol.{name as #reading·say-next}
-use Rattle.examples_run.proofs.reading.say_next.Met as next-thm
-use Rattle.examples_run.proofs.reading.read_row.Key.{name as #reading·read-row}
-use Rattle.examples_run.proofs.reading.read_row as row
-use Rattle.examples_run.proofs.reading.read_row.Statement as stated
-use Rattle.examples_run.proofs.reading.read_row.Code as code
+use Rattle.examples_read.proofs.reading.say_next as next
+use Rattle.examples_read.proofs.reading.say_next.Symbol as next-def
+use Rattle.examples_read.proofs.reading.say_next.Symbol.{name as #reading·say-next}
+use Rattle.examples_read.proofs.reading.say_next.Met as next-thm
+use Rattle.examples_read.proofs.reading.read_row.Key.{name as #reading·read-row}
+use Rattle.examples_read.proofs.reading.read_row as row
+use Rattle.examples_read.proofs.reading.read_row.Statement as stated
+use Rattle.examples_read.proofs.reading.read_row.Code as code
 
 -- a reader's type, over the signature's lifetimes
 abbrev B : Lfts 1 → RattleType
@@ -226,4 +226,4 @@ read-row-spec 𝓤 H 𝓜 𝓖 𝓡 =
     (tables 𝓤 H 𝓜 𝓡 code.env .C) (tables 𝓤 H 𝓜 𝓡 code.env .Λ) #reading·read-row code.function (code.unfolded 𝓤 H 𝓜 𝓡)
     (read-row-meets 𝓤 H (𝓖 .A) (givenOf 𝓤 H 𝓜 𝓖) (𝓜 .mem) (𝓡 .run) (tablesOf 𝓤 H 𝓜 (tables 𝓤 H 𝓜 𝓡 code.env))
     (cited 𝓤 H (Start 𝓤 H (𝓖 .A) (𝓜 .mem) (𝓡 .run)) 𝓜 𝓡 code.env #readers·reader start-def.routine code.calls-readers·reader (start-thm.met 𝓤 H 𝓜 𝓖 𝓡))
-    (cited 𝓤 H (Next 𝓤 H (𝓖 .A) (𝓜 .mem) (𝓡 .run)) 𝓜 𝓡 code.env #reading·say-next next-def.routine code.calls-examples-run·reading·say-next (next-thm.met 𝓤 H 𝓜 𝓖 𝓡)))
+    (cited 𝓤 H (Next 𝓤 H (𝓖 .A) (𝓜 .mem) (𝓡 .run)) 𝓜 𝓡 code.env #reading·say-next next-def.routine code.calls-examples-read·reading·say-next (next-thm.met 𝓤 H 𝓜 𝓖 𝓡)))
