@@ -40,31 +40,6 @@ fn set_of_two(heads: &mut [u64], slots: &mut [u32], cells: &mut [u8]) {
 
 // ---- the EIT collector
 
-fn collect_eit(
-    eit: Eit,
-    heads: &mut [u64],
-    slots: &mut [u32],
-    cells: &mut [u8],
-    schedule_heads: &mut [u64],
-    units: &mut [u32],
-    section: &[u8],
-) -> Eit {
-    let pushed = eit::push(
-        eit,
-        heads,
-        slots,
-        cells,
-        schedule_heads,
-        units,
-        MaybePid::Some(0x0012),
-        section,
-    );
-    let answer = pushed.answer;
-    let then = pushed.eit;
-    examples_read::read_out(answer, then, heads, slots, cells, schedule_heads, units);
-    then
-}
-
 // At most five sections of 18 bytes each, one after another, to a collector of three sets, three schedules and eight cells.
 fn collect_all(
     heads: &mut [u64],
@@ -83,32 +58,22 @@ fn collect_all(
     let mut at = 0;
     while sections.len() - at >= 18 {
         let section = &sections[at..at + 18];
-        eit = collect_eit(eit, heads, slots, cells, schedule_heads, units, section);
+        let pushed = eit::push(
+            eit,
+            heads,
+            slots,
+            cells,
+            schedule_heads,
+            units,
+            MaybePid::Some(0x0012),
+            section,
+        );
+        let answer = pushed.answer;
+        let then = pushed.eit;
+        examples_read::read_out(answer, then, heads, slots, cells, schedule_heads, units);
+        eit = then;
         at += 18;
     }
-}
-
-// A present/following set of two sections; a schedule of two tables, the first of which has two segments of one section. Then last_table_id 0x60
-// on schedule actual: no table past 0x5F is of the kind, so the schedule never goes out.
-fn guides(
-    heads: &mut [u64],
-    slots: &mut [u32],
-    cells: &mut [u8],
-    schedule_heads: &mut [u64],
-    units: &mut [u32],
-) {
-    let whole = b"\
-        \x4E\xB0\x0F\x00\x01\xC1\x00\x01\x00\x01\x00\x01\x01\x4E\x51\xC1\x2E\x43\
-        \x4E\xB0\x0F\x00\x01\xC1\x01\x01\x00\x01\x00\x01\x01\x4E\x0A\x60\xF2\x89\
-        \x50\xB0\x0F\x00\x01\xC1\x00\x08\x00\x01\x00\x01\x00\x51\x05\x5D\xF6\x3E\
-        \x50\xB0\x0F\x00\x01\xC1\x08\x08\x00\x01\x00\x01\x08\x51\x5B\x99\x68\x52\
-        \x51\xB0\x0F\x00\x01\xC1\x00\x00\x00\x01\x00\x01\x00\x51\x31\x93\x43\x19";
-    collect_all(heads, slots, cells, schedule_heads, units, whole);
-    let past_the_kind = b"\
-        \x50\xB0\x0F\x00\x01\xC1\x00\x00\x00\x01\x00\x01\x00\x60\xA6\x97\xFD\xFF\
-        \x51\xB0\x0F\x00\x01\xC1\x00\x00\x00\x01\x00\x01\x00\x60\xE1\x60\x33\x3E\
-        \x5F\xB0\x0F\x00\x01\xC1\x00\x00\x00\x01\x00\x01\x00\x60\x43\xAD\xC5\x69";
-    collect_all(heads, slots, cells, schedule_heads, units, past_the_kind);
 }
 
 // What is lent: three rows, three schedules and eight cells of 64 bytes.
@@ -135,11 +100,32 @@ fn main() {
     let mut schedule_heads = heads();
     let mut tables = units();
     set_of_two(&mut set_heads, &mut set_slots, &mut set_cells);
-    guides(
+    // A present/following set of two sections; a schedule of two tables, the first of which has two segments of one section.
+    let whole = b"\
+        \x4E\xB0\x0F\x00\x01\xC1\x00\x01\x00\x01\x00\x01\x01\x4E\x51\xC1\x2E\x43\
+        \x4E\xB0\x0F\x00\x01\xC1\x01\x01\x00\x01\x00\x01\x01\x4E\x0A\x60\xF2\x89\
+        \x50\xB0\x0F\x00\x01\xC1\x00\x08\x00\x01\x00\x01\x00\x51\x05\x5D\xF6\x3E\
+        \x50\xB0\x0F\x00\x01\xC1\x08\x08\x00\x01\x00\x01\x08\x51\x5B\x99\x68\x52\
+        \x51\xB0\x0F\x00\x01\xC1\x00\x00\x00\x01\x00\x01\x00\x51\x31\x93\x43\x19";
+    collect_all(
         &mut set_heads,
         &mut set_slots,
         &mut set_cells,
         &mut schedule_heads,
         &mut tables,
+        whole,
+    );
+    // last_table_id 0x60 on schedule actual: no table past 0x5F is of the kind, so the schedule never goes out.
+    let past_the_kind = b"\
+        \x50\xB0\x0F\x00\x01\xC1\x00\x00\x00\x01\x00\x01\x00\x60\xA6\x97\xFD\xFF\
+        \x51\xB0\x0F\x00\x01\xC1\x00\x00\x00\x01\x00\x01\x00\x60\xE1\x60\x33\x3E\
+        \x5F\xB0\x0F\x00\x01\xC1\x00\x00\x00\x01\x00\x01\x00\x60\x43\xAD\xC5\x69";
+    collect_all(
+        &mut set_heads,
+        &mut set_slots,
+        &mut set_cells,
+        &mut schedule_heads,
+        &mut tables,
+        past_the_kind,
     );
 }

@@ -45,8 +45,11 @@ part-section-start c = search needs
 part-section-end : tie.Need-part-section-end Inv-loop μ-loop
 part-section-end c = search needs
 
-collect-eit-requires : tie.Need-collect-eit-requires Inv-loop μ-loop
-collect-eit-requires c κs = search needs
+push-requires : tie.Need-push-requires Inv-loop μ-loop
+push-requires c κs = search needs
+
+read-out-requires : tie.Need-read-out-requires Inv-loop μ-loop
+read-out-requires c κs = search needs
 
 add-at : tie.Need-add-at Inv-loop μ-loop
 add-at c = search needs
@@ -92,7 +95,8 @@ collect-all-spec =
     sub-section
     part-section-start
     part-section-end
-    collect-eit-requires
+    push-requires
+    read-out-requires
     add-at
     loop-less
     loop-again
