@@ -78,13 +78,27 @@ pub fn read(s: &[u8]) -> Reading
     Reading::Good(fields(s, kind))
 }
 
-// The last section_number of the segment that begins at start: number, its segment_last_section_number, counts within the segment by its low
-// three bits, and no segment goes past the last section. The sum is made wide, since in eight bits it could wrap.
-pub fn segment_end(start: u8, number: u8, last: u8) -> u8
-    ensures { λ r. ⌜ r ≡ segmentEnd start number last ⌝ }
+// Sections of a sub_table come in segments of eight (EN 300 468, 5.2.4): section_number 0 to 7, 8 to 15, .. 248 to 255.
+const SECTIONS_PER_SEGMENT: usize = 8;
+
+// The section_number of the last section of a segment. Example: the segment that begins at 8, with segment_last_section_number 11 in a sub_table whose
+// last_section_number is 20, ends at 11; with last_section_number 10 it ends at 10. The standard wants segment_last_section_number inside its segment; any value is
+// taken by its low three bits, which say how far behind the first section the last one is. The sum is made wide: nothing here says that the first number is a
+// multiple of eight, and in eight bits 250 + 7 would wrap.
+pub fn segment_end(
+    first_section_number: u8,
+    segment_last_section_number: u8,
+    last_section_number: u8,
+) -> u8
+    ensures { λ r. ⌜ r ≡ segmentEnd «first_section_number» «segment_last_section_number» «last_section_number» ⌝ }
 {
-    let end = wide(start) + wide(number) % 8;
-    if end < wide(last) { end as u8 } else { last }
+    let number_within_segment = wide(segment_last_section_number) % SECTIONS_PER_SEGMENT;
+    let end = wide(first_section_number) + number_within_segment;
+    if end < wide(last_section_number) {
+        end as u8
+    } else {
+        last_section_number
+    }
 }
 
 // Byte 0, and 0 where there is none.
