@@ -79,7 +79,7 @@ fn compare_seeds(root: &Path, seeds: usize, commands: usize) -> bool {
             }
         }
         println!("{name}: {seeds} seeds, 0 differences that are not named\n{report}");
-        good &= report.named_as_expected(domain);
+        good &= report.named_as_expected(domain) && report.none_dead();
         answered.add(&report);
         compared += report.commands();
     }

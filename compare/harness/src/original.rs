@@ -12,11 +12,13 @@ pub struct Original {
     gate: SiDemux,
     sets: Option<SectionSetCollector>,
     eit: Option<EitCollector>,
+    /// How many answers 23 came with a table_id below the first of its kind: a branch that no section takes.
+    pub below: u64,
 }
 
 impl Original {
     pub fn new() -> Original {
-        Original { gate: SiDemux::builder().build(), sets: None, eit: None }
+        Original { gate: SiDemux::builder().build(), sets: None, eit: None, below: 0 }
     }
 
     pub fn answer(&mut self, command: &Command) -> Answer {
@@ -124,7 +126,12 @@ impl Original {
                     (6, Out::Schedule { first, last, sets })
                 }
                 Ok(Some(other)) => panic!("not known: {other:?}"),
-                Err(error) => (number(&error), Out::Nothing),
+                Err(error) => {
+                    if let CollectError::EitTableIdOutOfRange { table_id, first_table_id, .. } = &error {
+                        self.below += u64::from(table_id < first_table_id);
+                    }
+                    (number(&error), Out::Nothing)
+                }
             },
         };
         Answer::Collected(number, self.eit_held(), out)

@@ -3,7 +3,7 @@ use crate::faults::Fault;
 use crate::original::Original;
 use crate::report::Report;
 use crate::second::{Reading, Second};
-use player::answer::Answer;
+use player::answer::{Answer, Held};
 use player::command::Command;
 use player::port::Port;
 use std::fmt::{self, Display};
@@ -76,6 +76,14 @@ impl Running {
         }
     }
 
+    /// How many sets went on into a schedule; counted by the second implementation.
+    fn entered(&self) -> u64 {
+        match self {
+            Running::Second(second) => second.entered(),
+            _ => 0,
+        }
+    }
+
     /// What is compared only at the end of a script.
     fn end(&self) -> Result<(), String> {
         match self {
@@ -116,8 +124,11 @@ pub fn first_difference(sides: [Side; 2], script: &[Command]) -> Option<Found> {
 pub fn differing(script: &[Command], report: &mut Report) -> Option<Found> {
     let sides = [Side::Original, Side::AS_ORIGINAL, Side::RULES, Side::Port];
     let mut running = sides.map(Side::begin);
+    let mut full_and_empty = 0;
     for (at, command) in script.iter().enumerate() {
+        let entered = running[1].entered();
         let told = running.each_mut().map(|side| side.answer(command));
+        full_and_empty += u64::from(running[1].entered() > entered && holds_no_schedule(&told[0]));
         for pair in [[0, 1], [2, 3]] {
             if told[pair[0]] != told[pair[1]] {
                 return Some(Found::at(script, at, pair.map(|side| (sides[side], line(&told[side])))));
@@ -128,8 +139,16 @@ pub fn differing(script: &[Command], report: &mut Report) -> Option<Found> {
     if let Running::Second(second) = &running[2] {
         report.met(second.reading.met);
     }
+    if let Running::Original(original) = &running[0] {
+        report.dead([original.below, full_and_empty]);
+    }
     let end = running[3].end().err()?;
     Some(Found::at(script, script.len(), [(Side::RULES, String::new()), (Side::Port, end)]))
+}
+
+/// 4 with no schedule held: where a set went on into one, the schedules' map was full and empty.
+fn holds_no_schedule(told: &Told) -> bool {
+    matches!(told, Ok(Answer::Collected(4, Held::Eit { rows: [_, 0], .. }, _)))
 }
 
 /// Leaves out what the difference does not need: ever smaller runs of commands, until none can go.

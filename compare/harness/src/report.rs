@@ -13,7 +13,11 @@ pub struct Report {
     /// By part and number of docs/RULES.md, "Answers".
     answers: BTreeMap<(&'static str, u8), usize>,
     met: [u64; 3],
+    /// Answers of the original from a branch that no section takes, by `DEAD`.
+    dead: [u64; 2],
 }
+
+const DEAD: [&str; 2] = ["table_id below the first of its kind", "schedules at their limit and none held"];
 
 impl Report {
     /// Counts a command that all sides answered alike, by what the rules say of it.
@@ -28,6 +32,15 @@ impl Report {
     /// Counts how often named differences decided an answer.
     pub fn met(&mut self, met: [u64; 3]) {
         self.met.iter_mut().zip(met).for_each(|(all, met)| *all += met);
+    }
+
+    /// Counts answers of the original from branches that no section takes.
+    pub fn dead(&mut self, dead: [u64; 2]) {
+        self.dead.iter_mut().zip(dead).for_each(|(all, dead)| *all += dead);
+    }
+
+    pub fn none_dead(&self) -> bool {
+        self.dead == [0; 2]
     }
 
     pub fn commands(&self) -> usize {
@@ -55,7 +68,9 @@ impl Display for Report {
         writeln!(f, "  answers: {}", answers.join(", "))?;
         let met: Vec<String> =
             Difference::ALL.iter().map(|&difference| format!("{} {}", difference.name(), self.met[difference as usize])).collect();
-        writeln!(f, "  named differences from the original met: {}", met.join(", "))
+        writeln!(f, "  named differences from the original met: {}", met.join(", "))?;
+        let dead: Vec<String> = DEAD.iter().zip(self.dead).map(|(branch, count)| format!("{branch} {count}")).collect();
+        writeln!(f, "  answers from branches of the original that no section takes: {}", dead.join(", "))
     }
 }
 

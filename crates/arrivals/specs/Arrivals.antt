@@ -78,7 +78,6 @@ kindNumber kind.PresentFollowingActual = 0
 kindNumber kind.PresentFollowingOther = 1
 kindNumber kind.ScheduleActual = 2
 kindNumber kind.ScheduleOther = 3
-kindNumber kind.None = 4
 
 abbrev pub arrivalOf : ℕ → Header → Eit → Arrival
 arrivalOf pid h f = record {

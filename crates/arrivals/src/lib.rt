@@ -137,7 +137,6 @@ pub fn kind_number(kind: Kind) -> u64
         Kind::PresentFollowingOther => 1,
         Kind::ScheduleActual => 2,
         Kind::ScheduleOther => 3,
-        Kind::None => 4,
     }
 }
 

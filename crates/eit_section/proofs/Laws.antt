@@ -12,30 +12,33 @@ use Rattle.laws.proofs.Tests.{and-true}
 use Rattle.laws.specs.Entries.{wholeEntries}
 use Rattle.section.specs.Header.{byteAt}
 use Rattle.eit_section.specs.declared.Kind.{Kind}
-use Rattle.eit_section.specs.declared.Kind.the-variants.{PresentFollowingActual, PresentFollowingOther, ScheduleActual, ScheduleOther, None}
+use Rattle.eit_section.specs.declared.Kind.the-variants.{PresentFollowingActual, PresentFollowingOther, ScheduleActual, ScheduleOther}
+use Rattle.eit_section.specs.declared.MaybeKind.{MaybeKind}
+use Rattle.eit_section.specs.declared.MaybeKind.the-variants as maybe
 use Rattle.eit_section.specs.declared.Eit.{Eit}
+use Rattle.eit_section.specs.declared.Reading.{Reading}
 use Rattle.eit_section.specs.declared.Reading.the-variants.{NotEit, Broken, Good}
-use Rattle.eit_section.specs.Eit.{within, kindOf, isEit, fieldsOf, layoutGood, eitOf}
+use Rattle.eit_section.specs.Eit.{within, kindOf, fieldsOf, layoutGood, eitAs, eitOf}
 
 module _ (t : ℕ) where
-  pub following-actual : t ≡ 0x4E → kindOf t ≡ PresentFollowingActual
+  pub following-actual : t ≡ 0x4E → kindOf t ≡ maybe.Some PresentFollowingActual
   following-actual e = simp (eq-eqb t 0x4E e)
 
-  pub following-other : t ≡ 0x4F → kindOf t ≡ PresentFollowingOther
+  pub following-other : t ≡ 0x4F → kindOf t ≡ maybe.Some PresentFollowingOther
   following-other e = simp (ne-eqb t 0x4E (omega arith), eq-eqb t 0x4F e)
 
-  pub schedule-actual : 0x50 ≤ t → t ≤ 0x5F → kindOf t ≡ ScheduleActual
+  pub schedule-actual : 0x50 ≤ t → t ≤ 0x5F → kindOf t ≡ maybe.Some ScheduleActual
   schedule-actual a b = simp (ne-eqb t 0x4E (omega arith), ne-eqb t 0x4F (omega arith), le-leb 0x50 t a, le-leb t 0x5F b)
 
-  pub schedule-other : 0x60 ≤ t → t ≤ 0x6F → kindOf t ≡ ScheduleOther
+  pub schedule-other : 0x60 ≤ t → t ≤ 0x6F → kindOf t ≡ maybe.Some ScheduleOther
   schedule-other a b =
       let c : 0x50 ≤ t = omega arith in
       simp (ne-eqb t 0x4E (omega arith), ne-eqb t 0x4F (omega arith), le-leb 0x50 t c, lt-leb t 0x5F (omega arith), le-leb 0x60 t a, le-leb t 0x6F b)
 
-  pub none-below : t < 0x4E → kindOf t ≡ None
+  pub none-below : t < 0x4E → kindOf t ≡ maybe.None
   none-below a = simp (ne-eqb t 0x4E (omega arith), ne-eqb t 0x4F (omega arith), lt-leb 0x50 t (omega arith), lt-leb 0x60 t (omega arith))
 
-  pub none-above : 0x6F < t → kindOf t ≡ None
+  pub none-above : 0x6F < t → kindOf t ≡ maybe.None
   none-above a =
       let c : 0x50 ≤ t = omega arith in
       let d : 0x60 ≤ t = omega arith in
@@ -43,17 +46,19 @@ module _ (t : ℕ) where
 
 -- a schedule's table_id is in its kind's range
 module _ (a b c d : Bool) where
-  abbrev picked : Kind
-  picked = cond a PresentFollowingActual (cond b PresentFollowingOther (cond c ScheduleActual (cond d ScheduleOther None)))
+  abbrev picked : MaybeKind
+  picked =
+      cond a (maybe.Some PresentFollowingActual)
+      (cond b (maybe.Some PresentFollowingOther) (cond c (maybe.Some ScheduleActual) (cond d (maybe.Some ScheduleOther) maybe.None)))
 
-picked-actual : (a b c d : Bool) → picked a b c d ≡ ScheduleActual → c ≡ true
+picked-actual : (a b c d : Bool) → picked a b c d ≡ maybe.Some ScheduleActual → c ≡ true
 picked-actual true b c d e = cc
 picked-actual false true c d e = cc
 picked-actual false false true d e = refl
 picked-actual false false false true e = cc
 picked-actual false false false false e = cc
 
-picked-other : (a b c d : Bool) → picked a b c d ≡ ScheduleOther → d ≡ true
+picked-other : (a b c d : Bool) → picked a b c d ≡ maybe.Some ScheduleOther → d ≡ true
 picked-other true b c d e = cc
 picked-other false true c d e = cc
 picked-other false false true d e = cc
@@ -63,10 +68,10 @@ picked-other false false false false e = cc
 in-range : (low high t : ℕ) → within low high t ≡ true → (low ≤ t) × (t ≤ high)
 in-range low high t e = let h = and-true (leb low t) (leb t high) e in (leb-true low t (h .0), leb-true t high (h .1))
 
-pub schedule-actual-range : (t : ℕ) → kindOf t ≡ ScheduleActual → (0x50 ≤ t) × (t ≤ 0x5F)
+pub schedule-actual-range : (t : ℕ) → kindOf t ≡ maybe.Some ScheduleActual → (0x50 ≤ t) × (t ≤ 0x5F)
 schedule-actual-range t e = in-range 0x50 0x5F t (picked-actual (eqb t 0x4E) (eqb t 0x4F) (within 0x50 0x5F t) (within 0x60 0x6F t) e)
 
-pub schedule-other-range : (t : ℕ) → kindOf t ≡ ScheduleOther → (0x60 ≤ t) × (t ≤ 0x6F)
+pub schedule-other-range : (t : ℕ) → kindOf t ≡ maybe.Some ScheduleOther → (0x60 ≤ t) × (t ≤ 0x6F)
 schedule-other-range t e = in-range 0x60 0x6F t (picked-other (eqb t 0x4E) (eqb t 0x4F) (within 0x50 0x5F t) (within 0x60 0x6F t) e)
 
 -- under 18 bytes there is no room for the fields
@@ -80,33 +85,38 @@ layout-events s w h e = let l : length s - 4 - 14 ≡ length s - 18 = omega arit
 pub layout-long : (s : List ℕ) (w : Bool) → w ≡ layoutGood s → not w ≡ false → 18 ≤ length s
 layout-long s w e h = leb-true 18 (length s) (and-true (leb 18 (length s)) _ (sym e ∙ not-false w h) .0)
 
--- the ways out of reading a section: t its table_id, k the kind, b whether that is one of the four, w whether the layout is good
-module _ (s : List ℕ) (t : ℕ) (k : Kind) (b : Bool) (et : t ≡ byteAt s 0) (ek : k ≡ kindOf t) (eb : b ≡ isEit k) where
-  kind-here : isEit (kindOf (byteAt s 0)) ≡ b
-  kind-here = rw (eb, ek, et)
+-- the ways out of reading a section of a kind: w whether the layout is good
+module _ (s : List ℕ) (k : Kind) (w : Bool) (ew : w ≡ layoutGood s) where
+  pub read-broken : not w ≡ true → Broken ≡ eitAs s k
+  unfolding eitAs
+  read-broken v = rw (← ew, not-true w v)
 
-  pub read-none : not b ≡ true → NotEit ≡ eitOf s
+  pub read-good : (e : Eit) → not w ≡ false → e ≡ fieldsOf s k → Good e ≡ eitAs s k
+  unfolding eitAs
+  read-good e v ee = rw (← ew, not-false w v, ee)
+
+-- of reading any section: t its table_id, m what that says
+module _ (s : List ℕ) (t : ℕ) (m : MaybeKind) (et : t ≡ byteAt s 0) (em : m ≡ kindOf t) where
+  kind-here : kindOf (byteAt s 0) ≡ m
+  kind-here = rw (em, et)
+
+  pub read-none : m ≡ maybe.None → NotEit ≡ eitOf s
   unfolding eitOf
-  read-none h = rw (kind-here, not-true b h)
+  read-none h = rw (kind-here, h)
 
-  module _ (w : Bool) (h : not b ≡ false) (ew : w ≡ layoutGood s) where
-    pub read-broken : not w ≡ true → Broken ≡ eitOf s
-    unfolding eitOf
-    read-broken v = rw (kind-here, not-false b h, ← ew, not-true w v)
-
-    pub read-good : (e : Eit) → not w ≡ false → e ≡ fieldsOf s k → Good e ≡ eitOf s
-    unfolding eitOf
-    read-good e v ee = rw (kind-here, not-false b h, ← ew, not-false w v, ee, ek, et)
+  pub read-some : (k : Kind) (r : Reading) → m ≡ maybe.Some k → r ≡ eitAs s k → r ≡ eitOf s
+  unfolding eitOf
+  read-some k r h e = rw (kind-here, h) e
 
 -- 18 by table_id alone, 19 where the table_id is an EIT's and the layout is broken, and no refusal else
-pub refused-18 : (s : List ℕ) → isEit (kindOf (byteAt s 0)) ≡ false → eitOf s ≡ NotEit
+pub refused-18 : (s : List ℕ) → kindOf (byteAt s 0) ≡ maybe.None → eitOf s ≡ NotEit
 unfolding eitOf
 refused-18 s h = rw h
 
-pub refused-19 : (s : List ℕ) → isEit (kindOf (byteAt s 0)) ≡ true → layoutGood s ≡ false → eitOf s ≡ Broken
-unfolding eitOf
-refused-19 s h l = rw (h, l)
+pub refused-19 : (s : List ℕ) (k : Kind) → kindOf (byteAt s 0) ≡ maybe.Some k → layoutGood s ≡ false → eitOf s ≡ Broken
+unfolding eitOf eitAs
+refused-19 s k h l = rw (h, l)
 
-pub read-well : (s : List ℕ) → isEit (kindOf (byteAt s 0)) ≡ true → layoutGood s ≡ true → eitOf s ≡ Good (fieldsOf s (kindOf (byteAt s 0)))
-unfolding eitOf
-read-well s h l = rw (h, l)
+pub read-well : (s : List ℕ) (k : Kind) → kindOf (byteAt s 0) ≡ maybe.Some k → layoutGood s ≡ true → eitOf s ≡ Good (fieldsOf s k)
+unfolding eitOf eitAs
+read-well s k h l = rw (h, l)

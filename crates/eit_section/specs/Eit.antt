@@ -2,14 +2,15 @@
 -- 10 and 11 original_network_id, 12 segment_last_section_number, 13 last_table_id, then events to the CRC, the last four bytes.
 use Prim.Native.Nat.{ℕ, _-_}
 use mathlib.Core.List.{List}
-use mathlib.Core.Bool.{Bool, true, false, cond, _&&_}
+use mathlib.Core.Bool.{Bool, cond, _&&_}
 use lib.ListN.{length, take, drop}
 use lib.Dec.{leb, eqb}
 use Rattle.laws.specs.Entries.{wholeEntries}
 use Rattle.section.specs.Header.{byteAt, word16}
-use Rattle.section.specs.declared.ids.ServiceId.{ServiceId}
 use Rattle.eit_section.specs.declared.Kind.{Kind}
-use Rattle.eit_section.specs.declared.Kind.the-variants.{PresentFollowingActual, PresentFollowingOther, ScheduleActual, ScheduleOther, None}
+use Rattle.eit_section.specs.declared.Kind.the-variants.{PresentFollowingActual, PresentFollowingOther, ScheduleActual, ScheduleOther}
+use Rattle.eit_section.specs.declared.MaybeKind.{MaybeKind}
+use Rattle.eit_section.specs.declared.MaybeKind.the-variants as maybe
 use Rattle.eit_section.specs.declared.Eit.{Eit}
 use Rattle.eit_section.specs.declared.Reading.{Reading}
 use Rattle.eit_section.specs.declared.Reading.the-variants.{NotEit, Broken, Good}
@@ -18,21 +19,13 @@ abbrev pub within : ℕ → ℕ → ℕ → Bool
 within low high t = leb low t && leb t high
 
 -- the kind by table_id (EN 300 468 table 2)
-abbrev pub kindOf : ℕ → Kind
+abbrev pub kindOf : ℕ → MaybeKind
 kindOf t =
-    cond (eqb t 0x4E) PresentFollowingActual
-    (cond (eqb t 0x4F) PresentFollowingOther
-    (cond (within 0x50 0x5F t) ScheduleActual
-    (cond (within 0x60 0x6F t) ScheduleOther
-    None)))
-
--- one of the four kinds
-abbrev pub isEit : Kind → Bool
-isEit PresentFollowingActual = true
-isEit PresentFollowingOther = true
-isEit ScheduleActual = true
-isEit ScheduleOther = true
-isEit None = false
+    cond (eqb t 0x4E) (maybe.Some PresentFollowingActual)
+    (cond (eqb t 0x4F) (maybe.Some PresentFollowingOther)
+    (cond (within 0x50 0x5F t) (maybe.Some ScheduleActual)
+    (cond (within 0x60 0x6F t) (maybe.Some ScheduleOther)
+    maybe.None)))
 
 -- the fields before the events
 abbrev pub fieldsOf : List ℕ → Kind → Eit
@@ -50,6 +43,14 @@ fieldsOf s kind =
 abbrev pub layoutGood : List ℕ → Bool
 layoutGood s = leb 18 (length s) && wholeEntries 12 (take (length s - 18) (drop 14 s))
 
+-- a section of this kind, read as an EIT
+unfoldable pub eitAs : List ℕ → Kind → Reading
+eitAs s kind = cond (layoutGood s) (Good (fieldsOf s kind)) Broken
+
+abbrev pub eitBy : List ℕ → MaybeKind → Reading
+eitBy s (maybe.Some kind) = eitAs s kind
+eitBy s maybe.None = NotEit
+
 -- a section read as an EIT
 unfoldable pub eitOf : List ℕ → Reading
-eitOf s = cond (isEit (kindOf (byteAt s 0))) (cond (layoutGood s) (Good (fieldsOf s (kindOf (byteAt s 0)))) Broken) NotEit
+eitOf s = eitBy s (kindOf (byteAt s 0))

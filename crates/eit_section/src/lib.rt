@@ -7,42 +7,34 @@ ghost use Prim.Native.Nat.{_≤_};
 ghost use lib.ListN.{length};
 ghost use Rattle.laws.specs.Entries.{entrySize, wholeEntries};
 ghost use Rattle.section.specs.Header.{byteAt};
-ghost use Rattle.eit_section.specs.Eit.{kindOf, isEit, fieldsOf, layoutGood, eitOf};
+ghost use Rattle.eit_section.specs.Eit.{kindOf, fieldsOf, layoutGood, eitAs, eitOf};
 ghost use Rattle.eit_section.specs.Segment.{segmentEnd};
 
-// What a table_id says of an EIT: one of its four kinds, or that the section is none.
+// The four kinds of an EIT (EN 300 468, table 2).
 pub enum Kind {
     PresentFollowingActual,
     PresentFollowingOther,
     ScheduleActual,
     ScheduleOther,
+}
+
+// What a table_id says of an EIT: its kind, or that the section is none.
+pub enum MaybeKind {
+    Some(Kind),
     None,
 }
 
 impl Kind {
     // The kind by table_id, EN 300 468 table 2.
-    pub fn from_table_id(table_id: u8) -> Kind
+    pub fn from_table_id(table_id: u8) -> MaybeKind
         ensures { λ r. ⌜ r ≡ kindOf «table_id» ⌝ }
     {
         match table_id {
-            0x4E => Kind::PresentFollowingActual,
-            0x4F => Kind::PresentFollowingOther,
-            0x50..=0x5F => Kind::ScheduleActual,
-            0x60..=0x6F => Kind::ScheduleOther,
-            _ => Kind::None,
-        }
-    }
-
-    // Whether it is one of the four.
-    fn is_eit(self) -> bool
-        ensures { λ r. ⌜ r ≡ isEit self ⌝ }
-    {
-        match self {
-            Kind::PresentFollowingActual => true,
-            Kind::PresentFollowingOther => true,
-            Kind::ScheduleActual => true,
-            Kind::ScheduleOther => true,
-            Kind::None => false,
+            0x4E => MaybeKind::Some(Kind::PresentFollowingActual),
+            0x4F => MaybeKind::Some(Kind::PresentFollowingOther),
+            0x50..=0x5F => MaybeKind::Some(Kind::ScheduleActual),
+            0x60..=0x6F => MaybeKind::Some(Kind::ScheduleOther),
+            _ => MaybeKind::None,
         }
     }
 }
@@ -68,10 +60,16 @@ pub enum Reading {
 pub fn read(s: &[u8]) -> Reading
     ensures { λ r. ⌜ r ≡ eitOf (now (s .entry)) ⌝ }
 {
-    let kind = Kind::from_table_id(table_id(s));
-    if !kind.is_eit() {
-        return Reading::NotEit;
+    match Kind::from_table_id(table_id(s)) {
+        MaybeKind::None => Reading::NotEit,
+        MaybeKind::Some(kind) => read_as(s, kind),
     }
+}
+
+// The same of a section whose table_id is one of this kind.
+fn read_as(s: &[u8], kind: Kind) -> Reading
+    ensures { λ r. ⌜ r ≡ eitAs (now (s .entry)) kind ⌝ }
+{
     if !is_laid_out(s) {
         return Reading::Broken;
     }

@@ -13,7 +13,8 @@ use lib.Seq.{paste, getD-take, getD-drop, length-take-le}
 use Rattle.laws.proofs.Lists.{paste-past, paste-turn, paste-end}
 use Rattle.eit_section.specs.Eit.{kindOf}
 use Rattle.eit_section.specs.declared.Kind.{Kind}
-use Rattle.eit_section.specs.declared.Kind.the-variants as kind
+use Rattle.eit_section.specs.declared.MaybeKind.{MaybeKind}
+use Rattle.eit_section.specs.declared.MaybeKind.the-variants as maybe
 use Rattle.arrivals.specs.Arrivals.{kindNumber}
 use Rattle.rows.specs.declared.Key.{Key}
 use Rattle.rows.specs.Rows.{keyAt, ageOf, withAge, younger}
@@ -22,21 +23,27 @@ use Rattle.filter.specs.declared.Wanted.the-variants as wanted
 use Rattle.filter.specs.declared.Fields.{Fields}
 use Rattle.filter.specs.declared.Of.{Of}
 use Rattle.filter.specs.declared.Of.the-variants as of
-use Rattle.filter.specs.Drops.{matches, wants, kindWord, kindIn, widthOf, movedTo, youngered, removedHeads, removedWords, Rest, rest, droppedRow, droppedRows, Fits}
+use Rattle.filter.specs.Drops.{matches, wants, kindTold, kindWord, kindIn, widthOf, movedTo, youngered, removedHeads, removedWords, Rest, rest, droppedRow, droppedRows, Fits}
 
 before : (n : ℕ) → 0 < n → n ≡ suc (n - 1)
 before n h = omega arith
 
 -- ---- which rows match
 
-pub kind-byte : (t r : ℕ) (k : Kind) → k ≡ kindOf t → r ≡ kindNumber k → r ≡ kindWord t
-kind-byte t r k e f = f ∙ ap kindNumber e
+pub told-some : (m : MaybeKind) (k : Kind) (r : ℕ) → m ≡ maybe.Some k → r ≡ kindNumber k → r ≡ kindTold m
+told-some m k r e f = rw e f
 
-pub kind-past : (t r : ℕ) → 256 ≤ t → r ≡ kindNumber kind.None → r ≡ kindWord t
-kind-past t r a e =
+pub told-none : (m : MaybeKind) → m ≡ maybe.None → 4 ≡ kindTold m
+told-none m e = rw e
+
+pub kind-byte : (t r : ℕ) (m : MaybeKind) → m ≡ kindOf t → r ≡ kindTold m → r ≡ kindWord t
+kind-byte t r m e f = f ∙ ap kindTold e
+
+pub kind-past : (t : ℕ) → 256 ≤ t → 4 ≡ kindWord t
+kind-past t a =
     let c : 0x50 ≤ t = omega arith in
     let d : 0x60 ≤ t = omega arith in
-    e ∙ simp (ne-eqb t 0x4E (omega arith), ne-eqb t 0x4F (omega arith), le-leb 0x50 t c, lt-leb t 0x5F (omega arith), le-leb 0x60 t d, lt-leb t 0x6F (omega arith))
+    simp (ne-eqb t 0x4E (omega arith), ne-eqb t 0x4F (omega arith), le-leb 0x50 t c, lt-leb t 0x5F (omega arith), le-leb 0x60 t d, lt-leb t 0x6F (omega arith))
 
 pub all-match : (o : Of) (f : Fields) (k : Key) (kind : ℕ) (p q r s t u : Bool) → p ≡ wants (f .pid) (k .pid) → kind ≡ kindIn o (k .«table_id») → q ≡ wants (f .kind) kind
     → r ≡ wants (f .«service_id») (k .extension) → s ≡ wants (f .«transport_stream_id») (k .«transport_stream_id»)

@@ -7,6 +7,8 @@ use lib.ListN.{length, take, drop}
 use lib.Seq.{paste}
 use lib.Dec.{eqb}
 use Rattle.eit_section.specs.Eit.{kindOf}
+use Rattle.eit_section.specs.declared.MaybeKind.{MaybeKind}
+use Rattle.eit_section.specs.declared.MaybeKind.the-variants as maybe
 use Rattle.arrivals.specs.Arrivals.{kindNumber}
 use Rattle.rows.specs.declared.Key.{Key}
 use Rattle.rows.specs.Rows.{keyAt, ageOf, withAge, younger}
@@ -23,9 +25,14 @@ abbrev pub wants : Wanted → ℕ → Bool
 wants wanted.Any v = true
 wants (wanted.Exactly x) v = eqb v x
 
+-- the number of what a table_id says: 4 is no kind's
+abbrev pub kindTold : MaybeKind → ℕ
+kindTold (maybe.Some k) = kindNumber k
+kindTold maybe.None = 4
+
 -- the kind's number, by the table_id word in a set's head
 abbrev pub kindWord : ℕ → ℕ
-kindWord t = kindNumber (kindOf t)
+kindWord t = kindTold (kindOf t)
 
 -- the kind, by word 1 of a head: of a set the table_id
 abbrev pub kindIn : Of → ℕ → ℕ

@@ -2,13 +2,14 @@
 // go"). The rows in use are the first `used`. From the last down to the first, a row that matches leaves: the last row in use takes its place,
 // and each row that was older is one younger. Words past the rows in use stay as they are, and nothing is counted.
 use eit_section::Kind;
+use eit_section::MaybeKind;
 use rows::Key;
 ghost use mathlib.Core.Path.{_≡_};
 ghost use mathlib.Core.Bool.{Bool, true, false};
 ghost use Prim.Native.Nat.{ℕ, _+_, _-_, _*_, _<_, _≤_};
 ghost use lib.ListN.{length};
 ghost use Rattle.rows.specs.Rows.{younger};
-ghost use Rattle.filter.specs.Drops.{wants, kindWord, kindIn, matches, widthOf, movedTo, youngered, removedHeads, removedWords};
+ghost use Rattle.filter.specs.Drops.{wants, kindTold, kindWord, kindIn, matches, widthOf, movedTo, youngered, removedHeads, removedWords};
 ghost use Rattle.filter.specs.Drops.{Fits, rest, droppedRow, droppedRows};
 
 // A field of a filter: free, or exactly a word.
@@ -35,6 +36,9 @@ pub enum Of {
 
 const AGE: usize = 9;
 
+// No kind has this number.
+const NO_KIND: u64 = 4;
+
 // ---- which rows match
 
 fn fits(w: Wanted, v: u64) -> bool
@@ -51,9 +55,18 @@ fn kind_word(table_id: u64) -> u64
     ensures { λ r. ⌜ r ≡ kindWord «table_id» ⌝ }
 {
     if table_id < 256 {
-        return arrivals::kind_number(Kind::from_table_id(table_id as u8));
+        return kind_told(Kind::from_table_id(table_id as u8));
     }
-    arrivals::kind_number(Kind::None)
+    NO_KIND
+}
+
+fn kind_told(kind: MaybeKind) -> u64
+    ensures { λ r. ⌜ r ≡ kindTold kind ⌝ }
+{
+    match kind {
+        MaybeKind::Some(k) => arrivals::kind_number(k),
+        MaybeKind::None => NO_KIND,
+    }
 }
 
 fn kind_in(of: Of, word: u64) -> u64

@@ -23,7 +23,7 @@ use Rattle.rules_shared.specs.Cells.{Settings}
 use Rattle.crc.specs.Crc.{crcFrom, bitsIn, bitIn}
 use Rattle.section.specs.Header.{storedCrc, workedCrc, headerOf}
 use Rattle.section.specs.Judged.{malformed, collectedLong, collectedOf}
-use Rattle.eit_section.specs.Eit.{eitOf}
+use Rattle.eit_section.specs.Eit.{eitAs, eitOf}
 use Rattle.eit_section.specs.Segment.{segmentEnd}
 use Rattle.section.specs.declared.ids.MaybePid.the-variants as maybe
 use Rattle.laws.specs.Entries.{wholeEntries, entriesIn}
@@ -221,7 +221,7 @@ abbrev apart-said : List Call
 apart-said = said 1 1 1 1 0x4E x1 ∷ said 2 0 0 0 0x4E B ∷ said 1 0 1 0 0x4E x0 ∷ []
 
 apart-reads : map reads (map on apart) ≡ apart-said
-unfolding reads readSection readsAs readsEit sectionOf collectedOf collectedLong malformed headerOf storedCrc workedCrc crcFrom bitsIn bitIn eitOf wholeEntries entriesIn
+unfolding reads readSection readsAs readsEit sectionOf collectedOf collectedLong malformed headerOf storedCrc workedCrc crcFrom bitsIn bitIn eitOf eitAs wholeEntries entriesIn
 apart-reads = refl
 
 apart-bytes : bytesIn apart ≡ true
@@ -260,7 +260,7 @@ abbrev above-said : List Call
 above-said = said 1 1 1 0 0x4E y1 ∷ said 2 0 0 0 0x4E B ∷ said 1 0 1 0 0x4E x0 ∷ []
 
 above-reads : map reads (map on above) ≡ above-said
-unfolding reads readSection readsAs readsEit sectionOf collectedOf collectedLong malformed headerOf storedCrc workedCrc crcFrom bitsIn bitIn eitOf wholeEntries entriesIn
+unfolding reads readSection readsAs readsEit sectionOf collectedOf collectedLong malformed headerOf storedCrc workedCrc crcFrom bitsIn bitIn eitOf eitAs wholeEntries entriesIn
 above-reads = refl
 
 above-bytes : bytesIn above ≡ true
@@ -299,7 +299,7 @@ abbrev clash-said : List Call
 clash-said = said 1 0 0 0 0x4E c0 ∷ said 2 0 0 0 0x4E B ∷ said 1 0 0 0 0x4F c1 ∷ []
 
 clash-reads : map reads (map on clash) ≡ clash-said
-unfolding reads readSection readsAs readsEit sectionOf collectedOf collectedLong malformed headerOf storedCrc workedCrc crcFrom bitsIn bitIn eitOf wholeEntries entriesIn
+unfolding reads readSection readsAs readsEit sectionOf collectedOf collectedLong malformed headerOf storedCrc workedCrc crcFrom bitsIn bitIn eitOf eitAs wholeEntries entriesIn
 clash-reads = refl
 
 clash-bytes : bytesIn clash ≡ true
@@ -339,7 +339,7 @@ abbrev later-said : List Call
 later-said = said 1 0 1 1 0x4E z0 ∷ said 2 0 0 0 0x4E B ∷ said 1 1 1 1 0x4E x1 ∷ said 1 0 1 1 0x4E z0 ∷ []
 
 later-reads : map reads (map on later) ≡ later-said
-unfolding reads readSection readsAs readsEit sectionOf collectedOf collectedLong malformed headerOf storedCrc workedCrc crcFrom bitsIn bitIn eitOf wholeEntries entriesIn
+unfolding reads readSection readsAs readsEit sectionOf collectedOf collectedLong malformed headerOf storedCrc workedCrc crcFrom bitsIn bitIn eitOf eitAs wholeEntries entriesIn
 later-reads = refl
 
 later-bytes : bytesIn later ≡ true
@@ -408,7 +408,7 @@ abbrev soon-said : List Call
 soon-said = said 1 0 1 1 0x4E z0 ∷ said 2 0 0 0 0x4E B ∷ said 1 1 1 1 0x4E x1 ∷ []
 
 soon-reads : map reads (map on soon) ≡ soon-said
-unfolding reads readSection readsAs readsEit sectionOf collectedOf collectedLong malformed headerOf storedCrc workedCrc crcFrom bitsIn bitIn eitOf wholeEntries entriesIn
+unfolding reads readSection readsAs readsEit sectionOf collectedOf collectedLong malformed headerOf storedCrc workedCrc crcFrom bitsIn bitIn eitOf eitAs wholeEntries entriesIn
 soon-reads = refl
 
 soon-bytes : bytesIn soon ≡ true
@@ -452,7 +452,7 @@ abbrev both-said : List Call
 both-said = said 1 0 1 1 0x4E z0 ∷ said 1 1 1 1 0x4E x1 ∷ []
 
 both-reads : map reads (map on both) ≡ both-said
-unfolding reads readSection readsAs readsEit sectionOf collectedOf collectedLong malformed headerOf storedCrc workedCrc crcFrom bitsIn bitIn eitOf wholeEntries entriesIn
+unfolding reads readSection readsAs readsEit sectionOf collectedOf collectedLong malformed headerOf storedCrc workedCrc crcFrom bitsIn bitIn eitOf eitAs wholeEntries entriesIn
 both-reads = refl
 
 both-bytes : bytesIn both ≡ true
@@ -473,7 +473,7 @@ abbrev second-said : List Call
 second-said = said 1 1 1 1 0x4E x1 ∷ []
 
 second-reads : map reads (map on second) ≡ second-said
-unfolding reads readSection readsAs readsEit sectionOf collectedOf collectedLong malformed headerOf storedCrc workedCrc crcFrom bitsIn bitIn eitOf wholeEntries entriesIn
+unfolding reads readSection readsAs readsEit sectionOf collectedOf collectedLong malformed headerOf storedCrc workedCrc crcFrom bitsIn bitIn eitOf eitAs wholeEntries entriesIn
 second-reads = refl
 
 second-bytes : bytesIn second ≡ true

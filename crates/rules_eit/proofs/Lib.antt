@@ -12,3 +12,4 @@ pub mod Exact
 pub mod Free
 pub mod Examples
 pub mod CellExamples
+pub mod Dead

@@ -1,6 +1,6 @@
 -- From a section's bytes to its arrival: the code's reading and the rules' reading of one section.
 -- Assumes nothing.
-use mathlib.Core.Path.{_≡_, refl, sym}
+use mathlib.Core.Path.{_≡_, refl, sym, ap}
 use mathlib.Core.Bool.{Bool, true, false, cond}
 use mathlib.Core.Option.{Option, none, some}
 use mathlib.Core.List.{List}
@@ -12,19 +12,19 @@ use Rattle.rules_shared.specs.Same.{Bytes}
 use Rattle.rules_eit.specs.Keys.{Kind, presentActual, presentOther, scheduleActual, scheduleOther, between, kindOf, kindNumber}
 use Rattle.section.specs.Judged.{collectedOf}
 use Rattle.section.specs.Header.{byteAt, headerOf}
-use Rattle.eit_section.specs.Eit.{within, isEit, fieldsOf, layoutGood, eitOf}
-use Rattle.eit_section.specs.Eit.{kindOf as kindRead}
+use Rattle.eit_section.specs.Eit.{within, fieldsOf, layoutGood, eitAs, eitBy, eitOf, kindOf as kindRead}
 use Rattle.section.specs.Facts.{Takes}
 use Rattle.section.proofs.Facts.{takes}
 use Rattle.section.specs.declared.header.Header.{Header}
 use Rattle.section.specs.declared.header.Collected.the-variants as collected
 use Rattle.eit_section.specs.declared.Eit as fields
 use Rattle.eit_section.specs.declared.Kind.{Kind as Read}
-use Rattle.eit_section.specs.declared.Kind.the-variants.{PresentFollowingActual, PresentFollowingOther, ScheduleActual, ScheduleOther, None}
+use Rattle.eit_section.specs.declared.Kind.the-variants.{PresentFollowingActual, PresentFollowingOther, ScheduleActual, ScheduleOther}
+use Rattle.eit_section.specs.declared.MaybeKind.{MaybeKind}
+use Rattle.eit_section.specs.declared.MaybeKind.the-variants as maybe
 use Rattle.eit_section.specs.declared.Reading.{Reading}
 use Rattle.eit_section.specs.declared.Reading.the-variants as reading
-use Rattle.arrivals.specs.Arrivals.{arrivalOf}
-use Rattle.arrivals.specs.Arrivals.{kindNumber as numberRead}
+use Rattle.arrivals.specs.Arrivals.{arrivalOf, kindNumber as numberRead}
 use Rattle.ties_eit.specs.View.{pidShown, sectionOf}
 use Rattle.ties_eit.proofs.Keys.{bit-bit, bit-reads}
 use Rattle.ties_eit.proofs.Settle.{Arrives}
@@ -32,18 +32,19 @@ use Rattle.ties_eit.proofs.Keep.{sectionFor}
 
 -- ---- the kind by table_id, as the reader has it and as the rules have it
 
-pub data Agree : Read → Option Kind → Type 0 where
-  present : Agree PresentFollowingActual (some presentActual)
-  other : Agree PresentFollowingOther (some presentOther)
-  schedule : Agree ScheduleActual (some scheduleActual)
-  otherSchedule : Agree ScheduleOther (some scheduleOther)
-  neither : Agree None none
+pub data Agree : MaybeKind → Option Kind → Type 0 where
+  present : Agree (maybe.Some PresentFollowingActual) (some presentActual)
+  other : Agree (maybe.Some PresentFollowingOther) (some presentOther)
+  schedule : Agree (maybe.Some ScheduleActual) (some scheduleActual)
+  otherSchedule : Agree (maybe.Some ScheduleOther) (some scheduleOther)
+  neither : Agree maybe.None none
 
 pub kinds-agree : (t : ℕ) → Agree (kindRead t) (kindOf t)
 unfolding kindOf between
 kinds-agree t = go (eqb t 0x4E) (eqb t 0x4F) (within 0x50 0x5F t) (within 0x60 0x6F t)
   where
-    go : (a b c d : Bool) → Agree (cond a PresentFollowingActual (cond b PresentFollowingOther (cond c ScheduleActual (cond d ScheduleOther None))))
+    go : (a b c d : Bool) → Agree
+        (cond a (maybe.Some PresentFollowingActual) (cond b (maybe.Some PresentFollowingOther) (cond c (maybe.Some ScheduleActual) (cond d (maybe.Some ScheduleOther) maybe.None))))
         (cond a (some presentActual) (cond b (some presentOther) (cond c (some scheduleActual) (cond d (some scheduleOther) none))))
     go true b c d = present
     go false true c d = other
@@ -52,37 +53,45 @@ kinds-agree t = go (eqb t 0x4E) (eqb t 0x4F) (within 0x50 0x5F t) (within 0x60 0
     go false false false false = neither
 
 -- 18: no kind
-no-kind : (r : Read) (o : Option Kind) → Agree r o → isEit r ≡ false → o ≡ none
-no-kind r o present e = absurd (mathlib.Core.Bool.true≢false e)
-no-kind r o other e = absurd (mathlib.Core.Bool.true≢false e)
-no-kind r o schedule e = absurd (mathlib.Core.Bool.true≢false e)
-no-kind r o otherSchedule e = absurd (mathlib.Core.Bool.true≢false e)
+no-kind : (r : MaybeKind) (o : Option Kind) → Agree r o → r ≡ maybe.None → o ≡ none
+no-kind r o present e = let z : _≡_ {A = ℕ} 0 1 = cc in absurd (omega arith)
+no-kind r o other e = let z : _≡_ {A = ℕ} 0 1 = cc in absurd (omega arith)
+no-kind r o schedule e = let z : _≡_ {A = ℕ} 0 1 = cc in absurd (omega arith)
+no-kind r o otherSchedule e = let z : _≡_ {A = ℕ} 0 1 = cc in absurd (omega arith)
 no-kind r o neither e = refl
 
+-- the number that stands for what a table_id says, where it says a kind
+abbrev numberOf : MaybeKind → ℕ
+numberOf (maybe.Some k) = numberRead k
+numberOf maybe.None = 4
+
 -- a kind, and its number
-the-kind : (r : Read) (o : Option Kind) → Agree r o → isEit r ≡ true → (k : Kind) × (o ≡ some k) × (numberRead r ≡ kindNumber k)
+the-kind : (r : MaybeKind) (o : Option Kind) → Agree r o → (x : Read) → r ≡ maybe.Some x → (k : Kind) × (o ≡ some k) × (numberRead x ≡ kindNumber k)
 unfolding kindNumber
-the-kind r o present e = (presentActual, refl, refl)
-the-kind r o other e = (presentOther, refl, refl)
-the-kind r o schedule e = (scheduleActual, refl, refl)
-the-kind r o otherSchedule e = (scheduleOther, refl, refl)
-the-kind r o neither e = absurd (mathlib.Core.Bool.true≢false (sym e))
+the-kind r o present x e = (presentActual, refl, ap numberOf (sym e))
+the-kind r o other x e = (presentOther, refl, ap numberOf (sym e))
+the-kind r o schedule x e = (scheduleActual, refl, ap numberOf (sym e))
+the-kind r o otherSchedule x e = (scheduleOther, refl, ap numberOf (sym e))
+the-kind r o neither x e = let z : _≡_ {A = ℕ} 0 1 = cc in absurd (omega arith)
 
 -- ---- what the reading of a section tells
 
 pub data Read-as (s : List ℕ) : Reading → Type 0 where
-  not-eit : isEit (kindRead (byteAt s 0)) ≡ false → Read-as s reading.NotEit
+  not-eit : kindRead (byteAt s 0) ≡ maybe.None → Read-as s reading.NotEit
   broken : Read-as s reading.Broken
-  good : isEit (kindRead (byteAt s 0)) ≡ true → Read-as s (reading.Good (fieldsOf s (kindRead (byteAt s 0))))
+  good : (x : Read) → kindRead (byteAt s 0) ≡ maybe.Some x → Read-as s (reading.Good (fieldsOf s x))
 
 pub read-as : (s : List ℕ) → Read-as s (eitOf s)
-unfolding eitOf
-read-as s = go (isEit (kindRead (byteAt s 0))) (layoutGood s) refl
+unfolding eitOf eitAs
+read-as s = go (kindRead (byteAt s 0)) refl
   where
-    go : (a b : Bool) → isEit (kindRead (byteAt s 0)) ≡ a → Read-as s (cond a (cond b (reading.Good (fieldsOf s (kindRead (byteAt s 0)))) reading.Broken) reading.NotEit)
-    go true true e = good e
-    go true false e = broken
-    go false b e = not-eit e
+    laid : (x : Read) (b : Bool) → kindRead (byteAt s 0) ≡ maybe.Some x → Read-as s (cond b (reading.Good (fieldsOf s x)) reading.Broken)
+    laid x true e = good x e
+    laid x false e = broken
+
+    go : (m : MaybeKind) → kindRead (byteAt s 0) ≡ m → Read-as s (eitBy s m)
+    go (maybe.Some x) e = laid x (layoutGood s) e
+    go maybe.None e = not-eit e
 
 module _ (s : List ℕ) (h : Header) (q : collectedOf s ≡ collected.Good h) where
   taken : Takes s h
@@ -99,18 +108,17 @@ module _ (s : List ℕ) (h : Header) (q : collectedOf s ≡ collected.Good h) wh
   unfolding headerOf
   version-small = rw (taken .header) (omega arith)
 
-  pub not-kind : isEit (kindRead (byteAt s 0)) ≡ false → kindOf (h .«table_id») ≡ none
+  pub not-kind : kindRead (byteAt s 0) ≡ maybe.None → kindOf (h .«table_id») ≡ none
   not-kind e = rw table-is (no-kind (kindRead (byteAt s 0)) (kindOf (byteAt s 0)) (kinds-agree (byteAt s 0)) e)
 
   numbers : getD s 7 0 < 256 → (h .number ≤ h .last) × (h .last < 256)
   unfolding headerOf
   numbers b = rw (taken .header) (taken .numbered, b)
 
-  pub arrives : getD s 7 0 < 256 → (pid : ℕ) → isEit (kindRead (byteAt s 0)) ≡ true
-      → (k : Kind) × Arrives (arrivalOf pid h (fieldsOf s (kindRead (byteAt s 0)))) k
-  arrives b pid e =
+  pub arrives : getD s 7 0 < 256 → (pid : ℕ) (x : Read) → kindRead (byteAt s 0) ≡ maybe.Some x → (k : Kind) × Arrives (arrivalOf pid h (fieldsOf s x)) k
+  arrives b pid x e =
       let n = numbers b in
-      let k = the-kind (kindRead (byteAt s 0)) (kindOf (byteAt s 0)) (kinds-agree (byteAt s 0)) e in (
+      let k = the-kind (kindRead (byteAt s 0)) (kindOf (byteAt s 0)) (kinds-agree (byteAt s 0)) x e in (
         k .0,
         record {
           numbered = record { number = n .0; last = n .1 };

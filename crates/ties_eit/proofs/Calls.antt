@@ -24,9 +24,7 @@ use Rattle.rules_eit.specs.Rules.{Section, scheduleOf, keyOf, clear, drop, refu
 use Rattle.rules_eit.specs.Cells.{onAnswer, storeWhole, anyAtEnd, ended, shows, pushIn, admitIn, offerIn, good, guarded, call}
 use Rattle.rules_eit.proofs.Keys.{sameSet-true, sameSchedule-true}
 use Rattle.section.specs.Judged.{collectedOf}
-use Rattle.section.specs.Header.{byteAt}
 use Rattle.eit_section.specs.Eit.{eitOf, fieldsOf}
-use Rattle.eit_section.specs.Eit.{kindOf as kindRead}
 use Rattle.section.specs.Facts.{Bytes as AllBytes}
 use Rattle.section.specs.declared.header.Header.{Header}
 use Rattle.section.specs.declared.header.Collected.{Collected}
@@ -227,10 +225,10 @@ module _ (s : Store) (z : Reached s) where
     unfolding readsEit good offerIn shows onAnswer answerTold seen sectionOf
     read-tied o pid h q r (not-eit e) = rw (not-kind bytes h q e) (record { told = refl; shown = refl; reached = z })
     read-tied o pid h q r broken = record { told = refl; shown = refl; reached = z }
-    read-tied o pid h q r (read-good e) =
-        let k = arrives bytes h q (o 7) pid e in
-        subst (λ (x : Section). Tied (toldStep (pushedWhole s bytes (arrivalOf pid h (fieldsOf bytes (kindRead (byteAt bytes 0)))))) (good (seen s) (offer x)))
-        (section-same pid bytes h (fieldsOf bytes (kindRead (byteAt bytes 0)))) (good-tied (arrivalOf pid h (fieldsOf bytes (kindRead (byteAt bytes 0)))) (k .0) (k .1) (good-length bytes h q))
+    read-tied o pid h q r (read-good kind e) =
+        let k = arrives bytes h q (o 7) pid kind e in
+        subst (λ (x : Section). Tied (toldStep (pushedWhole s bytes (arrivalOf pid h (fieldsOf bytes kind)))) (good (seen s) (offer x))) (section-same pid bytes h (fieldsOf bytes kind))
+        (good-tied (arrivalOf pid h (fieldsOf bytes kind)) (k .0) (k .1) (good-length bytes h q))
 
     -- 14 to 17
     judged-tied : AllBytes bytes → (pid : ℕ) (c : Collected) → collectedOf bytes ≡ c → Tied (pushedAs s bytes (eitRead pid bytes c)) (good (seen s) (readsAs (pidShown pid) bytes c))

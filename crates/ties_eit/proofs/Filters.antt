@@ -9,17 +9,16 @@ use borrow.Author.Tests.{eqb-true, ne-eqb}
 use lib.Dec.{eqb}
 use Rattle.laws.proofs.Tests.{eqb-sym}
 use Rattle.rules_shared.specs.Same.{samePid}
-use Rattle.rules_eit.specs.Keys.{Kind, presentActual, presentOther, scheduleActual, scheduleOther, between, kindOf, kindNumber, sameKind, anyPid, exactly, pidPasses, passes}
-use Rattle.rules_eit.specs.Keys.{matches as keyMatches}
+use Rattle.rules_eit.specs.Keys.{Kind, presentActual, presentOther, scheduleActual, scheduleOther, between, kindOf, kindNumber, sameKind, anyPid, exactly, pidPasses, passes, matches as keyMatches}
 use Rattle.eit_section.specs.Eit.{within}
 use Rattle.rows.specs.declared.Key.{Key}
 use Rattle.arrivals.specs.Arrivals.{bitOf}
-use Rattle.eit_section.specs.declared.Kind.the-variants.{PresentFollowingActual, PresentFollowingOther, ScheduleActual, ScheduleOther, None}
-use Rattle.arrivals.specs.Arrivals.{kindNumber as numberRead}
+use Rattle.eit_section.specs.declared.Kind.the-variants.{PresentFollowingActual, PresentFollowingOther, ScheduleActual, ScheduleOther}
+use Rattle.eit_section.specs.declared.MaybeKind.the-variants as maybe
 use Rattle.filter.specs.declared.Wanted.{Wanted}
 use Rattle.filter.specs.declared.Wanted.the-variants as wanted
 use Rattle.filter.specs.declared.Of.the-variants as of
-use Rattle.filter.specs.Drops.{wants, kindWord, matches}
+use Rattle.filter.specs.Drops.{wants, kindTold, kindWord, matches}
 use Rattle.eit_drop.specs.declared.Filter.{Filter}
 use Rattle.eit_drop.specs.Drop.{fieldsOf}
 use Rattle.ties_eit.specs.View.{pidShown, theKind, kindBy, keyShown, scheduleShown, Below, FilterFits, wantedAs, pidTest, filterShown}
@@ -118,7 +117,7 @@ kind-word t h = go (eqb t 0x4E) (eqb t 0x4F) (within 0x50 0x5F t) (within 0x60 0
     kindBy′ : Bool → Bool → Bool → Bool → Option Kind
     kindBy′ a b c d = cond a (some presentActual) (cond b (some presentOther) (cond c (some scheduleActual) (cond d (some scheduleOther) none)))
 
-    go : (a b c d : Bool) → kindBy′ a b c d ≡ some (theKind (kindBy′ a b c d)) → numberRead (cond a PresentFollowingActual (cond b PresentFollowingOther (cond c ScheduleActual (cond d ScheduleOther None)))) ≡ kindNumber (theKind (kindBy′ a b c d))
+    go : (a b c d : Bool) → kindBy′ a b c d ≡ some (theKind (kindBy′ a b c d)) → kindTold (cond a (maybe.Some PresentFollowingActual) (cond b (maybe.Some PresentFollowingOther) (cond c (maybe.Some ScheduleActual) (cond d (maybe.Some ScheduleOther) maybe.None)))) ≡ kindNumber (theKind (kindBy′ a b c d))
     go true b c d e = refl
     go false true c d e = refl
     go false false true d e = refl

@@ -14,17 +14,14 @@ use Rattle.rules_shared.specs.Same.{Bytes}
 use Rattle.rules_shared.specs.Touch.{untouched, onOrder, seenAs}
 use Rattle.rules_shared.specs.Cells.{Settings}
 use Rattle.laws.specs.Runs.{answers, storeAfter, At, Never, Obeys, bars, does}
-use Rattle.laws.proofs.Runs.{each-read, answers-read}
-use Rattle.laws.proofs.Runs.{same-answers as run-same}
+use Rattle.laws.proofs.Runs.{each-read, answers-read, same-answers as run-same}
 use Rattle.rules_eit.specs.Keys.{Kind, sameSet, sameSchedule}
 use Rattle.answers.specs.declared.Refusal.the-variants as refusal
-use Rattle.rules_eit.specs.Rules.{Eit, Section, offer, refuse, Answer, done, refused, nothing, handout, schedule, barred, asBefore}
-use Rattle.rules_eit.specs.Rules.{tells as rulesTell, acts as rulesAct, opened as rulesOpened}
+use Rattle.rules_eit.specs.Rules.{Eit, Section, offer, refuse, Answer, done, refused, nothing, handout, schedule, barred, asBefore, tells as rulesTell, acts as rulesAct, opened as rulesOpened}
 use Rattle.rules_eit.specs.Cells.{Store as Shown, onEit, view, storeWhole, callTells, callActs}
 use Rattle.rules_eit.proofs.Keys.{sameSet-true, sameSchedule-true}
 use Rattle.rules_eit.proofs.Cells.{obeys-rules, settings-stay}
-use Rattle.rules_eit.proofs.Whole.{LongEnough, never-10, whole-stays}
-use Rattle.rules_eit.proofs.Whole.{opened-whole as rules-opened-whole}
+use Rattle.rules_eit.proofs.Whole.{LongEnough, never-10, whole-stays, opened-whole as rules-opened-whole}
 use Rattle.rules_eit.proofs.Exact.{NeedsCell, only-then-21, then-21}
 use Rattle.section.specs.Judged.{collectedOf}
 use Rattle.eit_section.specs.Eit.{eitOf}
@@ -36,12 +33,9 @@ use Rattle.eit_section.specs.declared.Reading.the-variants as reading
 use Rattle.section.specs.declared.ids.MaybePid.the-variants as maybe
 use Rattle.ages.specs.Order.{downFrom, inOrder, rowsSeen}
 use Rattle.ages.proofs.Touch.{stands-none}
-use Rattle.cells.specs.Cells.{slotWord}
-use Rattle.rows.specs.declared.Entry.{Entry}
-use Rattle.rows.specs.Rows.{touched, keptHeads, withMark}
-use Rattle.segments.specs.Segments.{keptSection}
+use Rattle.rows.specs.Rows.{touched}
 use Rattle.schedules.specs.declared.ScheduleRoom.{ScheduleRoom}
-use Rattle.schedules.specs.Schedules.{roomOf, tableCount, scheduledUnits, tablesThere}
+use Rattle.schedules.specs.Schedules.{roomOf, scheduledUnits, tablesThere}
 use Rattle.eit_drop.specs.declared.Drop.{Drop}
 use Rattle.eit_drop.specs.declared.Drop.the-variants as plan-drop
 use Rattle.arrivals.specs.declared.Arrival.{Arrival}
@@ -49,8 +43,7 @@ use Rattle.eit_becomes.specs.declared.Becomes.{Becomes}
 use Rattle.eit_becomes.specs.declared.Becomes.the-variants as becomes
 use Rattle.eit_plan.specs.declared.Plan.{Plan}
 use Rattle.eit_plan.specs.declared.Plan.the-variants as plan
-use Rattle.eit_state.specs.State.{Store, store, rows, rowsOf, asked, settingsFit, wholeOf}
-use Rattle.eit_state.specs.State.{Rows as EitRows}
+use Rattle.eit_state.specs.State.{Store, store, rows, rowsOf, asked, settingsFit, wholeOf, Rows as EitRows, emptyEit}
 use Rattle.arrivals.specs.declared.EitArrival.{EitArrival}
 use Rattle.arrivals.specs.declared.EitArrival.the-variants as arrival
 use Rattle.rules_shared.specs.Refusals as refusals
@@ -58,12 +51,10 @@ use Rattle.eit_plan.specs.Plan.{planOf}
 use Rattle.eit_becomes.specs.Becoming.{ownTable, becomesOf, isMarked}
 use Rattle.eit_enter.specs.Entering.{scheduleEntry, enteredAnswer, enteredIn, entered}
 use Rattle.eit_settle.specs.Settle.{markedHeads, settledAs, settled}
-use Rattle.eit_carry.specs.Carried.{keptAndSettled, carried}
+use Rattle.eit_carry.specs.Carried.{keptAndSettled, carried, pushedWhole}
 use Rattle.eit.specs.Store as eit
 use Rattle.eit.specs.Store.{After, after, toldStep, answerOf, openedOf, clearedOf, carriedDrop, droppedOf, pushedAs, pushedOf}
-use Rattle.eit_state.specs.State.{emptyEit}
 use Rattle.eit_admit.specs.Admitting.{dropOf, admitted}
-use Rattle.eit_carry.specs.Carried.{pushedWhole}
 use Rattle.ties_eit.specs.View.{keyShown, scheduleShown, keyWords, scheduleWords, seen, settingsOf, sectionOf, readsEit, readsAs, readSection, reads, answerTold, tells, acts, Given, clears, drops, section, Fitting, Opened, Reached}
 use Rattle.ties_eit.proofs.Keys.{set-self, schedule-self}
 use Rattle.ties_eit.proofs.Calls.{tied, room-there, whole-seen}

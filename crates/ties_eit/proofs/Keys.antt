@@ -3,7 +3,7 @@
 use mathlib.Core.Path.{_≡_, refl, sym, subst}
 use mathlib.Core.Bool.{Bool, true, false, cond, not, _&&_, Bool·beq}
 use mathlib.Core.Option.{Option, none, some}
-use Prim.Native.Nat.{ℕ, _+_, _-_, _/_, _%_, _≤_, _<_}
+use Prim.Native.Nat.{ℕ, _+_, _-_, _%_, _≤_, _<_}
 use native.Mathlib.Omega.{arith}
 use borrow.Author.Tests.{eqb-true, ne-eqb, le-leb, leb-true}
 use lib.Dec.{eqb, leb}
@@ -14,7 +14,6 @@ use Rattle.rules_eit.specs.Keys.{Kind, presentActual, presentOther, scheduleAct
 use Rattle.rows.specs.declared.Key.{Key}
 use Rattle.arrivals.specs.Arrivals.{bitOf}
 use Rattle.units.specs.Units.{firstTable, withTable}
-use Rattle.units.specs.Units.{firstTable}
 use Rattle.ties_eit.specs.View.{pidShown, pidWords, kindBy, keyShown, scheduleShown, keyWords, scheduleWords}
 
 -- ---- a key is the same as itself

@@ -2,7 +2,7 @@
 -- Assumes nothing.
 use mathlib.Core.Path.{_≡_, refl, sym, ap, subst, _∙_}
 use mathlib.Core.Logic.{_≢_, _⊎_}
-use mathlib.Core.Bool.{Bool, true, false, cond, _||_}
+use mathlib.Core.Bool.{Bool, true, false, _||_}
 use mathlib.Core.List.{List}
 use Prim.Native.Nat.{ℕ, _+_, _*_, _≤_, _<_}
 use native.Mathlib.Omega.{arith}
@@ -13,22 +13,19 @@ use Rattle.rules_shared.specs.Same.{Bytes}
 use Rattle.rules_shared.specs.Touch.{someRow}
 use Rattle.rules_eit.specs.Keys.{SetKey}
 use Rattle.answers.specs.declared.Refusal.the-variants as refusal
-use Rattle.rules_eit.specs.Rules.{Section, offer, Answer, numberOf, refused}
+use Rattle.rules_eit.specs.Rules.{Section, offer, numberOf, refused}
 use Rattle.rules_eit.specs.Cells.{Store as Shown, setTakes, scheduleTakes, taken}
 use Rattle.rules_eit.proofs.Exact.{Conflicting, conflict-touches}
 use Rattle.rules_eit.proofs.Free.{KeptIn, cells-change}
-use Rattle.cells.specs.Cells.{slotWord, names, someNames}
-use Rattle.rows.specs.declared.Entry.{Entry}
-use Rattle.rows.specs.Rows.{word, touched, keptHeads, slotsAt, slotCount, rowSlots, lastOf, withMark, ageOf}
+use Rattle.cells.specs.Cells.{names, someNames}
+use Rattle.rows.specs.Rows.{word, touched, slotsAt, slotCount, rowSlots, lastOf, ageOf}
 use Rattle.rows.proofs.Words.{slot-at, length-slots, touched-not}
 use Rattle.ages.specs.Order.{rowsSeen}
 use Rattle.ages.proofs.Ages.{order-none, none-order}
 use Rattle.section.specs.declared.ids.MaybePid.{MaybePid}
-use Rattle.segments.specs.Segments.{wordOf, keptSection}
 use Rattle.units.specs.Units.{isPresent, unitSlots}
-use Rattle.schedules.specs.Schedules.{tablesOf, takenInSchedules}
+use Rattle.schedules.specs.Schedules.{tablesOf, roomOf, scheduledUnits, tablesThere}
 use Rattle.schedules.specs.declared.ScheduleRoom.{ScheduleRoom}
-use Rattle.schedules.specs.Schedules.{roomOf, tableCount, scheduledUnits, tablesThere}
 use Rattle.arrivals.specs.declared.Arrival.{Arrival}
 use Rattle.eit_becomes.specs.declared.Becomes.{Becomes}
 use Rattle.eit_becomes.specs.declared.Becomes.the-variants as becomes
@@ -41,10 +38,9 @@ use Rattle.eit_plan.specs.Plan.{planOf}
 use Rattle.eit_becomes.specs.Becoming.{ownTable, becomesOf, isMarked}
 use Rattle.eit_enter.specs.Entering.{scheduleEntry, enteredAnswer, enteredIn, entered}
 use Rattle.eit_settle.specs.Settle.{markedHeads, settledAs, settled}
-use Rattle.eit_carry.specs.Carried.{keptAndSettled, carried}
+use Rattle.eit_carry.specs.Carried.{keptAndSettled, carried, pushedWhole}
 use Rattle.eit.specs.Store.{toldStep, answerOf, pushedAs, pushedOf}
 use Rattle.eit_admit.specs.Admitting.{admitted}
-use Rattle.eit_carry.specs.Carried.{pushedWhole}
 use Rattle.ties_eit.specs.View.{seen, reads, answerTold, tells, acts, Given, section, Fitting, Reached}
 use Rattle.ties_eit.proofs.Rows.{row-takes}
 use Rattle.ties_eit.proofs.Places.{schedules-taken, named-units, units-named}

@@ -206,9 +206,9 @@ sectionOf pid bytes h f = record {
   bytes = bytes;
 }
 
--- 19, or what the section says. Whether its table_id is one of an EIT (18) is for the rules to say
+-- 19, or what the section says. Whether its table_id is one of an EIT (18) is for the rules to say, which do not look at the kind that was read
 unfoldable pub readsEit : Option ℕ → Bytes → Header → Reading → Call
-readsEit pid bytes h reading.NotEit = offer (sectionOf pid bytes h (fieldsOf bytes kind.None))
+readsEit pid bytes h reading.NotEit = offer (sectionOf pid bytes h (fieldsOf bytes kind.PresentFollowingActual))
 readsEit pid bytes h reading.Broken = refuse refusal.Broken refl
 readsEit pid bytes h (reading.Good f) = offer (sectionOf pid bytes h f)
 

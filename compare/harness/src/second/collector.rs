@@ -60,6 +60,8 @@ pub struct Collector {
     cells: Vec<Vec<u8>>,
     pub rows: Touched<Row>,
     pub schedules: Touched<Schedule>,
+    /// How many sets went on into a schedule: complete, not marked and in range.
+    pub entered: u64,
 }
 
 impl Collector {
@@ -71,6 +73,7 @@ impl Collector {
             cells: vec![Vec::new(); cells.into()],
             rows: Touched::new(),
             schedules: Touched::new(),
+            entered: 0,
         }
     }
 
@@ -257,6 +260,7 @@ impl Collector {
             self.rows.held[at].marked = reading.has(Fault::RangeMarks);
             return Err(23);
         }
+        self.entered += 1;
         let mut schedule = self.schedule(reading, key, last_table_id, at);
         self.rows.held[at].marked = true;
         schedule.copies.retain(|copy| copy.table_id != self.rows.held[at].key.table_id);

@@ -70,6 +70,11 @@ impl Second {
         Second { reading, gate: Gate::open(65_536, false, true, true, &[]), sets: None, eit: None }
     }
 
+    /// How many sets went on into a schedule since the EIT collector was opened.
+    pub fn entered(&self) -> u64 {
+        self.eit.as_ref().map_or(0, |eit| eit.entered)
+    }
+
     pub fn answer(&mut self, command: &Command) -> Answer {
         match command {
             Command::GateOpen { capacity, repeats, follow, well_known, extra } => {
