@@ -4,6 +4,7 @@ mod lent;
 mod make;
 mod original;
 mod pairs;
+mod present;
 mod program;
 mod report;
 mod second;
@@ -28,6 +29,7 @@ use written::Written;
 
 const USAGE: &str = "usage: compare/run [SEEDS] [COMMANDS]             scripts inside the rules' domain, damaged and cell-bound
        compare/run --faults [SEEDS] [COMMANDS]    the same, with each fault in turn in the second implementation
+       compare/run --present [SEEDS] [COMMANDS]   two EIT collectors, one with a smaller limit: the third demand for present and following
        compare/run --script FILE                  a script of your own
        compare/run --tape DOMAIN SEED COMMANDS    writes the script of a seed as a tape (inside, damaged or cells)
        compare/run --store                        makes the tapes of tests/tapes and the output of examples_run anew";
@@ -40,6 +42,10 @@ fn main() -> ExitCode {
     let good = match words.first() {
         Some(&"--faults") => match (number(1, 40), number(2, 2000)) {
             (Some(seeds), Some(commands)) => compare_faults(seeds, commands),
+            _ => return usage(),
+        },
+        Some(&"--present") => match (number(1, 200), number(2, 2000)) {
+            (Some(seeds), Some(commands)) => present::compare(seeds, commands),
             _ => return usage(),
         },
         Some(&"--script") if words.len() == 2 => compare_file(Path::new(words[1])),

@@ -62,10 +62,10 @@ fn has_cells(run: &[Command]) -> bool {
 }
 
 /// Numbers that look random and come from a seed.
-struct Dice(u64);
+pub struct Dice(u64);
 
 impl Dice {
-    fn new(seed: u64) -> Dice {
+    pub fn new(seed: u64) -> Dice {
         let mut dice = Dice(seed.wrapping_mul(0x9E37_79B9_7F4A_7C15) | 1);
         for _ in 0..8 {
             dice.next();
@@ -80,7 +80,7 @@ impl Dice {
         self.0.wrapping_mul(0x2545_F491_4F6C_DD1D) >> 11
     }
 
-    fn below(&mut self, end: usize) -> usize {
+    pub fn below(&mut self, end: usize) -> usize {
         (self.next() % end as u64) as usize
     }
 
@@ -93,11 +93,11 @@ impl Dice {
     }
 
     /// Once in so many times.
-    fn once_in(&mut self, times: usize) -> bool {
+    pub fn once_in(&mut self, times: usize) -> bool {
         self.below(times) == 0
     }
 
-    fn of<T: Copy>(&mut self, choices: &[T]) -> T {
+    pub fn of<T: Copy>(&mut self, choices: &[T]) -> T {
         choices[self.below(choices.len())]
     }
 }
@@ -116,16 +116,16 @@ fn start(table_id: u8, long: bool, total: usize) -> [u8; 3] {
 }
 
 #[derive(Clone, Copy)]
-struct Head {
-    table_id: u8,
-    extension: u16,
-    version: u8,
-    current_next: bool,
-    number: u8,
-    last: u8,
+pub struct Head {
+    pub table_id: u8,
+    pub extension: u16,
+    pub version: u8,
+    pub current_next: bool,
+    pub number: u8,
+    pub last: u8,
 }
 
-fn long(head: Head, body: &[u8]) -> Vec<u8> {
+pub fn long(head: Head, body: &[u8]) -> Vec<u8> {
     let mut bytes = start(head.table_id, true, 12 + body.len()).to_vec();
     bytes.extend(head.extension.to_be_bytes());
     bytes.extend([0xC0 | head.version << 1 | u8::from(head.current_next), head.number, head.last]);

@@ -32,6 +32,12 @@ impl Side {
         }
     }
 
+    /// An answer for each command.
+    pub fn answers(self, script: &[Command]) -> Vec<Answer> {
+        let mut running = self.begin();
+        script.iter().map(|command| running.answer(command).expect("both forms of the gate answer alike")).collect()
+    }
+
     /// A line for each command.
     pub fn lines(self, script: &[Command]) -> Vec<String> {
         let mut running = self.begin();
