@@ -8,7 +8,9 @@
  *
  * Everything else is the library's business: any content of the structs and arrays, any length, any number gets exactly one of the answers of
  * enum petrizolu_answer, and a refusal leaves every lent word as it was (22 and 23 say below what they leave). Memory that came from nowhere is
- * read within its bounds, found out where it is not whole (10), and otherwise taken by the rules as written. That is proved for every call.
+ * read within its bounds, found out where it is not whole (10), and otherwise taken as each call's definition says, by the first matching row. That
+ * is proved for every call; that the answers are those of the rules, for every history from an opening (of the gate without an index: for every
+ * store that is whole).
  *
  * Threads: a store (a struct with its arrays) is used by one caller at a time. Different stores may be used at the same time, and the calls
  * that ask (const struct) may run together on one store while nobody changes it.

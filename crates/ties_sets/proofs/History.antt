@@ -34,7 +34,7 @@ use Rattle.answers.specs.declared.Refusal.{Refusal}
 use Rattle.answers.specs.declared.Refusal.the-variants.{NotWhole, TooLittle, BadPid, Conflict}
 use Rattle.rules_shared.specs.Refusals as refusals
 use Rattle.section.proofs.Facts.{takes}
-use Rattle.store.specs.Store.{Store, store, emptySets, settingsFit, wholeOf}
+use Rattle.store.specs.Store.{Store, store, asked, emptySets, settingsFit, wholeOf}
 use Rattle.store.proofs.Whole.{long}
 use Rattle.sets_settle.specs.Settle.{Told, done, nothing, handed, refused, after}
 use Rattle.sets.specs.Store.{openedOf, clearedOf, pushedOf}
@@ -57,6 +57,11 @@ opened-reached s o = record {
     go : (b : Bool) → cond b done (refused TooLittle) ≡ done → b ≡ true
     go true e = refl
     go false e = let z : _≡_ {A = ℕ} 0 1 = cc in absurd (omega arith)
+
+-- what `open` leaves where it answers 7 is such a store, whatever the lent memory holds
+pub opening-opens : (limit size count : ℕ) (heads slots cells : List ℕ) → (openedOf (store (asked limit size count) heads slots cells)) .told ≡ done
+    → Opened (store (asked limit size count) heads slots cells)
+opening-opens limit size count heads slots cells e = record { opened = record { opened = e; none = refl }; evictions = refl }
 
 -- "no rows, counts 0"
 pub opened-seen : (s : Store) → Opened s → (seen s) .sets ≡ untouched
