@@ -5,14 +5,11 @@ use mathlib.Core.List.{List}
 use mathlib.Core.Bool.{Bool, true, false}
 use Prim.Native.Nat.{ℕ, _≤_, _<_}
 use borrow.Author.Tests.{eq-eqb, ne-eqb, lt-ltb, le-ltb}
-use Rattle.answers.specs.declared.Refusal.the-variants as refusal
 use Rattle.rows.specs.Rows.{markOf}
 use Rattle.arrivals.specs.declared.Arrival.{Arrival}
 use Rattle.segments.specs.Segments.{setComplete}
-use Rattle.eit_state.specs.declared.PushAnswer.the-variants as answer
-use Rattle.eit_becomes.specs.declared.Becomes.{Becomes}
 use Rattle.eit_becomes.specs.declared.Becomes.the-variants as becomes
-use Rattle.eit_becomes.specs.Becoming.{ownTable, becomesOf, stayAnswer}
+use Rattle.eit_becomes.specs.Becoming.{ownTable, becomesOf}
 
 module _ (heads slots : List ℕ) (a : Arrival) (i m : ℕ) (p : m ≡ markOf heads i) where
   pub becomes-marked : (m ≡ 0 → ⊥) → becomes.Stays ≡ becomesOf heads slots a i
@@ -36,9 +33,3 @@ module _ (heads slots : List ℕ) (a : Arrival) (i m : ℕ) (p : m ≡ markOf he
       pub becomes-enters : own ≤ a .tables → becomes.Enters ≡ becomesOf heads slots a i
       unfolding becomesOf
       becomes-enters k = rw (← p, eq-eqb m 0 z, ← q, t, le-ltb (a .kind) 2 h, ← o, le-ltb (a .tables) own k)
-
-pub stay-out : (b : Becomes) (i : ℕ) → b ≡ becomes.GoesOut → answer.Set i ≡ stayAnswer b i
-stay-out b i e = rw e
-
-pub stay-range : (b : Becomes) (i : ℕ) → b ≡ becomes.OutOfRange → answer.Refused refusal.Range ≡ stayAnswer b i
-stay-range b i e = rw e

@@ -3,12 +3,9 @@ use Prim.Native.Nat.{ℕ}
 use mathlib.Core.List.{List}
 use mathlib.Core.Bool.{Bool, true, false, cond, _&&_}
 use lib.Dec.{ltb, eqb}
-use Rattle.answers.specs.declared.Refusal.the-variants as refusal
 use Rattle.rows.specs.Rows.{markOf}
 use Rattle.arrivals.specs.declared.Arrival.{Arrival}
 use Rattle.segments.specs.Segments.{setComplete}
-use Rattle.eit_state.specs.declared.PushAnswer.{PushAnswer}
-use Rattle.eit_state.specs.declared.PushAnswer.the-variants as answer
 use Rattle.eit_becomes.specs.declared.Becomes.{Becomes}
 use Rattle.eit_becomes.specs.declared.Becomes.the-variants as becomes
 
@@ -31,16 +28,3 @@ isMarked becomes.Stays = false
 isMarked becomes.GoesOut = true
 isMarked becomes.OutOfRange = false
 isMarked becomes.Enters = true
-
-abbrev pub enters : Becomes → Bool
-enters becomes.Stays = false
-enters becomes.GoesOut = false
-enters becomes.OutOfRange = false
-enters becomes.Enters = true
-
--- the answer where the set of row i enters no schedule
-abbrev pub stayAnswer : Becomes → ℕ → PushAnswer
-stayAnswer becomes.Stays i = answer.Nothing
-stayAnswer becomes.GoesOut i = answer.Set i
-stayAnswer becomes.OutOfRange i = answer.Refused refusal.Range
-stayAnswer becomes.Enters i = answer.Nothing

@@ -1,11 +1,9 @@
 // What becomes of a set once its row is the newest: it stays, goes out, is refused, or enters its schedule (docs/RULES.md, "Collectors").
-use answers::Refusal;
 use arrivals::Arrival;
-use eit_state::PushAnswer;
 ghost use mathlib.Core.Path.{_≡_};
 ghost use Prim.Native.Nat.{_+_, _*_, _≤_};
 ghost use lib.ListN.{length};
-ghost use Rattle.eit_becomes.specs.Becoming.{ownTable, becomesOf, enters, isMarked, stayAnswer};
+ghost use Rattle.eit_becomes.specs.Becoming.{ownTable, becomesOf, isMarked};
 
 // What becomes of a set whose row was touched: it stays as it is, it goes out, its table_id is out of range, or it enters its schedule.
 pub enum Becomes {
@@ -53,28 +51,5 @@ pub fn is_marked(b: Becomes) -> bool
         Becomes::GoesOut => true,
         Becomes::OutOfRange => false,
         Becomes::Enters => true,
-    }
-}
-
-pub fn enters_schedule(b: Becomes) -> bool
-    ensures { λ r. ⌜ r ≡ enters b ⌝ }
-{
-    match b {
-        Becomes::Stays => false,
-        Becomes::GoesOut => false,
-        Becomes::OutOfRange => false,
-        Becomes::Enters => true,
-    }
-}
-
-// The answer where the set of row i enters no schedule.
-pub fn stay_answer(b: Becomes, i: usize) -> PushAnswer
-    ensures { λ r. ⌜ r ≡ stayAnswer b i ⌝ }
-{
-    match b {
-        Becomes::Stays => PushAnswer::Nothing,
-        Becomes::GoesOut => PushAnswer::Set(i),
-        Becomes::OutOfRange => PushAnswer::Refused(Refusal::Range),
-        Becomes::Enters => PushAnswer::Nothing,
     }
 }

@@ -5,13 +5,15 @@ use mathlib.Core.List.{List}
 use mathlib.Core.Bool.{Bool, true, false}
 use Prim.Native.Nat.{ℕ, _+_, _*_}
 use lib.ListN.{length, length-set}
+use Rattle.answers.specs.declared.Refusal.the-variants as refusal
 use Rattle.rows.specs.Rows.{touched, withMark}
 use Rattle.arrivals.specs.declared.Arrival.{Arrival}
 use Rattle.eit_state.specs.declared.Eit.{Eit}
-use Rattle.eit_state.specs.declared.PushAnswer.{PushAnswer}
+use Rattle.eit_state.specs.declared.PushAnswer.the-variants as answer
 use Rattle.eit_state.specs.State.{rows}
 use Rattle.eit_becomes.specs.declared.Becomes.{Becomes}
-use Rattle.eit_becomes.specs.Becoming.{becomesOf, isMarked, enters, stayAnswer}
+use Rattle.eit_becomes.specs.declared.Becomes.the-variants as becomes
+use Rattle.eit_becomes.specs.Becoming.{becomesOf, isMarked}
 use Rattle.eit_enter.specs.Entering.{Settled, entered, SettleOk}
 use Rattle.eit_settle.specs.Settle.{markedHeads, settledAs, settled}
 
@@ -26,12 +28,18 @@ pub length-marked : (b : Bool) (i : ℕ) (heads : List ℕ) → length (markedHe
 length-marked true i heads = length-set heads (i * 12 + 8) 1
 length-marked false i heads = refl
 
-module _ (e : Eit) (heads slots schedule-heads units : List ℕ) (a : Arrival) (i : ℕ) (b : Becomes) (t : Bool) (q : t ≡ enters b) where
-  pub as-entered : (l : Settled) → t ≡ true → l ≡ entered (rows e heads slots schedule-heads units) a i → l ≡ settledAs b (rows e heads slots schedule-heads units) a i
-  as-entered l h g = rw (← q, h) g
+module _ (e : Eit) (heads slots schedule-heads units : List ℕ) (a : Arrival) (i : ℕ) (b : Becomes) where
+  pub as-stays : b ≡ becomes.Stays → _≡_ {A = Settled} (record { answer = answer.Nothing; rows = rows e heads slots schedule-heads units }) (settledAs b (rows e heads slots schedule-heads units) a i)
+  as-stays h = rw h
 
-  pub as-stayed : (x : PushAnswer) → t ≡ false → x ≡ stayAnswer b i → _≡_ {A = Settled} (record { answer = x; rows = rows e heads slots schedule-heads units }) (settledAs b (rows e heads slots schedule-heads units) a i)
-  as-stayed x h g = rw (← q, h, g)
+  pub as-out : b ≡ becomes.GoesOut → _≡_ {A = Settled} (record { answer = answer.Set i; rows = rows e heads slots schedule-heads units }) (settledAs b (rows e heads slots schedule-heads units) a i)
+  as-out h = rw h
+
+  pub as-range : b ≡ becomes.OutOfRange → _≡_ {A = Settled} (record { answer = answer.Refused refusal.Range; rows = rows e heads slots schedule-heads units }) (settledAs b (rows e heads slots schedule-heads units) a i)
+  as-range h = rw h
+
+  pub as-entered : (l : Settled) → b ≡ becomes.Enters → l ≡ entered (rows e heads slots schedule-heads units) a i → l ≡ settledAs b (rows e heads slots schedule-heads units) a i
+  as-entered l h g = rw h g
 
 pub settle-done : (e : Eit) (heads slots schedule-heads units : List ℕ) (a : Arrival) (i : ℕ) (h : List ℕ) (b : Becomes) (m : Bool) (h' : List ℕ) (l : Settled)
     → h ≡ touched (e .sets .used) i heads → b ≡ becomesOf h slots a i → m ≡ isMarked b → h' ≡ markedHeads m i h → l ≡ settledAs b (rows e h' slots schedule-heads units) a i

@@ -10,7 +10,8 @@ use Rattle.eit_state.specs.declared.PushAnswer.{PushAnswer}
 use Rattle.eit_state.specs.declared.PushAnswer.the-variants as answer
 use Rattle.eit_state.specs.State.{Rows, rows}
 use Rattle.eit_becomes.specs.declared.Becomes.{Becomes}
-use Rattle.eit_becomes.specs.Becoming.{becomesOf, isMarked, enters, stayAnswer}
+use Rattle.eit_becomes.specs.declared.Becomes.the-variants as becomes
+use Rattle.eit_becomes.specs.Becoming.{becomesOf, isMarked}
 use Rattle.eit_enter.specs.Entering.{Settled, entered}
 
 -- the answer to a section in conflict
@@ -20,8 +21,12 @@ conflicting = answer.Refused refusal.Conflict
 abbrev pub markedHeads : Bool → ℕ → List ℕ → List ℕ
 markedHeads b i heads = cond b (withMark i 1 heads) heads
 
+-- what becomes of the set in row i, done: it enters its schedule, or it stays in its row with an answer
 abbrev pub settledAs : Becomes → Rows → Arrival → ℕ → Settled
-settledAs b r a i = cond (enters b) (entered r a i) (record { answer = stayAnswer b i; rows = r })
+settledAs becomes.Stays r a i = record { answer = answer.Nothing; rows = r }
+settledAs becomes.GoesOut r a i = record { answer = answer.Set i; rows = r }
+settledAs becomes.OutOfRange r a i = record { answer = answer.Refused refusal.Range; rows = r }
+settledAs becomes.Enters r a i = entered r a i
 
 -- row i becomes the newest, and what becomes of its set is done
 unfoldable pub settled : Rows → Arrival → ℕ → Settled

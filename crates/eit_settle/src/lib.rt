@@ -33,6 +33,7 @@ fn mark_where(heads: &mut [u64], b: bool, i: usize)
     }
 }
 
+// What becomes of the set in row i, done.
 fn settle_as(
     eit: Eit,
     heads: &[u64],
@@ -46,12 +47,20 @@ fn settle_as(
     requires { ⌜ SettleOk (rows eit (now heads) (now slots) (now «schedule_heads») (now units)) i ⌝ }
     ensures { λ r. ⌜ answered r (now (heads .entry)) (now (slots .entry)) (now («schedule_heads» .exit)) (now (units .exit)) ≡ settledAs b (rows eit (now (heads .entry)) (now (slots .entry)) (now («schedule_heads» .entry)) (now (units .entry))) a i ⌝ }
 {
-    if eit_becomes::enters_schedule(b) {
-        return eit_enter::enter(eit, heads, slots, schedule_heads, units, a, i);
-    }
-    Pushed {
-        answer: eit_becomes::stay_answer(b, i),
-        eit,
+    match b {
+        Becomes::Stays => Pushed {
+            answer: PushAnswer::Nothing,
+            eit,
+        },
+        Becomes::GoesOut => Pushed {
+            answer: PushAnswer::Set(i),
+            eit,
+        },
+        Becomes::OutOfRange => Pushed {
+            answer: PushAnswer::Refused(Refusal::Range),
+            eit,
+        },
+        Becomes::Enters => eit_enter::enter(eit, heads, slots, schedule_heads, units, a, i),
     }
 }
 

@@ -25,8 +25,9 @@ use Rattle.eit_plan.specs.Plan.{planOf}
 use Rattle.eit_plan.specs.declared.Plan.{Plan}
 use Rattle.eit_plan.specs.declared.Plan.the-variants as plan
 use Rattle.eit_becomes.specs.declared.Becomes.{Becomes}
-use Rattle.eit_becomes.specs.Becoming.{becomesOf, isMarked, enters, stayAnswer}
-use Rattle.eit_enter.specs.Entering.{Settled, enteredIn, entered}
+use Rattle.eit_becomes.specs.declared.Becomes.the-variants as becomes
+use Rattle.eit_becomes.specs.Becoming.{becomesOf, isMarked}
+use Rattle.eit_enter.specs.Entering.{enteredIn, entered}
 use Rattle.eit_settle.specs.Settle.{markedHeads, settledAs, settled}
 use Rattle.eit_carry.specs.Carried.{keptAndSettled, carried, pushedWhole}
 use Rattle.eit_drop.specs.Drop.{matchingGone}
@@ -56,17 +57,15 @@ counted e t = record {
   «schedule_evictions» = t .«schedule_evictions»;
 }
 
-as-counts : (e : Eit) (b : Bool) (x y : Settled) → x .rows .eit ≡ counted e (x .rows .eit) → y .rows .eit ≡ counted e (y .rows .eit)
-    → (cond b x y) .rows .eit ≡ counted e ((cond b x y) .rows .eit)
-as-counts e true x y h k = h
-as-counts e false x y h k = k
-
 entered-counts : (r : EitRows) (a : Arrival) (i : ℕ) → (entered r a i) .rows .eit ≡ counted (r .eit) ((entered r a i) .rows .eit)
 unfolding entered enteredIn
 entered-counts r a i = refl
 
 settled-as-counts : (b : Becomes) (r : EitRows) (a : Arrival) (i : ℕ) → (settledAs b r a i) .rows .eit ≡ counted (r .eit) ((settledAs b r a i) .rows .eit)
-settled-as-counts b r a i = as-counts (r .eit) (enters b) (entered r a i) (record { answer = stayAnswer b i; rows = r }) (entered-counts r a i) refl
+settled-as-counts becomes.Stays r a i = refl
+settled-as-counts becomes.GoesOut r a i = refl
+settled-as-counts becomes.OutOfRange r a i = refl
+settled-as-counts becomes.Enters r a i = entered-counts r a i
 
 settled-counts : (r : EitRows) (a : Arrival) (i : ℕ) → (settled r a i) .rows .eit ≡ counted (r .eit) ((settled r a i) .rows .eit)
 unfolding settled
