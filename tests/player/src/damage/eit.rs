@@ -7,6 +7,8 @@ use player::eit::Eit;
 pub enum Call {
     Push,
     Drop,
+    /// A drop of a kind, whatever the PID.
+    DropKind,
     Next,
     Table,
     Clear,
@@ -22,6 +24,7 @@ use Call::*;
 pub struct Damaged {
     eit: Eit,
     pid: u32,
+    kind: u64,
     row: u64,
     table: u64,
 }
@@ -73,13 +76,14 @@ impl Store for Damaged {
         let answers = (eit.open(3, 64, 4), eit.push(0x0012, PRESENT), eit.push(0x0012, SCHEDULE));
         assert_eq!(answers, (Answer::DONE, (Answer::SET, 0), (Answer::SCHEDULE, 0)));
         assert_eq!(eit.state, WHOLE);
-        Self { eit, pid: 0x0012, row: 0, table: 0 }
+        Self { eit, pid: 0x0012, kind: 0, row: 0, table: 0 }
     }
 
     fn name(call: Call) -> &'static str {
         match call {
             Push => "push",
             Drop => "drop",
+            DropKind => "drop of a kind",
             Next => "next section",
             Table => "next in the schedule",
             Clear => "clear",
@@ -94,6 +98,7 @@ impl Store for Damaged {
         match call {
             Push => self.push(),
             Drop => self.eit.drop_matching(&Filter { pid: self.pid.into(), ..Filter::ALL }),
+            DropKind => self.eit.drop_matching(&Filter { kind: self.kind, ..Filter::ALL }),
             Next => told(|place| self.eit.next(self.row, 0, place)),
             Table => told(|place| self.eit.next_in_schedule(self.row, self.table, 0, place)),
             Clear => self.eit.clear(),
@@ -105,6 +110,7 @@ impl Store for Damaged {
 }
 
 const ALL: &[Call] = &[Push, Drop, Next, Table, Clear, Open];
+const KIND: &[Call] = &[DropKind];
 
 /// The word of a slot with a kept length of 18 bytes, those of the sections here.
 const KEPT: u32 = 18 << 16;
@@ -145,12 +151,34 @@ pub const CASES: &[Case<Damaged>] = &[
     // Words that no history leaves and the rules do not name: the rules as they are written, first matching row.
     case("a segment's word of 300", ALL, |d| d.eit.slots[288] = 300),
     case("a table_id of 0x70 in a set's head", ALL, |d| d.eit.heads[1] = 0x70),
+    case("a table_id of 256 in a set's head", ALL, |d| d.eit.heads[1] = 256),
     case("a PID of 9000 in a set's head", ALL, |d| d.eit.heads[12] = 9000),
     case("a last_section_number of 300", ALL, |d| d.eit.heads[19] = 300),
     case("a kind of 7 in a schedule's head", ALL, |d| d.eit.schedule_heads[1] = 7),
     case("a last_table_id of 0x51 in a schedule's head", ALL, |d| d.eit.schedule_heads[7] = 0x51),
+    case("a last_table_id of 0x4F in a schedule's head", ALL, |d| d.eit.schedule_heads[7] = 0x4F),
     case("a table present that never came", ALL, |d| d.eit.units[288] = 1),
     case("a table's last_section_number of 300", ALL, |d| d.eit.units[2] = 300),
+    // A drop of a kind: a table_id of no EIT, 256 and more among them, is of none of the four, so only a filter that names no kind, 4, takes it; the
+    // word of a schedule's head is compared as it is.
+    case("kind 0", KIND, |d| d.kind = 0),
+    case("kind 2", KIND, |d| d.kind = 2),
+    case("kind 4", KIND, |d| d.kind = 4),
+    case("a table_id of 0x70 in a set's head, kind 0", KIND, |d| d.eit.heads[1] = 0x70),
+    case("a table_id of 256 in a set's head, kind 0", KIND, |d| d.eit.heads[1] = 256),
+    case("a table_id of 0x14E in a set's head, kind 0", KIND, |d| d.eit.heads[1] = 0x14E),
+    case("a table_id of 0x70 in a set's head, kind 4", KIND, |d| {
+        d.eit.heads[1] = 0x70;
+        d.kind = 4;
+    }),
+    case("a table_id of 256 in a set's head, kind 4", KIND, |d| {
+        d.eit.heads[1] = 256;
+        d.kind = 4;
+    }),
+    case("a kind of 7 in a schedule's head, kind 7", KIND, |d| {
+        d.eit.schedule_heads[1] = 7;
+        d.kind = 7;
+    }),
     // 11, 12, and the lower number first.
     case("evictions at their end", ALL, |d| d.eit.state.evictions = u64::MAX),
     case("schedule evictions at their end", ALL, |d| d.eit.state.schedule_evictions = u64::MAX),
@@ -171,6 +199,14 @@ pub const CASES: &[Case<Damaged>] = &[
     case("row 2", &[Next], |d| d.row = 2),
     case("table 1", &[Table], |d| d.table = 1),
     case("table 16", &[Table], |d| d.table = 16),
+    case("a last_table_id of 0x4F in a schedule's head, table 1", &[Table], |d| {
+        d.eit.schedule_heads[7] = 0x4F;
+        d.table = 1;
+    }),
+    case("a last_table_id of 0x51 in a schedule's head, table 1", &[Table], |d| {
+        d.eit.schedule_heads[7] = 0x51;
+        d.table = 1;
+    }),
     // After an opening that was refused.
     case("limit 4", &[Former, Anew], |d| d.eit.state.limit = 4),
     case("cell size 11", &[Former, Anew], |d| d.eit.state.size = 11),
