@@ -136,7 +136,7 @@ static uint8_t cells[LIMIT * LONGEST];
 static bool open_port(void)
 {
     static const uint16_t none[1];
-    return petrizolu_indexed_open(&gate, 4096, PETRIZOLU_DEFAULT_SETTINGS | PETRIZOLU_REPEATS, none, 0, GATE) == PETRIZOLU_DONE
+    return petrizolu_indexed_open(&gate, 4096, PETRIZOLU_DEFAULT_SETTINGS | PETRIZOLU_REPEATS, PETRIZOLU_DEFAULT_CHANGE_RULE, none, 0, GATE) == PETRIZOLU_DONE
         && petrizolu_eit_open(&eit, LIMIT, LONGEST, LIMIT, EIT) == PETRIZOLU_DONE;
 }
 

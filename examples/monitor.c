@@ -50,7 +50,7 @@ struct monitor {
 static bool open_all(struct monitor *m)
 {
     static const uint16_t no_extra[1];
-    return petrizolu_indexed_open(&m->gate.state, CAPACITY, PETRIZOLU_DEFAULT_SETTINGS, no_extra, 0, LEND_GATE(&m->gate)) == PETRIZOLU_DONE
+    return petrizolu_indexed_open(&m->gate.state, CAPACITY, PETRIZOLU_DEFAULT_SETTINGS, PETRIZOLU_DEFAULT_CHANGE_RULE, no_extra, 0, LEND_GATE(&m->gate)) == PETRIZOLU_DONE
         && petrizolu_sets_open(&m->sets.state, LIMIT, CELL_SIZE, CELLS, LEND_SETS(&m->sets)) == PETRIZOLU_DONE
         && petrizolu_eit_open(&m->eit.state, LIMIT, CELL_SIZE, CELLS, LEND_EIT(&m->eit)) == PETRIZOLU_DONE;
 }

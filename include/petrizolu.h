@@ -42,7 +42,7 @@ enum petrizolu_answer {
     PETRIZOLU_NOT_WHOLE = 10,        /* the store is damaged, or less is lent than it was opened with: only opening it anew helps */
     PETRIZOLU_COUNTER_FULL = 11,     /* a counter of this part is at 2^64 - 1 */
     PETRIZOLU_BAD_PID = 12,          /* a PID of 8192 or more */
-    PETRIZOLU_TOO_LITTLE = 13,       /* opening: less lent than the settings need, or a cell size or count out of range */
+    PETRIZOLU_TOO_LITTLE = 13,       /* opening: less lent than the settings need, or a cell size, a count or a change rule that there is not */
     PETRIZOLU_MALFORMED = 14,        /* under 3 bytes, not 3 + section_length bytes, or a long form under 12 */
     PETRIZOLU_SHORT_FORM = 15,       /* a collector takes long forms only */
     PETRIZOLU_BAD_NUMBER = 16,       /* section_number above last_section_number */
@@ -68,6 +68,11 @@ enum petrizolu_answer {
 #define PETRIZOLU_FOLLOW 2u        /* a changed PAT changes the watch */
 #define PETRIZOLU_WELL_KNOWN 4u    /* the eight well-known PIDs are watched and protected */
 #define PETRIZOLU_DEFAULT_SETTINGS (PETRIZOLU_FOLLOW | PETRIZOLU_WELL_KNOWN)
+
+/* How the gate tells that a section with a CRC and without a version changed, as the time offset table: */
+#define PETRIZOLU_CHANGE_AS_THE_RUST 1u    /* by the CRC over all its bytes, which is always 0: a second one is never new (dvb-si 12.0.1) */
+#define PETRIZOLU_CHANGE_STORED_CRC 2u     /* by the CRC that it carries */
+#define PETRIZOLU_DEFAULT_CHANGE_RULE PETRIZOLU_CHANGE_STORED_CRC
 
 /* EIT kinds, in schedule heads and in filters. */
 #define PETRIZOLU_PRESENT_FOLLOWING_ACTUAL 0u    /* table_id 0x4E */
@@ -117,14 +122,15 @@ uint32_t petrizolu_crc(const uint8_t *bytes, size_t byte_count);
  * ---- the gate: which sections are new
  *
  * A struct of words and not a value that comes back: one pointer reads better in C than a struct in and a struct out, the counters can be read
- * at any time by name, and no value of a flag is out of range. A struct of zeros is an open gate of capacity 0, which keeps one key, with repeats and
- * following off: with arrays for one row, offers to it are taken. So a host looks at what opening answered before it offers.
+ * at any time by name, and no value of a flag is out of range. A struct of zeros is no gate: it has no change rule, and
+ * offers to it answer 10.
  */
 
 typedef struct petrizolu_gate {
     uint64_t capacity;    /* keys kept; 0 acts as 1 */
     uint64_t repeats;     /* not 0: on */
     uint64_t follow;      /* not 0: on */
+    uint64_t change_rule; /* 1 or 2; another number is not whole (10) */
     uint64_t used;        /* rows in use */
     uint64_t first;       /* the row that leaves next */
     uint64_t completed;   /* sections offered: emitted + suppressed + crc_failures */
@@ -137,17 +143,18 @@ typedef struct petrizolu_gate {
 /*
  * Opens a gate and its watch. settings: PETRIZOLU_REPEATS and so on, or'ed; other bits are not looked at. extra: PIDs that are watched and
  * protected besides the well-known ones. keys and changes need not be written before.
- * 7: *gate and watch are written, counters 0. 12: an extra PID is 8192 or more. 13: keys, changes or watch are too short. A refusal writes nothing.
+ * 7: *gate and watch are written, counters 0. 12: an extra PID is 8192 or more. 13: keys, changes or watch are too short, or a change rule that there is not. A refusal writes nothing.
  *
  *     static uint64_t keys[512], changes[512], watch[PETRIZOLU_WATCH_WORDS];
  *     static const uint16_t extra[] = {0x0100};
  *     petrizolu_gate gate;
- *     if (petrizolu_gate_open(&gate, 512, PETRIZOLU_DEFAULT_SETTINGS, extra, 1, keys, 512, changes, 512, watch, PETRIZOLU_WATCH_WORDS) != PETRIZOLU_DONE)
+ *     if (petrizolu_gate_open(&gate, 512, PETRIZOLU_DEFAULT_SETTINGS, PETRIZOLU_DEFAULT_CHANGE_RULE, extra, 1, keys, 512, changes, 512, watch,
+ *                             PETRIZOLU_WATCH_WORDS) != PETRIZOLU_DONE)
  *         return 1;
  */
-uint8_t petrizolu_gate_open(petrizolu_gate *gate, uint64_t capacity, uint32_t settings, const uint16_t *extra, size_t extra_count,
-                            const uint64_t *keys, size_t key_count, const uint64_t *changes, size_t change_count, uint64_t *watch,
-                            size_t watch_words);
+uint8_t petrizolu_gate_open(petrizolu_gate *gate, uint64_t capacity, uint32_t settings, uint64_t change_rule, const uint16_t *extra,
+                            size_t extra_count, const uint64_t *keys, size_t key_count, const uint64_t *changes, size_t change_count,
+                            uint64_t *watch, size_t watch_words);
 
 /*
  * Offers a section that came on a PID, watched or not: 1, 2 or 3. Counters and rows move, and a changed PAT changes the watch where following is
@@ -174,13 +181,14 @@ uint8_t petrizolu_watch_ask(const uint64_t *watch, size_t watch_words, uint32_t 
  *     enum { ROWS = PETRIZOLU_DEFAULT_CAPACITY };
  *     static uint64_t rows[4][ROWS];
  *     petrizolu_gate large;
- *     if (petrizolu_indexed_open(&large, ROWS, PETRIZOLU_DEFAULT_SETTINGS, extra, 1, rows[0], ROWS, rows[1], ROWS, rows[2], ROWS, rows[3], ROWS, watch,
- *                                PETRIZOLU_WATCH_WORDS) != PETRIZOLU_DONE)
+ *     if (petrizolu_indexed_open(&large, ROWS, PETRIZOLU_DEFAULT_SETTINGS, PETRIZOLU_DEFAULT_CHANGE_RULE, extra, 1, rows[0], ROWS, rows[1], ROWS, rows[2],
+ *                                ROWS, rows[3], ROWS, watch, PETRIZOLU_WATCH_WORDS) != PETRIZOLU_DONE)
  *         return 1;
  */
-uint8_t petrizolu_indexed_open(petrizolu_gate *gate, uint64_t capacity, uint32_t settings, const uint16_t *extra, size_t extra_count,
-                               const uint64_t *keys, size_t key_count, const uint64_t *changes, size_t change_count, uint64_t *buckets,
-                               size_t bucket_count, const uint64_t *links, size_t link_count, uint64_t *watch, size_t watch_words);
+uint8_t petrizolu_indexed_open(petrizolu_gate *gate, uint64_t capacity, uint32_t settings, uint64_t change_rule, const uint16_t *extra,
+                               size_t extra_count, const uint64_t *keys, size_t key_count, const uint64_t *changes, size_t change_count,
+                               uint64_t *buckets, size_t bucket_count, const uint64_t *links, size_t link_count, uint64_t *watch,
+                               size_t watch_words);
 
 /*
  * As petrizolu_gate_offer.

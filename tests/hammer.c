@@ -58,7 +58,7 @@ static uint64_t any_word(void)
 
 /* ---- lent arrays */
 
-enum { ARENA = 1 << 20, MOST_ARRAYS = 8 };
+enum { ARENA = 1 << 20, MOST_ARRAYS = 8, MOST_WORDS = 16 };
 
 static bool on_heap;
 static size_t page;
@@ -180,8 +180,8 @@ static void fail(enum call call, unsigned answer, const char *what)
 
 /* Everything lent to the calls of one part, with its struct of words. */
 struct part {
-    uint64_t words[10];
-    uint64_t words_before[10];
+    uint64_t words[MOST_WORDS];
+    uint64_t words_before[MOST_WORDS];
     struct array arrays[MOST_ARRAYS];
     size_t array_count;
 };
@@ -366,20 +366,22 @@ static size_t around(size_t needed)
 
 enum { KEYS, CHANGES, BUCKETS, LINKS, WATCH, GATE_ARRAYS };
 
+enum { GATE_WORDS = sizeof(petrizolu_gate) / 8, USED = offsetof(petrizolu_gate, used) / 8 };
+
 static struct part gate, indexed;
 
 #define A(p, i) (void *)(p)->arrays[i].data, (p)->arrays[i].count
 #define SECTION section.data, section.count
 
-static unsigned gate_open(struct part *p, bool with_index, uint64_t capacity, uint32_t settings, const uint16_t *extra, size_t extras)
+static unsigned gate_open(struct part *p, bool with_index, uint64_t capacity, uint32_t settings, uint64_t rule, const uint16_t *extra, size_t extras)
 {
     unsigned answer;
     remember(p);
     if (with_index) {
-        answer = petrizolu_indexed_open((petrizolu_gate *)p->words, capacity, settings, extra, extras, A(p, KEYS), A(p, CHANGES), A(p, BUCKETS), A(p, LINKS), A(p, WATCH));
+        answer = petrizolu_indexed_open((petrizolu_gate *)p->words, capacity, settings, rule, extra, extras, A(p, KEYS), A(p, CHANGES), A(p, BUCKETS), A(p, LINKS), A(p, WATCH));
         judge(INDEXED_OPEN, p, answer);
     } else {
-        answer = petrizolu_gate_open((petrizolu_gate *)p->words, capacity, settings, extra, extras, A(p, KEYS), A(p, CHANGES), A(p, WATCH));
+        answer = petrizolu_gate_open((petrizolu_gate *)p->words, capacity, settings, rule, extra, extras, A(p, KEYS), A(p, CHANGES), A(p, WATCH));
         judge(GATE_OPEN, p, answer);
     }
     return answer;
@@ -418,6 +420,7 @@ static void round_of_gates(void)
     uint16_t extra[3];
     uint64_t capacity = below(6);
     uint32_t settings = (uint32_t)draw();
+    uint64_t rule = once_in(20) ? any_word() : once_in(8) ? below(4) : 1 + below(2);
     size_t extras = below(4);
     unsigned opened;
     for (int i = 0; i < 3; i++)
@@ -427,14 +430,14 @@ static void round_of_gates(void)
         lend_gate(p, PETRIZOLU_GATE_ROWS(capacity), false);
         for (int i = 0; i < GATE_ARRAYS; i++)
             scramble(&p->arrays[i]);
-        for (int i = 0; i < 10; i++)
+        for (int i = 0; i < GATE_WORDS; i++)
             p->words[i] = once_in(2) ? below(6) : any_word();
         for (int i = 0; i < 4; i++) {
             draw_section();
             gate_offer(p, p == &indexed, draw_pid());
             gate_ask(p, draw_pid());
         }
-        gate_open(p, p == &indexed, once_in(4) ? any_word() : capacity, settings, extra, extras);
+        gate_open(p, p == &indexed, once_in(4) ? any_word() : capacity, settings, rule, extra, extras);
         return;
     }
     lend_gate(&gate, PETRIZOLU_GATE_ROWS(capacity), true);
@@ -442,8 +445,8 @@ static void round_of_gates(void)
     for (int i = 0; i < GATE_ARRAYS; i++)
         if (once_in(4))
             scramble(&indexed.arrays[i]);
-    opened = gate_open(&gate, false, capacity, settings, extra, extras);
-    if (gate_open(&indexed, true, capacity, settings, extra, extras) != opened)
+    opened = gate_open(&gate, false, capacity, settings, rule, extra, extras);
+    if (gate_open(&indexed, true, capacity, settings, rule, extra, extras) != opened)
         fail(INDEXED_OPEN, opened, "not as the gate without an index");
     if (opened != PETRIZOLU_DONE)
         return;
@@ -454,14 +457,14 @@ static void round_of_gates(void)
         a = gate_offer(&gate, false, pid);
         b = gate_offer(&indexed, true, pid);
         if (a != b || memcmp(gate.words, indexed.words, sizeof gate.words) != 0 || memcmp(gate.arrays[WATCH].data, indexed.arrays[WATCH].data, size_of(&gate.arrays[WATCH])) != 0
-            || memcmp(gate.arrays[KEYS].data, indexed.arrays[KEYS].data, 8 * gate.words[3]) != 0 || memcmp(gate.arrays[CHANGES].data, indexed.arrays[CHANGES].data, 8 * gate.words[3]) != 0)
+            || memcmp(gate.arrays[KEYS].data, indexed.arrays[KEYS].data, 8 * gate.words[USED]) != 0 || memcmp(gate.arrays[CHANGES].data, indexed.arrays[CHANGES].data, 8 * gate.words[USED]) != 0)
             fail(INDEXED_OFFER, b, "not as the gate without an index");
         gate_ask(&gate, pid);
     }
     switch (below(3)) { /* damage, and on */
     case 0:
-        gate.words[below(10)] = any_word();
-        indexed.words[below(10)] = any_word();
+        gate.words[below(GATE_WORDS)] = any_word();
+        indexed.words[below(GATE_WORDS)] = any_word();
         break;
     case 1:
         damage(&gate.arrays[below(GATE_ARRAYS)]);

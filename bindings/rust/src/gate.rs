@@ -1,6 +1,6 @@
 //! The gate in both its forms, each with the watch.
 use crate::calls::{self, GateState};
-use crate::{Answer, DEFAULT_SETTINGS, Refused, WATCH_WORDS};
+use crate::{Answer, DEFAULT_CHANGE_RULE, DEFAULT_SETTINGS, Refused, WATCH_WORDS};
 
 #[derive(Debug, Clone, Copy, PartialEq, Eq)]
 pub enum Offered {
@@ -39,8 +39,16 @@ impl SmallGate {
     /// A gate with the default settings; the extra PIDs are watched and protected besides the well-known ones.
     pub fn open(capacity: usize, extra: &[u16]) -> Result<Self, Refused> {
         let mut gate = Self { state: GateState::default(), keys: rows(capacity), changes: rows(capacity), watch: watch() };
-        let answer =
-            calls::gate_open(&mut gate.state, capacity as u64, DEFAULT_SETTINGS, extra, &gate.keys, &gate.changes, &mut gate.watch);
+        let answer = calls::gate_open(
+            &mut gate.state,
+            capacity as u64,
+            DEFAULT_SETTINGS,
+            DEFAULT_CHANGE_RULE,
+            extra,
+            &gate.keys,
+            &gate.changes,
+            &mut gate.watch,
+        );
         answer.done().map(|()| gate)
     }
 
@@ -83,6 +91,7 @@ impl Gate {
             &mut gate.state,
             capacity as u64,
             DEFAULT_SETTINGS,
+            DEFAULT_CHANGE_RULE,
             extra,
             &gate.keys,
             &gate.changes,

@@ -34,6 +34,12 @@ pub const FOLLOW: u32 = 2;
 pub const WELL_KNOWN: u32 = 4;
 pub const DEFAULT_SETTINGS: u32 = FOLLOW | WELL_KNOWN;
 
+/// By which rule a gate tells that a section with a CRC and without a version changed, as the time offset table: by the CRC over all its bytes, which is
+/// always 0 (dvb-si 12.0.1), or by the CRC that it carries.
+pub const CHANGE_AS_THE_RUST: u64 = 1;
+pub const CHANGE_STORED_CRC: u64 = 2;
+pub const DEFAULT_CHANGE_RULE: u64 = CHANGE_STORED_CRC;
+
 /// Words of the watch, of a row's head, of a row's slots, and of a schedule's 16 tables.
 pub const WATCH_WORDS: usize = 384;
 pub const HEAD_WORDS: usize = 12;

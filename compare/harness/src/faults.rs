@@ -21,6 +21,13 @@ macro_rules! faults {
     };
 }
 
+impl Fault {
+    /// Whether it shows by change rule 2 alone, which the original does not have.
+    pub fn of_rule_2(self) -> bool {
+        matches!(self, Fault::RuleIgnored | Fault::OnlyTotStoredCrc | Fault::PlainStoredCrc)
+    }
+}
+
 faults! {
     KnownKeyMoves Gate "a known gate key moves to the end",
     KnownKeyStays Gate "a known gate key keeps its old version and change number",
@@ -32,7 +39,10 @@ faults! {
     NumberNotInKey Gate "section_number is no part of the gate's key",
     HeaderAtEleven Gate "a long form of 11 bytes is read as if it had a header",
     TotUnchecked Gate "the CRC of a short-form TOT is not checked",
-    TotStoredCrc Gate "a TOT's change number is its stored CRC",
+    TotStoredCrc Gate "by rule 1 a TOT's change number is its stored CRC",
+    RuleIgnored Gate "by rule 2 a TOT's change number is the CRC over all its bytes",
+    OnlyTotStoredCrc Gate "by rule 2 the change number of a long form of 4 to 11 bytes is the CRC over all its bytes",
+    PlainStoredCrc Gate "by rule 2 the change number of a section without a CRC is its last four bytes",
     FailureHeld Gate "a section of wrong CRC is held",
     RepeatFollowed Gate "a PAT emitted only because repeats are on is followed",
     NetworkPidFollowed Gate "the PID of program 0 is followed",

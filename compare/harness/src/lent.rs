@@ -13,10 +13,10 @@ pub const fn is_pid(pid: u16) -> bool {
 }
 
 /// What opening a gate answers: 12, 13 or 7.
-pub fn gate_opening(capacity: u32, extra: &[u16]) -> u8 {
+pub fn gate_opening(capacity: u32, rule: u64, extra: &[u16]) -> u8 {
     match extra.iter().all(|&pid| is_pid(pid)) {
         false => 12,
-        true if capacity > GATE_ROWS => 13,
+        true if capacity > GATE_ROWS || !(1..=2).contains(&rule) => 13,
         true => 7,
     }
 }

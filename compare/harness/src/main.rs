@@ -28,6 +28,7 @@ use std::time::Instant;
 use written::Written;
 
 const USAGE: &str = "usage: compare/run [SEEDS] [COMMANDS]             scripts inside the rules' domain, damaged and cell-bound
+       compare/run --rule-2 [SEEDS] [COMMANDS]    the same by change rule 2: the port beside the second implementation, the original has none
        compare/run --faults [SEEDS] [COMMANDS]    the same, with each fault in turn in the second implementation
        compare/run --present [SEEDS] [COMMANDS]   two EIT collectors, one with a smaller limit: the third demand for present and following
        compare/run --script FILE                  a script of your own
@@ -40,6 +41,10 @@ fn main() -> ExitCode {
     let words: Vec<&str> = words.iter().map(String::as_str).collect();
     let number = |at: usize, default: usize| words.get(at).map_or(Some(default), |word| word.parse().ok());
     let good = match words.first() {
+        Some(&"--rule-2") => match (number(1, 50), number(2, 20_000)) {
+            (Some(seeds), Some(commands)) => compare_rule_2(&root, seeds, commands),
+            _ => return usage(),
+        },
         Some(&"--faults") => match (number(1, 40), number(2, 2000)) {
             (Some(seeds), Some(commands)) => compare_faults(seeds, commands),
             _ => return usage(),
@@ -92,6 +97,29 @@ fn compare_seeds(root: &Path, seeds: usize, commands: usize) -> bool {
     println!("over the written scripts and all seeds:\n{answered}");
     println!("{compared} commands of seeds in {} seconds", start.elapsed().as_secs());
     good
+}
+
+/// By change rule 2 the port is compared with the second implementation: the scripts of corrected/, and seeds.
+fn compare_rule_2(root: &Path, seeds: usize, commands: usize) -> bool {
+    let scripts = Written::all(root, "corrected");
+    let sides = [Side::RULES, Side::Port];
+    let wrong: Vec<String> = scripts.iter().flat_map(|script| sides.map(|side| script.not_as_said(side))).flatten().collect();
+    println!("{} written scripts of change rule 2: {}", scripts.len(), if wrong.is_empty() { "as said" } else { "NOT as said" });
+    wrong.iter().for_each(|line| println!("  {line}"));
+    for (domain, name) in DOMAINS {
+        let mut report = Report::default();
+        for seed in 0..seeds as u64 {
+            let script = make::by_rule_2(make::script(seed, commands, domain));
+            if let Some(found) = first_difference(sides, &script) {
+                println!("{name}, seed {seed}: a difference at command {}; the smallest script found:", found.line + 1);
+                println!("{}", smallest(found));
+                return false;
+            }
+            script.iter().zip(Side::RULES.answers(&script)).for_each(|(command, answer)| report.count(command, &answer));
+        }
+        println!("{name}, by change rule 2: {seeds} seeds, 0 differences\n{report}");
+    }
+    wrong.is_empty()
 }
 
 /// What is the same in every run: the CRC's published check, the written scripts, the program `watch`, and tapes that end early.
@@ -165,26 +193,25 @@ fn first_of_each_kind(commands: impl Iterator<Item = Command>) -> Vec<Command> {
     first
 }
 
-/// `watch` on the rules' example, cut at each place, and on streams of sections.
+/// `watch` on the rules' example, cut at each place, and on streams of sections: the program by change rule 2, its default, the original by rule 1.
 fn compare_watch(root: &Path) -> bool {
     let program = Program::new(root, "watch");
     let example = watch::EXAMPLE.concat().concat();
     let mut inputs: Vec<Vec<u8>> = (0..=example.len()).map(|end| example[..end].to_vec()).collect();
     inputs.extend((0..20).map(watch_stream));
-    let mut good = watch_second(&example) == watch::EXAMPLE_OUTPUT;
+    let mut good = watch_second(2, &example) == watch::EXAMPLE_OUTPUT;
     for input in &inputs {
-        let second = watch_second(input);
         let mut original = original::Original::new();
-        good &= second == watch::output(|command| original.answer(command), input);
-        good &= second == program.output(input);
+        good &= watch_second(1, input) == watch::output(|command| original.answer(command), 1, input);
+        good &= watch_second(2, input) == program.output(input);
     }
     println!("watch on {} inputs: {}", inputs.len(), if good { "equal" } else { "DIFFERS" });
     good
 }
 
-fn watch_second(input: &[u8]) -> String {
+fn watch_second(rule: u64, input: &[u8]) -> String {
     let mut second = second::Second::new(second::Reading::default());
-    watch::output(|command| second.answer(command), input)
+    watch::output(|command| second.answer(command), rule, input)
 }
 
 /// Sections of a script as `watch` reads them, each with its PID; the last one may be cut.
@@ -229,6 +256,9 @@ fn compare_faults(seeds: usize, commands: usize) -> bool {
 /// The commands of a seed that the faulty part is given.
 fn script_for(fault: Fault, seed: u64, commands: usize, domain: Domain) -> Vec<Command> {
     let mut script = make::script(seed, commands, domain);
+    if fault.of_rule_2() {
+        script = make::by_rule_2(script);
+    }
     script.retain(|command| command.part() == fault.part());
     script
 }
@@ -238,8 +268,8 @@ fn find_fault(fault: Fault, seeds: usize, commands: usize) -> Option<(u64, &'sta
     for seed in 0..seeds as u64 {
         for (domain, name) in DOMAINS {
             let script = script_for(fault, seed, commands, domain);
-            let found =
-                first_difference([Side::Original, with(true)], &script).or_else(|| first_difference([Side::RULES, with(false)], &script));
+            let beside_original = || first_difference([Side::Original, with(true)], &script).filter(|_| !fault.of_rule_2());
+            let found = beside_original().or_else(|| first_difference([Side::RULES, with(false)], &script));
             if let Some(found) = found {
                 return Some((seed, name, smallest(found)));
             }

@@ -311,11 +311,26 @@ fn gate_opening(dice: &mut Dice, refused: bool) -> Command {
     let extra = (0..dice.below(4)).map(|_| dice.of(&[0x0000, 0x0050, 0x0100, 0x0101, 0x1FFF])).collect();
     let (repeats, follow, well_known) = (dice.once_in(4), !dice.once_in(7), !dice.once_in(7));
     let capacity = dice.of(&[0, 1, 2, 3, 5, 8, 20, 512, 65_536]);
+    let rule = 1;
     match refused {
-        false => Command::GateOpen { capacity, repeats, follow, well_known, extra },
-        true if dice.once_in(2) => Command::GateOpen { capacity, repeats, follow, well_known, extra: vec![0x0100, 0x2000] },
-        true => Command::GateOpen { capacity: dice.of(&[65_537, u32::MAX]), repeats, follow, well_known, extra },
+        false => Command::GateOpen { capacity, repeats, follow, well_known, rule, extra },
+        true if dice.once_in(2) => Command::GateOpen { capacity, repeats, follow, well_known, rule, extra: vec![0x0100, 0x2000] },
+        true => Command::GateOpen { capacity: dice.of(&[65_537, u32::MAX]), repeats, follow, well_known, rule, extra },
     }
+}
+
+/// The same script by change rule 2. Openings that are refused for their capacity are refused for a rule that there is not.
+pub fn by_rule_2(mut script: Vec<Command>) -> Vec<Command> {
+    for command in &mut script {
+        if let Command::GateOpen { capacity, rule, .. } = command {
+            (*capacity, *rule) = match *capacity {
+                65_537 => (512, 0),
+                u32::MAX => (512, 3),
+                capacity => (capacity, 2),
+            };
+        }
+    }
+    script
 }
 
 // ---- The collectors

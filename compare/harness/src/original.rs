@@ -23,8 +23,8 @@ impl Original {
 
     pub fn answer(&mut self, command: &Command) -> Answer {
         match command {
-            Command::GateOpen { capacity, repeats, follow, well_known, extra } => {
-                let answer = lent::gate_opening(*capacity, extra);
+            Command::GateOpen { capacity, repeats, follow, well_known, rule, extra } => {
+                let answer = lent::gate_opening(*capacity, *rule, extra);
                 if answer == 7 {
                     let settings = SiDemux::builder()
                         .gate_capacity(*capacity as usize)

@@ -21,12 +21,12 @@ emitted 0014 70 8
 completed 5 emitted 3 suppressed 1 crc 1 evicted 0
 ";
 
-/// What `watch` writes on an input, where `answer` is asked for each command.
-pub fn output(mut answer: impl FnMut(&Command) -> Answer, input: &[u8]) -> String {
+/// What `watch` writes on an input by a change rule, where `answer` is asked for each command.
+pub fn output(mut answer: impl FnMut(&Command) -> Answer, rule: u64, input: &[u8]) -> String {
     let mut text = String::new();
     let mut totals = [0; 5];
     let mut rest = input;
-    answer(&Command::GateOpen { capacity: 512, repeats: false, follow: true, well_known: true, extra: Vec::new() });
+    answer(&Command::GateOpen { capacity: 512, repeats: false, follow: true, well_known: true, rule, extra: Vec::new() });
     while !rest.is_empty() {
         let Some((pid, section)) = record(rest) else {
             text.push_str("cut\n");

@@ -14,6 +14,7 @@ use Rattle.ring.specs.Store.{wholeOf as ringWhole}
 use Rattle.ring.specs.declared.Seen.{Seen}
 use Rattle.ring.proofs.Laws.{whole as ring-whole}
 use Rattle.section.specs.Header.{tableId}
+use Rattle.section.specs.Judged.{ruleKnown}
 use Rattle.pat.specs.Pat.{readable, patOf, withPrograms}
 use Rattle.pat.specs.declared.Pat.{Pat}
 use Rattle.pat.specs.declared.Pat.the-variants.{Readable, Unreadable}
@@ -24,7 +25,7 @@ use Rattle.offers.specs.declared.Verdict.{Verdict}
 use Rattle.offers.specs.declared.Verdict.the-variants as verdict
 use Rattle.watched.specs.Store.{allPids, filled, following}
 use Rattle.gate_state.specs.State.{begun, refused, failure, seenBy}
-use Rattle.gate.specs.Store.{begunBy, hasRoom, opened, wholeOf, Fits, Store, Offering, storeOf, leftBy, followedPat, watchAfter, admittedTo, carried, isWhole, offered}
+use Rattle.gate.specs.Store.{begunBy, canOpen, opened, wholeOf, Fits, Store, Offering, storeOf, leftBy, followedPat, watchAfter, admittedTo, carried, isWhole, offered}
 use Rattle.gate_state.specs.declared.Gate.{Gate}
 use Rattle.gate_state.specs.declared.Offered.{Offered}
 use Rattle.gate_state.specs.declared.Settings.{Settings}
@@ -39,7 +40,8 @@ use Rattle.counters.specs.declared.Counters.{Counters}
 pub fits : (g : Gate) (keys changes words : ℕ) (w : Bool) → w ≡ wholeOf g keys changes words → w ≡ true → Fits g keys changes words
 fits g keys changes words w e h =
     let a = and-true _ _ (sym e ∙ h) in
-    record { rows = ring-whole (g .ring) keys changes (ringWhole (g .ring) keys changes) refl (a .0); watch = leb-true _ _ (a .1) }
+    let b = and-true _ _ (a .0) in
+    record { rows = ring-whole (g .ring) keys changes (ringWhole (g .ring) keys changes) refl (b .0); watch = leb-true _ _ (b .1); rule = a .1 }
 
 -- ---- following
 
@@ -92,7 +94,7 @@ pub admitted-told :
 unfolding admittedTo
 admitted-told g c keys changes words section a seen ks ms ws o f k m w j = rw (← f, ← k, ← m, ← w, ← j)
 
-module _ (s : Store) (pid : ℕ) (section : List ℕ) (w : Bool) (e : w ≡ isWhole s) (v : Verdict) (q : v ≡ verdictOf w (s .counters) pid section) where
+module _ (s : Store) (pid : ℕ) (section : List ℕ) (w : Bool) (e : w ≡ isWhole s) (v : Verdict) (q : v ≡ verdictOf w (s .counters) (s .gate .«change_rule») pid section) where
   carries : carried s section v ≡ offered s pid section
   unfolding offered
   carries = rw (← e, ← q)
@@ -120,7 +122,7 @@ module _ (s : Settings) (extra words : List ℕ) (keys changes : ℕ) (b : Bool)
   pub pids-good : not b ≡ false → allPids extra ≡ true
   pids-good h = sym e ∙ not-false b h
 
-  module _ (h : not b ≡ false) (r : Bool) (d : r ≡ hasRoom (s .capacity) keys changes (length words)) where
+  module _ (h : not b ≡ false) (r : Bool) (d : r ≡ canOpen s keys changes (length words)) where
     pub opened-little : (o : Opened) → not r ≡ true → o ≡ begun (outcome.Refused TooLittle) s → begunBy o words ≡ opened s extra keys changes words
     unfolding opened
     opened-little o k j = rw (← e, not-false b h, ← d, not-true r k, j)
@@ -132,4 +134,6 @@ module _ (s : Settings) (extra words : List ℕ) (keys changes : ℕ) (b : Bool)
     opened-yes ws o k f j = rw (← e, not-false b h, ← d, not-false r k, ← f, j)
 
     pub words-room : not r ≡ false → 384 ≤ length words
-    words-room k = leb-true 384 (length words) (and-true (leb (roomOf (s .capacity)) keys && leb (roomOf (s .capacity)) changes) (leb 384 (length words)) (sym d ∙ not-false r k) .1)
+    words-room k =
+        let a = and-true (leb (roomOf (s .capacity)) keys && leb (roomOf (s .capacity)) changes && leb 384 (length words)) (ruleKnown (s .«change_rule»)) (sym d ∙ not-false r k) in
+        leb-true 384 (length words) (and-true (leb (roomOf (s .capacity)) keys && leb (roomOf (s .capacity)) changes) (leb 384 (length words)) (a .0) .1)

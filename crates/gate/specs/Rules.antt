@@ -26,6 +26,7 @@ pub record Manner : Type 0 where
   pub capacity : ℕ
   pub repeats : Bool
   pub follow : Bool
+  pub rule : ℕ
 
 -- what the gate holds
 pub record Held : Type 0 where
@@ -70,7 +71,7 @@ carriedIn m h section (Arrived a) = admitted m h (rowFrom a) section
 
 -- an offer: 11, then as the section and its PID say
 unfoldable pub told : Manner → Held → Offer → Told
-told m h o = carriedIn m h (o .section) (cond (anyFull (h .counters)) (Refused CounterFull) (readOf (o .pid) (o .section)))
+told m h o = carriedIn m h (o .section) (cond (anyFull (h .counters)) (Refused CounterFull) (readOf (m .rule) (o .pid) (o .section)))
 
 unfoldable pub tells : Manner → Held → Offer → ℕ
 tells m h o = (told m h o) .answer

@@ -1,6 +1,7 @@
 -- What opening and offering answer and leave (docs/RULES.md, "Gate" and "Watched PIDs"), for every gate, every record of counters and every content
 -- of the lent slices. `cond test a b` is a where the test is true, else b.
 use Prim.Native.Nat.{ℕ, _≤_}
+use mathlib.Core.Path.{_≡_}
 use mathlib.Core.List.{List}
 use mathlib.Core.Bool.{Bool, true, cond, _&&_}
 use lib.ListN.{length, replicate}
@@ -12,6 +13,7 @@ use Rattle.offers.specs.Offers.{verdictOf}
 use Rattle.offers.specs.declared.Arrival.{Arrival}
 use Rattle.offers.specs.declared.Verdict.{Verdict}
 use Rattle.offers.specs.declared.Verdict.the-variants as verdict
+use Rattle.section.specs.Judged.{ruleKnown}
 use Rattle.pat.specs.Pat.{readable, withPrograms}
 use Rattle.watched.specs.Store.{allPids, filled, following}
 use Rattle.answers.specs.Answers.{refusalNo, outcomeNo}
@@ -25,9 +27,10 @@ use Rattle.gate_state.specs.declared.Opened.{Opened}
 
 -- ---- opening
 
--- not 13: max(1, capacity) rows of each slice, and the watch's 384 words
-abbrev pub hasRoom : ℕ → ℕ → ℕ → ℕ → Bool
-hasRoom capacity keys changes words = leb (roomOf capacity) keys && leb (roomOf capacity) changes && leb 384 words
+-- not 13: max(1, capacity) rows of each slice, the watch's 384 words, and a change rule that there is
+abbrev pub canOpen : Settings → ℕ → ℕ → ℕ → Bool
+canOpen s keys changes words =
+    leb (roomOf (s .capacity)) keys && leb (roomOf (s .capacity)) changes && leb 384 words && ruleKnown (s .«change_rule»)
 
 -- the number of opening's answer, the gate and the counters, and the words of the watch
 pub record Begun : Type 0 where
@@ -47,19 +50,20 @@ begins answer s words = record { answer = answer; gate = emptyGate s; counters =
 unfoldable pub opened : Settings → List ℕ → ℕ → ℕ → List ℕ → Begun
 opened s extra keys changes words =
     cond (allPids extra)
-    (cond (hasRoom (s .capacity) keys changes (length words)) (begins 7 s (filled words (s .«well_known») extra)) (begins 13 s words))
+    (cond (canOpen s keys changes (length words)) (begins 7 s (filled words (s .«well_known») extra)) (begins 13 s words))
     (begins 12 s words)
 
 -- ---- offering
 
--- not 10: the ring fits slices of these lengths, and there are the watch's 384 words
+-- not 10: the ring fits slices of these lengths, there are the watch's 384 words, and there is such a change rule
 abbrev pub wholeOf : Gate → ℕ → ℕ → ℕ → Bool
-wholeOf g keys changes words = ringWhole (g .ring) keys changes && leb 384 words
+wholeOf g keys changes words = ringWhole (g .ring) keys changes && leb 384 words && ruleKnown (g .«change_rule»)
 
--- the same as orders of numbers
+-- the same as orders of numbers, and of the rule
 pub record Fits (g : Gate) (keys changes words : ℕ) : Type 0 where
   pub rows : Whole (g .ring) keys changes
   pub watch : 384 ≤ words
+  pub rule : ruleKnown (g .«change_rule») ≡ true
 
 -- a gate, its counters and the words of the three lent slices
 pub record Store : Type 0 where
@@ -115,4 +119,4 @@ isWhole s = wholeOf (s .gate) (length (s .keys)) (length (s .changes)) (length (
 
 -- every store, PID and section: 10, 11, 12, then 3, then 1 or 2
 unfoldable pub offered : Store → ℕ → List ℕ → Offering
-offered s pid section = carried s section (verdictOf (isWhole s) (s .counters) pid section)
+offered s pid section = carried s section (verdictOf (isWhole s) (s .counters) (s .gate .«change_rule») pid section)

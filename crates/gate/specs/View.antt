@@ -1,6 +1,9 @@
 -- What a gate over lent memory stands for, and its calls one after another.
 use Prim.Native.Nat.{ℕ, _≤_}
+use mathlib.Core.Path.{_≡_}
+use mathlib.Core.Bool.{true}
 use lib.ListN.{length}
+use Rattle.section.specs.Judged.{ruleKnown}
 use Rattle.ring.specs.View.{Memory, inOrder, Reached}
 use Rattle.watched.specs.View.{watchIn}
 use Rattle.gate.specs.Rules.{Offer, Manner, Held, Told}
@@ -8,7 +11,7 @@ use Rattle.gate.specs.Store.{Store, Offering, offered}
 use Rattle.gate_state.specs.declared.Gate.{Gate}
 
 abbrev pub mannerOf : Gate → Manner
-mannerOf g = record { capacity = g .ring .capacity; repeats = g .repeats; follow = g .follow }
+mannerOf g = record { capacity = g .ring .capacity; repeats = g .repeats; follow = g .follow; rule = g .«change_rule» }
 
 abbrev pub memoryOf : Store → Memory
 memoryOf s = record { ring = s .gate .ring; keys = s .keys; changes = s .changes }
@@ -23,6 +26,7 @@ shownBy l = record { answer = l .answer; held = heldBy (l .store) }
 pub record Opened (s : Store) : Type 0 where
   pub reached : Reached (memoryOf s)
   pub watch : 384 ≤ length (s .words)
+  pub rule : ruleKnown (s .gate .«change_rule») ≡ true
 
 unfoldable pub storeTells : Store → Offer → ℕ
 storeTells s o = (offered s (o .pid) (o .section)) .answer

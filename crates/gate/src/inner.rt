@@ -2,30 +2,37 @@
 use counters::Counters;
 use gate_state::Gate;
 use gate_state::Offered;
+use gate_state::Settings;
 use offers::Arrival;
 use ring::Seen;
+use section::header::ChangeRule;
 ghost use mathlib.Core.Path.{_≡_};
 ghost use mathlib.Core.Bool.{_&&_};
 ghost use Prim.Native.Nat.{_<_, _≤_};
 ghost use lib.ListN.{length};
 ghost use Rattle.section.specs.Header.{tableId};
 ghost use Rattle.counters.specs.Counters.{CanCount};
-ghost use Rattle.gate.specs.Store.{wholeOf, hasRoom, Fits, followedPat, watchAfter, storeOf, leftBy, admittedTo};
+ghost use Rattle.gate.specs.Store.{wholeOf, canOpen, Fits, followedPat, watchAfter, storeOf, leftBy, admittedTo};
 
-// Not 10: the ring fits its slices, and the watch has its words.
+// Not 10: the ring fits its slices, the watch has its words, and there is such a change rule.
 pub fn is_whole(gate: Gate, keys: usize, changes: usize, words: usize) -> bool
     ensures { λ r. ⌜ r ≡ wholeOf gate keys changes words ⌝ }
 {
     let ring = gate.ring;
-    ring::is_whole(ring, keys, changes) & (watched::WORDS <= words)
+    ring::is_whole(ring, keys, changes)
+        & (watched::WORDS <= words)
+        & ChangeRule::is_known(gate.change_rule)
 }
 
-// Not 13: a row of each slice for each key that is to be held, and the watch's words.
-pub fn has_room(capacity: u64, keys: usize, changes: usize, words: usize) -> bool
-    ensures { λ r. ⌜ r ≡ hasRoom capacity keys changes words ⌝ }
+// Not 13: a row of each slice for each key that is to be held, the watch's words, and a change rule that there is.
+pub fn can_open(settings: Settings, keys: usize, changes: usize, words: usize) -> bool
+    ensures { λ r. ⌜ r ≡ canOpen settings keys changes words ⌝ }
 {
-    let all = ring::room(capacity);
-    (all <= keys) & (all <= changes) & (watched::WORDS <= words)
+    let all = ring::room(settings.capacity);
+    (all <= keys)
+        & (all <= changes)
+        & (watched::WORDS <= words)
+        & ChangeRule::is_known(settings.change_rule)
 }
 
 // Replaces the PIDs that the last PAT added to the watch by those of this one. What is no readable PAT changes no watch.

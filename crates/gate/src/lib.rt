@@ -15,7 +15,7 @@ ghost use Rattle.gate.specs.Store.{begunBy, opened, storeOf, leftBy, off
 pub mod inner;
 
 // Opens a gate with no rows and fresh counters, and its watch: 12 where an extra PID is 8192 or more, 13 where less is lent than the settings
-// need, else 7. A refusal writes nothing. The rows are not read: a gate with no rows has nothing in them.
+// need or there is no such change rule, else 7. A refusal writes nothing. The rows are not read: a gate with no rows has nothing in them.
 pub fn open(
     settings: Settings,
     extra: &[u16],
@@ -28,7 +28,7 @@ pub fn open(
     if !watched::inner::pids_good(extra) {
         return gate_state::begin(Outcome::Refused(Refusal::BadPid), settings);
     }
-    if !inner::has_room(settings.capacity, keys.len(), changes.len(), words.len()) {
+    if !inner::can_open(settings, keys.len(), changes.len(), words.len()) {
         return gate_state::begin(Outcome::Refused(Refusal::TooLittle), settings);
     }
     watched::inner::fill(words, settings.well_known, extra);
@@ -48,7 +48,7 @@ pub fn offer(
     ensures { λ r. ⌜ leftBy r (now (keys .exit)) (now (changes .exit)) (now (words .exit)) ≡ offered (storeOf gate counters (now (keys .entry)) (now (changes .entry)) (now (words .entry))) pid (now (section .entry)) ⌝ }
 {
     let whole = inner::is_whole(gate, keys.len(), changes.len(), words.len());
-    match offers::judge(whole, counters, pid, section) {
+    match offers::judge(whole, counters, gate.change_rule, pid, section) {
         Verdict::Refused(refusal) => gate_state::refuse(refusal, gate, counters),
         Verdict::Failed => gate_state::fail(gate, counters),
         Verdict::Arrived(arrival) => inner::admit(

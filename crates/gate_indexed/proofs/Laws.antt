@@ -11,6 +11,7 @@ use Rattle.laws.proofs.Tests.{and-true}
 use Rattle.ring.specs.Store.{roomOf, stampOf}
 use Rattle.ring.specs.declared.Seen.{Seen}
 use Rattle.ring_index.specs.Store.{Index, clearedBy, seenBy, keysBy, changesBy, indexBy}
+use Rattle.section.specs.Judged.{ruleKnown}
 use Rattle.offers.specs.Offers.{verdictOf}
 use Rattle.offers.specs.declared.Arrival.{Arrival}
 use Rattle.offers.specs.declared.Verdict.{Verdict}
@@ -21,14 +22,14 @@ use Rattle.answers.specs.declared.Refusal.the-variants.{BadPid, TooLittle}
 use Rattle.answers.specs.declared.Outcome.the-variants as outcome
 use Rattle.counters.specs.declared.Counters.{Counters}
 use Rattle.gate_state.specs.State.{begun, refused, failure}
-use Rattle.gate.specs.Store.{hasRoom, watchAfter}
+use Rattle.gate.specs.Store.{canOpen, watchAfter}
 use Rattle.gate_state.specs.State.{seenBy as answeredBy}
 use Rattle.gate_state.specs.declared.Gate.{Gate}
 use Rattle.gate_state.specs.declared.Offered.{Offered}
 use Rattle.gate_state.specs.declared.Settings.{Settings}
 use Rattle.gate_state.specs.declared.Opened.{Opened}
 use Rattle.gate.proofs.Laws.{fits}
-use Rattle.gate_indexed.specs.Store.{hasRoomFor, begunBy, openedBy, wholeBy, FitsBy, Indexed, indexedOf, Offering, leftBy, admittedBy, carriedBy, isWholeBy, offeredBy}
+use Rattle.gate_indexed.specs.Store.{canOpenBy, begunBy, openedBy, wholeBy, FitsBy, Indexed, indexedOf, Offering, leftBy, admittedBy, carriedBy, isWholeBy, offeredBy}
 
 -- not 10
 pub fits-by :
@@ -56,7 +57,7 @@ pub admitted-told :
 unfolding admittedBy
 admitted-told g c keys changes x words section a seen ks ms y ws o f k m d w j = rw (← f, ← k, ← m, ← d, ← w, ← j)
 
-module _ (s : Indexed) (pid : ℕ) (section : List ℕ) (w : Bool) (e : w ≡ isWholeBy s) (v : Verdict) (q : v ≡ verdictOf w (s .store .counters) pid section) where
+module _ (s : Indexed) (pid : ℕ) (section : List ℕ) (w : Bool) (e : w ≡ isWholeBy s) (v : Verdict) (q : v ≡ verdictOf w (s .store .counters) (s .store .gate .«change_rule») pid section) where
   carries : carriedBy s section v ≡ offeredBy s pid section
   unfolding offeredBy
   carries = rw (← e, ← q)
@@ -87,7 +88,7 @@ module _ (s : Settings) (extra buckets words : List ℕ) (keys changes links : �
   pub pids-good : not b ≡ false → allPids extra ≡ true
   pids-good h = sym e ∙ not-false b h
 
-  module _ (h : not b ≡ false) (r : Bool) (d : r ≡ hasRoomFor (s .capacity) keys changes (length buckets) links (length words)) where
+  module _ (h : not b ≡ false) (r : Bool) (d : r ≡ canOpenBy s keys changes (length buckets) links (length words)) where
     pub opened-little : (o : Opened) → not r ≡ true → o ≡ begun (outcome.Refused TooLittle) s → begunBy o buckets words ≡ openedBy s extra keys changes links buckets words
     unfolding openedBy
     opened-little o k j = rw (← e, not-false b h, ← d, not-true r k, j)
@@ -99,13 +100,14 @@ module _ (s : Settings) (extra buckets words : List ℕ) (keys changes links : �
     opened-yes room bs ws o k a z f j = rw (← e, not-false b h, ← d, not-false r k, ← f, ← a, ← z, j)
 
     module _ (k : not r ≡ false) where
-      all-room : (hasRoom (s .capacity) keys changes (length words) && leb (roomOf (s .capacity)) (length buckets)) ≡ true
+      all-room : (canOpen s keys changes (length words) && leb (roomOf (s .capacity)) (length buckets)) ≡ true
       all-room = and-true _ (leb (roomOf (s .capacity)) links) (sym d ∙ not-false r k) .0
 
       pub buckets-room : (room : ℕ) → room ≡ roomOf (s .capacity) → room ≤ length buckets
-      buckets-room room a = rw a (leb-true _ _ (and-true (hasRoom (s .capacity) keys changes (length words)) _ all-room .1))
+      buckets-room room a = rw a (leb-true _ _ (and-true (canOpen s keys changes (length words)) _ all-room .1))
 
       pub words-room : 384 ≤ length words
       words-room =
-          leb-true 384 (length words)
-          (and-true (leb (roomOf (s .capacity)) keys && leb (roomOf (s .capacity)) changes) (leb 384 (length words)) (and-true (hasRoom (s .capacity) keys changes (length words)) _ all-room .0) .1)
+          let g = and-true (canOpen s keys changes (length words)) _ all-room .0 in
+          let a = and-true (leb (roomOf (s .capacity)) keys && leb (roomOf (s .capacity)) changes && leb 384 (length words)) (ruleKnown (s .«change_rule»)) g in
+          leb-true 384 (length words) (and-true (leb (roomOf (s .capacity)) keys && leb (roomOf (s .capacity)) changes) (leb 384 (length words)) (a .0) .1)

@@ -17,7 +17,7 @@ use Rattle.answers.specs.Answers.{refusalNo, outcomeNo}
 use Rattle.counters.specs.Counters.{zeroes}
 use Rattle.counters.specs.declared.Counters.{Counters}
 use Rattle.gate_state.specs.State.{answerNo, emptyGate, failure}
-use Rattle.gate.specs.Store.{hasRoom, wholeOf, Fits, Store, storeOf, watchAfter}
+use Rattle.gate.specs.Store.{canOpen, wholeOf, Fits, Store, storeOf, watchAfter}
 use Rattle.gate_state.specs.State.{seenBy as answeredBy}
 use Rattle.gate_state.specs.declared.Settings.{Settings}
 use Rattle.gate_state.specs.declared.Gate.{Gate}
@@ -27,9 +27,9 @@ use Rattle.gate_state.specs.declared.Opened.{Opened}
 -- ---- opening
 
 -- not 13: what the gate needs, and a bucket and a link for each row
-abbrev pub hasRoomFor : ℕ → ℕ → ℕ → ℕ → ℕ → ℕ → Bool
-hasRoomFor capacity keys changes buckets links words =
-    hasRoom capacity keys changes words && leb (roomOf capacity) buckets && leb (roomOf capacity) links
+abbrev pub canOpenBy : Settings → ℕ → ℕ → ℕ → ℕ → ℕ → Bool
+canOpenBy s keys changes buckets links words =
+    canOpen s keys changes words && leb (roomOf (s .capacity)) buckets && leb (roomOf (s .capacity)) links
 
 -- the number of opening's answer, the gate and the counters, the buckets, and the words of the watch
 pub record Begun : Type 0 where
@@ -51,7 +51,7 @@ begins answer s buckets words = record { answer = answer; gate = emptyGate s; co
 unfoldable pub openedBy : Settings → List ℕ → ℕ → ℕ → ℕ → List ℕ → List ℕ → Begun
 openedBy s extra keys changes links buckets words =
     cond (allPids extra)
-    (cond (hasRoomFor (s .capacity) keys changes (length buckets) links (length words))
+    (cond (canOpenBy s keys changes (length buckets) links (length words))
     (begins 7 s (clearedBy (roomOf (s .capacity)) buckets) (filled words (s .«well_known») extra))
     (begins 13 s buckets words))
     (begins 12 s buckets words)
@@ -112,4 +112,4 @@ isWholeBy s = wholeBy (s .store .gate) (length (s .store .keys)) (length (s .sto
 
 -- every store, PID and section: 10, 11, 12, then 3, then 1 or 2
 unfoldable pub offeredBy : Indexed → ℕ → List ℕ → Offering
-offeredBy s pid section = carriedBy s section (verdictOf (isWholeBy s) (s .store .counters) pid section)
+offeredBy s pid section = carriedBy s section (verdictOf (isWholeBy s) (s .store .counters) (s .store .gate .«change_rule») pid section)

@@ -2,13 +2,14 @@
 use counters::Counters;
 use gate_state::Gate;
 use gate_state::Offered;
+use gate_state::Settings;
 use offers::Arrival;
 ghost use mathlib.Core.Path.{_≡_};
 ghost use lib.ListN.{length};
 ghost use Rattle.section.specs.Header.{tableId};
 ghost use Rattle.ring_index.specs.Store.{indexOf};
 ghost use Rattle.counters.specs.Counters.{CanCount};
-ghost use Rattle.gate_indexed.specs.Store.{hasRoomFor, wholeBy, FitsBy, indexedOf, leftBy, admittedBy};
+ghost use Rattle.gate_indexed.specs.Store.{canOpenBy, wholeBy, FitsBy, indexedOf, leftBy, admittedBy};
 
 // Not 10: the ring fits its slices, a bucket and a link for each row, and the watch has its words.
 pub fn is_whole(
@@ -27,18 +28,18 @@ pub fn is_whole(
 }
 
 // Not 13: what the gate needs, and a bucket and a link for each row.
-pub fn has_room(
-    capacity: u64,
+pub fn can_open(
+    settings: Settings,
     keys: usize,
     changes: usize,
     buckets: usize,
     links: usize,
     words: usize,
 ) -> bool
-    ensures { λ r. ⌜ r ≡ hasRoomFor capacity keys changes buckets links words ⌝ }
+    ensures { λ r. ⌜ r ≡ canOpenBy settings keys changes buckets links words ⌝ }
 {
-    let room = ring::room(capacity);
-    gate::inner::has_room(capacity, keys, changes, words) & (room <= buckets) & (room <= links)
+    let room = ring::room(settings.capacity);
+    gate::inner::can_open(settings, keys, changes, words) & (room <= buckets) & (room <= links)
 }
 
 // A section that arrived: it is looked up and kept, followed where it is a changed PAT, and answered.

@@ -16,7 +16,7 @@ ghost use Rattle.gate_indexed.specs.Store.{begunBy, openedBy, indexedOf,
 pub mod inner;
 
 // Opens a gate with no rows and fresh counters, its index and its watch: 12 where an extra PID is 8192 or more, 13 where less is lent than the
-// settings need, else 7. A refusal writes nothing. Only the buckets are cleared: no row is in a chain, so nothing else is read.
+// settings need or there is no such change rule, else 7. A refusal writes nothing. Only the buckets are cleared: no row is in a chain, so nothing else is read.
 pub fn open(
     settings: Settings,
     extra: &[u16],
@@ -31,8 +31,8 @@ pub fn open(
     if !watched::inner::pids_good(extra) {
         return gate_state::begin(Outcome::Refused(Refusal::BadPid), settings);
     }
-    if !inner::has_room(
-        settings.capacity,
+    if !inner::can_open(
+        settings,
         keys.len(),
         changes.len(),
         buckets.len(),
@@ -68,7 +68,7 @@ pub fn offer(
         links.len(),
         words.len(),
     );
-    match offers::judge(whole, counters, pid, section) {
+    match offers::judge(whole, counters, gate.change_rule, pid, section) {
         Verdict::Refused(refusal) => gate_state::refuse(refusal, gate, counters),
         Verdict::Failed => gate_state::fail(gate, counters),
         Verdict::Arrived(arrival) => inner::admit(

@@ -16,9 +16,9 @@ use Rattle.gate_state.specs.declared.Opened.{Opened}
 use Rattle.gate_state.specs.declared.Answer.{Answer}
 use Rattle.gate_state.specs.declared.Answer.the-variants.{Emitted, Suppressed, CrcFailure, Refused}
 
--- capacity 65,536, repeats off, following on, the well-known PIDs watched
+-- capacity 65,536, repeats off, following on, the well-known PIDs watched, change rule 2
 abbrev pub defaults : Settings
-defaults = record { capacity = 65536; repeats = false; follow = true; «well_known» = true }
+defaults = record { capacity = 65536; repeats = false; follow = true; «well_known» = true; «change_rule» = 2 }
 
 -- the number of each answer (docs/RULES.md, "Answers")
 abbrev pub answerNo : Answer → ℕ
@@ -29,7 +29,7 @@ answerNo (Refused r) = refusalNo r
 
 -- a gate with no rows
 abbrev pub emptyGate : Settings → Gate
-emptyGate s = record { ring = emptyRing (s .capacity); repeats = s .repeats; follow = s .follow }
+emptyGate s = record { ring = emptyRing (s .capacity); repeats = s .repeats; follow = s .follow; «change_rule» = s .«change_rule» }
 
 abbrev pub begun : Outcome → Settings → Opened
 begun a s = record { answer = a; gate = emptyGate s; counters = zeroes }
@@ -46,7 +46,7 @@ abbrev pub answerOf : Bool → Answer
 answerOf emits = cond emits Emitted Suppressed
 
 abbrev pub gateWith : Gate → Ring → Gate
-gateWith g ring = record { ring = ring; repeats = g .repeats; follow = g .follow }
+gateWith g ring = record { ring = ring; repeats = g .repeats; follow = g .follow; «change_rule» = g .«change_rule» }
 
 -- changed, or repeats on: emitted; else suppressed
 abbrev pub emitsOf : Gate → Seen → Bool

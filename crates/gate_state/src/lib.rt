@@ -5,6 +5,7 @@ use answers::Refusal;
 use counters::Counters;
 use ring::Ring;
 use ring::Seen;
+use section::header::ChangeRule;
 ghost use mathlib.Core.Path.{_≡_};
 ghost use Rattle.counters.specs.Counters.{CanCount};
 ghost use Rattle.gate_state.specs.State.{defaults, answerNo, begun, refused, failure, answerOf, seenBy};
@@ -19,6 +20,8 @@ pub struct Settings {
     pub follow: bool,
     // Whether the eight well-known PIDs are watched.
     pub well_known: bool,
+    // By which rule a section with a CRC and no version is found changed: 1 or 2 (`ChangeRule`). A number, since a host can give any.
+    pub change_rule: u64,
 }
 
 impl Settings {
@@ -30,6 +33,8 @@ impl Settings {
 
     pub const WELL_KNOWN: bool = true;
 
+    pub const CHANGE_RULE: u64 = ChangeRule::STORED;
+
     pub fn by_default() -> Settings
         ensures { λ r. ⌜ r ≡ defaults ⌝ }
     {
@@ -38,6 +43,7 @@ impl Settings {
             repeats: Settings::REPEATS,
             follow: Settings::FOLLOW,
             well_known: Settings::WELL_KNOWN,
+            change_rule: Settings::CHANGE_RULE,
         }
     }
 }
@@ -46,6 +52,7 @@ pub struct Gate {
     pub ring: Ring,
     pub repeats: bool,
     pub follow: bool,
+    pub change_rule: u64,
 }
 
 // What an offer answers: 1, 2, 3, or a refusal.
@@ -95,6 +102,7 @@ pub fn begin(answer: Outcome, settings: Settings) -> Opened
             },
             repeats: settings.repeats,
             follow: settings.follow,
+            change_rule: settings.change_rule,
         },
         counters: counters::fresh(),
     }
@@ -146,6 +154,7 @@ pub fn tell(gate: Gate, counters: Counters, seen: Seen) -> Offered
             ring: ring,
             repeats: gate.repeats,
             follow: gate.follow,
+            change_rule: gate.change_rule,
         },
         counters: counters::counted(counters, emits, seen.evicted),
     }

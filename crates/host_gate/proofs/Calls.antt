@@ -33,13 +33,13 @@ opened-words (outcome.Refused r) g c w =
     rw (ne-eqb (refusalNo r) 7 (omega arith))
 
 pub gate-opened :
-    (gate : List ℕ) (capacity settings : ℕ) (extra keys changes watch : List ℕ) (s : Settings) (o : Opened) (ws gs : List ℕ) (r : ℕ) →
-    s ≡ settingsOf capacity settings →
+    (gate : List ℕ) (capacity settings rule : ℕ) (extra keys changes watch : List ℕ) (s : Settings) (o : Opened) (ws gs : List ℕ) (r : ℕ) →
+    s ≡ settingsOf capacity settings rule →
     begunBy o ws ≡ opened s extra (length keys) (length changes) watch →
     words r gs ≡ tellsOpened o gate →
-    begun r gs ws ≡ gateOpened gate capacity settings extra keys changes watch
+    begun r gs ws ≡ gateOpened gate capacity settings rule extra keys changes watch
 unfolding gateOpened
-gate-opened gate capacity settings extra keys changes watch s o ws gs r e f t =
+gate-opened gate capacity settings rule extra keys changes watch s o ws gs r e f t =
     rw (← e, ← f, ap (λ (x : Words). x .answer) t, ap (λ (x : Words). x .now) t, opened-words (o .answer) (o .gate) (o .counters) gate)
 
 pub gate-offered :

@@ -12,7 +12,7 @@ use Rattle.offers.specs.declared.Verdict.{Verdict}
 use Rattle.offers.specs.declared.Verdict.the-variants.{Refused, Failed, Arrived}
 use Rattle.watched.specs.Store.{allPids}
 use Rattle.gate_state.specs.State.{answerNo, answerOf, emitsOf, seenBy}
-use Rattle.gate.specs.Store.{hasRoom, begins, opened, isWhole, Store, storeOf, Offering, admittedTo, carried, offered}
+use Rattle.gate.specs.Store.{canOpen, begins, opened, isWhole, Store, storeOf, Offering, admittedTo, carried, offered}
 use Rattle.gate_state.specs.declared.Settings.{Settings}
 use Rattle.host_words.specs.Pids.{pidNumber}
 use Rattle.host_gate_words.specs.Words.{settingsOf, gateOf, countersOf}
@@ -33,11 +33,11 @@ carried-refused s section (Arrived a) h =
 
 pub offer-refused : (s : Store) (pid : ℕ) (section : List ℕ) → 10 ≤ (offered s pid section) .answer → (offered s pid section) .store ≡ s
 unfolding offered
-offer-refused s pid section h = carried-refused s section (verdictOf (isWhole s) (s .counters) pid section) h
+offer-refused s pid section h = carried-refused s section (verdictOf (isWhole s) (s .counters) (s .gate .«change_rule») pid section) h
 
 -- 10, 11 and 12
 pub gate-offer-refused :
-    (gate keys changes watch : List ℕ) (pid : ℕ) (section : List ℕ) (answer : ℕ) → length gate ≡ 10 →
+    (gate keys changes watch : List ℕ) (pid : ℕ) (section : List ℕ) (answer : ℕ) → length gate ≡ 11 →
     answer ≡ (gateOffered gate keys changes watch pid section) .answer → 10 ≤ answer →
     gateOffered gate keys changes watch pid section ≡ left answer gate keys changes watch
 unfolding gateOffered
@@ -54,12 +54,12 @@ gate-offer-refused gate keys changes watch pid section answer n e h =
 
 -- 12 and 13
 pub gate-open-refused :
-    (gate : List ℕ) (capacity settings : ℕ) (extra keys changes watch : List ℕ) (answer : ℕ) →
-    answer ≡ (gateOpened gate capacity settings extra keys changes watch) .answer → (answer ≡ 7 → ⊥) →
-    gateOpened gate capacity settings extra keys changes watch ≡ begun answer gate watch
+    (gate : List ℕ) (capacity settings rule : ℕ) (extra keys changes watch : List ℕ) (answer : ℕ) →
+    answer ≡ (gateOpened gate capacity settings rule extra keys changes watch) .answer → (answer ≡ 7 → ⊥) →
+    gateOpened gate capacity settings rule extra keys changes watch ≡ begun answer gate watch
 unfolding gateOpened opened
-gate-open-refused gate capacity settings extra keys changes watch answer e h =
-    go (settingsOf capacity settings) _ (allPids extra) (hasRoom capacity (length keys) (length changes) (length watch)) e
+gate-open-refused gate capacity settings rule extra keys changes watch answer e h =
+    go (settingsOf capacity settings rule) _ (allPids extra) (canOpen (settingsOf capacity settings rule) (length keys) (length changes) (length watch)) e
   where
     go :
         (s : Settings) (ws : List ℕ) (good room : Bool) →

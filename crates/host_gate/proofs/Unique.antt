@@ -8,11 +8,11 @@ use Rattle.laws.proofs.Unique.{one-result}
 use Rattle.host_gate.specs.Calls.{GateBegun, begun, gateOpened, GateLeft, left, gateOffered, watchAsked}
 
 pub unique-gate-open :
-    (gate : List ℕ) (capacity settings : ℕ) (extra keys changes watch : List ℕ) (r s : ℕ) (g h w x : List ℕ) →
-    begun r g w ≡ gateOpened gate capacity settings extra keys changes watch → begun s h x ≡ gateOpened gate capacity settings extra keys changes watch →
+    (gate : List ℕ) (capacity settings rule : ℕ) (extra keys changes watch : List ℕ) (r s : ℕ) (g h w x : List ℕ) →
+    begun r g w ≡ gateOpened gate capacity settings rule extra keys changes watch → begun s h x ≡ gateOpened gate capacity settings rule extra keys changes watch →
     (r ≡ s) × (g ≡ h) × (w ≡ x)
-unique-gate-open gate capacity settings extra keys changes watch r s g h w x a b =
-    let e : begun r g w ≡ begun s h x = one-result (gateOpened gate capacity settings extra keys changes watch) a b in
+unique-gate-open gate capacity settings rule extra keys changes watch r s g h w x a b =
+    let e : begun r g w ≡ begun s h x = one-result (gateOpened gate capacity settings rule extra keys changes watch) a b in
     (ap (λ (l : GateBegun). l .answer) e, ap (λ (l : GateBegun). l .gate) e, ap (λ (l : GateBegun). l .watch) e)
 
 pub unique-gate-offer :

@@ -12,7 +12,7 @@ use Rattle.gate.specs.Store.{Begun, opened, Offering, storeOf, offered}
 
 -- ---- opening
 
--- an answer, the gate's ten words and the words of the watch
+-- an answer, the gate's eleven words and the words of the watch
 pub record GateBegun : Type 0 where
   pub answer : ℕ
   pub gate : List ℕ
@@ -21,17 +21,17 @@ pub record GateBegun : Type 0 where
 abbrev pub begun : ℕ → List ℕ → List ℕ → GateBegun
 begun answer gate watch = record { answer = answer; gate = gate; watch = watch }
 
--- 7 writes all ten words; a refused opening leaves them as they were
+-- 7 writes all eleven words; a refused opening leaves them as they were
 abbrev pub begunAs : List ℕ → Begun → GateBegun
 begunAs gate b = begun (b .answer) (cond (eqb (b .answer) 7) (wordsOf (b .gate) (b .counters)) gate) (b .words)
 
-unfoldable pub gateOpened : List ℕ → ℕ → ℕ → List ℕ → List ℕ → List ℕ → List ℕ → GateBegun
-gateOpened gate capacity settings extra keys changes watch =
-    begunAs gate (opened (settingsOf capacity settings) extra (length keys) (length changes) watch)
+unfoldable pub gateOpened : List ℕ → ℕ → ℕ → ℕ → List ℕ → List ℕ → List ℕ → List ℕ → GateBegun
+gateOpened gate capacity settings rule extra keys changes watch =
+    begunAs gate (opened (settingsOf capacity settings rule) extra (length keys) (length changes) watch)
 
 -- ---- offering
 
--- an answer, the gate's ten words, and the words of the three lent slices
+-- an answer, the gate's eleven words, and the words of the three lent slices
 pub record GateLeft : Type 0 where
   pub answer : ℕ
   pub gate : List ℕ
@@ -42,7 +42,7 @@ pub record GateLeft : Type 0 where
 abbrev pub left : ℕ → List ℕ → List ℕ → List ℕ → List ℕ → GateLeft
 left answer gate keys changes watch = record { answer = answer; gate = gate; keys = keys; changes = changes; watch = watch }
 
--- words 3 to 9 are written; where the gate and its counters stay as they were, all ten do
+-- words 4 to 10 are written; where the gate and its counters stay as they were, all eleven do
 abbrev pub leftAs : List ℕ → Offering → GateLeft
 leftAs gate l = left (l .answer) (wordsAfter gate (l .store .gate) (l .store .counters)) (l .store .keys) (l .store .changes) (l .store .words)
 

@@ -5,24 +5,25 @@ ghost use Rattle.host_gate.specs.Calls.{begun, gateOpened, left, gateOff
 
 // Opens a gate and its watch: 7, 12 or 13. `settings` are bits: 1 repeats, 2 follow, 4 well-known PIDs. A refusal writes nothing.
 pub fn open(
-    gate: &mut [u64; 10],
+    gate: &mut [u64; 11],
     capacity: u64,
     settings: u32,
+    change_rule: u64,
     extra: &[u16],
     keys: &[u64],
     changes: &[u64],
     watch: &mut [u64],
 ) -> u8
-    ensures { λ r. ⌜ begun r (now (gate .exit)) (now (watch .exit)) ≡ gateOpened (now (gate .entry)) capacity settings (now (extra .entry)) (now (keys .entry)) (now (changes .entry)) (now (watch .entry)) ⌝ }
+    ensures { λ r. ⌜ begun r (now (gate .exit)) (now (watch .exit)) ≡ gateOpened (now (gate .entry)) capacity settings «change_rule» (now (extra .entry)) (now (keys .entry)) (now (changes .entry)) (now (watch .entry)) ⌝ }
 {
-    let asked = host_gate_words::settings(capacity, settings);
+    let asked = host_gate_words::settings(capacity, settings, change_rule);
     let opened = gate::open(asked, extra, keys, changes, watch);
     host_gate_words::write_opened(gate, opened)
 }
 
 // Offers a section that came on a PID, watched or not: 1, 2, 3, 10, 11 or 12.
 pub fn offer(
-    gate: &mut [u64; 10],
+    gate: &mut [u64; 11],
     keys: &mut [u64],
     changes: &mut [u64],
     watch: &mut [u64],

@@ -8,7 +8,7 @@ use lib.ListN.{length}
 use Rattle.host_words.proofs.Same.{word, none}
 use Rattle.host_gate_words.specs.Words.{gateOf, countersOf, wordsAfter}
 
-pub gate-same : (w : List ℕ) → length w ≡ 10 → wordsAfter w (gateOf w) (countersOf w) ≡ w
+pub gate-same : (w : List ℕ) → length w ≡ 11 → wordsAfter w (gateOf w) (countersOf w) ≡ w
 gate-same w h =
     sym
     (word w 0 _ (omega arith)
@@ -21,4 +21,5 @@ gate-same w h =
     (word w 7 _ (omega arith)
     (word w 8 _ (omega arith)
     (word w 9 _ (omega arith)
-    (none w 10 h)))))))))))
+    (word w 10 _ (omega arith)
+    (none w 11 h))))))))))))

@@ -1,5 +1,5 @@
--- The ten words of a gate: 0 capacity, 1 repeats, 2 follow (not 0: on), 3 used, 4 first, 5 completed, 6 emitted, 7 suppressed, 8 CRC failures,
--- 9 evictions; and its settings as bits.
+-- The eleven words of a gate: 0 capacity, 1 repeats, 2 follow (not 0: on), 3 change rule, 4 used, 5 first, 6 completed, 7 emitted, 8 suppressed,
+-- 9 CRC failures, 10 evictions; and its settings as bits.
 use Prim.Native.Nat.{ℕ, _/_, _%_}
 use mathlib.Core.List.{List, [], _∷_}
 use mathlib.Core.Bool.{Bool, cond, not}
@@ -18,18 +18,19 @@ use Rattle.host_words.specs.Answers.{Words, words, at}
 use Rattle.host_gate_words.specs.declared.Held.{Held}
 
 -- bit 1 repeats, 2 follow, 4 the well-known PIDs; other bits are not looked at
-abbrev pub settingsOf : ℕ → ℕ → Settings
-settingsOf capacity bits =
-    record { capacity = capacity; repeats = eqb (bits % 2) 1; follow = eqb (bits / 2 % 2) 1; «well_known» = eqb (bits / 4 % 2) 1 }
+abbrev pub settingsOf : ℕ → ℕ → ℕ → Settings
+settingsOf capacity bits rule =
+    record { capacity = capacity; repeats = eqb (bits % 2) 1; follow = eqb (bits / 2 % 2) 1; «well_known» = eqb (bits / 4 % 2) 1; «change_rule» = rule }
 
 abbrev pub isOn : ℕ → Bool
 isOn w = not (eqb w 0)
 
 abbrev pub gateOf : List ℕ → Gate
-gateOf w = record { ring = record { capacity = at w 0; used = at w 3; first = at w 4 }; repeats = isOn (at w 1); follow = isOn (at w 2) }
+gateOf w =
+    record { ring = record { capacity = at w 0; used = at w 4; first = at w 5 }; repeats = isOn (at w 1); follow = isOn (at w 2); «change_rule» = at w 3 }
 
 abbrev pub countersOf : List ℕ → Counters
-countersOf w = counts (at w 5) (at w 6) (at w 7) (at w 8) (at w 9)
+countersOf w = counts (at w 6) (at w 7) (at w 8) (at w 9) (at w 10)
 
 abbrev pub heldIn : List ℕ → Held
 heldIn w = record { gate = gateOf w; counters = countersOf w }
@@ -37,20 +38,20 @@ heldIn w = record { gate = gateOf w; counters = countersOf w }
 abbrev pub bit : Bool → ℕ
 bit on = cond on 1 0
 
--- words 3 to 9
+-- words 4 to 10
 abbrev pub countsOf : Gate → Counters → List ℕ
 countsOf g c =
     g .ring .used ∷ g .ring .first ∷ c .completed ∷ c .emitted ∷ c .suppressed ∷ c .«crc_failures» ∷ c .evictions ∷ []
 
--- all ten
+-- all eleven
 abbrev pub wordsOf : Gate → Counters → List ℕ
-wordsOf g c = g .ring .capacity ∷ bit (g .repeats) ∷ bit (g .follow) ∷ countsOf g c
+wordsOf g c = g .ring .capacity ∷ bit (g .repeats) ∷ bit (g .follow) ∷ g .«change_rule» ∷ countsOf g c
 
--- an offer writes words 3 to 9 only
+-- an offer writes words 4 to 10 only
 abbrev pub wordsAfter : List ℕ → Gate → Counters → List ℕ
-wordsAfter w g c = at w 0 ∷ at w 1 ∷ at w 2 ∷ countsOf g c
+wordsAfter w g c = at w 0 ∷ at w 1 ∷ at w 2 ∷ at w 3 ∷ countsOf g c
 
--- an opening that answers 7 writes all ten, a refused one none
+-- an opening that answers 7 writes all eleven, a refused one none
 abbrev pub wordsOpened : Outcome → Gate → Counters → List ℕ → List ℕ
 wordsOpened outcome.Done g c w = wordsOf g c
 wordsOpened (outcome.Refused r) g c w = w

@@ -1,5 +1,5 @@
-// The ten words of a gate: 0 capacity, 1 repeats, 2 follow (not 0: on), 3 used, 4 first, 5 completed, 6 emitted, 7 suppressed,
-// 8 crc_failures, 9 evictions.
+// The eleven words of a gate: 0 capacity, 1 repeats, 2 follow (not 0: on), 3 change_rule, 4 used, 5 first, 6 completed, 7 emitted, 8 suppressed,
+// 9 crc_failures, 10 evictions.
 use answers::Outcome;
 use counters::Counters;
 use gate_state::Gate;
@@ -17,45 +17,47 @@ pub struct Held {
     pub counters: Counters,
 }
 
-// Settings as bits: 1 repeats, 2 follow, 4 well-known PIDs. Other bits are not looked at.
-pub fn settings(capacity: u64, bits: u32) -> Settings
-    ensures { λ r. ⌜ r ≡ settingsOf capacity bits ⌝ }
+// Settings as bits: 1 repeats, 2 follow, 4 well-known PIDs. Other bits are not looked at. The change rule is a number of its own.
+pub fn settings(capacity: u64, bits: u32, change_rule: u64) -> Settings
+    ensures { λ r. ⌜ r ≡ settingsOf capacity bits «change_rule» ⌝ }
 {
     Settings {
         capacity: capacity,
         repeats: bits % 2 == 1,
         follow: bits / 2 % 2 == 1,
         well_known: bits / 4 % 2 == 1,
+        change_rule: change_rule,
     }
 }
 
-fn gate(words: &[u64; 10]) -> Gate
+fn gate(words: &[u64; 11]) -> Gate
     ensures { λ r. ⌜ r ≡ gateOf (now (words .entry)) ⌝ }
 {
     Gate {
         ring: Ring {
             capacity: words[0],
-            used: words[3] as usize,
-            first: words[4] as usize,
+            used: words[4] as usize,
+            first: words[5] as usize,
         },
         repeats: words[1] != 0,
         follow: words[2] != 0,
+        change_rule: words[3],
     }
 }
 
-fn counters(words: &[u64; 10]) -> Counters
+fn counters(words: &[u64; 11]) -> Counters
     ensures { λ r. ⌜ r ≡ countersOf (now (words .entry)) ⌝ }
 {
     Counters {
-        completed: words[5],
-        emitted: words[6],
-        suppressed: words[7],
-        crc_failures: words[8],
-        evictions: words[9],
+        completed: words[6],
+        emitted: words[7],
+        suppressed: words[8],
+        crc_failures: words[9],
+        evictions: words[10],
     }
 }
 
-pub fn read(words: &[u64; 10]) -> Held
+pub fn read(words: &[u64; 11]) -> Held
     ensures { λ r. ⌜ r ≡ heldIn (now (words .entry)) ⌝ }
 {
     Held {
@@ -71,8 +73,8 @@ fn word(on: bool) -> u64
     if on { 1 } else { 0 }
 }
 
-// All ten words.
-fn write(words: &mut [u64; 10], gate: Gate, counters: Counters)
+// All eleven words.
+fn write(words: &mut [u64; 11], gate: Gate, counters: Counters)
     ensures { λ _. ⌜ now (words .exit) ≡ wordsOf gate counters ⌝ }
 {
     let ring = gate.ring;
@@ -80,6 +82,7 @@ fn write(words: &mut [u64; 10], gate: Gate, counters: Counters)
         ring.capacity,
         word(gate.repeats),
         word(gate.follow),
+        gate.change_rule,
         ring.used as u64,
         ring.first as u64,
         counters.completed,
@@ -90,8 +93,8 @@ fn write(words: &mut [u64; 10], gate: Gate, counters: Counters)
     ];
 }
 
-// A gate that was opened writes all ten; a refused opening none.
-fn write_where(words: &mut [u64; 10], answer: Outcome, gate: Gate, counters: Counters)
+// A gate that was opened writes all eleven; a refused opening none.
+fn write_where(words: &mut [u64; 11], answer: Outcome, gate: Gate, counters: Counters)
     ensures { λ _. ⌜ now (words .exit) ≡ wordsOpened answer gate counters (now (words .entry)) ⌝ }
 {
     match answer {
@@ -101,7 +104,7 @@ fn write_where(words: &mut [u64; 10], answer: Outcome, gate: Gate, counters: Cou
 }
 
 // The rows in use and the counters: an offer never changes the settings.
-fn write_counts(words: &mut [u64; 10], gate: Gate, counters: Counters)
+fn write_counts(words: &mut [u64; 11], gate: Gate, counters: Counters)
     ensures { λ _. ⌜ now (words .exit) ≡ wordsAfter (now (words .entry)) gate counters ⌝ }
 {
     let ring = gate.ring;
@@ -109,6 +112,7 @@ fn write_counts(words: &mut [u64; 10], gate: Gate, counters: Counters)
         words[0],
         words[1],
         words[2],
+        words[3],
         ring.used as u64,
         ring.first as u64,
         counters.completed,
@@ -120,7 +124,7 @@ fn write_counts(words: &mut [u64; 10], gate: Gate, counters: Counters)
 }
 
 // Writes what an opening leaves in the words, and gives its number.
-pub fn write_opened(gate: &mut [u64; 10], opened: Opened) -> u8
+pub fn write_opened(gate: &mut [u64; 11], opened: Opened) -> u8
     ensures { λ r. ⌜ words r (now (gate .exit)) ≡ tellsOpened opened (now (gate .entry)) ⌝ }
 {
     let answer = opened.answer;
@@ -129,7 +133,7 @@ pub fn write_opened(gate: &mut [u64; 10], opened: Opened) -> u8
 }
 
 // Writes what an offer leaves in the words, and gives its number.
-pub fn write_offered(gate: &mut [u64; 10], offered: Offered) -> u8
+pub fn write_offered(gate: &mut [u64; 11], offered: Offered) -> u8
     ensures { λ r. ⌜ words r (now (gate .exit)) ≡ tellsOffered offered (now (gate .entry)) ⌝ }
 {
     let answer = offered.answer;

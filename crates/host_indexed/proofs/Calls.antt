@@ -17,13 +17,13 @@ use Rattle.host_gate.proofs.Calls.{opened-words}
 use Rattle.host_indexed.specs.Calls.{begun, gateOpened, left, gateOffered}
 
 pub gate-opened :
-    (gate : List ℕ) (capacity settings : ℕ) (extra keys changes buckets links watch : List ℕ) (s : Settings) (o : Opened) (bs ws gs : List ℕ) (r : ℕ) →
-    s ≡ settingsOf capacity settings →
+    (gate : List ℕ) (capacity settings rule : ℕ) (extra keys changes buckets links watch : List ℕ) (s : Settings) (o : Opened) (bs ws gs : List ℕ) (r : ℕ) →
+    s ≡ settingsOf capacity settings rule →
     indexed.begunBy o bs ws ≡ indexed.openedBy s extra (length keys) (length changes) (length links) buckets watch →
     words r gs ≡ tellsOpened o gate →
-    begun r gs bs ws ≡ gateOpened gate capacity settings extra keys changes buckets links watch
+    begun r gs bs ws ≡ gateOpened gate capacity settings rule extra keys changes buckets links watch
 unfolding gateOpened
-gate-opened gate capacity settings extra keys changes buckets links watch s o bs ws gs r e f t =
+gate-opened gate capacity settings rule extra keys changes buckets links watch s o bs ws gs r e f t =
     rw (← e, ← f, ap (λ (x : Words). x .answer) t, ap (λ (x : Words). x .now) t, opened-words (o .answer) (o .gate) (o .counters) gate)
 
 pub gate-offered :

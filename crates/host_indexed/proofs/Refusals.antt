@@ -33,11 +33,11 @@ carried-refused s section (Arrived a) h =
 offer-refused-by :
     (s : indexed.Indexed) (pid : ℕ) (section : List ℕ) → 10 ≤ (indexed.offeredBy s pid section) .answer → (indexed.offeredBy s pid section) .left ≡ s
 unfolding indexed.offeredBy
-offer-refused-by s pid section h = carried-refused s section (verdictOf (indexed.isWholeBy s) (s .store .counters) pid section) h
+offer-refused-by s pid section h = carried-refused s section (verdictOf (indexed.isWholeBy s) (s .store .counters) (s .store .gate .«change_rule») pid section) h
 
 -- 10, 11 and 12
 pub indexed-offer-refused :
-    (gate keys changes buckets links watch : List ℕ) (pid : ℕ) (section : List ℕ) (answer : ℕ) → length gate ≡ 10 →
+    (gate keys changes buckets links watch : List ℕ) (pid : ℕ) (section : List ℕ) (answer : ℕ) → length gate ≡ 11 →
     answer ≡ (gateOffered gate keys changes buckets links watch pid section) .answer → 10 ≤ answer →
     gateOffered gate keys changes buckets links watch pid section ≡ left answer gate keys changes buckets links watch
 unfolding gateOffered
@@ -54,12 +54,12 @@ indexed-offer-refused gate keys changes buckets links watch pid section answer n
 
 -- 12 and 13
 pub indexed-open-refused :
-    (gate : List ℕ) (capacity settings : ℕ) (extra keys changes buckets links watch : List ℕ) (answer : ℕ) →
-    answer ≡ (gateOpened gate capacity settings extra keys changes buckets links watch) .answer → (answer ≡ 7 → ⊥) →
-    gateOpened gate capacity settings extra keys changes buckets links watch ≡ begun answer gate buckets watch
+    (gate : List ℕ) (capacity settings rule : ℕ) (extra keys changes buckets links watch : List ℕ) (answer : ℕ) →
+    answer ≡ (gateOpened gate capacity settings rule extra keys changes buckets links watch) .answer → (answer ≡ 7 → ⊥) →
+    gateOpened gate capacity settings rule extra keys changes buckets links watch ≡ begun answer gate buckets watch
 unfolding gateOpened indexed.openedBy
-indexed-open-refused gate capacity settings extra keys changes buckets links watch answer e h =
-    go (settingsOf capacity settings) _ _ (allPids extra) (indexed.hasRoomFor capacity (length keys) (length changes) (length buckets) (length links) (length watch)) e
+indexed-open-refused gate capacity settings rule extra keys changes buckets links watch answer e h =
+    go (settingsOf capacity settings rule) _ _ (allPids extra) (indexed.canOpenBy (settingsOf capacity settings rule) (length keys) (length changes) (length buckets) (length links) (length watch)) e
   where
     go :
         (s : Settings) (bs ws : List ℕ) (good room : Bool) →

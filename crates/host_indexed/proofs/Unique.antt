@@ -8,12 +8,12 @@ use Rattle.laws.proofs.Unique.{one-result}
 use Rattle.host_indexed.specs.Calls.{GateBegun, begun, gateOpened, GateLeft, left, gateOffered}
 
 pub unique-indexed-open :
-    (gate : List ℕ) (capacity settings : ℕ) (extra keys changes buckets links watch : List ℕ) (r s : ℕ) (g h b c w x : List ℕ) →
-    begun r g b w ≡ gateOpened gate capacity settings extra keys changes buckets links watch →
-    begun s h c x ≡ gateOpened gate capacity settings extra keys changes buckets links watch →
+    (gate : List ℕ) (capacity settings rule : ℕ) (extra keys changes buckets links watch : List ℕ) (r s : ℕ) (g h b c w x : List ℕ) →
+    begun r g b w ≡ gateOpened gate capacity settings rule extra keys changes buckets links watch →
+    begun s h c x ≡ gateOpened gate capacity settings rule extra keys changes buckets links watch →
     (r ≡ s) × (g ≡ h) × (b ≡ c) × (w ≡ x)
-unique-indexed-open gate capacity settings extra keys changes buckets links watch r s g h b c w x p q =
-    let e : begun r g b w ≡ begun s h c x = one-result (gateOpened gate capacity settings extra keys changes buckets links watch) p q in (
+unique-indexed-open gate capacity settings rule extra keys changes buckets links watch r s g h b c w x p q =
+    let e : begun r g b w ≡ begun s h c x = one-result (gateOpened gate capacity settings rule extra keys changes buckets links watch) p q in (
       ap (λ (t : GateBegun). t .answer) e,
       ap (λ (t : GateBegun). t .gate) e,
       ap (λ (t : GateBegun). t .buckets) e,

@@ -10,7 +10,7 @@ use Rattle.host_gate_words.specs.Words.{settingsOf, gateOf, countersOf, wordsOf
 use Rattle.ring_index.specs.Store.{indexOf}
 use Rattle.gate_indexed.specs.Store as indexed
 
--- an answer, the gate's ten words, the buckets, and the words of the watch
+-- an answer, the gate's eleven words, the buckets, and the words of the watch
 pub record GateBegun : Type 0 where
   pub answer : ℕ
   pub gate : List ℕ
@@ -24,11 +24,11 @@ abbrev pub begunAs : List ℕ → indexed.Begun → GateBegun
 begunAs gate b =
     begun (b .answer) (cond (eqb (b .answer) 7) (wordsOf (b .gate) (b .counters)) gate) (b .buckets) (b .words)
 
-unfoldable pub gateOpened : List ℕ → ℕ → ℕ → List ℕ → List ℕ → List ℕ → List ℕ → List ℕ → List ℕ → GateBegun
-gateOpened gate capacity settings extra keys changes buckets links watch =
-    begunAs gate (indexed.openedBy (settingsOf capacity settings) extra (length keys) (length changes) (length links) buckets watch)
+unfoldable pub gateOpened : List ℕ → ℕ → ℕ → ℕ → List ℕ → List ℕ → List ℕ → List ℕ → List ℕ → List ℕ → GateBegun
+gateOpened gate capacity settings rule extra keys changes buckets links watch =
+    begunAs gate (indexed.openedBy (settingsOf capacity settings rule) extra (length keys) (length changes) (length links) buckets watch)
 
--- an answer, the gate's ten words, and the words of the five lent slices
+-- an answer, the gate's eleven words, and the words of the five lent slices
 pub record GateLeft : Type 0 where
   pub answer : ℕ
   pub gate : List ℕ

@@ -4,9 +4,10 @@ ghost use Rattle.host_indexed.specs.Calls.{begun, gateOpened, left, gate
 
 // `petrizolu_gate_open` for a gate with an index over its rows: also the buckets are written.
 pub fn open(
-    gate: &mut [u64; 10],
+    gate: &mut [u64; 11],
     capacity: u64,
     settings: u32,
+    change_rule: u64,
     extra: &[u16],
     keys: &[u64],
     changes: &[u64],
@@ -14,16 +15,16 @@ pub fn open(
     links: &[u64],
     watch: &mut [u64],
 ) -> u8
-    ensures { λ r. ⌜ begun r (now (gate .exit)) (now (buckets .exit)) (now (watch .exit)) ≡ gateOpened (now (gate .entry)) capacity settings (now (extra .entry)) (now (keys .entry)) (now (changes .entry)) (now (buckets .entry)) (now (links .entry)) (now (watch .entry)) ⌝ }
+    ensures { λ r. ⌜ begun r (now (gate .exit)) (now (buckets .exit)) (now (watch .exit)) ≡ gateOpened (now (gate .entry)) capacity settings «change_rule» (now (extra .entry)) (now (keys .entry)) (now (changes .entry)) (now (buckets .entry)) (now (links .entry)) (now (watch .entry)) ⌝ }
 {
-    let asked = host_gate_words::settings(capacity, settings);
+    let asked = host_gate_words::settings(capacity, settings, change_rule);
     let opened = gate_indexed::open(asked, extra, keys, changes, buckets, links, watch);
     host_gate_words::write_opened(gate, opened)
 }
 
 // `petrizolu_gate_offer` through the index.
 pub fn offer(
-    gate: &mut [u64; 10],
+    gate: &mut [u64; 11],
     keys: &mut [u64],
     changes: &mut [u64],
     buckets: &mut [u64],

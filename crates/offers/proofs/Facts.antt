@@ -12,10 +12,11 @@ use Rattle.counters.specs.Counters.{anyFull, CanCount}
 use Rattle.counters.specs.declared.Counters.{Counters}
 use Rattle.section.specs.Facts.{Bytes}
 use Rattle.section.specs.Ids.{originOf, originMade}
-use Rattle.section.specs.Judged.{judgedOf}
+use Rattle.section.specs.Judged.{ruleOf, judgedOf}
 use Rattle.section.specs.declared.ids.Origin.{Origin}
 use Rattle.section.specs.declared.ids.OriginMade.{OriginMade}
 use Rattle.section.specs.declared.ids.OriginMade.the-variants as origin
+use Rattle.section.specs.declared.header.ChangeRule.{ChangeRule}
 use Rattle.section.specs.declared.header.Parts.{Parts}
 use Rattle.section.specs.declared.header.Judged.{Judged}
 use Rattle.section.specs.declared.header.Judged.the-variants.{Short, Mismatch, Sound}
@@ -27,40 +28,40 @@ use Rattle.offers.specs.declared.Verdict.the-variants.{Refused, Failed, 
 
 -- ---- 3
 
-module _ (from : Origin) (section : List ℕ) (v : Judged) (e : v ≡ judgedOf section) where
-  pub read-short : v ≡ Short → Failed ≡ readAs from (judgedOf section)
-  read-short h = rw (← e, h)
+module _ (from : Origin) (rule : ℕ) (c : ChangeRule) (section : List ℕ) (v : Judged) (n : c ≡ ruleOf rule) (e : v ≡ judgedOf c section) where
+  pub read-short : v ≡ Short → Failed ≡ readAs from (judgedOf (ruleOf rule) section)
+  read-short h = rw (← n, ← e, h)
 
-  pub read-mismatch : (a b : ℕ) → v ≡ Mismatch a b → Failed ≡ readAs from (judgedOf section)
-  read-mismatch a b h = rw (← e, h)
+  pub read-mismatch : (a b : ℕ) → v ≡ Mismatch a b → Failed ≡ readAs from (judgedOf (ruleOf rule) section)
+  read-mismatch a b h = rw (← n, ← e, h)
 
-  pub read-sound : (p : Parts) (a : Arrival) → v ≡ Sound p → a ≡ arrivalOf from p → Arrived a ≡ readAs from (judgedOf section)
-  read-sound p a h j = rw (← e, h, j)
+  pub read-sound : (p : Parts) (a : Arrival) → v ≡ Sound p → a ≡ arrivalOf from p → Arrived a ≡ readAs from (judgedOf (ruleOf rule) section)
+  read-sound p a h j = rw (← n, ← e, h, j)
 
 -- ---- 12
 
-module _ (pid : ℕ) (section : List ℕ) (m : OriginMade) (e : m ≡ originMade pid) where
-  pub read-pid : m ≡ origin.BadPid → Refused BadPid ≡ readOf pid section
+module _ (rule pid : ℕ) (section : List ℕ) (m : OriginMade) (e : m ≡ originMade pid) where
+  pub read-pid : m ≡ origin.BadPid → Refused BadPid ≡ readOf rule pid section
   unfolding readOf
   read-pid h = rw (le-ltb pid 8192 (origin-none pid m e h))
 
-  pub read-section : (from : Origin) (v : Verdict) → m ≡ origin.One from → v ≡ readAs from (judgedOf section) → v ≡ readOf pid section
+  pub read-section : (from : Origin) (v : Verdict) → m ≡ origin.One from → v ≡ readAs from (judgedOf (ruleOf rule) section) → v ≡ readOf rule pid section
   unfolding readOf
   read-section from v h k = let n = origin-one pid m e from h in rw (lt-ltb pid 8192 (n .1), ← (n .0)) k
 
 -- ---- 10 and 11
 
-module _ (w : Bool) (c : Counters) (pid : ℕ) (section : List ℕ) where
-  pub judged-broken : not w ≡ true → Refused NotWhole ≡ verdictOf w c pid section
+module _ (w : Bool) (c : Counters) (rule pid : ℕ) (section : List ℕ) where
+  pub judged-broken : not w ≡ true → Refused NotWhole ≡ verdictOf w c rule pid section
   unfolding verdictOf
   judged-broken h = rw (not-true w h)
 
   module _ (h : not w ≡ false) (f : Bool) (d : f ≡ anyFull c) where
-    pub judged-full : f ≡ true → Refused CounterFull ≡ verdictOf w c pid section
+    pub judged-full : f ≡ true → Refused CounterFull ≡ verdictOf w c rule pid section
     unfolding verdictOf
     judged-full k = rw (not-false w h, ← d, k)
 
-    pub judged-read : (v : Verdict) → f ≡ false → v ≡ readOf pid section → v ≡ verdictOf w c pid section
+    pub judged-read : (v : Verdict) → f ≡ false → v ≡ readOf rule pid section → v ≡ verdictOf w c rule pid section
     unfolding verdictOf
     judged-read v k j = rw (not-false w h, ← d, k) j
 
@@ -79,34 +80,34 @@ module _ (w : Bool) (c : Counters) (section : List ℕ) (v : Verdict) (o : Verdi
 
 -- ---- what arrives
 
-module _ (section : List ℕ) where
-  section-taken : (from : Origin) (v : Judged) → judgedOf section ≡ v → Taken section (readAs from v)
+module _ (section : List ℕ) (rule : ℕ) where
+  section-taken : (from : Origin) (v : Judged) → judgedOf (ruleOf rule) section ≡ v → Taken section (readAs from v)
   section-taken from Short e = tt
   section-taken from (Mismatch a b) e = tt
-  section-taken from (Sound p) e = judged-table section p e
+  section-taken from (Sound p) e = judged-table (ruleOf rule) section p e
 
-  taken : (pid : ℕ) → Taken section (readOf pid section)
+  taken : (pid : ℕ) → Taken section (readOf rule pid section)
   unfolding readOf
   taken pid = go (ltb pid 8192)
     where
-      go : (b : Bool) → Taken section (cond b (readAs (originOf pid) (judgedOf section)) (Refused BadPid))
-      go true = section-taken (originOf pid) (judgedOf section) refl
+      go : (b : Bool) → Taken section (cond b (readAs (originOf pid) (judgedOf (ruleOf rule) section)) (Refused BadPid))
+      go true = section-taken (originOf pid) (judgedOf (ruleOf rule) section) refl
       go false = tt
 
-  pub read-taken : (pid : ℕ) (v : Verdict) → v ≡ readOf pid section → Taken section v
+  pub read-taken : (pid : ℕ) (v : Verdict) → v ≡ readOf rule pid section → Taken section v
   read-taken pid v e = subst (Taken section) (sym e) (taken pid)
 
   -- of bytes, its change number has 32 bits
   module _ (b : Bytes section) where
-    section-small : (from : Origin) (v : Judged) → judgedOf section ≡ v → (a : Arrival) → readAs from v ≡ Arrived a → a .change < 2 ^ 32
+    section-small : (from : Origin) (v : Judged) → judgedOf (ruleOf rule) section ≡ v → (a : Arrival) → readAs from v ≡ Arrived a → a .change < 2 ^ 32
     section-small from Short e a h = let z : _≡_ {A = ℕ} 0 1 = cc in absurd (omega arith)
     section-small from (Mismatch s w) e a h = let z : _≡_ {A = ℕ} 0 1 = cc in absurd (omega arith)
-    section-small from (Sound p) e a h = let q : arrivalOf from p ≡ a = cc in subst (λ (x : Arrival). x .change < 2 ^ 32) q (judged-change section b p e)
+    section-small from (Sound p) e a h = let q : arrivalOf from p ≡ a = cc in subst (λ (x : Arrival). x .change < 2 ^ 32) q (judged-change (ruleOf rule) section b p e)
 
-    pub arrived-small : (pid : ℕ) (a : Arrival) → readOf pid section ≡ Arrived a → a .change < 2 ^ 32
+    pub arrived-small : (pid : ℕ) (a : Arrival) → readOf rule pid section ≡ Arrived a → a .change < 2 ^ 32
     unfolding readOf
     arrived-small pid a h = go (ltb pid 8192) h
       where
-        go : (t : Bool) → cond t (readAs (originOf pid) (judgedOf section)) (Refused BadPid) ≡ Arrived a → a .change < 2 ^ 32
-        go true k = section-small (originOf pid) (judgedOf section) refl a k
+        go : (t : Bool) → cond t (readAs (originOf pid) (judgedOf (ruleOf rule) section)) (Refused BadPid) ≡ Arrived a → a .change < 2 ^ 32
+        go true k = section-small (originOf pid) (judgedOf (ruleOf rule) section) refl a k
         go false k = let z : _≡_ {A = ℕ} 0 1 = cc in absurd (omega arith)

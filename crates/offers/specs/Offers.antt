@@ -10,7 +10,7 @@ use Rattle.counters.specs.declared.Counters.{Counters}
 use Rattle.section.specs.Ids.{originOf}
 use Rattle.section.specs.Key.{keyOf}
 use Rattle.section.specs.Header.{tableId}
-use Rattle.section.specs.Judged.{judgedOf}
+use Rattle.section.specs.Judged.{ruleOf, judgedOf}
 use Rattle.section.specs.declared.ids.Origin.{Origin}
 use Rattle.section.specs.declared.header.Parts.{Parts}
 use Rattle.section.specs.declared.header.Judged.{Judged}
@@ -30,13 +30,13 @@ readAs from Short = Failed
 readAs from (Mismatch stored worked) = Failed
 readAs from (Sound p) = Arrived (arrivalOf from p)
 
--- what a section and its PID say: 12 where the PID is none
-unfoldable pub readOf : ℕ → List ℕ → Verdict
-readOf pid section = cond (ltb pid 8192) (readAs (originOf pid) (judgedOf section)) (Refused BadPid)
+-- what a section and its PID say by the change rule of this number: 12 where the PID is none
+unfoldable pub readOf : ℕ → ℕ → List ℕ → Verdict
+readOf rule pid section = cond (ltb pid 8192) (readAs (originOf pid) (judgedOf (ruleOf rule) section)) (Refused BadPid)
 
 -- 10 where the store is not whole, then 11, then what the section and its PID say
-unfoldable pub verdictOf : Bool → Counters → ℕ → List ℕ → Verdict
-verdictOf whole c pid section = cond whole (cond (anyFull c) (Refused CounterFull) (readOf pid section)) (Refused NotWhole)
+unfoldable pub verdictOf : Bool → Counters → ℕ → ℕ → List ℕ → Verdict
+verdictOf whole c rule pid section = cond whole (cond (anyFull c) (Refused CounterFull) (readOf rule pid section)) (Refused NotWhole)
 
 -- ---- what is so of a section that arrived
 

@@ -2,12 +2,13 @@
 // to be looked up. No slice of the store is lent.
 use answers::Refusal;
 use counters::Counters;
+use section::header::ChangeRule;
 use section::header::Judged;
 use section::header::Parts;
 use section::ids::Origin;
 use section::ids::OriginMade;
 ghost use mathlib.Core.Path.{_≡_};
-ghost use Rattle.section.specs.Judged.{judgedOf};
+ghost use Rattle.section.specs.Judged.{ruleOf, judgedOf};
 ghost use Rattle.offers.specs.Offers.{arrivalOf, readAs, readOf, Taken, verdictOf, VerdictOk};
 
 // What tells one section from another at the gate: its key, the version and the change number that it came with. And its table_id.
@@ -25,9 +26,9 @@ pub enum Verdict {
     Arrived(Arrival),
 }
 
-// 10 where the store is not whole, 11 where a counter is at its end, then what the section and its PID say.
-pub fn judge(whole: bool, counters: Counters, pid: u16, section: &[u8]) -> Verdict
-    ensures { λ r. ⌜ r ≡ verdictOf whole counters pid (now (section .entry)) ⌝ }
+// 10 where the store is not whole, 11 where a counter is at its end, then what the section and its PID say. `rule` is the number of the change rule.
+pub fn judge(whole: bool, counters: Counters, rule: u64, pid: u16, section: &[u8]) -> Verdict
+    ensures { λ r. ⌜ r ≡ verdictOf whole counters rule pid (now (section .entry)) ⌝ }
     ensures { λ r. ⌜ VerdictOk whole counters (now (section .entry)) r ⌝ }
 {
     if !whole {
@@ -36,25 +37,25 @@ pub fn judge(whole: bool, counters: Counters, pid: u16, section: &[u8]) -> Verdi
     if counters::any_full(counters) {
         return Verdict::Refused(Refusal::CounterFull);
     }
-    read(pid, section)
+    read(rule, pid, section)
 }
 
 // 12, then 3.
-fn read(pid: u16, section: &[u8]) -> Verdict
-    ensures { λ r. ⌜ r ≡ readOf pid (now (section .entry)) ⌝ }
+fn read(rule: u64, pid: u16, section: &[u8]) -> Verdict
+    ensures { λ r. ⌜ r ≡ readOf rule pid (now (section .entry)) ⌝ }
     ensures { λ r. ⌜ Taken (now (section .entry)) r ⌝ }
 {
     match Origin::make(pid) {
-        OriginMade::One(from) => read_from(from, section),
+        OriginMade::One(from) => read_from(from, rule, section),
         OriginMade::BadPid => Verdict::Refused(Refusal::BadPid),
     }
 }
 
 // 3 where the section is too short for its CRC or the CRC does not fit.
-fn read_from(from: Origin, section: &[u8]) -> Verdict
-    ensures { λ r. ⌜ r ≡ readAs from (judgedOf (now (section .entry))) ⌝ }
+fn read_from(from: Origin, rule: u64, section: &[u8]) -> Verdict
+    ensures { λ r. ⌜ r ≡ readAs from (judgedOf (ruleOf rule) (now (section .entry))) ⌝ }
 {
-    match section::header::judge(section) {
+    match section::header::judge(section, ChangeRule::of(rule)) {
         Judged::Short => Verdict::Failed,
         Judged::Mismatch(_, _) => Verdict::Failed,
         Judged::Sound(parts) => Verdict::Arrived(arrive(from, parts)),

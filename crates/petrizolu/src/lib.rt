@@ -20,23 +20,33 @@ pub extern "C" fn petrizolu_crc(bytes: &[u8]) -> u32
 // Opens a gate and its watch: 7, 12 or 13. `settings` are bits: 1 repeats, 2 follow, 4 well-known PIDs. A refusal writes nothing.
 #[no_mangle]
 pub extern "C" fn petrizolu_gate_open(
-    gate: &mut [u64; 10],
+    gate: &mut [u64; 11],
     capacity: u64,
     settings: u32,
+    change_rule: u64,
     extra: &[u16],
     keys: &[u64],
     changes: &[u64],
     watch: &mut [u64],
 ) -> u8
-    ensures { λ r. ⌜ begun r (now (gate .exit)) (now (watch .exit)) ≡ gateOpened (now (gate .entry)) capacity settings (now (extra .entry)) (now (keys .entry)) (now (changes .entry)) (now (watch .entry)) ⌝ }
+    ensures { λ r. ⌜ begun r (now (gate .exit)) (now (watch .exit)) ≡ gateOpened (now (gate .entry)) capacity settings «change_rule» (now (extra .entry)) (now (keys .entry)) (now (changes .entry)) (now (watch .entry)) ⌝ }
 {
-    host_gate::open(gate, capacity, settings, extra, keys, changes, watch)
+    host_gate::open(
+        gate,
+        capacity,
+        settings,
+        change_rule,
+        extra,
+        keys,
+        changes,
+        watch,
+    )
 }
 
 // Offers a section that came on a PID, watched or not: 1, 2, 3, 10, 11 or 12.
 #[no_mangle]
 pub extern "C" fn petrizolu_gate_offer(
-    gate: &mut [u64; 10],
+    gate: &mut [u64; 11],
     keys: &mut [u64],
     changes: &mut [u64],
     watch: &mut [u64],
@@ -59,9 +69,10 @@ pub extern "C" fn petrizolu_watch_ask(watch: &[u64], pid: u32) -> u8
 // `petrizolu_gate_open` for a gate with an index over its rows: also the buckets are written.
 #[no_mangle]
 pub extern "C" fn petrizolu_indexed_open(
-    gate: &mut [u64; 10],
+    gate: &mut [u64; 11],
     capacity: u64,
     settings: u32,
+    change_rule: u64,
     extra: &[u16],
     keys: &[u64],
     changes: &[u64],
@@ -69,12 +80,13 @@ pub extern "C" fn petrizolu_indexed_open(
     links: &[u64],
     watch: &mut [u64],
 ) -> u8
-    ensures { λ r. ⌜ indexed.begun r (now (gate .exit)) (now (buckets .exit)) (now (watch .exit)) ≡ indexed.gateOpened (now (gate .entry)) capacity settings (now (extra .entry)) (now (keys .entry)) (now (changes .entry)) (now (buckets .entry)) (now (links .entry)) (now (watch .entry)) ⌝ }
+    ensures { λ r. ⌜ indexed.begun r (now (gate .exit)) (now (buckets .exit)) (now (watch .exit)) ≡ indexed.gateOpened (now (gate .entry)) capacity settings «change_rule» (now (extra .entry)) (now (keys .entry)) (now (changes .entry)) (now (buckets .entry)) (now (links .entry)) (now (watch .entry)) ⌝ }
 {
     host_indexed::open(
         gate,
         capacity,
         settings,
+        change_rule,
         extra,
         keys,
         changes,
@@ -87,7 +99,7 @@ pub extern "C" fn petrizolu_indexed_open(
 // `petrizolu_gate_offer` through the index.
 #[no_mangle]
 pub extern "C" fn petrizolu_indexed_offer(
-    gate: &mut [u64; 10],
+    gate: &mut [u64; 11],
     keys: &mut [u64],
     changes: &mut [u64],
     buckets: &mut [u64],

@@ -13,7 +13,7 @@ use Rattle.laws.specs.Runs.{storeAfter}
 use Rattle.section.specs.Ids.{originOf}
 use Rattle.section.specs.Key.{keyOf}
 use Rattle.watched.specs.Rules.{Watch}
-use Rattle.section.specs.Judged.{judgedOf}
+use Rattle.section.specs.Judged.{ruleOf, checkedChange, judgedOf}
 use Rattle.section.specs.declared.header.Judged.{Judged}
 use Rattle.section.proofs.Keys.{key-small, key-largest}
 use Rattle.section.proofs.Examples.{cut-off, all-ones}
@@ -32,11 +32,11 @@ use Rattle.promises.specs.Examples.{pat, freshGate, heldAfter, gateKeys,
 
 -- ---- the gate
 
-says : (m : Manner) (watch : Watch) (pid : ℕ) (section : List ℕ) (j : Judged) → pid < 8192 → judgedOf section ≡ j
+says : (m : Manner) (watch : Watch) (pid : ℕ) (section : List ℕ) (j : Judged) → pid < 8192 → judgedOf (ruleOf (m .rule)) section ≡ j
     → told m (freshGate watch) (record { pid = pid; section = section }) ≡ carriedIn m (freshGate watch) section (readAs (originOf pid) j)
 unfolding told readOf
 says m watch pid section j h e =
-    ap (λ (b : Bool). carriedIn m (freshGate watch) section (cond b (readAs (originOf pid) (judgedOf section)) (Refused BadPid))) (lt-ltb pid 8192 h)
+    ap (λ (b : Bool). carriedIn m (freshGate watch) section (cond b (readAs (originOf pid) (judgedOf (ruleOf (m .rule)) section)) (Refused BadPid))) (lt-ltb pid 8192 h)
     ∙ ap (λ (x : Judged). carriedIn m (freshGate watch) section (readAs (originOf pid) x)) e
 
 abbrev ones : List ℕ
@@ -44,19 +44,19 @@ ones = 0xFF ∷ 0xFF ∷ 0xFF ∷ 0xFF ∷ []
 
 emitted : (m : Manner) (watch : Watch) (pid : ℕ) → pid < 8192 → tells m (freshGate watch) (record { pid = pid; section = ones }) ≡ 1
 unfolding tells carriedIn admitted
-emitted m watch pid h = ap (λ (t : Told). t .answer) (says m watch pid ones _ h all-ones)
+emitted m watch pid h = ap (λ (t : Told). t .answer) (says m watch pid ones _ h (all-ones (ruleOf (m .rule))))
 
 held : (m : Manner) (watch : Watch) (pid : ℕ) → pid < 8192 → map (λ (r : Row). r .key) ((acts m (freshGate watch) (record { pid = pid; section = ones })) .rows) ≡ keyOf (originOf pid) 0xFF 0 0 ∷ []
 unfolding acts carriedIn admitted offeredTo
-held m watch pid h = ap (λ (t : Told). map (λ (r : Row). r .key) (t .held .rows)) (says m watch pid ones _ h all-ones) ∙ go (atCapacity (m .capacity) [])
+held m watch pid h = ap (λ (t : Told). map (λ (r : Row). r .key) (t .held .rows)) (says m watch pid ones _ h (all-ones (ruleOf (m .rule)))) ∙ go (checkedChange (ruleOf (m .rule)) ones) (atCapacity (m .capacity) [])
   where
-    go : (b : Bool) → map (λ (r : Row). r .key) (cond b (later []) [] ++ (record { key = keyOf (originOf pid) 0xFF 0 0; version = 0; change = 0 } ∷ [])) ≡ keyOf (originOf pid) 0xFF 0 0 ∷ []
-    go true = refl
-    go false = refl
+    go : (k : ℕ) (b : Bool) → map (λ (r : Row). r .key) (cond b (later []) [] ++ (record { key = keyOf (originOf pid) 0xFF 0 0; version = 0; change = k } ∷ [])) ≡ keyOf (originOf pid) 0xFF 0 0 ∷ []
+    go k true = refl
+    go k false = refl
 
 fails : (m : Manner) (watch : Watch) (pid : ℕ) → pid < 8192 → tells m (freshGate watch) (record { pid = pid; section = 0x02 ∷ 0xB0 ∷ 0x00 ∷ [] }) ≡ 3
 unfolding tells carriedIn
-fails m watch pid h = ap (λ (t : Told). t .answer) (says m watch pid (0x02 ∷ 0xB0 ∷ 0x00 ∷ []) _ h cut-off)
+fails m watch pid h = ap (λ (t : Told). t .answer) (says m watch pid (0x02 ∷ 0xB0 ∷ 0x00 ∷ []) _ h (cut-off (ruleOf (m .rule))))
 
 loses-A : gateKeys 2 (10 ∷ 11 ∷ 10 ∷ 12 ∷ []) ≡ 11 ∷ 12 ∷ []
 unfolding gateKeys heldAfter offeredTo

@@ -36,7 +36,7 @@ refused-none r n h = let k : 10 ≤ refusalNo r = ltb-false _ _ (refused-from-10
 -- every call on every store
 pub counts : (s : Store) (o : Offer) → Counts (storeTells s o) (s .counters) (storeActs s o .counters)
 unfolding storeTells storeActs offered carried admittedTo seenBy
-counts s o = go (verdictOf (isWhole s) (s .counters) (o .pid) (o .section))
+counts s o = go (verdictOf (isWhole s) (s .counters) (s .gate .«change_rule») (o .pid) (o .section))
   where
     go : (v : Verdict) → Counts (carried s (o .section) v .answer) (s .counters) (carried s (o .section) v .store .counters)
     go (Refused r) = kept (s .counters) (refusalNo r) (refused-none r 1 (omega arith)) (refused-none r 2 (omega arith)) (refused-none r 3 (omega arith))

@@ -20,12 +20,13 @@ use Rattle.ring_index.specs.Runs.{openedIndex}
 use Rattle.ring_index.proofs.Same.{Sound as Kept, seen-same, keys-same, changes-same, sound-after, opened-sound}
 use Rattle.section.specs.Facts.{Bytes}
 use Rattle.answers.specs.declared.Refusal.the-variants.{CounterFull}
+use Rattle.section.specs.Judged.{ruleKnown}
 use Rattle.offers.specs.Offers.{readOf, verdictOf}
 use Rattle.offers.specs.declared.Arrival.{Arrival}
 use Rattle.offers.specs.declared.Verdict.{Verdict}
 use Rattle.offers.specs.declared.Verdict.the-variants.{Refused, Failed, Arrived}
 use Rattle.gate_state.specs.State.{emptyGate}
-use Rattle.gate.specs.Store.{hasRoom, isWhole, Store, admittedTo, carried, opened, offered}
+use Rattle.gate.specs.Store.{canOpen, isWhole, Store, admittedTo, carried, opened, offered}
 use Rattle.counters.specs.Counters.{zeroes, anyFull}
 use Rattle.gate_state.specs.State.{seenBy as answeredBy}
 use Rattle.gate.specs.Store.{Offering as Told}
@@ -43,7 +44,7 @@ use Rattle.ties_gate.proofs.Opening.{mannerFor}
 use Rattle.ties_gate.proofs.Opening.{leftOpen as leftStore}
 use Rattle.ties_gate.proofs.Watching.{ask-in-every-history}
 use Rattle.ties_gate.proofs.Counting.{Tells, counters-in-every-history}
-use Rattle.gate_indexed.specs.Store.{hasRoomFor, Begun, begins, openedBy, isWholeBy, Indexed, indexedOf, Offering, admittedBy, carriedBy, offeredBy}
+use Rattle.gate_indexed.specs.Store.{canOpenBy, Begun, begins, openedBy, isWholeBy, Indexed, indexedOf, Offering, admittedBy, carriedBy, offeredBy}
 use Rattle.gate_indexed.specs.Runs.{tellsBy, actsBy}
 
 -- what every store has that came from an opened one
@@ -82,12 +83,14 @@ module _ (s : Indexed) (r : OpenedBy s) (pid : ℕ) (section : List ℕ) where
   unfolding offeredBy offered verdictOf
   offer-same b =
       rw (whole-by, whole)
-      (carried-same s r section (cond (anyFull (s .store .counters)) (Refused CounterFull) (readOf pid section)) (verdict-small (record { pid = pid; section = section }) b (anyFull (s .store .counters))))
+      (carried-same s r section (cond (anyFull (s .store .counters)) (Refused CounterFull) (readOf (s .store .gate .«change_rule») pid section)) (verdict-small (s .store .gate .«change_rule») (record { pid = pid; section = section }) b (anyFull (s .store .counters))))
     where
       whole : isWhole (s .store) ≡ true
       whole =
-          true-and (whole-test (s .store .gate .ring) (length (s .store .keys)) (length (s .store .changes)) (r .opened .reached .whole))
-          (le-leb 384 (length (s .store .words)) (r .opened .watch))
+          true-and
+          (true-and (whole-test (s .store .gate .ring) (length (s .store .keys)) (length (s .store .changes)) (r .opened .reached .whole))
+          (le-leb 384 (length (s .store .words)) (r .opened .watch)))
+          (r .opened .rule)
 
       whole-by : isWholeBy s ≡ true
       whole-by =
@@ -126,10 +129,10 @@ same-store s (o ∷ os) r b =
 pub opened-by :
     (st : Settings) (keys changes buckets links words : List ℕ) →
     roomOf (st .capacity) ≤ length keys → roomOf (st .capacity) ≤ length changes → roomOf (st .capacity) ≤ length buckets → roomOf (st .capacity) ≤ length links →
-    384 ≤ length words → OpenedBy (indexedOf (emptyGate st) zeroes keys changes (openedIndex (st .capacity) buckets links) words)
-opened-by st keys changes buckets links words k c b l w =
+    384 ≤ length words → ruleKnown (st .«change_rule») ≡ true → OpenedBy (indexedOf (emptyGate st) zeroes keys changes (openedIndex (st .capacity) buckets links) words)
+opened-by st keys changes buckets links words k c b l w q =
     record {
-      opened = record { reached = opened-reached (st .capacity) keys changes k c; watch = w };
+      opened = record { reached = opened-reached (st .capacity) keys changes k c; watch = w; rule = q };
       kept = opened-sound (st .capacity) keys changes buckets links b l;
     }
 
@@ -142,7 +145,7 @@ pub opening-opens : (st : Settings) (extra keys changes buckets links words : Li
     → openedBy st extra (length keys) (length changes) (length links) buckets words .answer ≡ 7
     → OpenedBy (leftOpen (openedBy st extra (length keys) (length changes) (length links) buckets words) keys changes links)
 unfolding openedBy
-opening-opens st extra keys changes buckets links words = go (allPids extra) (hasRoomFor (st .capacity) (length keys) (length changes) (length buckets) (length links) (length words)) refl
+opening-opens st extra keys changes buckets links words = go (allPids extra) (canOpenBy st (length keys) (length changes) (length buckets) (length links) (length words)) refl
   where
     n : ℕ
     n = roomOf (st .capacity)
@@ -150,18 +153,19 @@ opening-opens st extra keys changes buckets links words = go (allPids extra) (ha
     done : Begun
     done = begins 7 st (clearedBy n buckets) (filled words (st .«well_known») extra)
 
-    room : hasRoomFor (st .capacity) (length keys) (length changes) (length buckets) (length links) (length words) ≡ true → OpenedBy (leftOpen done keys changes links)
+    room : canOpenBy st (length keys) (length changes) (length buckets) (length links) (length words) ≡ true → OpenedBy (leftOpen done keys changes links)
     room e =
-        let a = and-true (hasRoom (st .capacity) (length keys) (length changes) (length words) && leb n (length buckets)) (leb n (length links)) e in
-        let b = and-true (hasRoom (st .capacity) (length keys) (length changes) (length words)) (leb n (length buckets)) (a .0) in
-        let c = and-true (leb n (length keys) && leb n (length changes)) (leb 384 (length words)) (b .0) in
+        let a = and-true (canOpen st (length keys) (length changes) (length words) && leb n (length buckets)) (leb n (length links)) e in
+        let b = and-true (canOpen st (length keys) (length changes) (length words)) (leb n (length buckets)) (a .0) in
+        let q = and-true (leb n (length keys) && leb n (length changes) && leb 384 (length words)) (ruleKnown (st .«change_rule»)) (b .0) in
+        let c = and-true (leb n (length keys) && leb n (length changes)) (leb 384 (length words)) (q .0) in
         let d = and-true (leb n (length keys)) (leb n (length changes)) (c .0) in
         let w = leb-true 384 (length words) (c .1) in
         opened-by st keys changes buckets links (filled words (st .«well_known») extra)
         (leb-true _ _ (d .0)) (leb-true _ _ (d .1)) (leb-true _ _ (b .1)) (leb-true _ _ (a .1))
-        (subst (λ (l : ℕ). 384 ≤ l) (sym (length-filled words (st .«well_known») extra w)) w)
+        (subst (λ (l : ℕ). 384 ≤ l) (sym (length-filled words (st .«well_known») extra w)) w) (q .1)
 
-    go : (p q : Bool) → hasRoomFor (st .capacity) (length keys) (length changes) (length buckets) (length links) (length words) ≡ q
+    go : (p q : Bool) → canOpenBy st (length keys) (length changes) (length buckets) (length links) (length words) ≡ q
         → cond p (cond q done (begins 13 st buckets words)) (begins 12 st buckets words) .answer ≡ 7
         → OpenedBy (leftOpen (cond p (cond q done (begins 13 st buckets words)) (begins 12 st buckets words)) keys changes links)
     go true true e h = room e
@@ -174,7 +178,7 @@ pub opening-same : (st : Settings) (extra keys changes buckets links words : Lis
     → (opened st extra (length keys) (length changes) words .answer ≡ 7)
     × (leftOpen (openedBy st extra (length keys) (length changes) (length links) buckets words) keys changes links .store ≡ leftStore (opened st extra (length keys) (length changes) words) keys changes)
 unfolding openedBy opened
-opening-same st extra keys changes buckets links words = go (allPids extra) (hasRoom (st .capacity) (length keys) (length changes) (length words)) (leb (roomOf (st .capacity)) (length buckets)) (leb (roomOf (st .capacity)) (length links))
+opening-same st extra keys changes buckets links words = go (allPids extra) (canOpen st (length keys) (length changes) (length words)) (leb (roomOf (st .capacity)) (length buckets)) (leb (roomOf (st .capacity)) (length links))
   where
     ws : List ℕ
     ws = filled words (st .«well_known») extra

@@ -6,3 +6,4 @@ pub mod Opening
 pub mod Watching
 pub mod Counting
 pub mod Indexed
+pub mod Change

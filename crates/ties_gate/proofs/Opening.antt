@@ -12,13 +12,14 @@ use Rattle.laws.proofs.Tests.{and-true}
 use Rattle.laws.specs.Runs.{answers, storeAfter}
 use Rattle.ring.specs.Store.{roomOf}
 use Rattle.ring.proofs.Order.{opened-reached}
+use Rattle.section.specs.Judged.{ruleKnown}
 use Rattle.pat.specs.Pat.{listed}
 use Rattle.laws.proofs.Bits.{among}
 use Rattle.watched.specs.Store.{allPids, filled, protectedPids}
 use Rattle.watched.specs.View.{watchIn}
 use Rattle.watched.proofs.Meaning.{opened-watched, opened-protected, opened-followed, length-filled}
 use Rattle.counters.specs.Counters.{zeroes}
-use Rattle.gate.specs.Store.{Begun, begins, hasRoom, opened, Store, storeOf}
+use Rattle.gate.specs.Store.{Begun, begins, canOpen, opened, Store, storeOf}
 use Rattle.gate.specs.Rules.{Offer, Manner, tells, acts, OfBytes}
 use Rattle.gate.specs.View.{mannerOf, heldBy, Opened, storeTells, storeActs}
 use Rattle.gate_state.specs.declared.Settings.{Settings}
@@ -37,16 +38,16 @@ leftOpen o keys changes = storeOf (o .gate) (o .counters) keys changes (o .words
 pub record Seven (st : Settings) (extra : List ℕ) (keys changes : ℕ) (words : List ℕ) : Type 0 where
   pub left : opened st extra keys changes words ≡ begins 7 st (filled words (st .«well_known») extra)
   pub pids : allPids extra ≡ true
-  pub room : hasRoom (st .capacity) keys changes (length words) ≡ true
+  pub room : canOpen st keys changes (length words) ≡ true
 
 pub seven : (st : Settings) (extra : List ℕ) (keys changes : ℕ) (words : List ℕ) → opened st extra keys changes words .answer ≡ 7 → Seven st extra keys changes words
 unfolding opened
-seven st extra keys changes words h = go (allPids extra) (hasRoom (st .capacity) keys changes (length words)) refl refl h
+seven st extra keys changes words h = go (allPids extra) (canOpen st keys changes (length words)) refl refl h
   where
     done : Begun
     done = begins 7 st (filled words (st .«well_known») extra)
 
-    go : (p q : Bool) → allPids extra ≡ p → hasRoom (st .capacity) keys changes (length words) ≡ q
+    go : (p q : Bool) → allPids extra ≡ p → canOpen st keys changes (length words) ≡ q
         → cond p (cond q done (begins 13 st words)) (begins 12 st words) .answer ≡ 7
         → Seven st extra keys changes words
     go true true e f k = record { left = rw (e, f); pids = e; room = f }
@@ -63,13 +64,18 @@ module _
     n : ℕ
     n = roomOf (st .capacity)
 
+    -- rows, words and the rule
+    needs : ((leb (roomOf (st .capacity)) (length keys) && leb (roomOf (st .capacity)) (length changes) && leb 384 (length words)) ≡ true) × (ruleKnown (st .«change_rule») ≡ true)
+    needs =
+        and-true (leb (roomOf (st .capacity)) (length keys) && leb (roomOf (st .capacity)) (length changes) && leb 384 (length words)) (ruleKnown (st .«change_rule»)) (z .room)
+
     w : 384 ≤ length words
-    w = leb-true 384 (length words) (and-true (leb (roomOf (st .capacity)) (length keys) && leb (roomOf (st .capacity)) (length changes)) (leb 384 (length words)) (z .room) .1)
+    w = leb-true 384 (length words) (and-true (leb (roomOf (st .capacity)) (length keys) && leb (roomOf (st .capacity)) (length changes)) (leb 384 (length words)) (needs .0) .1)
 
     rooms : (leb (roomOf (st .capacity)) (length keys) ≡ true) × (leb (roomOf (st .capacity)) (length changes) ≡ true)
     rooms =
         and-true (leb (roomOf (st .capacity)) (length keys)) (leb (roomOf (st .capacity)) (length changes))
-        (and-true (leb (roomOf (st .capacity)) (length keys) && leb (roomOf (st .capacity)) (length changes)) (leb 384 (length words)) (z .room) .0)
+        (and-true (leb (roomOf (st .capacity)) (length keys) && leb (roomOf (st .capacity)) (length changes)) (leb 384 (length words)) (needs .0) .0)
 
     -- the store is an opened one
     pub opening-opens : Opened (leftOpen (opened st extra (length keys) (length changes) words) keys changes)
@@ -78,6 +84,7 @@ module _
         (record {
           reached = opened-reached (st .capacity) keys changes (leb-true _ _ (rooms .0)) (leb-true _ _ (rooms .1));
           watch = subst (λ (l : ℕ). 384 ≤ l) (sym (length-filled words (st .«well_known») extra w)) w;
+          rule = needs .1;
         })
 
     -- it stands for an empty gate, with the protected PIDs watched and N empty
@@ -95,7 +102,7 @@ module _
 
 -- the settings that an offer looks at
 abbrev pub mannerFor : Settings → Manner
-mannerFor st = record { capacity = st .capacity; repeats = st .repeats; follow = st .follow }
+mannerFor st = record { capacity = st .capacity; repeats = st .repeats; follow = st .follow; rule = st .«change_rule» }
 
 -- from an opening that answers 7 every sequence of offers of bytes has the rule's answers from the empty gate, and leaves what the rule leaves
 module _

@@ -93,7 +93,7 @@ module _ (s : Store) (r : Opened s) (section : List ℕ) (b : Bytes section) (a 
 
   admitted-opened : Opened (admittedTo s section a .store)
   unfolding admittedTo seenBy memoryAfter
-  admitted-opened = record { reached = st .reached; watch = watch-kept (seenIn (memoryOf s) (rowFrom a) .changed && s .gate .follow) (s .words) section (r .watch) }
+  admitted-opened = record { reached = st .reached; watch = watch-kept (seenIn (memoryOf s) (rowFrom a) .changed && s .gate .follow) (s .words) section (r .watch); rule = r .rule }
 
   admitted-manner : mannerOf (admittedTo s section a .store .gate) ≡ mannerOf (s .gate)
   unfolding admittedTo seenBy memoryAfter
@@ -101,12 +101,12 @@ module _ (s : Store) (r : Opened s) (section : List ℕ) (b : Bytes section) (a 
 
 -- a section that failed its CRC leaves the memory
 failed-follows : (s : Store) → Opened s → Opened (record { gate = s .gate; counters = failedOf (s .counters); keys = s .keys; changes = s .changes; words = s .words })
-failed-follows s r = record { reached = r .reached; watch = r .watch }
+failed-follows s r = record { reached = r .reached; watch = r .watch; rule = r .rule }
 
 -- of bytes, what arrives has a change number of 32 bits
-pub verdict-small : (o : Offer) → Bytes (o .section) → (f : Bool) (a : Arrival) → cond f (Refused CounterFull) (readOf (o .pid) (o .section)) ≡ Arrived a → a .change < 2 ^ 32
-verdict-small o b true a e = let z : _≡_ {A = ℕ} 0 1 = cc in absurd (omega arith)
-verdict-small o b false a e = arrived-small (o .section) b (o .pid) a e
+pub verdict-small : (rule : ℕ) (o : Offer) → Bytes (o .section) → (f : Bool) (a : Arrival) → cond f (Refused CounterFull) (readOf rule (o .pid) (o .section)) ≡ Arrived a → a .change < 2 ^ 32
+verdict-small rule o b true a e = let z : _≡_ {A = ℕ} 0 1 = cc in absurd (omega arith)
+verdict-small rule o b false a e = arrived-small (o .section) rule b (o .pid) a e
 
 module _ (s : Store) (o : Offer) (r : Opened s) (b : Bytes (o .section)) where
   -- a verdict carried out
@@ -125,10 +125,10 @@ module _ (s : Store) (o : Offer) (r : Opened s) (b : Bytes (o .section)) where
   unfolding offered told verdictOf
   follows =
       rw whole
-      (carried-follows (cond (anyFull (s .counters)) (Refused CounterFull) (readOf (o .pid) (o .section))) (verdict-small o b (anyFull (s .counters))))
+      (carried-follows (cond (anyFull (s .counters)) (Refused CounterFull) (readOf (s .gate .«change_rule») (o .pid) (o .section))) (verdict-small (s .gate .«change_rule») o b (anyFull (s .counters))))
     where
       whole : isWhole s ≡ true
-      whole = true-and (whole-test (s .gate .ring) (length (s .keys)) (length (s .changes)) (r .reached .whole)) (le-leb 384 (length (s .words)) (r .watch))
+      whole = true-and (true-and (whole-test (s .gate .ring) (length (s .keys)) (length (s .changes)) (r .reached .whole)) (le-leb 384 (length (s .words)) (r .watch))) (r .rule)
 
 -- THE THEOREM: from an opened store, every sequence of offers of bytes has the rule's answers, and the store then stands for what the rule holds
 pub same-answers :

@@ -56,7 +56,7 @@ module _ (s : Store) (r : Passes s) (section : List ℕ) (b : Bytes section) (a 
               answer-no (changed (rowFrom a) (laidIn (memoryOf s) .rows) || s .gate .repeats),
               watch-shown (changed (rowFrom a) (laidIn (memoryOf s) .rows) && s .gate .follow) (s .words) section (r .watch) b,
             );
-        passes = record { rows = st .whole; watch = watch-kept (seenIn (memoryOf s) (rowFrom a) .changed && s .gate .follow) (s .words) section (r .watch) };
+        passes = record { rows = st .whole; watch = watch-kept (seenIn (memoryOf s) (rowFrom a) .changed && s .gate .follow) (s .words) section (r .watch); rule = r .rule };
         manner = rw (st .capacity);
       }
 
@@ -66,7 +66,7 @@ module _ (s : Store) (o : Offer) (r : Passes s) (b : Bytes (o .section)) where
       Says (mannerOf (s .gate)) (carried s (o .section) v) (carriedAt (mannerOf (s .gate)) (placedBy s) (o .section) v)
   unfolding carried carriedAt
   carried-says (Refused x) k = record { same = refl; passes = r; manner = refl }
-  carried-says Failed k = record { same = refl; passes = record { rows = r .rows; watch = r .watch }; manner = refl }
+  carried-says Failed k = record { same = refl; passes = record { rows = r .rows; watch = r .watch; rule = r .rule }; manner = refl }
   carried-says (Arrived a) k = admitted-says s r (o .section) b a (k a refl)
 
   -- every offer
@@ -74,10 +74,10 @@ module _ (s : Store) (o : Offer) (r : Passes s) (b : Bytes (o .section)) where
   unfolding offered said verdictOf
   says =
       rw whole
-      (carried-says (cond (anyFull (s .counters)) (Refused CounterFull) (readOf (o .pid) (o .section))) (verdict-small o b (anyFull (s .counters))))
+      (carried-says (cond (anyFull (s .counters)) (Refused CounterFull) (readOf (s .gate .«change_rule») (o .pid) (o .section))) (verdict-small (s .gate .«change_rule») o b (anyFull (s .counters))))
     where
       whole : isWhole s ≡ true
-      whole = true-and (whole-test (s .gate .ring) (length (s .keys)) (length (s .changes)) (r .rows)) (le-leb 384 (length (s .words)) (r .watch))
+      whole = true-and (true-and (whole-test (s .gate .ring) (length (s .keys)) (length (s .changes)) (r .rows)) (le-leb 384 (length (s .words)) (r .watch))) (r .rule)
 
 -- every sequence
 all-answers :

@@ -68,7 +68,7 @@ module _ (m : Manner) (p : ℕ → Bool) where
   watches h n [] k = k
   watches h n (o ∷ os) k =
       watches (acts m h o) (cond (isFollowed m h o) (setN (o .section)) n) os
-      (carried-watches h n (o .section) k (cond (anyFull (h .counters)) (Refused CounterFull) (readOf (o .pid) (o .section))))
+      (carried-watches h n (o .section) k (cond (anyFull (h .counters)) (Refused CounterFull) (readOf (m .rule) (o .pid) (o .section))))
 
 -- an opened store stays one
 always-opened : (s : Store) (os : List Offer) → Opened s → OfBytes os → Opened (storeAfter storeActs s os)

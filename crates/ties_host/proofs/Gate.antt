@@ -15,6 +15,7 @@ use Rattle.counters.specs.Counters.{zeroes}
 use Rattle.ring.specs.Store.{roomOf, stampOf, ringWith, hasFree, rowFor, isKnown, renewed, arrived, seenOf}
 use Rattle.ring.specs.declared.Ring.{Ring}
 use Rattle.ring.proofs.Order.{opened-reached}
+use Rattle.section.specs.Judged.{ruleKnown}
 use Rattle.offers.specs.Offers.{verdictOf}
 use Rattle.offers.specs.declared.Verdict.{Verdict}
 use Rattle.offers.specs.declared.Verdict.the-variants.{Refused, Failed, Arrived}
@@ -23,7 +24,7 @@ use Rattle.watched.proofs.Meaning.{length-filled}
 use Rattle.gate.specs.Rules as rules
 use Rattle.gate.specs.Rules.{Offer, OfBytes}
 use Rattle.gate_state.specs.State.{emptyGate, gateWith, seenBy}
-use Rattle.gate.specs.Store.{hasRoom, begins, opened, Store, storeOf, admittedTo, carried, isWhole, offered}
+use Rattle.gate.specs.Store.{canOpen, begins, opened, Store, storeOf, admittedTo, carried, isWhole, offered}
 use Rattle.gate.specs.View.{mannerOf, heldBy, Opened, storeTells, storeActs}
 use Rattle.gate_state.specs.declared.Gate.{Gate}
 use Rattle.gate_state.specs.declared.Settings.{Settings}
@@ -71,7 +72,7 @@ carried-counts s section (Arrived a) = ap (λ (r : Ring). gateWith (s .gate) r) 
 
 offered-counts : (s : Store) (pid : ℕ) (section : List ℕ) → (offered s pid section) .store .gate ≡ counted (s .gate) ((offered s pid section) .store .gate)
 unfolding offered
-offered-counts s pid section = carried-counts s section (verdictOf (isWhole s) (s .counters) pid section)
+offered-counts s pid section = carried-counts s section (verdictOf (isWhole s) (s .counters) (s .gate .«change_rule») pid section)
 
 -- ---- one call
 
@@ -107,10 +108,10 @@ opened-read s = rw (bit-read (s .repeats), bit-read (s .follow))
 -- where opening answers 7, the words stand for an opened gate
 pub opened-by : (l : Lent) → OpenedBy l → Opened (storeIn l)
 unfolding gateOpened opened
-opened-by l o = go (allPids (o .extra)) (hasRoom (o .capacity) (length (l .keys)) (length (l .changes)) (length (o .watched))) refl (o .answer) (o .words) (o .watch)
+opened-by l o = go (allPids (o .extra)) (canOpen (settingsOf (o .capacity) (o .settings) (o .rule)) (length (l .keys)) (length (l .changes)) (length (o .watched))) refl (o .answer) (o .words) (o .watch)
   where
     st : Settings
-    st = settingsOf (o .capacity) (o .settings)
+    st = settingsOf (o .capacity) (o .settings) (o .rule)
 
     ws : List ℕ
     ws = filled (o .watched) (st .«well_known») (o .extra)
@@ -118,15 +119,16 @@ opened-by l o = go (allPids (o .extra)) (hasRoom (o .capacity) (length (l .keys)
     n : ℕ
     n = roomOf (o .capacity)
 
-    room : hasRoom (o .capacity) (length (l .keys)) (length (l .changes)) (length (o .watched)) ≡ true → l .words ≡ wordsOf (emptyGate st) zeroes → l .watch ≡ ws → Opened (storeIn l)
+    room : canOpen (settingsOf (o .capacity) (o .settings) (o .rule)) (length (l .keys)) (length (l .changes)) (length (o .watched)) ≡ true → l .words ≡ wordsOf (emptyGate st) zeroes → l .watch ≡ ws → Opened (storeIn l)
     room e w v =
-        let a = and-true (leb n (length (l .keys)) && leb n (length (l .changes))) (leb 384 (length (o .watched))) e in
+        let q = and-true (leb n (length (l .keys)) && leb n (length (l .changes)) && leb 384 (length (o .watched))) (ruleKnown (o .rule)) e in
+        let a = and-true (leb n (length (l .keys)) && leb n (length (l .changes))) (leb 384 (length (o .watched))) (q .0) in
         let b = and-true (leb n (length (l .keys))) (leb n (length (l .changes))) (a .0) in
         let k = leb-true 384 (length (o .watched)) (a .1) in
         let p : 384 ≤ length ws = subst (λ (m : ℕ). 384 ≤ m) (sym (length-filled (o .watched) (st .«well_known») (o .extra) k)) k in
-        rw (w, opened-read st, v) (record { reached = opened-reached (o .capacity) (l .keys) (l .changes) (leb-true _ _ (b .0)) (leb-true _ _ (b .1)); watch = p })
+        rw (w, opened-read st, v) (record { reached = opened-reached (o .capacity) (l .keys) (l .changes) (leb-true _ _ (b .0)) (leb-true _ _ (b .1)); watch = p; rule = q .1 })
 
-    go : (good room′ : Bool) → hasRoom (o .capacity) (length (l .keys)) (length (l .changes)) (length (o .watched)) ≡ room′
+    go : (good room′ : Bool) → canOpen (settingsOf (o .capacity) (o .settings) (o .rule)) (length (l .keys)) (length (l .changes)) (length (o .watched)) ≡ room′
         → (begunAs (o .before) (cond good (cond room′ (begins 7 st ws) (begins 13 st (o .watched))) (begins 12 st (o .watched)))) .answer ≡ 7
         → l .words ≡ (begunAs (o .before) (cond good (cond room′ (begins 7 st ws) (begins 13 st (o .watched))) (begins 12 st (o .watched)))) .gate
         → l .watch ≡ (begunAs (o .before) (cond good (cond room′ (begins 7 st ws) (begins 13 st (o .watched))) (begins 12 st (o .watched)))) .watch

@@ -22,7 +22,7 @@ use Rattle.gate.specs.View.{mannerOf, heldBy}
 use Rattle.gate_state.specs.declared.Gate.{Gate}
 use Rattle.gate_state.specs.declared.Settings.{Settings}
 use Rattle.ties_gate.proofs.Order as order
-use Rattle.gate_indexed.specs.Store.{hasRoomFor, Begun, begins, openedBy, Indexed, indexedOf, admittedBy, carriedBy, isWholeBy, offeredBy}
+use Rattle.gate_indexed.specs.Store.{canOpenBy, Begun, begins, openedBy, Indexed, indexedOf, admittedBy, carriedBy, isWholeBy, offeredBy}
 use Rattle.gate_indexed.specs.Runs.{tellsBy, actsBy}
 use Rattle.ties_gate.proofs.Indexed as same
 use Rattle.ties_gate.proofs.Indexed.{leftOpen, opening-opens}
@@ -49,7 +49,7 @@ carried-counts s section (Arrived a) =
 
 offered-counts : (s : Indexed) (pid : ℕ) (section : List ℕ) → (offeredBy s pid section) .left .store .gate ≡ counted (s .store .gate) ((offeredBy s pid section) .left .store .gate)
 unfolding offeredBy
-offered-counts s pid section = carried-counts s section (verdictOf (isWholeBy s) (s .store .counters) pid section)
+offered-counts s pid section = carried-counts s section (verdictOf (isWholeBy s) (s .store .counters) (s .store .gate .«change_rule») pid section)
 
 -- ---- one call
 
@@ -78,11 +78,11 @@ same-store = runs.same-store storeIn offerOf (λ (n : ℕ). n) tells acts tellsB
 pub opened-by : (l : Lent) → OpenedBy l → same.OpenedBy (storeIn l)
 unfolding gateOpened openedBy
 opened-by l o =
-    go (allPids (o .extra)) (hasRoomFor (o .capacity) (length (l .keys)) (length (l .changes)) (length (o .old)) (length (l .links)) (length (o .watched)))
+    go (allPids (o .extra)) (canOpenBy (settingsOf (o .capacity) (o .settings) (o .rule)) (length (l .keys)) (length (l .changes)) (length (o .old)) (length (l .links)) (length (o .watched)))
     (o .answer) (o .words) (o .buckets) (o .watch) (opening-opens st (o .extra) (l .keys) (l .changes) (o .old) (l .links) (o .watched))
   where
     st : Settings
-    st = settingsOf (o .capacity) (o .settings)
+    st = settingsOf (o .capacity) (o .settings) (o .rule)
 
     bs : List ℕ
     bs = clearedBy (roomOf (o .capacity)) (o .old)

@@ -38,8 +38,9 @@ pub record OpenedBy (l : Lent) : Type 0 where
   pub before : List ℕ
   pub capacity : ℕ
   pub settings : ℕ
+  pub rule : ℕ
   pub extra : List ℕ
   pub watched : List ℕ
-  pub answer : (gateOpened before capacity settings extra (l .keys) (l .changes) watched) .answer ≡ 7
-  pub words : l .words ≡ (gateOpened before capacity settings extra (l .keys) (l .changes) watched) .gate
-  pub watch : l .watch ≡ (gateOpened before capacity settings extra (l .keys) (l .changes) watched) .watch
+  pub answer : (gateOpened before capacity settings rule extra (l .keys) (l .changes) watched) .answer ≡ 7
+  pub words : l .words ≡ (gateOpened before capacity settings rule extra (l .keys) (l .changes) watched) .gate
+  pub watch : l .watch ≡ (gateOpened before capacity settings rule extra (l .keys) (l .changes) watched) .watch

@@ -36,10 +36,11 @@ pub record OpenedBy (l : Lent) : Type 0 where
   pub before : List ℕ
   pub capacity : ℕ
   pub settings : ℕ
+  pub rule : ℕ
   pub extra : List ℕ
   pub old : List ℕ
   pub watched : List ℕ
-  pub answer : (gateOpened before capacity settings extra (l .keys) (l .changes) old (l .links) watched) .answer ≡ 7
-  pub words : l .words ≡ (gateOpened before capacity settings extra (l .keys) (l .changes) old (l .links) watched) .gate
-  pub buckets : l .buckets ≡ (gateOpened before capacity settings extra (l .keys) (l .changes) old (l .links) watched) .buckets
-  pub watch : l .watch ≡ (gateOpened before capacity settings extra (l .keys) (l .changes) old (l .links) watched) .watch
+  pub answer : (gateOpened before capacity settings rule extra (l .keys) (l .changes) old (l .links) watched) .answer ≡ 7
+  pub words : l .words ≡ (gateOpened before capacity settings rule extra (l .keys) (l .changes) old (l .links) watched) .gate
+  pub buckets : l .buckets ≡ (gateOpened before capacity settings rule extra (l .keys) (l .changes) old (l .links) watched) .buckets
+  pub watch : l .watch ≡ (gateOpened before capacity settings rule extra (l .keys) (l .changes) old (l .links) watched) .watch

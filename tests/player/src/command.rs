@@ -38,7 +38,7 @@ pub enum By {
 
 #[derive(Clone, Debug)]
 pub enum Command {
-    GateOpen { capacity: u32, repeats: bool, follow: bool, well_known: bool, extra: Vec<u16> },
+    GateOpen { capacity: u32, repeats: bool, follow: bool, well_known: bool, rule: u64, extra: Vec<u16> },
     Gate { by: By, pid: u16, section: Vec<u8> },
     Ask { pid: u16 },
     Watched,

@@ -2,7 +2,7 @@
 use crate::answer::Answer;
 use crate::command::{By, Command, Part};
 use crate::lent::{Lent, words};
-use petrizolu::{Answer as Number, DEFAULT_CAPACITY, DEFAULT_SETTINGS, FOLLOW, GateState, REPEATS, WATCH_WORDS, WELL_KNOWN, calls};
+use petrizolu::{Answer as Number, CHANGE_AS_THE_RUST, DEFAULT_CAPACITY, DEFAULT_SETTINGS, FOLLOW, GateState, REPEATS, WATCH_WORDS, WELL_KNOWN, calls};
 
 /// Where the two forms differ, in words.
 #[derive(Debug)]
@@ -23,8 +23,8 @@ impl Plain {
         Self { state: GateState::default(), keys: words(byte, rows), changes: words(byte, rows), watch: words(byte, WATCH_WORDS) }
     }
 
-    pub fn open(&mut self, capacity: u64, settings: u32, extra: &[u16]) -> Number {
-        calls::gate_open(&mut self.state, capacity, settings, extra, &self.keys, &self.changes, &mut self.watch)
+    pub fn open(&mut self, capacity: u64, settings: u32, rule: u64, extra: &[u16]) -> Number {
+        calls::gate_open(&mut self.state, capacity, settings, rule, extra, &self.keys, &self.changes, &mut self.watch)
     }
 
     pub fn offer(&mut self, pid: u32, section: &[u8]) -> Number {
@@ -60,11 +60,12 @@ impl Indexed {
         }
     }
 
-    pub fn open(&mut self, capacity: u64, settings: u32, extra: &[u16]) -> Number {
+    pub fn open(&mut self, capacity: u64, settings: u32, rule: u64, extra: &[u16]) -> Number {
         calls::indexed_open(
             &mut self.state,
             capacity,
             settings,
+            rule,
             extra,
             &self.keys,
             &self.changes,
@@ -108,22 +109,22 @@ pub struct Gates {
 }
 
 impl Gates {
-    /// Gates with the default settings, on memory whose bytes were all `byte`.
+    /// Gates with the default settings but the original's change rule, on memory whose bytes were all `byte`.
     pub fn begin(byte: u8) -> Self {
         let rows = DEFAULT_CAPACITY as usize;
         let mut gates = Self { plain: Plain::lend(rows, byte), indexed: Indexed::lend(rows, byte) };
-        gates.plain.open(DEFAULT_CAPACITY, DEFAULT_SETTINGS, &[]);
-        gates.indexed.open(DEFAULT_CAPACITY, DEFAULT_SETTINGS, &[]);
+        gates.plain.open(DEFAULT_CAPACITY, DEFAULT_SETTINGS, CHANGE_AS_THE_RUST, &[]);
+        gates.indexed.open(DEFAULT_CAPACITY, DEFAULT_SETTINGS, CHANGE_AS_THE_RUST, &[]);
         gates
     }
 
     /// Carries out a command of the gate.
     pub fn answer(&mut self, command: &Command) -> Result<Answer, Differs> {
         match command {
-            Command::GateOpen { capacity, repeats, follow, well_known, extra } => {
+            Command::GateOpen { capacity, repeats, follow, well_known, rule, extra } => {
                 let flags = [(*repeats, REPEATS), (*follow, FOLLOW), (*well_known, WELL_KNOWN)];
                 let settings = flags.iter().filter(|(on, _)| *on).map(|(_, flag)| flag).sum();
-                self.open((*capacity).into(), settings, extra)
+                self.open((*capacity).into(), settings, *rule, extra)
             }
             Command::Gate { by: By::Packets, pid, section } => self.deliver(*pid, section),
             Command::Gate { by: By::Offer, pid, section } => self.offer(*pid, section),
@@ -133,9 +134,9 @@ impl Gates {
         }
     }
 
-    fn open(&mut self, capacity: u64, settings: u32, extra: &[u16]) -> Result<Answer, Differs> {
-        let plain = self.plain.open(capacity, settings, extra);
-        let indexed = self.indexed.open(capacity, settings, extra);
+    fn open(&mut self, capacity: u64, settings: u32, rule: u64, extra: &[u16]) -> Result<Answer, Differs> {
+        let plain = self.plain.open(capacity, settings, rule, extra);
+        let indexed = self.indexed.open(capacity, settings, rule, extra);
         let number = self.same(plain, indexed)?;
         self.same_rows()?;
         Ok(Answer::Number(Part::Gate, number.0))

@@ -8,10 +8,10 @@ impl Display for Command {
     fn fmt(&self, f: &mut fmt::Formatter<'_>) -> fmt::Result {
         write!(f, "{}", self.kind())?;
         match self {
-            Command::GateOpen { capacity, repeats, follow, well_known, extra } => {
+            Command::GateOpen { capacity, repeats, follow, well_known, rule, extra } => {
                 let extra: Vec<String> = extra.iter().map(|pid| format!("{pid:04X}")).collect();
                 write!(f, " cap={capacity} repeats={} follow={}", u8::from(*repeats), u8::from(*follow))?;
-                write!(f, " wellknown={} extra={}", u8::from(*well_known), extra.join(","))
+                write!(f, " wellknown={} rule={rule} extra={}", u8::from(*well_known), extra.join(","))
             }
             Command::Gate { pid, section, .. } => write!(f, " {pid:04X} {}", hex(section)),
             Command::Ask { pid } => write!(f, " {pid:04X}"),
@@ -62,6 +62,7 @@ pub fn parse(line: &str) -> Option<Command> {
             repeats: flag("repeats", false),
             follow: flag("follow", true),
             well_known: flag("wellknown", true),
+            rule: number("rule", 1).filter(|&rule| rule < 4)?.into(),
             extra: match field("extra").unwrap_or("") {
                 "" => Vec::new(),
                 list => list.split(',').map(hex16).collect::<Option<_>>()?,

@@ -1,7 +1,8 @@
 //! Commands as the bytes of a tape. Numbers are high byte first.
 //!
 //! ```text
-//! 10 gate open     capacity u32, flags u8 (1 repeats, 2 follow, 4 well-known PIDs), count u8, that many PIDs u16
+//! 10 gate open     capacity u32, flags u8 (1 repeats, 2 follow, 4 well-known PIDs; change rule: neither 8 nor 10 is 1, 8 alone 2, 10 alone 0,
+//!                  which there is not, both 3, neither is there), count u8, that many PIDs u16
 //! 11 gate section  PID u16, length u16, the bytes: as a packet would deliver them, so only on a watched PID
 //! 12 gate offer    PID u16, length u16, the bytes: offered, watched or not
 //! 13 gate ask      PID u16
@@ -19,6 +20,8 @@ use std::io::{self, ErrorKind, Read};
 
 /// Stands on a tape for "no PID".
 const NO_PID: u16 = 0xFFFF;
+/// The change rules that the flags 8 and 10 (hexadecimal) of an opening choose from.
+const RULES: [u64; 4] = [1, 2, 0, 3];
 
 // ---- reading
 
@@ -107,7 +110,8 @@ impl<R: Read> Tape<R> {
         let capacity = self.bytes().map(u32::from_be_bytes)?;
         let flags = self.byte()?;
         let extra = (0..self.byte()?).map(|_| self.short()).collect::<Result<_, _>>()?;
-        Ok(Command::GateOpen { capacity, repeats: flags & 1 != 0, follow: flags & 2 != 0, well_known: flags & 4 != 0, extra })
+        let rule = RULES[usize::from(flags >> 3 & 3)];
+        Ok(Command::GateOpen { capacity, repeats: flags & 1 != 0, follow: flags & 2 != 0, well_known: flags & 4 != 0, rule, extra })
     }
 
     fn filter(&mut self) -> Result<Command, Stop> {
@@ -135,10 +139,11 @@ pub fn tape_of(script: &[Command]) -> Vec<u8> {
 fn write_command(command: &Command, tape: &mut Vec<u8>) {
     let collector = |part: &Part, command: u8| if *part == Part::Eit { 0x30 + command } else { 0x20 + command };
     match command {
-        Command::GateOpen { capacity, repeats, follow, well_known, extra } => {
+        Command::GateOpen { capacity, repeats, follow, well_known, rule, extra } => {
             tape.push(0x10);
             tape.extend(capacity.to_be_bytes());
-            tape.push(u8::from(*repeats) | u8::from(*follow) << 1 | u8::from(*well_known) << 2);
+            let by = RULES.iter().position(|known| known == rule).expect("a rule that a tape can name") as u8;
+            tape.push(u8::from(*repeats) | u8::from(*follow) << 1 | u8::from(*well_known) << 2 | by << 3);
             tape.push(u8::try_from(extra.len()).expect("at most 255 extra PIDs"));
             tape.extend(extra.iter().flat_map(|pid| pid.to_be_bytes()));
         }

@@ -15,6 +15,8 @@ pub struct Gate {
     capacity: usize,
     repeats: bool,
     follow: bool,
+    /// The change rule.
+    rule: u64,
     /// In order of first arrival.
     keys: Vec<Kept>,
     /// Completed, emitted, suppressed, CRC failures, evictions.
@@ -33,7 +35,7 @@ const EVICTIONS: usize = 4;
 const WELL_KNOWN: [u16; 8] = [0x0000, 0x0001, 0x0010, 0x0011, 0x0012, 0x0013, 0x0014, 0x001B];
 
 impl Gate {
-    pub fn open(capacity: usize, repeats: bool, follow: bool, well_known: bool, extra: &[u16]) -> Gate {
+    pub fn open(capacity: usize, repeats: bool, follow: bool, well_known: bool, rule: u64, extra: &[u16]) -> Gate {
         let mut protected = BTreeSet::from_iter(extra.iter().copied());
         if well_known {
             protected.extend(WELL_KNOWN);
@@ -42,6 +44,7 @@ impl Gate {
             capacity,
             repeats,
             follow,
+            rule,
             keys: Vec::new(),
             counters: [0; 5],
             watched: protected.clone(),
@@ -59,11 +62,11 @@ impl Gate {
         if section.len() < 3 || (has_crc(reading, section) && !crc_fits(section)) {
             self.counters[CRC_FAILURES] += 1;
             if reading.has(Fault::FailureHeld) && section.len() >= 12 {
-                self.admit(reading, kept(reading, pid, section));
+                self.admit(reading, kept(reading, self.rule, pid, section));
             }
             return 3;
         }
-        let changed = self.admit(reading, kept(reading, pid, section));
+        let changed = self.admit(reading, kept(reading, self.rule, pid, section));
         let emitted = changed || self.repeats;
         let follows = if reading.has(Fault::RepeatFollowed) { emitted } else { changed };
         if follows
@@ -118,13 +121,23 @@ fn has_crc(reading: &Reading, section: &[u8]) -> bool {
     long_form(section) || (section[0] == 0x73 && !reading.has(Fault::TotUnchecked))
 }
 
-/// The key of a section, its version and its change number.
-fn kept(reading: &Reading, pid: u16, section: &[u8]) -> Kept {
+/// Whether a section without a header is told by the CRC that it carries.
+fn by_stored_crc(reading: &Reading, rule: u64, section: &[u8]) -> bool {
+    let only_the_tot = reading.has(Fault::OnlyTotStoredCrc) && section[0] != 0x73;
+    let plain_too = reading.has(Fault::PlainStoredCrc) && section.len() >= 4;
+    match rule {
+        1 => section[0] == 0x73 && reading.has(Fault::TotStoredCrc),
+        _ => (has_crc(reading, section) && !only_the_tot && !reading.has(Fault::RuleIgnored)) || plain_too,
+    }
+}
+
+/// The key of a section, its version and its change number: by rule 2 the stored CRC of every section whose CRC was checked.
+fn kept(reading: &Reading, rule: u64, pid: u16, section: &[u8]) -> Kept {
     let least = if reading.has(Fault::HeaderAtEleven) { 11 } else { 12 };
     let headed = long_form(section) && section.len() >= least;
     let (extension, number, version, change) = if headed {
         (word(section, 3), section[6], version(section), stored_crc(section))
-    } else if section[0] == 0x73 && reading.has(Fault::TotStoredCrc) {
+    } else if by_stored_crc(reading, rule, section) {
         (0, 0, 0, stored_crc(section))
     } else {
         (0, 0, 0, crc(section))

@@ -67,7 +67,7 @@ pub struct Second {
 
 impl Second {
     pub fn new(reading: Reading) -> Second {
-        Second { reading, gate: Gate::open(65_536, false, true, true, &[]), sets: None, eit: None }
+        Second { reading, gate: Gate::open(65_536, false, true, true, 1, &[]), sets: None, eit: None }
     }
 
     /// How many sets went on into a schedule since the EIT collector was opened.
@@ -77,10 +77,10 @@ impl Second {
 
     pub fn answer(&mut self, command: &Command) -> Answer {
         match command {
-            Command::GateOpen { capacity, repeats, follow, well_known, extra } => {
-                let answer = lent::gate_opening(*capacity, extra);
+            Command::GateOpen { capacity, repeats, follow, well_known, rule, extra } => {
+                let answer = lent::gate_opening(*capacity, *rule, extra);
                 if answer == 7 {
-                    self.gate = Gate::open(*capacity as usize, *repeats, *follow, *well_known, extra);
+                    self.gate = Gate::open(*capacity as usize, *repeats, *follow, *well_known, *rule, extra);
                 }
                 Answer::Number(Part::Gate, answer)
             }

@@ -6,7 +6,7 @@ use Rattle.gate.proofs.open.Tie as tie
 use Rattle.gate.proofs.open.Reads as reads
 use Rattle.gate.proofs.open.Lts as lts
 use Rattle.gate_state.proofs.begin.Reads as begin-reads
-use Rattle.gate.proofs.inner.has_room.Reads as has-room-reads
+use Rattle.gate.proofs.inner.can_open.Reads as can-open-reads
 use Rattle.watched.proofs.inner.fill.Reads as fill-reads
 use Rattle.watched.proofs.inner.pids_good.Reads as pids-good-reads
 
@@ -23,8 +23,8 @@ returns : tie.Need-returns
 returns c = search opened-pid
 
 -- src/lib.rt:112:9
-has-room-requires : tie.Need-has-room-requires
-has-room-requires c κs = search needs
+can-open-requires : tie.Need-can-open-requires
+can-open-requires c κs = search needs
 
 -- src/lib.rt:113:9
 begin-requires-2 : tie.Need-begin-requires-2
@@ -33,12 +33,12 @@ begin-requires-2 c κs = search needs
 -- src/lib.rt:113:9
 returns-2 : tie.Need-returns-2
 returns-2 c = let a = c .before .before .before .before .before .before .before .before .before .args in
-    opened-little (a .settings) (a .extra .now) (a .words .now) (length (a .keys .now)) (length (a .changes .now)) _ (c .before .before .before .before .pids-good .ensures) (c .before .before .before .if1 .left) _ (c .before .before .has-room .ensures) _ (c .before .if2 .taken) (c .begin2 .ensures)
+    opened-little (a .settings) (a .extra .now) (a .words .now) (length (a .keys .now)) (length (a .changes .now)) _ (c .before .before .before .before .pids-good .ensures) (c .before .before .before .if1 .left) _ (c .before .before .can-open .ensures) _ (c .before .if2 .taken) (c .begin2 .ensures)
 
 -- src/lib.rt:115:5
 fill-requires : tie.Need-fill-requires
 fill-requires c κs = let a = c .before .before .before .before .before .before .before .before .before .args in (
-  words-room (a .settings) (a .extra .now) (a .words .now) (length (a .keys .now)) (length (a .changes .now)) _ (c .before .before .before .before .pids-good .ensures) (c .before .before .before .if1 .left) _ (c .before .before .has-room .ensures) (c .before .if2 .left),
+  words-room (a .settings) (a .extra .now) (a .words .now) (length (a .keys .now)) (length (a .changes .now)) _ (c .before .before .before .before .pids-good .ensures) (c .before .before .before .if1 .left) _ (c .before .before .can-open .ensures) (c .before .if2 .left),
   pids-good (a .settings) (a .extra .now) (a .words .now) (length (a .keys .now)) (length (a .changes .now)) _ (c .before .before .before .before .pids-good .ensures) (c .before .before .before .if1 .left),
 )
 
@@ -53,7 +53,7 @@ same-length c = search needs
 -- src/lib.rt:100:1
 returns-3 : tie.Need-returns-3
 returns-3 c = let a = c .before .before .before .before .before .before .before .before .before .before .before .before .before .args in
-    opened-yes (a .settings) (a .extra .now) (a .words .now) (length (a .keys .now)) (length (a .changes .now)) _ (c .before .before .before .before .before .before .before .before .pids-good .ensures) (c .before .before .before .before .before .before .before .if1 .left) _ (c .before .before .before .before .before .before .has-room .ensures) _ _ (c .before .before .before .before .before .if2 .left) (c .before .before .before .fill .ensures) (c .begin3 .ensures)
+    opened-yes (a .settings) (a .extra .now) (a .words .now) (length (a .keys .now)) (length (a .changes .now)) _ (c .before .before .before .before .before .before .before .before .pids-good .ensures) (c .before .before .before .before .before .before .before .if1 .left) _ (c .before .before .before .before .before .before .can-open .ensures) _ _ (c .before .before .before .before .before .if2 .left) (c .before .before .before .fill .ensures) (c .begin3 .ensures)
 
 pub open-spec : {M : Type 1} → statement M
 open-spec =
@@ -62,7 +62,7 @@ open-spec =
     pids-good-requires
     begin-requires
     returns
-    has-room-requires
+    can-open-requires
     begin-requires-2
     returns-2
     fill-requires

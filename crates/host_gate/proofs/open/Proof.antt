@@ -28,7 +28,7 @@ same-length c = search needs
 returns : tie.Need-returns
 returns c =
     let a = c .before .before .before .before .before .before .before .before .before .before .before .args in
-    gate-opened (a .gate .now) (a .capacity) (a .settings) (a .extra .now) (a .keys .now) (a .changes .now) (a .watch .now) _ (c .before .before .before .before .«open» .result) _ _ _ (c .before .before .before .before .before .before .settings .ensures) (c .before .before .before .before .«open» .ensures) (c .write-opened .ensures)
+    gate-opened (a .gate .now) (a .capacity) (a .settings) (a .change-rule) (a .extra .now) (a .keys .now) (a .changes .now) (a .watch .now) _ (c .before .before .before .before .«open» .result) _ _ _ (c .before .before .before .before .before .before .settings .ensures) (c .before .before .before .before .«open» .ensures) (c .write-opened .ensures)
 
 pub open-spec : {M : Type 1} → statement M
 open-spec =

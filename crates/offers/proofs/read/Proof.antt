@@ -18,7 +18,7 @@ enum-told c = search needs
 returns : tie.Need-returns
 returns c =
     let a = c .before .before .before .before .before .before .args in
-    (search read-section, read-taken (a .section .now) (a .pid) (c .read-from .result) (search read-section))
+    (search read-section, read-taken (a .section .now) (a .rule) (a .pid) (c .read-from .result) (search read-section))
 
 returns-2 : tie.Need-returns-2
 returns-2 c = (search read-pid, tt)

@@ -3,6 +3,9 @@ use borrow.Author.Needs.{needs}
 use Rattle.offers.proofs.read_from.Statement.{statement}
 use Rattle.offers.proofs.read_from.Tie as tie
 
+of-requires : tie.Need-of-requires
+of-requires c κs = search needs
+
 judge-requires : tie.Need-judge-requires
 judge-requires c κs = search needs
 
@@ -31,6 +34,7 @@ pub read-from-spec : {M : Type 1} → statement M
 read-from-spec =
     tie.close
     (tie.spec
+    of-requires
     judge-requires
     enum-told
     enum-told-2

@@ -1,6 +1,6 @@
 //! A gate of two rows, both in use.
 use crate::{Case, Store, case};
-use petrizolu::{Answer, DEFAULT_SETTINGS, GateState};
+use petrizolu::{Answer, CHANGE_STORED_CRC, DEFAULT_SETTINGS, GateState};
 use player::gate::Plain;
 
 #[derive(Clone, Copy)]
@@ -33,6 +33,7 @@ const OPENED: GateState = GateState {
     capacity: 2,
     repeats: 0,
     follow: 1,
+    change_rule: CHANGE_STORED_CRC,
     used: 0,
     first: 0,
     completed: 0,
@@ -48,11 +49,11 @@ impl Damaged {
         self.gate.offer(self.pid.into(), TDT)
     }
 
-    /// An opening with the capacity and the PID that the case has. Whether a refusal left what is kept by value counts; what an opening makes of it
+    /// An opening with the capacity, the change rule and the PID that the case has. Whether a refusal left what is kept by value counts; what an opening makes of it
     /// does not.
-    fn open(&mut self, capacity: u64) -> Answer {
+    fn open(&mut self, capacity: u64, rule: u64) -> Answer {
         let before = self.gate.state;
-        let answer = self.gate.open(capacity, DEFAULT_SETTINGS, &[self.pid]);
+        let answer = self.gate.open(capacity, DEFAULT_SETTINGS, rule, &[self.pid]);
         if answer == Answer::DONE {
             self.gate.state = before;
         }
@@ -61,7 +62,7 @@ impl Damaged {
 
     fn open_watch(&mut self) -> Answer {
         let mut other = Plain { watch: self.gate.watch.clone(), ..Plain::lend(1, 0) };
-        let answer = other.open(1, DEFAULT_SETTINGS, &[self.pid]);
+        let answer = other.open(1, DEFAULT_SETTINGS, CHANGE_STORED_CRC, &[self.pid]);
         self.gate.watch = other.watch;
         answer
     }
@@ -70,7 +71,7 @@ impl Damaged {
     fn refused(&mut self, state: GateState, pid: u16) -> Answer {
         let asked = self.gate.state;
         self.gate.state = state;
-        assert_ne!(self.open(asked.capacity), Answer::DONE);
+        assert_ne!(self.open(asked.capacity, asked.change_rule), Answer::DONE);
         let answer = self.gate.offer(pid.into(), TDT);
         if self.gate.state == state {
             self.gate.state = asked;
@@ -85,7 +86,7 @@ impl Store for Damaged {
     /// Two keys.
     fn filled() -> Self {
         let mut gate = Plain::lend(2, 0);
-        assert_eq!(gate.open(2, DEFAULT_SETTINGS, &[0x0014]), Answer::DONE);
+        assert_eq!(gate.open(2, DEFAULT_SETTINGS, CHANGE_STORED_CRC, &[0x0014]), Answer::DONE);
         assert_eq!(gate.state, OPENED);
         assert_eq!((gate.offer(0, PAT), gate.offer(0x0014, TDT)), (Answer::EMITTED, Answer::EMITTED));
         assert_eq!(gate.state, WHOLE);
@@ -108,10 +109,10 @@ impl Store for Damaged {
         match call {
             Offer => self.offer(),
             Ask => self.gate.ask(self.pid.into()),
-            Open => self.open(asked.capacity),
+            Open => self.open(asked.capacity, asked.change_rule),
             Watch => self.open_watch(),
             Former => self.refused(WHOLE, 0x0014),
-            Anew => self.refused(GateState { capacity: asked.capacity, ..OPENED }, self.pid),
+            Anew => self.refused(GateState { capacity: asked.capacity, change_rule: asked.change_rule, ..OPENED }, self.pid),
         }
     }
 }
@@ -131,6 +132,14 @@ pub const CASES: &[Case<Damaged>] = &[
     case("383 words of the watch", ALL, |d| d.gate.watch.lend(383)),
     case("capacity 3", ALL, |d| d.gate.state.capacity = 3),
     case("capacity 2^64 - 1", ALL, |d| d.gate.state.capacity = u64::MAX),
+    // 10 and 13: a change rule that there is not.
+    case("change rule 0", ALL, |d| d.gate.state.change_rule = 0),
+    case("change rule 3", ALL, |d| d.gate.state.change_rule = 3),
+    case("change rule 2^64 - 1", ALL, |d| d.gate.state.change_rule = u64::MAX),
+    case("change rule 0, PID 8192", ALL, |d| {
+        d.gate.state.change_rule = 0;
+        d.pid = 8192;
+    }),
     // 11: each of the five counters at its end.
     case("completed at its end", ALL, |d| d.gate.state.completed = u64::MAX),
     case("emitted at its end", ALL, |d| d.gate.state.emitted = u64::MAX),
@@ -159,5 +168,6 @@ pub const CASES: &[Case<Damaged>] = &[
     case("capacity 3", &[Former, Anew], |d| d.gate.state.capacity = 3),
     case("keys of 1 row", &[Anew], |d| d.gate.keys.lend(1)),
     case("383 words of the watch", &[Anew], |d| d.gate.watch.lend(383)),
+    case("change rule 3", &[Former, Anew], |d| d.gate.state.change_rule = 3),
     case("PID 8192", &[Former], |d| d.pid = 8192),
 ];

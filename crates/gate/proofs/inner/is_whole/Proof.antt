@@ -10,8 +10,11 @@ is-whole-requires : tie.Need-is-whole-requires
 is-whole-requires c κs = search needs
 
 -- src/inner.rt:21:1
+is-known-requires : tie.Need-is-known-requires
+is-known-requires c κs = search needs
+
 returns : tie.Need-returns
 returns c = cc
 
 pub is-whole-spec : {M : Type 1} → statement M
-is-whole-spec = tie.close (tie.spec is-whole-requires returns)
+is-whole-spec = tie.close (tie.spec is-whole-requires is-known-requires returns)
