@@ -166,16 +166,26 @@ static void collect_set(struct monitor *m, uint32_t pid, const uint8_t *section,
 
 static void take(struct monitor *m, uint32_t pid, const uint8_t *section, size_t length)
 {
-    uint8_t answer;
+    petrizolu_failure failure;
     if (petrizolu_watch_ask(LEND(m->gate.watch), pid) != PETRIZOLU_YES) {
         m->unwatched++;
         return;
     }
-    answer = petrizolu_indexed_offer(&m->gate.state, LEND_GATE(&m->gate), pid, section, length);
-    if (answer == PETRIZOLU_EMITTED)
+    switch (petrizolu_indexed_offer(&m->gate.state, LEND_GATE(&m->gate), pid, section, length, &failure)) {
+    case PETRIZOLU_EMITTED:
         printf("new pid %04" PRIX32 " table %02X, %zu bytes\n", pid, section[0], length);
-    else if (answer != PETRIZOLU_SUPPRESSED)
+        break;
+    case PETRIZOLU_SUPPRESSED:
+        break;
+    case PETRIZOLU_TOO_SHORT:
+        printf("short pid %04" PRIX32 ", %" PRIu64 " bytes\n", pid, failure.length);
         return;
+    case PETRIZOLU_CRC_MISMATCH:
+        printf("mismatch pid %04" PRIX32 ", stored %08" PRIX64 ", worked %08" PRIX64 "\n", pid, failure.stored, failure.worked);
+        return;
+    default:
+        return;
+    }
     if (is_event_table(section[0]))
         collect_events(m, pid, section, length);
     else

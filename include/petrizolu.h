@@ -32,7 +32,7 @@ extern "C" {
 enum petrizolu_answer {
     PETRIZOLU_EMITTED = 1,           /* gate: new or changed, or repeats are on */
     PETRIZOLU_SUPPRESSED = 2,        /* gate: repeats what was seen */
-    PETRIZOLU_CRC_FAILURE = 3,       /* gate: too short, or its CRC does not fit */
+    PETRIZOLU_CRC_MISMATCH = 3,      /* gate: the CRC that the section carries is not that of its bytes; both numbers are told */
     PETRIZOLU_NOTHING = 4,           /* collector: nothing to hand out */
     PETRIZOLU_SET = 5,               /* collector: a set is complete; its row is told */
     PETRIZOLU_SCHEDULE = 6,          /* EIT collector: a schedule is complete; its row is told */
@@ -52,7 +52,8 @@ enum petrizolu_answer {
     PETRIZOLU_TOO_LONG = 20,         /* longer than a cell */
     PETRIZOLU_NO_CELL = 21,          /* it would be kept, and no cell is free */
     PETRIZOLU_CONFLICT = 22,         /* other bytes under a section number that is held; its key is the newest now, else all is as before */
-    PETRIZOLU_RANGE = 23             /* EIT: complete, but its table_id is above the section's last_table_id; the section is kept */
+    PETRIZOLU_RANGE = 23,            /* EIT: complete, but its table_id is above the section's last_table_id; the section is kept */
+    PETRIZOLU_TOO_SHORT = 31         /* gate: too short to hold its CRC, or under 3 bytes; its length is told */
 };
 
 /* ---- numbers */
@@ -136,9 +137,18 @@ typedef struct petrizolu_gate {
     uint64_t completed;   /* sections offered: emitted + suppressed + crc_failures */
     uint64_t emitted;
     uint64_t suppressed;
-    uint64_t crc_failures;
+    uint64_t crc_failures;      /* short_sections + crc_mismatches */
+    uint64_t short_sections;    /* answered 31 */
+    uint64_t crc_mismatches;    /* answered 3 */
     uint64_t evictions;
 } petrizolu_gate;
+
+/* What a section failed by: 31 tells its length, 3 the CRC that it carries and the CRC of its bytes; what an answer does not tell is 0. */
+typedef struct petrizolu_failure {
+    uint64_t length;
+    uint64_t stored;
+    uint64_t worked;
+} petrizolu_failure;
 
 /*
  * Opens a gate and its watch. settings: PETRIZOLU_REPEATS and so on, or'ed; other bits are not looked at. extra: PIDs that are watched and
@@ -157,14 +167,24 @@ uint8_t petrizolu_gate_open(petrizolu_gate *gate, uint64_t capacity, uint32_t se
                             uint64_t *watch, size_t watch_words);
 
 /*
- * Offers a section that came on a PID, watched or not: 1, 2 or 3. Counters and rows move, and a changed PAT changes the watch where following is
- * on. 10, 11, 12: all as before.
+ * Offers a section that came on a PID, watched or not: 1 or 2, and counters and rows move, and a changed PAT changes the watch where following is
+ * on; 3 or 31, and only counters move, and *failure is written. Every other answer leaves *failure as it was. 10, 11, 12: all as before.
  *
- *     if (petrizolu_gate_offer(&gate, keys, 512, changes, 512, watch, PETRIZOLU_WATCH_WORDS, pid, section, length) == PETRIZOLU_EMITTED)
+ *     petrizolu_failure failure;
+ *     switch (petrizolu_gate_offer(&gate, keys, 512, changes, 512, watch, PETRIZOLU_WATCH_WORDS, pid, section, length, &failure)) {
+ *     case PETRIZOLU_EMITTED:
  *         printf("new, %llu so far\n", (unsigned long long)gate.emitted);
+ *         break;
+ *     case PETRIZOLU_TOO_SHORT:
+ *         printf("cut off after %llu bytes\n", (unsigned long long)failure.length);
+ *         break;
+ *     case PETRIZOLU_CRC_MISMATCH:
+ *         printf("broken: carries %08llX, its bytes give %08llX\n", (unsigned long long)failure.stored, (unsigned long long)failure.worked);
+ *         break;
+ *     }
  */
 uint8_t petrizolu_gate_offer(petrizolu_gate *gate, uint64_t *keys, size_t key_count, uint64_t *changes, size_t change_count, uint64_t *watch,
-                             size_t watch_words, uint32_t pid, const uint8_t *section, size_t section_length);
+                             size_t watch_words, uint32_t pid, const uint8_t *section, size_t section_length, petrizolu_failure *failure);
 
 /*
  * Is this PID watched? 8, 9; 10 (fewer than 384 words), 12.
@@ -194,12 +214,12 @@ uint8_t petrizolu_indexed_open(petrizolu_gate *gate, uint64_t capacity, uint32_t
  * As petrizolu_gate_offer.
  *
  *     if (petrizolu_indexed_offer(&large, rows[0], ROWS, rows[1], ROWS, rows[2], ROWS, rows[3], ROWS, watch, PETRIZOLU_WATCH_WORDS, pid, section,
- *                                 length) == PETRIZOLU_SUPPRESSED)
+ *                                 length, &failure) == PETRIZOLU_SUPPRESSED)
  *         printf("seen before\n");
  */
 uint8_t petrizolu_indexed_offer(petrizolu_gate *gate, uint64_t *keys, size_t key_count, uint64_t *changes, size_t change_count,
                                 uint64_t *buckets, size_t bucket_count, uint64_t *links, size_t link_count, uint64_t *watch,
-                                size_t watch_words, uint32_t pid, const uint8_t *section, size_t section_length);
+                                size_t watch_words, uint32_t pid, const uint8_t *section, size_t section_length, petrizolu_failure *failure);
 
 /* ---- a section of a row */
 

@@ -144,17 +144,19 @@ static void damage(struct array *a)
 
 enum call { GATE_OPEN, GATE_OFFER, WATCH_ASK, INDEXED_OPEN, INDEXED_OFFER, SETS_OPEN, SETS_PUSH, SETS_CLEAR, SETS_NEXT, EIT_OPEN, EIT_PUSH, EIT_CLEAR, EIT_DROP, EIT_NEXT, EIT_NEXT_IN_SCHEDULE, CALLS };
 
-#define ONE(n) (1u << (n))
+#define ONE(n) ((uint64_t)1 << (n))
+
+enum { LARGEST_ANSWER = 31 };
 
 static const struct {
     const char *name;
-    uint32_t answers;
+    uint64_t answers;
 } calls[CALLS] = {
     {"gate_open", ONE(7) | ONE(12) | ONE(13)},
-    {"gate_offer", ONE(1) | ONE(2) | ONE(3) | ONE(10) | ONE(11) | ONE(12)},
+    {"gate_offer", ONE(1) | ONE(2) | ONE(3) | ONE(10) | ONE(11) | ONE(12) | ONE(31)},
     {"watch_ask", ONE(8) | ONE(9) | ONE(10) | ONE(12)},
     {"indexed_open", ONE(7) | ONE(12) | ONE(13)},
-    {"indexed_offer", ONE(1) | ONE(2) | ONE(3) | ONE(10) | ONE(11) | ONE(12)},
+    {"indexed_offer", ONE(1) | ONE(2) | ONE(3) | ONE(10) | ONE(11) | ONE(12) | ONE(31)},
     {"sets_open", ONE(7) | ONE(13)},
     {"sets_push", ONE(4) | ONE(5) | ONE(10) | ONE(11) | ONE(12) | ONE(14) | ONE(15) | ONE(16) | ONE(17) | ONE(20) | ONE(21) | ONE(22)},
     {"sets_clear", ONE(7) | ONE(10)},
@@ -210,7 +212,7 @@ static bool as_before(const struct part *p)
 
 static void judge(enum call call, const struct part *p, unsigned answer)
 {
-    if (answer > 23 || !(calls[call].answers & ONE(answer)))
+    if (answer > LARGEST_ANSWER || !(calls[call].answers & ONE(answer)))
         fail(call, answer, "not an answer of this call");
     answered[call][answer]++;
     if ((REFUSALS & ONE(answer)) && !as_before(p))
@@ -387,17 +389,37 @@ static unsigned gate_open(struct part *p, bool with_index, uint64_t capacity, ui
     return answer;
 }
 
+/* 31 tells the length, 3 the CRC that the section carries and the CRC of its bytes; every other answer leaves what was there. */
+static bool failure_told(unsigned answer, const petrizolu_failure *told, const petrizolu_failure *before)
+{
+    switch (answer) {
+    case PETRIZOLU_TOO_SHORT:
+        return told->length == section.count && told->stored == 0 && told->worked == 0;
+    case PETRIZOLU_CRC_MISMATCH: {
+        uint32_t stored = 0;
+        for (size_t i = section.count - 4; i < section.count; i++)
+            stored = stored << 8 | section.data[i];
+        return told->length == 0 && told->stored == stored && told->worked == crc_of(section.data, section.count - 4) && stored != told->worked;
+    }
+    default:
+        return memcmp(told, before, sizeof *told) == 0;
+    }
+}
+
 static unsigned gate_offer(struct part *p, bool with_index, uint32_t pid)
 {
     unsigned answer;
+    petrizolu_failure before = {any_word(), any_word(), any_word()}, failure = before;
     remember(p);
     if (with_index) {
-        answer = petrizolu_indexed_offer((petrizolu_gate *)p->words, A(p, KEYS), A(p, CHANGES), A(p, BUCKETS), A(p, LINKS), A(p, WATCH), pid, SECTION);
+        answer = petrizolu_indexed_offer((petrizolu_gate *)p->words, A(p, KEYS), A(p, CHANGES), A(p, BUCKETS), A(p, LINKS), A(p, WATCH), pid, SECTION, &failure);
         judge(INDEXED_OFFER, p, answer);
     } else {
-        answer = petrizolu_gate_offer((petrizolu_gate *)p->words, A(p, KEYS), A(p, CHANGES), A(p, WATCH), pid, SECTION);
+        answer = petrizolu_gate_offer((petrizolu_gate *)p->words, A(p, KEYS), A(p, CHANGES), A(p, WATCH), pid, SECTION, &failure);
         judge(GATE_OFFER, p, answer);
     }
+    if (!failure_told(answer, &failure, &before))
+        fail(with_index ? INDEXED_OFFER : GATE_OFFER, answer, "tells another failure");
     return answer;
 }
 

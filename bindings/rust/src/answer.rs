@@ -8,7 +8,7 @@ pub struct Answer(pub u8);
 impl Answer {
     pub const EMITTED: Self = Self(1);
     pub const SUPPRESSED: Self = Self(2);
-    pub const CRC_FAILURE: Self = Self(3);
+    pub const CRC_MISMATCH: Self = Self(3);
     pub const NOTHING: Self = Self(4);
     pub const SET: Self = Self(5);
     pub const SCHEDULE: Self = Self(6);
@@ -29,6 +29,7 @@ impl Answer {
     pub const NO_CELL: Self = Self(21);
     pub const CONFLICT: Self = Self(22);
     pub const RANGE: Self = Self(23);
+    pub const TOO_SHORT: Self = Self(31);
 
     /// `Ok` where the answer is 7.
     pub(crate) fn done(self) -> Result<(), Refused> {

@@ -17,7 +17,18 @@ pub struct GateState {
     pub emitted: u64,
     pub suppressed: u64,
     pub crc_failures: u64,
+    pub short_sections: u64,
+    pub crc_mismatches: u64,
     pub evictions: u64,
+}
+
+/// What a section failed by: 31 tells its length, 3 the CRC that it carries and the CRC of its bytes. Every other answer leaves it as it was.
+#[repr(C)]
+#[derive(Debug, Clone, Copy, Default, PartialEq, Eq)]
+pub struct Failure {
+    pub length: u64,
+    pub stored: u64,
+    pub worked: u64,
 }
 
 /// A set collector's settings and counts.
@@ -124,7 +135,15 @@ pub fn gate_open(
     })
 }
 
-pub fn gate_offer(gate: &mut GateState, keys: &mut [u64], changes: &mut [u64], watch: &mut [u64], pid: u32, section: &[u8]) -> Answer {
+pub fn gate_offer(
+    gate: &mut GateState,
+    keys: &mut [u64],
+    changes: &mut [u64],
+    watch: &mut [u64],
+    pid: u32,
+    section: &[u8],
+    failure: &mut Failure,
+) -> Answer {
     // SAFETY: as above.
     Answer(unsafe {
         raw::petrizolu_gate_offer(
@@ -138,6 +157,7 @@ pub fn gate_offer(gate: &mut GateState, keys: &mut [u64], changes: &mut [u64], w
             pid,
             section.as_ptr(),
             section.len(),
+            failure,
         )
     })
 }
@@ -191,6 +211,7 @@ pub fn indexed_offer(
     watch: &mut [u64],
     pid: u32,
     section: &[u8],
+    failure: &mut Failure,
 ) -> Answer {
     // SAFETY: as above.
     Answer(unsafe {
@@ -209,6 +230,7 @@ pub fn indexed_offer(
             pid,
             section.as_ptr(),
             section.len(),
+            failure,
         )
     })
 }

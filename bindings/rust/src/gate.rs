@@ -1,19 +1,23 @@
 //! The gate in both its forms, each with the watch.
-use crate::calls::{self, GateState};
+use crate::calls::{self, Failure, GateState};
 use crate::{Answer, DEFAULT_CHANGE_RULE, DEFAULT_SETTINGS, Refused, WATCH_WORDS};
 
 #[derive(Debug, Clone, Copy, PartialEq, Eq)]
 pub enum Offered {
     Emitted,
     Suppressed,
-    CrcFailure,
+    /// Too short to hold its CRC, or under 3 bytes: so many bytes.
+    TooShort(usize),
+    /// The CRC that the section carries is not that of its bytes.
+    Mismatch { stored: u32, worked: u32 },
 }
 
-fn offered(answer: Answer) -> Result<Offered, Refused> {
+fn offered(answer: Answer, failure: Failure) -> Result<Offered, Refused> {
     match answer {
         Answer::EMITTED => Ok(Offered::Emitted),
         Answer::SUPPRESSED => Ok(Offered::Suppressed),
-        Answer::CRC_FAILURE => Ok(Offered::CrcFailure),
+        Answer::TOO_SHORT => Ok(Offered::TooShort(failure.length as usize)),
+        Answer::CRC_MISMATCH => Ok(Offered::Mismatch { stored: failure.stored as u32, worked: failure.worked as u32 }),
         other => Err(Refused(other)),
     }
 }
@@ -53,7 +57,10 @@ impl SmallGate {
     }
 
     pub fn offer(&mut self, pid: u16, section: &[u8]) -> Result<Offered, Refused> {
-        offered(calls::gate_offer(&mut self.state, &mut self.keys, &mut self.changes, &mut self.watch, pid.into(), section))
+        let mut failure = Failure::default();
+        let answer =
+            calls::gate_offer(&mut self.state, &mut self.keys, &mut self.changes, &mut self.watch, pid.into(), section, &mut failure);
+        offered(answer, failure)
     }
 
     pub fn watches(&self, pid: u16) -> bool {
@@ -103,7 +110,8 @@ impl Gate {
     }
 
     pub fn offer(&mut self, pid: u16, section: &[u8]) -> Result<Offered, Refused> {
-        offered(calls::indexed_offer(
+        let mut failure = Failure::default();
+        let answer = calls::indexed_offer(
             &mut self.state,
             &mut self.keys,
             &mut self.changes,
@@ -112,7 +120,9 @@ impl Gate {
             &mut self.watch,
             pid.into(),
             section,
-        ))
+            &mut failure,
+        );
+        offered(answer, failure)
     }
 
     pub fn watches(&self, pid: u16) -> bool {

@@ -12,7 +12,7 @@ mod rows;
 mod sets;
 
 pub use answer::{Answer, Refused};
-pub use calls::{EitState, Filter, GateState, Place, SetsState, crc};
+pub use calls::{EitState, Failure, Filter, GateState, Place, SetsState, crc};
 pub use eit::{Complete, Eit};
 pub use gate::{Gate, Offered, SmallGate};
 pub use rows::{Name, Row, Section};

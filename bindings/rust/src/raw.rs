@@ -1,5 +1,5 @@
 //! The functions of include/petrizolu.h, argument for argument (tests/header.rs compares the two texts).
-use crate::calls::{EitState, Filter, GateState, Place, SetsState};
+use crate::calls::{EitState, Failure, Filter, GateState, Place, SetsState};
 
 unsafe extern "C" {
     pub fn petrizolu_crc(bytes: *const u8, byte_count: usize) -> u32;
@@ -28,6 +28,7 @@ unsafe extern "C" {
         pid: u32,
         section: *const u8,
         section_length: usize,
+        failure: *mut Failure,
     ) -> u8;
     pub fn petrizolu_watch_ask(watch: *const u64, watch_words: usize, pid: u32) -> u8;
     pub fn petrizolu_indexed_open(
@@ -63,6 +64,7 @@ unsafe extern "C" {
         pid: u32,
         section: *const u8,
         section_length: usize,
+        failure: *mut Failure,
     ) -> u8;
     pub fn petrizolu_sets_open(
         sets: *mut SetsState,

@@ -34,6 +34,7 @@ fn rust_type(c: &str) -> String {
         "petrizolu_eit" => "EitState",
         "petrizolu_section" => "Place",
         "petrizolu_filter" => "Filter",
+        "petrizolu_failure" => "Failure",
         other => panic!("not known: {other}"),
     };
     name.into()
@@ -89,7 +90,7 @@ fn fields(text: &str, from: &str, field: impl Fn(&str) -> Option<String>) -> Vec
 
 #[test]
 fn structs() {
-    let pairs = [("gate", "GateState"), ("sets", "SetsState"), ("eit", "EitState"), ("section", "Place"), ("filter", "Filter")];
+    let pairs = [("gate", "GateState"), ("sets", "SetsState"), ("eit", "EitState"), ("section", "Place"), ("filter", "Filter"), ("failure", "Failure")];
     for (c, rust) in pairs {
         let of_c = fields(&header(), &format!("typedef struct petrizolu_{c} {{"), |line| Some(line.strip_prefix("uint64_t ")?.into()));
         let of_rust =
@@ -108,5 +109,5 @@ fn answers() {
     };
     let of_rust: Vec<String> = ANSWER.lines().filter_map(constant).collect();
     assert_eq!(of_c, of_rust);
-    assert_eq!(of_c.len(), 23);
+    assert_eq!(of_c.len(), 24);
 }

@@ -83,7 +83,7 @@ fn compare_seeds(root: &Path, seeds: usize, commands: usize) -> bool {
     for (domain, name) in DOMAINS {
         let mut report = Report::default();
         for seed in 0..seeds as u64 {
-            if let Some(found) = differing(&make::script(seed, commands, domain), &mut report) {
+            if let Some(found) = differing(&make::counted(make::script(seed, commands, domain)), &mut report) {
                 println!("{name}, seed {seed}: a difference at command {}; the smallest script found:", found.line + 1);
                 println!("{}", smallest(found));
                 return false;
@@ -99,17 +99,17 @@ fn compare_seeds(root: &Path, seeds: usize, commands: usize) -> bool {
     good
 }
 
-/// By change rule 2 the port is compared with the second implementation: the scripts of corrected/, and seeds.
+/// The port beside the second implementation, where the original has no counterpart: the scripts of corrected/, and seeds by change rule 2.
 fn compare_rule_2(root: &Path, seeds: usize, commands: usize) -> bool {
     let scripts = Written::all(root, "corrected");
     let sides = [Side::RULES, Side::Port];
     let wrong: Vec<String> = scripts.iter().flat_map(|script| sides.map(|side| script.not_as_said(side))).flatten().collect();
-    println!("{} written scripts of change rule 2: {}", scripts.len(), if wrong.is_empty() { "as said" } else { "NOT as said" });
+    println!("{} written scripts of corrected/: {}", scripts.len(), if wrong.is_empty() { "as said" } else { "NOT as said" });
     wrong.iter().for_each(|line| println!("  {line}"));
     for (domain, name) in DOMAINS {
         let mut report = Report::default();
         for seed in 0..seeds as u64 {
-            let script = make::by_rule_2(make::script(seed, commands, domain));
+            let script = make::counted(make::by_rule_2(make::script(seed, commands, domain)));
             if let Some(found) = first_difference(sides, &script) {
                 println!("{name}, seed {seed}: a difference at command {}; the smallest script found:", found.line + 1);
                 println!("{}", smallest(found));
@@ -175,7 +175,7 @@ fn compare_ends(root: &Path) -> bool {
         lines[..whole].iter().map(|line| format!("{line}\n")).collect::<String>() + cut
     };
     let mut good = (0..=tape.len()).all(|end| played(&tape[..end]) == expected(end));
-    for bad in [0x00, 0x0F, 0x15, 0x1F, 0x23, 0x34, 0xFF] {
+    for bad in [0x00, 0x0F, 0x16, 0x1F, 0x23, 0x34, 0xFF] {
         let output = played(&[&tape[..], &[bad, 0x14]].concat());
         good &= output == expected(tape.len()) + &format!("bad {}\n", tape.len());
     }
@@ -255,7 +255,7 @@ fn compare_faults(seeds: usize, commands: usize) -> bool {
 
 /// The commands of a seed that the faulty part is given.
 fn script_for(fault: Fault, seed: u64, commands: usize, domain: Domain) -> Vec<Command> {
-    let mut script = make::script(seed, commands, domain);
+    let mut script = make::counted(make::script(seed, commands, domain));
     if fault.of_rule_2() {
         script = make::by_rule_2(script);
     }

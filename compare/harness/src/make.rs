@@ -319,6 +319,20 @@ fn gate_opening(dice: &mut Dice, refused: bool) -> Command {
     }
 }
 
+/// The same script, with a question for all counters at the end of each run of the gate.
+pub fn counted(script: Vec<Command>) -> Vec<Command> {
+    let opens = |command: &Command| matches!(command, Command::GateOpen { .. });
+    let mut all = Vec::with_capacity(script.len() + script.len() / 50);
+    for command in script {
+        if opens(&command) && !all.is_empty() {
+            all.push(Command::Counters);
+        }
+        all.push(command);
+    }
+    all.push(Command::Counters);
+    all
+}
+
 /// The same script by change rule 2. Openings that are refused for their capacity are refused for a rule that there is not.
 pub fn by_rule_2(mut script: Vec<Command>) -> Vec<Command> {
     for command in &mut script {

@@ -1,24 +1,26 @@
 //! The original behind the commands.
-use crate::lent;
+use crate::{lent, second};
 use bytes::Bytes;
 use dvb_si::collect::{CollectError, CompleteSectionSet, CompletedEit, EitCollector, EitLogicalKey, SectionSetCollector};
 use dvb_si::demux::{SiDemux, Stats};
 use dvb_si::tables::eit::EitKind;
 use mpeg_ts::pid::Pid;
-use player::answer::{Answer, Held, Out, Set};
+use player::answer::{Answer, Held, Judgement, Out, Set};
 use player::command::{By, Command, Filter, Part};
 
 pub struct Original {
     gate: SiDemux,
     sets: Option<SectionSetCollector>,
     eit: Option<EitCollector>,
+    /// The original has one counter for both failures: how many it counts in all that were too short, and how many a mismatch, is told by their bytes.
+    failures: [u64; 2],
     /// How many answers 23 came with a table_id below the first of its kind: a branch that no section takes.
     pub below: u64,
 }
 
 impl Original {
     pub fn new() -> Original {
-        Original { gate: SiDemux::builder().build(), sets: None, eit: None, below: 0 }
+        Original { gate: SiDemux::builder().build(), sets: None, eit: None, failures: [0; 2], below: 0 }
     }
 
     pub fn answer(&mut self, command: &Command) -> Answer {
@@ -32,17 +34,23 @@ impl Original {
                         .follow_pat(*follow)
                         .dvb_si_pids(*well_known);
                     self.gate = extra.iter().fold(settings, |all, &pid| all.pid(Pid::new(pid))).build();
+                    self.failures = [0; 2];
                 }
                 Answer::Number(Part::Gate, answer)
             }
             Command::Gate { pid, .. } | Command::Ask { pid } if !lent::is_pid(*pid) => Answer::Number(Part::Gate, 12),
             Command::Gate { by: By::Packets, pid, section } => self.deliver(*pid, section),
-            Command::Gate { by: By::Offer, pid, section } => self.judged(|gate| {
+            Command::Gate { by: By::Offer, pid, section } => self.judged(section, |gate| {
                 let emitted = gate.offer(Pid::new(*pid), Bytes::from(&section[..]));
                 usize::from(emitted)
             }),
             Command::Ask { pid } => Answer::Number(Part::Gate, if self.gate.watched().contains(pid) { 8 } else { 9 }),
             Command::Watched => Answer::Watched(self.gate.watched()),
+            Command::Counters => {
+                let Stats { sections_completed, emitted, suppressed, crc_failures, gate_evictions, .. } = self.gate.stats();
+                let [short, mismatch] = self.failures;
+                Answer::Counters([sections_completed, emitted, suppressed, crc_failures, short, mismatch, gate_evictions])
+            }
             Command::Open { part, limit, cells, size } => self.open(*part, *limit, *cells, *size),
             Command::Push { part: Part::Eit, pid, section } => self.push_eit(*pid, section),
             Command::Push { pid, section, .. } => self.push_set(*pid, section),
@@ -51,22 +59,28 @@ impl Original {
         }
     }
 
-    /// The answer's number by the counter that moved; `offer` says how many events came of it.
-    fn judged(&mut self, offer: impl FnOnce(&mut SiDemux) -> usize) -> Answer {
+    /// The answer by the counter that moved; `offer` says how many events came of it. Which failure it was the original does not say: that is told by the
+    /// section's bytes.
+    fn judged(&mut self, section: &[u8], offer: impl FnOnce(&mut SiDemux) -> usize) -> Answer {
         let before = self.gate.stats();
         let events = offer(&mut self.gate);
         let after = self.gate.stats();
         let moved = |count: fn(&Stats) -> u64| count(&after) - count(&before);
         assert_eq!(moved(|s| s.sections_completed), 1);
         assert_eq!(moved(|s| s.emitted), events as u64);
-        let number = match [moved(|s| s.emitted), moved(|s| s.suppressed), moved(|s| s.crc_failures)] {
-            [1, 0, 0] => 1,
-            [0, 1, 0] => 2,
-            [0, 0, 1] => 3,
+        let judgement = match [moved(|s| s.emitted), moved(|s| s.suppressed), moved(|s| s.crc_failures)] {
+            [1, 0, 0] => Judgement::Emitted,
+            [0, 1, 0] => Judgement::Suppressed,
+            [0, 0, 1] => failure(section),
             other => panic!("the counters moved by {other:?}"),
         };
+        match judgement {
+            Judgement::Short(_) => self.failures[0] += 1,
+            Judgement::Mismatch(..) => self.failures[1] += 1,
+            _ => {}
+        }
         let counters = [after.sections_completed, after.emitted, after.suppressed, after.crc_failures, after.gate_evictions];
-        Answer::Judged(number, counters)
+        Answer::Judged(judgement, counters)
     }
 
     /// In packets, on a watched PID. That the others are not looked at is shown too.
@@ -81,7 +95,7 @@ impl Original {
         if !lent::deliverable(section) {
             return Answer::Undeliverable;
         }
-        self.judged(|gate| {
+        self.judged(section, |gate| {
             let mut events = Vec::new();
             sent.iter().for_each(|packet| events.extend(gate.feed(packet)));
             events.iter().for_each(|event| assert!(event.bytes()[..] == *section && event.pid().value() == pid));
@@ -167,6 +181,14 @@ impl Original {
             evicted: [eit.sections_evicted_for_capacity(), eit.schedules_evicted_for_capacity()],
             rows: [eit.section_set_len(), eit.schedule_len()],
         })
+    }
+}
+
+/// What a section that failed its CRC failed by.
+fn failure(section: &[u8]) -> Judgement {
+    match section.split_last_chunk() {
+        Some((bytes, &stored)) => Judgement::Mismatch(u32::from_be_bytes(stored), second::crc(bytes)),
+        None => Judgement::Short(section.len()),
     }
 }
 

@@ -1,5 +1,5 @@
 //! The program `watch`, over the original and over the second implementation.
-use player::answer::Answer;
+use player::answer::{Answer, Judgement};
 use player::command::{By, Command};
 use std::fmt::Write as _;
 
@@ -16,7 +16,7 @@ pub const EXAMPLE: [[&[u8]; 2]; 5] = [
 pub const EXAMPLE_OUTPUT: &str = "emitted 0014 70 8
 suppressed 0014 70 8
 emitted 0014 70 8
-crc 0014 73 3
+short 0014 73 3
 emitted 0014 70 8
 completed 5 emitted 3 suppressed 1 crc 1 evicted 0
 ";
@@ -41,8 +41,13 @@ pub fn output(mut answer: impl FnMut(&Command) -> Answer, rule: u64, input: &[u8
                 continue;
             }
         };
-        let Answer::Judged(number, counters) = told else { panic!("a section was offered") };
-        let word = ["emitted", "suppressed", "crc"][usize::from(number) - 1];
+        let Answer::Judged(judgement, counters) = told else { panic!("a section was offered") };
+        let word = match judgement {
+            Judgement::Emitted => "emitted",
+            Judgement::Suppressed => "suppressed",
+            Judgement::Mismatch(..) => "mismatch",
+            Judgement::Short(_) => "short",
+        };
         let _ = writeln!(text, "{word} {pid:04X} {:02X} {}", section[0], section.len());
         totals = counters;
     }

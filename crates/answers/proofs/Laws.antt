@@ -5,6 +5,7 @@ use mathlib.Core.Path.{_≡_, refl, sym, ap, _∙_}
 use mathlib.Core.List.{List, [], _∷_}
 use mathlib.Core.Bool.{cond, false}
 use lib.Dec.{eqb, ltb}
+use native.Mathlib.Omega.{arith}
 use Rattle.answers.specs.declared.Refusal.{Refusal}
 use Rattle.answers.specs.declared.Refusal.the-variants.{NotWhole, CounterFull, BadPid, TooLittle, Malformed, ShortForm, BadNumber, BadCrc, NotEit, Broken, TooLong, NoCell, Conflict, Range}
 use Rattle.answers.specs.declared.Outcome.{Outcome}
@@ -60,6 +61,11 @@ refused-from-10 TooLong = refl
 refused-from-10 NoCell = refl
 refused-from-10 Conflict = refl
 refused-from-10 Range = refl
+
+-- and none has 31, which is a section too short for its CRC
+pub refused-not-31 : (r : Refusal) → refusalNo r ≡ 31 → ⊥
+unfolding refusalAt refusals pick
+refused-not-31 r e = let q : r ≡ NotWhole = sym (refusal-at r) ∙ ap refusalAt e in omega (arith, ap refusalNo (sym q) ∙ e)
 
 -- an answer of which one case has no refusal's number
 outcomeAt : ℕ → Outcome

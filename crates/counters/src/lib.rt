@@ -11,7 +11,10 @@ pub struct Counters {
     pub completed: u64,
     pub emitted: u64,
     pub suppressed: u64,
+    // Of these the sections too short to hold their CRC, and those with another one than their bytes give.
     pub crc_failures: u64,
+    pub short_sections: u64,
+    pub crc_mismatches: u64,
     pub evictions: u64,
 }
 
@@ -23,6 +26,8 @@ pub fn fresh() -> Counters
         emitted: 0,
         suppressed: 0,
         crc_failures: 0,
+        short_sections: 0,
+        crc_mismatches: 0,
         evictions: 0,
     }
 }
@@ -36,6 +41,8 @@ pub fn any_full(c: Counters) -> bool
         | (c.emitted == LAST)
         | (c.suppressed == LAST)
         | (c.crc_failures == LAST)
+        | (c.short_sections == LAST)
+        | (c.crc_mismatches == LAST)
         | (c.evictions == LAST)
 }
 
@@ -49,20 +56,24 @@ pub fn counted(c: Counters, emitted: bool, evicted: bool) -> Counters
         emitted: plus(c.emitted, emitted),
         suppressed: plus(c.suppressed, !emitted),
         crc_failures: c.crc_failures,
+        short_sections: c.short_sections,
+        crc_mismatches: c.crc_mismatches,
         evictions: plus(c.evictions, evicted),
     }
 }
 
-// One more section that did not, and nothing else.
-pub fn failed(c: Counters) -> Counters
+// One more section that did not, too short or with another CRC, and nothing else.
+pub fn failed(c: Counters, short: bool) -> Counters
     requires { ⌜ CanCount c ⌝ }
-    ensures { λ r. ⌜ r ≡ failedOf c ⌝ }
+    ensures { λ r. ⌜ r ≡ failedOf c short ⌝ }
 {
     Counters {
         completed: plus(c.completed, true),
         emitted: c.emitted,
         suppressed: c.suppressed,
         crc_failures: plus(c.crc_failures, true),
+        short_sections: plus(c.short_sections, short),
+        crc_mismatches: plus(c.crc_mismatches, !short),
         evictions: c.evictions,
     }
 }

@@ -24,7 +24,8 @@ use Rattle.offers.specs.declared.Arrival.{Arrival}
 use Rattle.offers.specs.declared.Verdict.{Verdict}
 use Rattle.offers.specs.declared.Verdict.the-variants as verdict
 use Rattle.watched.specs.Store.{allPids, filled, following}
-use Rattle.gate_state.specs.State.{begun, refused, failure, seenBy}
+use Rattle.gate_state.specs.State.{begun, refused, failedBy, seenBy}
+use Rattle.offers.specs.declared.Failure.{Failure}
 use Rattle.gate.specs.Store.{begunBy, canOpen, opened, wholeOf, Fits, Store, Offering, storeOf, leftBy, followedPat, watchAfter, admittedTo, carried, isWhole, offered}
 use Rattle.gate_state.specs.declared.Gate.{Gate}
 use Rattle.gate_state.specs.declared.Offered.{Offered}
@@ -104,9 +105,9 @@ module _ (s : Store) (pid : ℕ) (section : List ℕ) (w : Bool) (e : w ≡ isWh
   unfolding carried
   offered-refused r o h j = rw (j, ← carries, h)
 
-  pub offered-failed : (o : Offered) → v ≡ verdict.Failed → o ≡ failure (s .gate) (s .counters) → leftBy o (s .keys) (s .changes) (s .words) ≡ offered s pid section
+  pub offered-failed : (f : Failure) (o : Offered) → v ≡ verdict.Failed f → o ≡ failedBy f (s .gate) (s .counters) → leftBy o (s .keys) (s .changes) (s .words) ≡ offered s pid section
   unfolding carried
-  offered-failed o h j = rw (j, ← carries, h)
+  offered-failed f o h j = rw (j, ← carries, h)
 
   pub offered-arrived : (a : Arrival) (l : Offering) → v ≡ verdict.Arrived a → l ≡ admittedTo s section a → l ≡ offered s pid section
   unfolding carried

@@ -1,4 +1,4 @@
--- The gate (docs/RULES.md, "Gate" and "Watched PIDs"): keys in order of first arrival with their last version and change number, five counters, and
+-- The gate (docs/RULES.md, "Gate" and "Watched PIDs"): keys in order of first arrival with their last version and change number, seven counters, and
 -- the watched PIDs. No memory.
 use Prim.Native.Nat.{ℕ}
 use mathlib.Core.List.{List, [], _∷_}
@@ -7,7 +7,9 @@ use Rattle.ring.specs.Rules.{Row, changed, evicts, offeredTo}
 use Rattle.section.specs.Facts.{Bytes}
 use Rattle.answers.specs.Answers.{refusalNo}
 use Rattle.answers.specs.declared.Refusal.the-variants.{CounterFull}
-use Rattle.offers.specs.Offers.{readOf}
+use Rattle.offers.specs.Offers.{isShort, readOf}
+use Rattle.offers.specs.declared.Failure.{Failure}
+use Rattle.gate_state.specs.State.{Said, plain, numberOf, failureSaid}
 use Rattle.offers.specs.declared.Arrival.{Arrival}
 use Rattle.offers.specs.declared.Verdict.{Verdict}
 use Rattle.offers.specs.declared.Verdict.the-variants.{Refused, Failed, Arrived}
@@ -35,16 +37,16 @@ pub record Held : Type 0 where
   pub watch : Watch
 
 pub record Told : Type 0 where
-  pub answer : ℕ
+  pub answer : Said
   pub held : Held
 
 -- the row of a section that arrived: its key, version and change number
 abbrev pub rowFrom : Arrival → Row
 rowFrom a = record { key = a .key; version = a .version; change = a .change }
 
--- 3: completed and CRC failures, and nothing else
-abbrev pub failedIn : Held → Told
-failedIn h = record { answer = 3; held = record { rows = h .rows; counters = failedOf (h .counters); watch = h .watch } }
+-- 31 or 3 with its values: completed, CRC failures and, of these, the counter of its kind, and nothing else
+abbrev pub failedIn : Held → Failure → Told
+failedIn h f = record { answer = failureSaid f; held = record { rows = h .rows; counters = failedOf (h .counters) (isShort f); watch = h .watch } }
 
 -- a PAT that is followed replaces N; what is no readable PAT changes no watch
 abbrev pub watchAfter : Bool → Watch → List ℕ → Watch
@@ -55,7 +57,7 @@ unfoldable pub admitted : Manner → Held → Row → List ℕ → Told
 admitted m h n section =
     let emits : Bool = changed n (h .rows) || m .repeats in
     record {
-      answer = cond emits 1 2;
+      answer = plain (cond emits 1 2);
       held = record {
         rows = offeredTo (m .capacity) n (h .rows);
         counters = countedOf (h .counters) emits (evicts (m .capacity) n (h .rows));
@@ -65,16 +67,20 @@ admitted m h n section =
 
 -- what a section and its PID say, carried out: a refusal leaves all as it was
 unfoldable pub carriedIn : Manner → Held → List ℕ → Verdict → Told
-carriedIn m h section (Refused r) = record { answer = refusalNo r; held = h }
-carriedIn m h section Failed = failedIn h
+carriedIn m h section (Refused r) = record { answer = plain (refusalNo r); held = h }
+carriedIn m h section (Failed f) = failedIn h f
 carriedIn m h section (Arrived a) = admitted m h (rowFrom a) section
 
 -- an offer: 11, then as the section and its PID say
 unfoldable pub told : Manner → Held → Offer → Told
 told m h o = carriedIn m h (o .section) (cond (anyFull (h .counters)) (Refused CounterFull) (readOf (m .rule) (o .pid) (o .section)))
 
-unfoldable pub tells : Manner → Held → Offer → ℕ
+unfoldable pub tells : Manner → Held → Offer → Said
 tells m h o = (told m h o) .answer
+
+-- its number alone
+abbrev pub tellsNo : Manner → Held → Offer → ℕ
+tellsNo m h o = numberOf (tells m h o)
 
 unfoldable pub acts : Manner → Held → Offer → Held
 acts m h o = (told m h o) .held

@@ -19,7 +19,7 @@ use Rattle.watched.specs.Store.{allPids, filled, following}
 use Rattle.answers.specs.Answers.{refusalNo, outcomeNo}
 use Rattle.counters.specs.Counters.{zeroes}
 use Rattle.counters.specs.declared.Counters.{Counters}
-use Rattle.gate_state.specs.State.{answerNo, emptyGate, failure, seenBy}
+use Rattle.gate_state.specs.State.{Said, plain, saidOf, emptyGate, failedBy, seenBy}
 use Rattle.gate_state.specs.declared.Settings.{Settings}
 use Rattle.gate_state.specs.declared.Gate.{Gate}
 use Rattle.gate_state.specs.declared.Offered.{Offered}
@@ -76,14 +76,14 @@ pub record Store : Type 0 where
 abbrev pub storeOf : Gate → Counters → List ℕ → List ℕ → List ℕ → Store
 storeOf g c keys changes words = record { gate = g; counters = c; keys = keys; changes = changes; words = words }
 
--- the number of an answer, and the store that is left
+-- an answer as it is said, with its values, and the store that is left
 pub record Offering : Type 0 where
-  pub answer : ℕ
+  pub answer : Said
   pub store : Store
 
 -- what a call handed back, with the slices as it left them
 abbrev pub leftBy : Offered → List ℕ → List ℕ → List ℕ → Offering
-leftBy o keys changes words = record { answer = answerNo (o .answer); store = storeOf (o .gate) (o .counters) keys changes words }
+leftBy o keys changes words = record { answer = saidOf (o .answer); store = storeOf (o .gate) (o .counters) keys changes words }
 
 -- the set N of a PAT: the PIDs of its programs, as the 128 words of a set that was empty
 abbrev pub programsOf : List ℕ → List ℕ
@@ -109,14 +109,14 @@ admittedTo s section a =
 
 -- a verdict carried out: a refusal leaves all as it was
 unfoldable pub carried : Store → List ℕ → Verdict → Offering
-carried s section (verdict.Refused r) = record { answer = refusalNo r; store = s }
-carried s section verdict.Failed = leftBy (failure (s .gate) (s .counters)) (s .keys) (s .changes) (s .words)
+carried s section (verdict.Refused r) = record { answer = plain (refusalNo r); store = s }
+carried s section (verdict.Failed f) = leftBy (failedBy f (s .gate) (s .counters)) (s .keys) (s .changes) (s .words)
 carried s section (verdict.Arrived a) = admittedTo s section a
 
 -- whether the store is whole
 abbrev pub isWhole : Store → Bool
 isWhole s = wholeOf (s .gate) (length (s .keys)) (length (s .changes)) (length (s .words))
 
--- every store, PID and section: 10, 11, 12, then 3, then 1 or 2
+-- every store, PID and section: 10, 11, 12, then 31 or 3, then 1 or 2
 unfoldable pub offered : Store → ℕ → List ℕ → Offering
 offered s pid section = carried s section (verdictOf (isWhole s) (s .counters) (s .gate .«change_rule») pid section)

@@ -8,6 +8,7 @@ use Rattle.ring.specs.View.{Memory, inOrder, Reached}
 use Rattle.watched.specs.View.{watchIn}
 use Rattle.gate.specs.Rules.{Offer, Manner, Held, Told}
 use Rattle.gate.specs.Store.{Store, Offering, offered}
+use Rattle.gate_state.specs.State.{Said, numberOf}
 use Rattle.gate_state.specs.declared.Gate.{Gate}
 
 abbrev pub mannerOf : Gate → Manner
@@ -28,8 +29,12 @@ pub record Opened (s : Store) : Type 0 where
   pub watch : 384 ≤ length (s .words)
   pub rule : ruleKnown (s .gate .«change_rule») ≡ true
 
-unfoldable pub storeTells : Store → Offer → ℕ
+unfoldable pub storeTells : Store → Offer → Said
 storeTells s o = (offered s (o .pid) (o .section)) .answer
+
+-- its number alone
+abbrev pub storeNo : Store → Offer → ℕ
+storeNo s o = numberOf (storeTells s o)
 
 unfoldable pub storeActs : Store → Offer → Store
 storeActs s o = (offered s (o .pid) (o .section)) .store

@@ -50,7 +50,7 @@ pub fn offer(
     let whole = inner::is_whole(gate, keys.len(), changes.len(), words.len());
     match offers::judge(whole, counters, gate.change_rule, pid, section) {
         Verdict::Refused(refusal) => gate_state::refuse(refusal, gate, counters),
-        Verdict::Failed => gate_state::fail(gate, counters),
+        Verdict::Failed(failure) => gate_state::fail(failure, gate, counters),
         Verdict::Arrived(arrival) => inner::admit(
             gate,
             counters,

@@ -21,7 +21,8 @@ use Rattle.answers.specs.declared.Refusal.{Refusal}
 use Rattle.answers.specs.declared.Refusal.the-variants.{BadPid, TooLittle}
 use Rattle.answers.specs.declared.Outcome.the-variants as outcome
 use Rattle.counters.specs.declared.Counters.{Counters}
-use Rattle.gate_state.specs.State.{begun, refused, failure}
+use Rattle.gate_state.specs.State.{begun, refused, failedBy}
+use Rattle.offers.specs.declared.Failure.{Failure}
 use Rattle.gate.specs.Store.{canOpen, watchAfter}
 use Rattle.gate_state.specs.State.{seenBy as answeredBy}
 use Rattle.gate_state.specs.declared.Gate.{Gate}
@@ -69,10 +70,10 @@ module _ (s : Indexed) (pid : ℕ) (section : List ℕ) (w : Bool) (e : w ≡ is
   offered-refused r o h j = rw (j, ← carries, h)
 
   pub offered-failed :
-      (o : Offered) → v ≡ verdict.Failed → o ≡ failure (s .store .gate) (s .store .counters) →
+      (f : Failure) (o : Offered) → v ≡ verdict.Failed f → o ≡ failedBy f (s .store .gate) (s .store .counters) →
       leftBy o (s .store .keys) (s .store .changes) (s .index) (s .store .words) ≡ offeredBy s pid section
   unfolding carriedBy
-  offered-failed o h j = rw (j, ← carries, h)
+  offered-failed f o h j = rw (j, ← carries, h)
 
   pub offered-arrived : (a : Arrival) (l : Offering) → v ≡ verdict.Arrived a → l ≡ admittedBy s section a → l ≡ offeredBy s pid section
   unfolding carriedBy

@@ -16,7 +16,9 @@ use Rattle.watched.specs.Store.{allPids, filled}
 use Rattle.answers.specs.Answers.{refusalNo, outcomeNo}
 use Rattle.counters.specs.Counters.{zeroes}
 use Rattle.counters.specs.declared.Counters.{Counters}
-use Rattle.gate_state.specs.State.{answerNo, emptyGate, failure}
+use Rattle.offers.specs.declared.Failure.{Failure}
+use Rattle.gate_state.specs.State.{Said, plain, saidOf, emptyGate}
+use Rattle.gate_state.specs.State.{failedBy as failure}
 use Rattle.gate.specs.Store.{canOpen, wholeOf, Fits, Store, storeOf, watchAfter}
 use Rattle.gate_state.specs.State.{seenBy as answeredBy}
 use Rattle.gate_state.specs.declared.Settings.{Settings}
@@ -76,14 +78,14 @@ pub record Indexed : Type 0 where
 abbrev pub indexedOf : Gate → Counters → List ℕ → List ℕ → Index → List ℕ → Indexed
 indexedOf g c keys changes x words = record { store = storeOf g c keys changes words; index = x }
 
--- the number of an answer, and the store that is left
+-- an answer as it is said, with its values, and the store that is left
 pub record Offering : Type 0 where
-  pub answer : ℕ
+  pub answer : Said
   pub left : Indexed
 
 -- what a call handed back, with the slices as it left them
 abbrev pub leftBy : Offered → List ℕ → List ℕ → Index → List ℕ → Offering
-leftBy o keys changes x words = record { answer = answerNo (o .answer); left = indexedOf (o .gate) (o .counters) keys changes x words }
+leftBy o keys changes x words = record { answer = saidOf (o .answer); left = indexedOf (o .gate) (o .counters) keys changes x words }
 
 -- a section that arrived
 unfoldable pub admittedBy : Indexed → List ℕ → Arrival → Offering
@@ -96,20 +98,20 @@ admittedBy s section a =
     (indexBy (s .store .gate .ring) (s .store .keys) (s .index) (a .key))
     (watchAfter (seen .changed && s .store .gate .follow) (s .store .words) section)
 
--- 3 changes neither rows nor index nor watch
-abbrev pub failedBy : Indexed → Offering
-failedBy s = leftBy (failure (s .store .gate) (s .store .counters)) (s .store .keys) (s .store .changes) (s .index) (s .store .words)
+-- 31 and 3 change neither rows nor index nor watch
+abbrev pub failedBy : Indexed → Failure → Offering
+failedBy s f = leftBy (failure f (s .store .gate) (s .store .counters)) (s .store .keys) (s .store .changes) (s .index) (s .store .words)
 
 -- a verdict carried out: a refusal leaves all as it was
 unfoldable pub carriedBy : Indexed → List ℕ → Verdict → Offering
-carriedBy s section (Refused r) = record { answer = refusalNo r; left = s }
-carriedBy s section Failed = failedBy s
+carriedBy s section (Refused r) = record { answer = plain (refusalNo r); left = s }
+carriedBy s section (Failed f) = failedBy s f
 carriedBy s section (Arrived a) = admittedBy s section a
 
 -- whether the store is whole
 abbrev pub isWholeBy : Indexed → Bool
 isWholeBy s = wholeBy (s .store .gate) (length (s .store .keys)) (length (s .store .changes)) (length (s .index .buckets)) (length (s .index .links)) (length (s .store .words))
 
--- every store, PID and section: 10, 11, 12, then 3, then 1 or 2
+-- every store, PID and section: 10, 11, 12, then 31 or 3, then 1 or 2
 unfoldable pub offeredBy : Indexed → ℕ → List ℕ → Offering
 offeredBy s pid section = carriedBy s section (verdictOf (isWholeBy s) (s .store .counters) (s .store .gate .«change_rule») pid section)

@@ -70,7 +70,7 @@ pub fn offer(
     );
     match offers::judge(whole, counters, gate.change_rule, pid, section) {
         Verdict::Refused(refusal) => gate_state::refuse(refusal, gate, counters),
-        Verdict::Failed => gate_state::fail(gate, counters),
+        Verdict::Failed(failure) => gate_state::fail(failure, gate, counters),
         Verdict::Arrived(arrival) => inner::admit(
             gate,
             counters,

@@ -1,4 +1,4 @@
-// The gate for a host that keeps one record of five counters and lends it: they are counted up where they stand.
+// The gate for a host that keeps one record of seven counters and lends it: they are counted up where they stand.
 use counters::Counters;
 use gate_state::Answer;
 use gate_state::Gate;

@@ -1,12 +1,16 @@
 -- What the gate has and answers without its slices (docs/RULES.md, "Gate" and "Answers"). `cond test a b` is a where the test is true, else b.
 use Prim.Native.Nat.{ℕ}
 use mathlib.Core.Bool.{Bool, true, false, cond, _||_}
+use lib.Dec.{eqb}
 use Rattle.ring.specs.Store.{emptyRing}
 use Rattle.ring.specs.declared.Ring.{Ring}
 use Rattle.ring.specs.declared.Seen.{Seen}
 use Rattle.answers.specs.Answers.{refusalNo}
 use Rattle.answers.specs.declared.Refusal.{Refusal}
 use Rattle.answers.specs.declared.Outcome.{Outcome}
+use Rattle.offers.specs.Offers.{isShort}
+use Rattle.offers.specs.declared.Failure.{Failure}
+use Rattle.offers.specs.declared.Failure.the-variants.{TooShort, Mismatch}
 use Rattle.counters.specs.Counters.{zeroes, countedOf, failedOf}
 use Rattle.counters.specs.declared.Counters.{Counters}
 use Rattle.gate_state.specs.declared.Settings.{Settings}
@@ -14,18 +18,41 @@ use Rattle.gate_state.specs.declared.Gate.{Gate}
 use Rattle.gate_state.specs.declared.Offered.{Offered}
 use Rattle.gate_state.specs.declared.Opened.{Opened}
 use Rattle.gate_state.specs.declared.Answer.{Answer}
-use Rattle.gate_state.specs.declared.Answer.the-variants.{Emitted, Suppressed, CrcFailure, Refused}
+use Rattle.gate_state.specs.declared.Answer.the-variants.{Emitted, Suppressed, Failed, Refused}
 
 -- capacity 65,536, repeats off, following on, the well-known PIDs watched, change rule 2
 abbrev pub defaults : Settings
 defaults = record { capacity = 65536; repeats = false; follow = true; «well_known» = true; «change_rule» = 2 }
 
--- the number of each answer (docs/RULES.md, "Answers")
-abbrev pub answerNo : Answer → ℕ
-answerNo Emitted = 1
-answerNo Suppressed = 2
-answerNo CrcFailure = 3
-answerNo (Refused r) = refusalNo r
+-- an answer as the table has it (docs/RULES.md, "Answers"): its number, and the values that it comes with
+pub data Said : Type 0 where
+  plain : (number : ℕ) → Said
+  -- 31
+  short : (length : ℕ) → Said
+  -- 3
+  mismatch : (stored worked : ℕ) → Said
+
+abbrev pub numberOf : Said → ℕ
+numberOf (plain n) = n
+numberOf (short n) = 31
+numberOf (mismatch stored worked) = 3
+
+-- the numbers of an offer that is judged; every other is of a refusal
+abbrev pub isJudged : ℕ → Bool
+isJudged n = eqb n 1 || eqb n 2 || eqb n 31 || eqb n 3
+
+abbrev pub failureSaid : Failure → Said
+failureSaid (TooShort n) = short n
+failureSaid (Mismatch stored worked) = mismatch stored worked
+
+abbrev pub failureNo : Failure → ℕ
+failureNo f = numberOf (failureSaid f)
+
+abbrev pub saidOf : Answer → Said
+saidOf Emitted = plain 1
+saidOf Suppressed = plain 2
+saidOf (Failed f) = failureSaid f
+saidOf (Refused r) = plain (refusalNo r)
 
 -- a gate with no rows
 abbrev pub emptyGate : Settings → Gate
@@ -38,9 +65,9 @@ begun a s = record { answer = a; gate = emptyGate s; counters = zeroes }
 abbrev pub refused : Refusal → Gate → Counters → Offered
 refused r g c = record { answer = Refused r; gate = g; counters = c }
 
--- 3 touches only completed and CRC failures
-abbrev pub failure : Gate → Counters → Offered
-failure g c = record { answer = CrcFailure; gate = g; counters = failedOf c }
+-- 31 and 3 touch only completed, CRC failures and, of these, the counter of their kind
+abbrev pub failedBy : Failure → Gate → Counters → Offered
+failedBy f g c = record { answer = Failed f; gate = g; counters = failedOf c (isShort f) }
 
 abbrev pub answerOf : Bool → Answer
 answerOf emits = cond emits Emitted Suppressed

@@ -3,12 +3,13 @@
 use answers::Outcome;
 use answers::Refusal;
 use counters::Counters;
+use offers::Failure;
 use ring::Ring;
 use ring::Seen;
 use section::header::ChangeRule;
 ghost use mathlib.Core.Path.{_≡_};
 ghost use Rattle.counters.specs.Counters.{CanCount};
-ghost use Rattle.gate_state.specs.State.{defaults, answerNo, begun, refused, failure, answerOf, seenBy};
+ghost use Rattle.gate_state.specs.State.{defaults, saidOf, numberOf, failureNo, begun, refused, failedBy, answerOf, seenBy};
 
 // What a gate is opened with.
 pub struct Settings {
@@ -55,24 +56,33 @@ pub struct Gate {
     pub change_rule: u64,
 }
 
-// What an offer answers: 1, 2, 3, or a refusal.
+// What an offer answers: 1, 2, 31 or 3 with what tells it, or a refusal.
 pub enum Answer {
     Emitted,
     Suppressed,
-    CrcFailure,
+    Failed(Failure),
     Refused(Refusal),
 }
 
 impl Answer {
     pub fn number(self) -> u8
-        ensures { λ r. ⌜ r ≡ answerNo self ⌝ }
+        ensures { λ r. ⌜ r ≡ numberOf (saidOf self) ⌝ }
     {
         match self {
             Answer::Emitted => 1,
             Answer::Suppressed => 2,
-            Answer::CrcFailure => 3,
+            Answer::Failed(failure) => failure_number(failure),
             Answer::Refused(refusal) => refusal.number(),
         }
+    }
+}
+
+fn failure_number(failure: Failure) -> u8
+    ensures { λ r. ⌜ r ≡ failureNo failure ⌝ }
+{
+    match failure {
+        Failure::TooShort(_) => 31,
+        Failure::Mismatch(_, _) => 3,
     }
 }
 
@@ -119,15 +129,15 @@ pub fn refuse(refusal: Refusal, gate: Gate, counters: Counters) -> Offered
     }
 }
 
-// 3: one more section and one more CRC failure, and nothing else.
-pub fn fail(gate: Gate, counters: Counters) -> Offered
+// 31 or 3: one more section and one more CRC failure of this kind, and nothing else.
+pub fn fail(failure: Failure, gate: Gate, counters: Counters) -> Offered
     requires { ⌜ CanCount counters ⌝ }
-    ensures { λ r. ⌜ r ≡ failure gate counters ⌝ }
+    ensures { λ r. ⌜ r ≡ failedBy failure gate counters ⌝ }
 {
     Offered {
-        answer: Answer::CrcFailure,
+        answer: Answer::Failed(failure),
         gate: gate,
-        counters: counters::failed(counters),
+        counters: counters::failed(counters, failure.is_short()),
     }
 }
 

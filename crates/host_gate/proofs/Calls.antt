@@ -22,7 +22,7 @@ use Rattle.gate_state.specs.declared.Opened.{Opened}
 use Rattle.gate_state.specs.declared.Offered.{Offered}
 use Rattle.host_words.specs.Pids.{pidNumber}
 use Rattle.host_words.specs.Answers.{Words, words}
-use Rattle.host_gate_words.specs.Words.{settingsOf, heldIn, wordsOf, wordsOpened, tellsOpened, tellsOffered}
+use Rattle.host_gate_words.specs.Words.{settingsOf, heldIn, wordsOf, wordsOpened, tellsOpened, Told, told, tellsOffered}
 use Rattle.host_gate.specs.Calls.{begun, gateOpened, left, gateOffered, watchAsked}
 use Rattle.host_gate_words.specs.declared.Held.{Held}
 
@@ -43,14 +43,14 @@ gate-opened gate capacity settings rule extra keys changes watch s o ws gs r e f
     rw (← e, ← f, ap (λ (x : Words). x .answer) t, ap (λ (x : Words). x .now) t, opened-words (o .answer) (o .gate) (o .counters) gate)
 
 pub gate-offered :
-    (gate keys changes watch : List ℕ) (pid : ℕ) (section : List ℕ) (h : Held) (p : ℕ) (o : Offered) (ks ms ws gs : List ℕ) (r : ℕ) →
+    (gate keys changes watch : List ℕ) (pid : ℕ) (section failure : List ℕ) (h : Held) (p : ℕ) (o : Offered) (ks ms ws gs fs : List ℕ) (r : ℕ) →
     h ≡ heldIn gate → p ≡ pidNumber pid →
     leftBy o ks ms ws ≡ offered (storeOf (h .gate) (h .counters) keys changes watch) p section →
-    words r gs ≡ tellsOffered o gate →
-    left r gs ks ms ws ≡ gateOffered gate keys changes watch pid section
+    told r gs fs ≡ tellsOffered o gate failure →
+    left r gs ks ms ws fs ≡ gateOffered gate keys changes watch pid section failure
 unfolding gateOffered
-gate-offered gate keys changes watch pid section h p o ks ms ws gs r d e f t =
-    rw (ap (λ (x : Held). x .gate) (sym d), ap (λ (x : Held). x .counters) (sym d), ← e, ← f, ap (λ (x : Words). x .answer) t, ap (λ (x : Words). x .now) t)
+gate-offered gate keys changes watch pid section failure h p o ks ms ws gs fs r d e f t =
+    rw (ap (λ (x : Held). x .gate) (sym d), ap (λ (x : Held). x .counters) (sym d), ← e, ← f, ap (λ (x : Told). x .answer) t, ap (λ (x : Told). x .gate) t, ap (λ (x : Told). x .failure) t)
 
 pub watch-asked : (watch : List ℕ) (pid p : ℕ) (a : Reply) (r : ℕ) → p ≡ pidNumber pid → replyNo a ≡ asked watch p → r ≡ replyNo a → r ≡ watchAsked watch pid
 unfolding watchAsked

@@ -3,7 +3,7 @@
 use Prim.Native.Nat.{ℕ, _≤_, _<_}
 use mathlib.Core.Path.{_≡_, refl}
 use mathlib.Core.List.{List}
-use mathlib.Core.Bool.{Bool, true, false, cond}
+use mathlib.Core.Bool.{Bool, true, false, cond, true≢false}
 use native.Mathlib.Omega.{arith}
 use lib.ListN.{length}
 use Rattle.ring.specs.Store.{stampOf, seenOf}
@@ -11,46 +11,58 @@ use Rattle.offers.specs.Offers.{verdictOf}
 use Rattle.offers.specs.declared.Verdict.{Verdict}
 use Rattle.offers.specs.declared.Verdict.the-variants.{Refused, Failed, Arrived}
 use Rattle.watched.specs.Store.{allPids}
-use Rattle.gate_state.specs.State.{answerNo, answerOf, emitsOf, seenBy}
+use Rattle.offers.specs.declared.Failure.{Failure}
+use Rattle.offers.specs.declared.Failure.the-variants.{TooShort, Mismatch}
+use Rattle.gate_state.specs.State.{saidOf, numberOf, isJudged, failureNo, answerOf, emitsOf, seenBy}
 use Rattle.gate.specs.Store.{canOpen, begins, opened, isWhole, Store, storeOf, Offering, admittedTo, carried, offered}
 use Rattle.gate_state.specs.declared.Settings.{Settings}
 use Rattle.host_words.specs.Pids.{pidNumber}
-use Rattle.host_gate_words.specs.Words.{settingsOf, gateOf, countersOf}
+use Rattle.host_gate_words.specs.Words.{settingsOf, gateOf, countersOf, failureAfter}
 use Rattle.host_gate.specs.Calls.{begun, begunAs, gateOpened, left, leftAs, gateOffered}
 use Rattle.host_gate_words.proofs.Same.{gate-same}
 
--- 10, 11 and 12 are told of no section that is admitted
-pub told : (emits : Bool) → answerNo (answerOf emits) < 10
-told true = omega arith
-told false = omega arith
+-- a section that is admitted is told 1 or 2, one that fails 31 or 3
+pub told-judged : (emits : Bool) → isJudged (numberOf (saidOf (answerOf emits))) ≡ false → ⊥
+told-judged true e = true≢false e
+told-judged false e = true≢false e
 
-carried-refused : (s : Store) (section : List ℕ) (v : Verdict) → 10 ≤ (carried s section v) .answer → (carried s section v) .store ≡ s
+pub failure-judged : (f : Failure) → isJudged (failureNo f) ≡ false → ⊥
+failure-judged (TooShort n) e = true≢false e
+failure-judged (Mismatch stored worked) e = true≢false e
+
+-- what a refusal says has no values
+pub record Kept (l : Offering) (s : Store) : Type 0 where
+  pub store : l .store ≡ s
+  pub failure : (w : List ℕ) → failureAfter (l .answer) w ≡ w
+
+carried-refused : (s : Store) (section : List ℕ) (v : Verdict) → isJudged (numberOf ((carried s section v) .answer)) ≡ false → Kept (carried s section v) s
 unfolding carried admittedTo seenBy
-carried-refused s section (Refused r) h = refl
-carried-refused s section Failed h = absurd (omega arith)
+carried-refused s section (Refused r) h = record { store = refl; failure = λ w. refl }
+carried-refused s section (Failed f) h = absurd (failure-judged f h)
 carried-refused s section (Arrived a) h =
-    absurd (omega (arith, h, told (emitsOf (s .gate) (seenOf (s .gate .ring) (s .keys) (s .changes) (a .key) (stampOf (a .version) (a .change))))))
+    absurd (told-judged (emitsOf (s .gate) (seenOf (s .gate .ring) (s .keys) (s .changes) (a .key) (stampOf (a .version) (a .change)))) h)
 
-pub offer-refused : (s : Store) (pid : ℕ) (section : List ℕ) → 10 ≤ (offered s pid section) .answer → (offered s pid section) .store ≡ s
+pub offer-refused : (s : Store) (pid : ℕ) (section : List ℕ) → isJudged (numberOf ((offered s pid section) .answer)) ≡ false → Kept (offered s pid section) s
 unfolding offered
 offer-refused s pid section h = carried-refused s section (verdictOf (isWhole s) (s .counters) (s .gate .«change_rule») pid section) h
 
--- 10, 11 and 12
+-- every answer but 1, 2, 31 and 3
 pub gate-offer-refused :
-    (gate keys changes watch : List ℕ) (pid : ℕ) (section : List ℕ) (answer : ℕ) → length gate ≡ 11 →
-    answer ≡ (gateOffered gate keys changes watch pid section) .answer → 10 ≤ answer →
-    gateOffered gate keys changes watch pid section ≡ left answer gate keys changes watch
+    (gate keys changes watch : List ℕ) (pid : ℕ) (section failure : List ℕ) (answer : ℕ) → length gate ≡ 13 →
+    answer ≡ (gateOffered gate keys changes watch pid section failure) .answer → isJudged answer ≡ false →
+    gateOffered gate keys changes watch pid section failure ≡ left answer gate keys changes watch failure
 unfolding gateOffered
-gate-offer-refused gate keys changes watch pid section answer n e h =
+gate-offer-refused gate keys changes watch pid section failure answer n e h =
     let s : Store = storeOf (gateOf gate) (countersOf gate) keys changes watch in
     let l : Offering = offered s (pidNumber pid) section in
-    let k : 10 ≤ l .answer = rw (← e) h in
-    go l (offer-refused s (pidNumber pid) section k) e
+    let k : isJudged (numberOf (l .answer)) ≡ false = rw (← e) h in
+    let r = offer-refused s (pidNumber pid) section k in
+    go l (r .store) (r .failure failure) e
   where
     go :
-        (l : Offering) → l .store ≡ storeOf (gateOf gate) (countersOf gate) keys changes watch → answer ≡ l .answer →
-        leftAs gate l ≡ left answer gate keys changes watch
-    go l p e = rw (p, e, gate-same gate n)
+        (l : Offering) → l .store ≡ storeOf (gateOf gate) (countersOf gate) keys changes watch → failureAfter (l .answer) failure ≡ failure →
+        answer ≡ numberOf (l .answer) → leftAs gate failure l ≡ left answer gate keys changes watch failure
+    go l p f e = rw (p, f, e, gate-same gate n)
 
 -- 12 and 13
 pub gate-open-refused :

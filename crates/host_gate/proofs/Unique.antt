@@ -16,12 +16,12 @@ unique-gate-open gate capacity settings rule extra keys changes watch r s g h w 
     (ap (λ (l : GateBegun). l .answer) e, ap (λ (l : GateBegun). l .gate) e, ap (λ (l : GateBegun). l .watch) e)
 
 pub unique-gate-offer :
-    (gate keys changes watch : List ℕ) (pid : ℕ) (section : List ℕ) (r s : ℕ) (g h k l m n w x : List ℕ) →
-    left r g k m w ≡ gateOffered gate keys changes watch pid section → left s h l n x ≡ gateOffered gate keys changes watch pid section →
-    (r ≡ s) × (g ≡ h) × (k ≡ l) × (m ≡ n) × (w ≡ x)
-unique-gate-offer gate keys changes watch pid section r s g h k l m n w x a b =
-    let e : left r g k m w ≡ left s h l n x = one-result (gateOffered gate keys changes watch pid section) a b in
-    (ap (λ (t : GateLeft). t .answer) e, ap (λ (t : GateLeft). t .gate) e, ap (λ (t : GateLeft). t .keys) e, ap (λ (t : GateLeft). t .changes) e, ap (λ (t : GateLeft). t .watch) e)
+    (gate keys changes watch : List ℕ) (pid : ℕ) (section failure : List ℕ) (r s : ℕ) (g h k l m n w x y z : List ℕ) →
+    left r g k m w y ≡ gateOffered gate keys changes watch pid section failure → left s h l n x z ≡ gateOffered gate keys changes watch pid section failure →
+    (r ≡ s) × (g ≡ h) × (k ≡ l) × (m ≡ n) × (w ≡ x) × (y ≡ z)
+unique-gate-offer gate keys changes watch pid section failure r s g h k l m n w x y z a b =
+    let e : left r g k m w y ≡ left s h l n x z = one-result (gateOffered gate keys changes watch pid section failure) a b in
+    (ap (λ (t : GateLeft). t .answer) e, ap (λ (t : GateLeft). t .gate) e, ap (λ (t : GateLeft). t .keys) e, ap (λ (t : GateLeft). t .changes) e, ap (λ (t : GateLeft). t .watch) e, ap (λ (t : GateLeft). t .failure) e)
 
 pub unique-watch-ask : (watch : List ℕ) (pid r s : ℕ) → r ≡ watchAsked watch pid → s ≡ watchAsked watch pid → r ≡ s
 unique-watch-ask watch pid r s = one-result (watchAsked watch pid)

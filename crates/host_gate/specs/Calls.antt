@@ -6,13 +6,14 @@ use mathlib.Core.Bool.{cond}
 use lib.ListN.{length}
 use lib.Dec.{eqb}
 use Rattle.host_words.specs.Pids.{pidNumber}
-use Rattle.host_gate_words.specs.Words.{settingsOf, gateOf, countersOf, wordsOf, wordsAfter}
+use Rattle.gate_state.specs.State.{numberOf}
+use Rattle.host_gate_words.specs.Words.{settingsOf, gateOf, countersOf, wordsOf, wordsAfter, failureAfter}
 use Rattle.watched.specs.Store.{asked}
 use Rattle.gate.specs.Store.{Begun, opened, Offering, storeOf, offered}
 
 -- ---- opening
 
--- an answer, the gate's eleven words and the words of the watch
+-- an answer, the gate's thirteen words and the words of the watch
 pub record GateBegun : Type 0 where
   pub answer : ℕ
   pub gate : List ℕ
@@ -21,7 +22,7 @@ pub record GateBegun : Type 0 where
 abbrev pub begun : ℕ → List ℕ → List ℕ → GateBegun
 begun answer gate watch = record { answer = answer; gate = gate; watch = watch }
 
--- 7 writes all eleven words; a refused opening leaves them as they were
+-- 7 writes all thirteen words; a refused opening leaves them as they were
 abbrev pub begunAs : List ℕ → Begun → GateBegun
 begunAs gate b = begun (b .answer) (cond (eqb (b .answer) 7) (wordsOf (b .gate) (b .counters)) gate) (b .words)
 
@@ -31,24 +32,26 @@ gateOpened gate capacity settings rule extra keys changes watch =
 
 -- ---- offering
 
--- an answer, the gate's eleven words, and the words of the three lent slices
+-- an answer, the gate's thirteen words, and the words of the three lent slices
 pub record GateLeft : Type 0 where
   pub answer : ℕ
   pub gate : List ℕ
   pub keys : List ℕ
   pub changes : List ℕ
   pub watch : List ℕ
+  pub failure : List ℕ
 
-abbrev pub left : ℕ → List ℕ → List ℕ → List ℕ → List ℕ → GateLeft
-left answer gate keys changes watch = record { answer = answer; gate = gate; keys = keys; changes = changes; watch = watch }
+abbrev pub left : ℕ → List ℕ → List ℕ → List ℕ → List ℕ → List ℕ → GateLeft
+left answer gate keys changes watch failure = record { answer = answer; gate = gate; keys = keys; changes = changes; watch = watch; failure = failure }
 
--- words 4 to 10 are written; where the gate and its counters stay as they were, all eleven do
-abbrev pub leftAs : List ℕ → Offering → GateLeft
-leftAs gate l = left (l .answer) (wordsAfter gate (l .store .gate) (l .store .counters)) (l .store .keys) (l .store .changes) (l .store .words)
+-- words 4 to 12 are written; where the gate and its counters stay as they were, all thirteen do
+abbrev pub leftAs : List ℕ → List ℕ → Offering → GateLeft
+leftAs gate failure l =
+    left (numberOf (l .answer)) (wordsAfter gate (l .store .gate) (l .store .counters)) (l .store .keys) (l .store .changes) (l .store .words) (failureAfter (l .answer) failure)
 
-unfoldable pub gateOffered : List ℕ → List ℕ → List ℕ → List ℕ → ℕ → List ℕ → GateLeft
-gateOffered gate keys changes watch pid section =
-    leftAs gate (offered (storeOf (gateOf gate) (countersOf gate) keys changes watch) (pidNumber pid) section)
+unfoldable pub gateOffered : List ℕ → List ℕ → List ℕ → List ℕ → ℕ → List ℕ → List ℕ → GateLeft
+gateOffered gate keys changes watch pid section failure =
+    leftAs gate failure (offered (storeOf (gateOf gate) (countersOf gate) keys changes watch) (pidNumber pid) section)
 
 -- ---- the watch
 

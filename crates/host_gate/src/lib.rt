@@ -5,7 +5,7 @@ ghost use Rattle.host_gate.specs.Calls.{begun, gateOpened, left, gateOff
 
 // Opens a gate and its watch: 7, 12 or 13. `settings` are bits: 1 repeats, 2 follow, 4 well-known PIDs. A refusal writes nothing.
 pub fn open(
-    gate: &mut [u64; 11],
+    gate: &mut [u64; 13],
     capacity: u64,
     settings: u32,
     change_rule: u64,
@@ -21,16 +21,17 @@ pub fn open(
     host_gate_words::write_opened(gate, opened)
 }
 
-// Offers a section that came on a PID, watched or not: 1, 2, 3, 10, 11 or 12.
+// Offers a section that came on a PID, watched or not: 1, 2, 3, 10, 11, 12 or 31. 31 and 3 tell what the section failed by.
 pub fn offer(
-    gate: &mut [u64; 11],
+    gate: &mut [u64; 13],
     keys: &mut [u64],
     changes: &mut [u64],
     watch: &mut [u64],
     pid: u32,
     section: &[u8],
+    failure: &mut [u64; 3],
 ) -> u8
-    ensures { λ r. ⌜ left r (now (gate .exit)) (now (keys .exit)) (now (changes .exit)) (now (watch .exit)) ≡ gateOffered (now (gate .entry)) (now (keys .entry)) (now (changes .entry)) (now (watch .entry)) pid (now (section .entry)) ⌝ }
+    ensures { λ r. ⌜ left r (now (gate .exit)) (now (keys .exit)) (now (changes .exit)) (now (watch .exit)) (now (failure .exit)) ≡ gateOffered (now (gate .entry)) (now (keys .entry)) (now (changes .entry)) (now (watch .entry)) pid (now (section .entry)) (now (failure .entry)) ⌝ }
 {
     let held = host_gate_words::read(gate);
     let number = host_words::pids::number(pid);
@@ -43,7 +44,7 @@ pub fn offer(
         number,
         section,
     );
-    host_gate_words::write_offered(gate, offered)
+    host_gate_words::write_offered(gate, failure, offered)
 }
 
 // Whether a PID is watched: 8, 9, 10 or 12.

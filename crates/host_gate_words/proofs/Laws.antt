@@ -1,17 +1,40 @@
 -- One law for each way out of a function.
 -- Assumes nothing.
 use mathlib.Core.Path.{_≡_}
-use mathlib.Core.List.{List}
+use mathlib.Core.List.{List, [], _∷_}
 use Prim.Native.Nat.{ℕ}
 use Rattle.answers.specs.declared.Outcome.{Outcome}
+use Rattle.answers.specs.declared.Outcome.the-variants as outcome
 use Rattle.answers.specs.declared.Outcome.the-variants.{Done}
+use Rattle.answers.specs.declared.Refusal.{Refusal}
+use Rattle.offers.specs.declared.Failure.{Failure}
+use Rattle.offers.specs.declared.Failure.the-variants.{TooShort, Mismatch}
+use Rattle.gate_state.specs.State.{saidOf, failureSaid}
+use Rattle.gate_state.specs.declared.Answer.{Answer}
+use Rattle.gate_state.specs.declared.Answer.the-variants as answer
 use Rattle.counters.specs.declared.Counters.{Counters}
 use Rattle.gate_state.specs.declared.Gate.{Gate}
 use Rattle.host_gate_words.specs.declared.Held.{Held}
-use Rattle.host_gate_words.specs.Words.{gateOf, countersOf, heldIn, wordsOf, wordsOpened}
+use Rattle.host_gate_words.specs.Words.{gateOf, countersOf, heldIn, wordsOf, wordsOpened, failureAfter, told}
 
 pub held-are : (w : List ℕ) (g : Gate) (c : Counters) → g ≡ gateOf w → c ≡ countersOf w → _≡_ {A = Held} (record { gate = g; counters = c }) (heldIn w)
 held-are w g c e f = λ i. record { gate = e i; counters = f i }
 
+pub failure-written : (a : Answer) (f : Failure) (w ws : List ℕ) → a ≡ answer.Failed f → ws ≡ failureAfter (failureSaid f) [] → ws ≡ failureAfter (saidOf a) w
+failure-written a (TooShort n) w ws h e = rw h e
+failure-written a (Mismatch stored worked) w ws h e = rw h e
+
+pub short-words : (f : Failure) (n : ℕ) → f ≡ TooShort n → n ∷ 0 ∷ 0 ∷ [] ≡ failureAfter (failureSaid f) []
+short-words f n h = rw h
+
+pub mismatch-words : (f : Failure) (stored worked : ℕ) → f ≡ Mismatch stored worked → 0 ∷ stored ∷ worked ∷ [] ≡ failureAfter (failureSaid f) []
+mismatch-words f stored worked h = rw h
+
+pub told-are : (n r : ℕ) (g gs f fs : List ℕ) → r ≡ n → gs ≡ g → fs ≡ f → told r gs fs ≡ told n g f
+told-are n r g gs f fs a b c = λ i. record { answer = a i; gate = b i; failure = c i }
+
 pub all-written : (a : Outcome) (g : Gate) (c : Counters) (w ws : List ℕ) → a ≡ Done → ws ≡ wordsOf g c → ws ≡ wordsOpened a g c w
 all-written a g c w ws h e = rw h e
+
+pub none-written : (a : Outcome) (r : Refusal) (g : Gate) (c : Counters) (w : List ℕ) → a ≡ outcome.Refused r → w ≡ wordsOpened a g c w
+none-written a r g c w h = rw h

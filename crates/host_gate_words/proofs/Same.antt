@@ -8,7 +8,7 @@ use lib.ListN.{length}
 use Rattle.host_words.proofs.Same.{word, none}
 use Rattle.host_gate_words.specs.Words.{gateOf, countersOf, wordsAfter}
 
-pub gate-same : (w : List ℕ) → length w ≡ 11 → wordsAfter w (gateOf w) (countersOf w) ≡ w
+pub gate-same : (w : List ℕ) → length w ≡ 13 → wordsAfter w (gateOf w) (countersOf w) ≡ w
 gate-same w h =
     sym
     (word w 0 _ (omega arith)
@@ -22,4 +22,6 @@ gate-same w h =
     (word w 8 _ (omega arith)
     (word w 9 _ (omega arith)
     (word w 10 _ (omega arith)
-    (none w 11 h))))))))))))
+    (word w 11 _ (omega arith)
+    (word w 12 _ (omega arith)
+    (none w 13 h))))))))))))))

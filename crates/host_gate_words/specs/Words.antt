@@ -1,5 +1,5 @@
--- The eleven words of a gate: 0 capacity, 1 repeats, 2 follow (not 0: on), 3 change rule, 4 used, 5 first, 6 completed, 7 emitted, 8 suppressed,
--- 9 CRC failures, 10 evictions; and its settings as bits.
+-- The thirteen words of a gate: 0 capacity, 1 repeats, 2 follow (not 0: on), 3 change rule, 4 used, 5 first, 6 completed, 7 emitted, 8 suppressed,
+-- 9 CRC failures, 10 short sections, 11 CRC mismatches, 12 evictions; its settings as bits; and the three words of a failure.
 use Prim.Native.Nat.{ℕ, _/_, _%_}
 use mathlib.Core.List.{List, [], _∷_}
 use mathlib.Core.Bool.{Bool, cond, not}
@@ -9,7 +9,7 @@ use Rattle.answers.specs.declared.Outcome.{Outcome}
 use Rattle.answers.specs.declared.Outcome.the-variants as outcome
 use Rattle.counters.specs.Counters.{counts}
 use Rattle.counters.specs.declared.Counters.{Counters}
-use Rattle.gate_state.specs.State.{answerNo}
+use Rattle.gate_state.specs.State.{Said, plain, short, mismatch, saidOf, numberOf}
 use Rattle.gate_state.specs.declared.Settings.{Settings}
 use Rattle.gate_state.specs.declared.Gate.{Gate}
 use Rattle.gate_state.specs.declared.Opened.{Opened}
@@ -30,7 +30,7 @@ gateOf w =
     record { ring = record { capacity = at w 0; used = at w 4; first = at w 5 }; repeats = isOn (at w 1); follow = isOn (at w 2); «change_rule» = at w 3 }
 
 abbrev pub countersOf : List ℕ → Counters
-countersOf w = counts (at w 6) (at w 7) (at w 8) (at w 9) (at w 10)
+countersOf w = counts (at w 6) (at w 7) (at w 8) (at w 9) (at w 10) (at w 11) (at w 12)
 
 abbrev pub heldIn : List ℕ → Held
 heldIn w = record { gate = gateOf w; counters = countersOf w }
@@ -38,20 +38,21 @@ heldIn w = record { gate = gateOf w; counters = countersOf w }
 abbrev pub bit : Bool → ℕ
 bit on = cond on 1 0
 
--- words 4 to 10
+-- words 4 to 12
 abbrev pub countsOf : Gate → Counters → List ℕ
 countsOf g c =
-    g .ring .used ∷ g .ring .first ∷ c .completed ∷ c .emitted ∷ c .suppressed ∷ c .«crc_failures» ∷ c .evictions ∷ []
+    g .ring .used ∷ g .ring .first ∷ c .completed ∷ c .emitted ∷ c .suppressed ∷ c .«crc_failures»
+    ∷ c .«short_sections» ∷ c .«crc_mismatches» ∷ c .evictions ∷ []
 
--- all eleven
+-- all thirteen
 abbrev pub wordsOf : Gate → Counters → List ℕ
 wordsOf g c = g .ring .capacity ∷ bit (g .repeats) ∷ bit (g .follow) ∷ g .«change_rule» ∷ countsOf g c
 
--- an offer writes words 4 to 10 only
+-- an offer writes words 4 to 12 only
 abbrev pub wordsAfter : List ℕ → Gate → Counters → List ℕ
 wordsAfter w g c = at w 0 ∷ at w 1 ∷ at w 2 ∷ at w 3 ∷ countsOf g c
 
--- an opening that answers 7 writes all eleven, a refused one none
+-- an opening that answers 7 writes all thirteen, a refused one none
 abbrev pub wordsOpened : Outcome → Gate → Counters → List ℕ → List ℕ
 wordsOpened outcome.Done g c w = wordsOf g c
 wordsOpened (outcome.Refused r) g c w = w
@@ -60,5 +61,20 @@ wordsOpened (outcome.Refused r) g c w = w
 abbrev pub tellsOpened : Opened → List ℕ → Words
 tellsOpened o w = words (outcomeNo (o .answer)) (wordsOpened (o .answer) (o .gate) (o .counters) w)
 
-abbrev pub tellsOffered : Offered → List ℕ → Words
-tellsOffered o w = words (answerNo (o .answer)) (wordsAfter w (o .gate) (o .counters))
+-- the words of a failure: length, stored, worked. 31 and 3 write them; every other answer leaves them as they were
+abbrev pub failureAfter : Said → List ℕ → List ℕ
+failureAfter (plain n) w = w
+failureAfter (short n) w = n ∷ 0 ∷ 0 ∷ []
+failureAfter (mismatch stored worked) w = 0 ∷ stored ∷ worked ∷ []
+
+-- an answer, the words of the gate, and those of the failure
+pub record Told : Type 0 where
+  pub answer : ℕ
+  pub gate : List ℕ
+  pub failure : List ℕ
+
+abbrev pub told : ℕ → List ℕ → List ℕ → Told
+told answer gate failure = record { answer = answer; gate = gate; failure = failure }
+
+abbrev pub tellsOffered : Offered → List ℕ → List ℕ → Told
+tellsOffered o w f = told (numberOf (saidOf (o .answer))) (wordsAfter w (o .gate) (o .counters)) (failureAfter (saidOf (o .answer)) f)

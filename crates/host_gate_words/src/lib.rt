@@ -1,15 +1,19 @@
-// The eleven words of a gate: 0 capacity, 1 repeats, 2 follow (not 0: on), 3 change_rule, 4 used, 5 first, 6 completed, 7 emitted, 8 suppressed,
-// 9 crc_failures, 10 evictions.
+// The thirteen words of a gate: 0 capacity, 1 repeats, 2 follow (not 0: on), 3 change_rule, 4 used, 5 first, 6 completed, 7 emitted, 8 suppressed,
+// 9 crc_failures, 10 short_sections, 11 crc_mismatches, 12 evictions. And the three of a failure: 0 length, 1 stored, 2 worked.
 use answers::Outcome;
 use counters::Counters;
+use gate_state::Answer;
 use gate_state::Gate;
 use gate_state::Offered;
 use gate_state::Opened;
 use gate_state::Settings;
+use offers::Failure;
 use ring::Ring;
 ghost use mathlib.Core.Path.{_≡_};
+ghost use mathlib.Core.List.{[]};
+ghost use Rattle.gate_state.specs.State.{saidOf, failureSaid};
 ghost use Rattle.host_words.specs.Answers.{words};
-ghost use Rattle.host_gate_words.specs.Words.{settingsOf, gateOf, countersOf, heldIn, bit, wordsOf, wordsAfter, wordsOpened, tellsOpened, tellsOffered};
+ghost use Rattle.host_gate_words.specs.Words.{settingsOf, gateOf, countersOf, heldIn, bit, wordsOf, wordsAfter, wordsOpened, failureAfter, told, tellsOpened, tellsOffered};
 
 // What the words hold.
 pub struct Held {
@@ -30,7 +34,7 @@ pub fn settings(capacity: u64, bits: u32, change_rule: u64) -> Settings
     }
 }
 
-fn gate(words: &[u64; 11]) -> Gate
+fn gate(words: &[u64; 13]) -> Gate
     ensures { λ r. ⌜ r ≡ gateOf (now (words .entry)) ⌝ }
 {
     Gate {
@@ -45,7 +49,7 @@ fn gate(words: &[u64; 11]) -> Gate
     }
 }
 
-fn counters(words: &[u64; 11]) -> Counters
+fn counters(words: &[u64; 13]) -> Counters
     ensures { λ r. ⌜ r ≡ countersOf (now (words .entry)) ⌝ }
 {
     Counters {
@@ -53,11 +57,13 @@ fn counters(words: &[u64; 11]) -> Counters
         emitted: words[7],
         suppressed: words[8],
         crc_failures: words[9],
-        evictions: words[10],
+        short_sections: words[10],
+        crc_mismatches: words[11],
+        evictions: words[12],
     }
 }
 
-pub fn read(words: &[u64; 11]) -> Held
+pub fn read(words: &[u64; 13]) -> Held
     ensures { λ r. ⌜ r ≡ heldIn (now (words .entry)) ⌝ }
 {
     Held {
@@ -73,8 +79,8 @@ fn word(on: bool) -> u64
     if on { 1 } else { 0 }
 }
 
-// All eleven words.
-fn write(words: &mut [u64; 11], gate: Gate, counters: Counters)
+// All thirteen words.
+fn write(words: &mut [u64; 13], gate: Gate, counters: Counters)
     ensures { λ _. ⌜ now (words .exit) ≡ wordsOf gate counters ⌝ }
 {
     let ring = gate.ring;
@@ -89,12 +95,14 @@ fn write(words: &mut [u64; 11], gate: Gate, counters: Counters)
         counters.emitted,
         counters.suppressed,
         counters.crc_failures,
+        counters.short_sections,
+        counters.crc_mismatches,
         counters.evictions,
     ];
 }
 
-// A gate that was opened writes all eleven; a refused opening none.
-fn write_where(words: &mut [u64; 11], answer: Outcome, gate: Gate, counters: Counters)
+// A gate that was opened writes all thirteen; a refused opening none.
+fn write_where(words: &mut [u64; 13], answer: Outcome, gate: Gate, counters: Counters)
     ensures { λ _. ⌜ now (words .exit) ≡ wordsOpened answer gate counters (now (words .entry)) ⌝ }
 {
     match answer {
@@ -104,7 +112,7 @@ fn write_where(words: &mut [u64; 11], answer: Outcome, gate: Gate, counters: Cou
 }
 
 // The rows in use and the counters: an offer never changes the settings.
-fn write_counts(words: &mut [u64; 11], gate: Gate, counters: Counters)
+fn write_counts(words: &mut [u64; 13], gate: Gate, counters: Counters)
     ensures { λ _. ⌜ now (words .exit) ≡ wordsAfter (now (words .entry)) gate counters ⌝ }
 {
     let ring = gate.ring;
@@ -119,12 +127,14 @@ fn write_counts(words: &mut [u64; 11], gate: Gate, counters: Counters)
         counters.emitted,
         counters.suppressed,
         counters.crc_failures,
+        counters.short_sections,
+        counters.crc_mismatches,
         counters.evictions,
     ];
 }
 
 // Writes what an opening leaves in the words, and gives its number.
-pub fn write_opened(gate: &mut [u64; 11], opened: Opened) -> u8
+pub fn write_opened(gate: &mut [u64; 13], opened: Opened) -> u8
     ensures { λ r. ⌜ words r (now (gate .exit)) ≡ tellsOpened opened (now (gate .entry)) ⌝ }
 {
     let answer = opened.answer;
@@ -132,11 +142,34 @@ pub fn write_opened(gate: &mut [u64; 11], opened: Opened) -> u8
     answer.number()
 }
 
+// What a section failed by: its length (31), or the CRC stored and the one worked out (3).
+fn failure_words(failure: Failure) -> [u64; 3]
+    ensures { λ r. ⌜ r ≡ failureAfter (failureSaid failure) [] ⌝ }
+{
+    match failure {
+        Failure::TooShort(length) => [length as u64, 0, 0],
+        Failure::Mismatch(stored, worked) => [0, stored as u64, worked as u64],
+    }
+}
+
+// A failure tells what it failed by; every other answer leaves the words as they were.
+fn write_failure(words: &mut [u64; 3], answer: Answer)
+    ensures { λ _. ⌜ now (words .exit) ≡ failureAfter (saidOf answer) (now (words .entry)) ⌝ }
+{
+    match answer {
+        Answer::Emitted => {}
+        Answer::Suppressed => {}
+        Answer::Failed(failure) => *words = failure_words(failure),
+        Answer::Refused(_) => {}
+    }
+}
+
 // Writes what an offer leaves in the words, and gives its number.
-pub fn write_offered(gate: &mut [u64; 11], offered: Offered) -> u8
-    ensures { λ r. ⌜ words r (now (gate .exit)) ≡ tellsOffered offered (now (gate .entry)) ⌝ }
+pub fn write_offered(gate: &mut [u64; 13], failure: &mut [u64; 3], offered: Offered) -> u8
+    ensures { λ r. ⌜ told r (now (gate .exit)) (now (failure .exit)) ≡ tellsOffered offered (now (gate .entry)) (now (failure .entry)) ⌝ }
 {
     let answer = offered.answer;
     write_counts(gate, offered.gate, offered.counters);
+    write_failure(failure, answer);
     answer.number()
 }

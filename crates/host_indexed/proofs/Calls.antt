@@ -11,7 +11,7 @@ use Rattle.ring_index.specs.Store.{indexOf}
 use Rattle.gate_indexed.specs.Store as indexed
 use Rattle.host_words.specs.Pids.{pidNumber}
 use Rattle.host_words.specs.Answers.{Words, words}
-use Rattle.host_gate_words.specs.Words.{settingsOf, heldIn, tellsOpened, tellsOffered}
+use Rattle.host_gate_words.specs.Words.{settingsOf, heldIn, tellsOpened, Told, told, tellsOffered}
 use Rattle.host_gate_words.specs.declared.Held.{Held}
 use Rattle.host_gate.proofs.Calls.{opened-words}
 use Rattle.host_indexed.specs.Calls.{begun, gateOpened, left, gateOffered}
@@ -27,12 +27,12 @@ gate-opened gate capacity settings rule extra keys changes buckets links watch s
     rw (← e, ← f, ap (λ (x : Words). x .answer) t, ap (λ (x : Words). x .now) t, opened-words (o .answer) (o .gate) (o .counters) gate)
 
 pub gate-offered :
-    (gate keys changes buckets links watch : List ℕ) (pid : ℕ) (section : List ℕ) (h : Held) (p : ℕ) (o : Offered)
-    (ks ms bs ls ws gs : List ℕ) (r : ℕ) →
+    (gate keys changes buckets links watch : List ℕ) (pid : ℕ) (section failure : List ℕ) (h : Held) (p : ℕ) (o : Offered)
+    (ks ms bs ls ws gs fs : List ℕ) (r : ℕ) →
     h ≡ heldIn gate → p ≡ pidNumber pid →
     indexed.leftBy o ks ms (indexOf bs ls) ws ≡ indexed.offeredBy (indexed.indexedOf (h .gate) (h .counters) keys changes (indexOf buckets links) watch) p section →
-    words r gs ≡ tellsOffered o gate →
-    left r gs ks ms bs ls ws ≡ gateOffered gate keys changes buckets links watch pid section
+    told r gs fs ≡ tellsOffered o gate failure →
+    left r gs ks ms bs ls ws fs ≡ gateOffered gate keys changes buckets links watch pid section failure
 unfolding gateOffered
-gate-offered gate keys changes buckets links watch pid section h p o ks ms bs ls ws gs r d e f t =
-    rw (ap (λ (x : Held). x .gate) (sym d), ap (λ (x : Held). x .counters) (sym d), ← e, ← f, ap (λ (x : Words). x .answer) t, ap (λ (x : Words). x .now) t)
+gate-offered gate keys changes buckets links watch pid section failure h p o ks ms bs ls ws gs fs r d e f t =
+    rw (ap (λ (x : Held). x .gate) (sym d), ap (λ (x : Held). x .counters) (sym d), ← e, ← f, ap (λ (x : Told). x .answer) t, ap (λ (x : Told). x .gate) t, ap (λ (x : Told). x .failure) t)

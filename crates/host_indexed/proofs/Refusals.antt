@@ -13,44 +13,51 @@ use Rattle.offers.specs.Offers.{verdictOf}
 use Rattle.offers.specs.declared.Verdict.{Verdict}
 use Rattle.offers.specs.declared.Verdict.the-variants.{Refused, Failed, Arrived}
 use Rattle.watched.specs.Store.{allPids}
-use Rattle.gate_state.specs.State.{emitsOf, seenBy}
+use Rattle.gate_state.specs.State.{numberOf, isJudged, emitsOf, seenBy}
 use Rattle.gate_state.specs.declared.Settings.{Settings}
 use Rattle.gate_indexed.specs.Store as indexed
 use Rattle.host_words.specs.Pids.{pidNumber}
-use Rattle.host_gate_words.specs.Words.{settingsOf, gateOf, countersOf}
+use Rattle.host_gate_words.specs.Words.{settingsOf, gateOf, countersOf, failureAfter}
 use Rattle.host_gate_words.proofs.Same.{gate-same}
-use Rattle.host_gate.proofs.Refusals.{told}
+use Rattle.host_gate.proofs.Refusals.{told-judged, failure-judged}
 use Rattle.host_indexed.specs.Calls.{begun, begunAs, gateOpened, left, leftAs, gateOffered}
 
-carried-refused : (s : indexed.Indexed) (section : List ℕ) (v : Verdict) → 10 ≤ (indexed.carriedBy s section v) .answer → (indexed.carriedBy s section v) .left ≡ s
+-- what a refusal leaves and says
+record Kept (l : indexed.Offering) (s : indexed.Indexed) : Type 0 where
+  left′ : l .left ≡ s
+  failure : (w : List ℕ) → failureAfter (l .answer) w ≡ w
+
+carried-refused : (s : indexed.Indexed) (section : List ℕ) (v : Verdict) → isJudged (numberOf ((indexed.carriedBy s section v) .answer)) ≡ false → Kept (indexed.carriedBy s section v) s
 unfolding indexed.carriedBy indexed.admittedBy seenBy
-carried-refused s section (Refused r) h = refl
-carried-refused s section Failed h = absurd (omega arith)
+carried-refused s section (Refused r) h = record { left′ = refl; failure = λ w. refl }
+carried-refused s section (Failed f) h = absurd (failure-judged f h)
 carried-refused s section (Arrived a) h =
     absurd
-    (omega (arith, h, told (emitsOf (s .store .gate) (foundBy (s .store .gate .ring) (s .store .keys) (s .store .changes) (s .index) (a .key) (stampOf (a .version) (a .change))))))
+    (told-judged (emitsOf (s .store .gate) (foundBy (s .store .gate .ring) (s .store .keys) (s .store .changes) (s .index) (a .key) (stampOf (a .version) (a .change)))) h)
 
 offer-refused-by :
-    (s : indexed.Indexed) (pid : ℕ) (section : List ℕ) → 10 ≤ (indexed.offeredBy s pid section) .answer → (indexed.offeredBy s pid section) .left ≡ s
+    (s : indexed.Indexed) (pid : ℕ) (section : List ℕ) → isJudged (numberOf ((indexed.offeredBy s pid section) .answer)) ≡ false → Kept (indexed.offeredBy s pid section) s
 unfolding indexed.offeredBy
 offer-refused-by s pid section h = carried-refused s section (verdictOf (indexed.isWholeBy s) (s .store .counters) (s .store .gate .«change_rule») pid section) h
 
--- 10, 11 and 12
+-- every answer but 1, 2, 31 and 3
 pub indexed-offer-refused :
-    (gate keys changes buckets links watch : List ℕ) (pid : ℕ) (section : List ℕ) (answer : ℕ) → length gate ≡ 11 →
-    answer ≡ (gateOffered gate keys changes buckets links watch pid section) .answer → 10 ≤ answer →
-    gateOffered gate keys changes buckets links watch pid section ≡ left answer gate keys changes buckets links watch
+    (gate keys changes buckets links watch : List ℕ) (pid : ℕ) (section failure : List ℕ) (answer : ℕ) → length gate ≡ 13 →
+    answer ≡ (gateOffered gate keys changes buckets links watch pid section failure) .answer → isJudged answer ≡ false →
+    gateOffered gate keys changes buckets links watch pid section failure ≡ left answer gate keys changes buckets links watch failure
 unfolding gateOffered
-indexed-offer-refused gate keys changes buckets links watch pid section answer n e h =
+indexed-offer-refused gate keys changes buckets links watch pid section failure answer n e h =
     let s : indexed.Indexed = indexed.indexedOf (gateOf gate) (countersOf gate) keys changes (indexOf buckets links) watch in
     let l : indexed.Offering = indexed.offeredBy s (pidNumber pid) section in
-    let k : 10 ≤ l .answer = rw (← e) h in
-    go l (offer-refused-by s (pidNumber pid) section k) e
+    let k : isJudged (numberOf (l .answer)) ≡ false = rw (← e) h in
+    let r = offer-refused-by s (pidNumber pid) section k in
+    go l (r .left′) (r .failure failure) e
   where
     go :
-        (l : indexed.Offering) → l .left ≡ indexed.indexedOf (gateOf gate) (countersOf gate) keys changes (indexOf buckets links) watch → answer ≡ l .answer →
-        leftAs gate l ≡ left answer gate keys changes buckets links watch
-    go l p e = rw (p, e, gate-same gate n)
+        (l : indexed.Offering) → l .left ≡ indexed.indexedOf (gateOf gate) (countersOf gate) keys changes (indexOf buckets links) watch →
+        failureAfter (l .answer) failure ≡ failure → answer ≡ numberOf (l .answer) →
+        leftAs gate failure l ≡ left answer gate keys changes buckets links watch failure
+    go l p f e = rw (p, f, e, gate-same gate n)
 
 -- 12 and 13
 pub indexed-open-refused :

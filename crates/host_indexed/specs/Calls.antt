@@ -6,11 +6,12 @@ use mathlib.Core.Bool.{cond}
 use lib.ListN.{length}
 use lib.Dec.{eqb}
 use Rattle.host_words.specs.Pids.{pidNumber}
-use Rattle.host_gate_words.specs.Words.{settingsOf, gateOf, countersOf, wordsOf, wordsAfter}
+use Rattle.gate_state.specs.State.{numberOf}
+use Rattle.host_gate_words.specs.Words.{settingsOf, gateOf, countersOf, wordsOf, wordsAfter, failureAfter}
 use Rattle.ring_index.specs.Store.{indexOf}
 use Rattle.gate_indexed.specs.Store as indexed
 
--- an answer, the gate's eleven words, the buckets, and the words of the watch
+-- an answer, the gate's thirteen words, the buckets, and the words of the watch
 pub record GateBegun : Type 0 where
   pub answer : ℕ
   pub gate : List ℕ
@@ -28,7 +29,7 @@ unfoldable pub gateOpened : List ℕ → ℕ → ℕ → ℕ → List ℕ → Li
 gateOpened gate capacity settings rule extra keys changes buckets links watch =
     begunAs gate (indexed.openedBy (settingsOf capacity settings rule) extra (length keys) (length changes) (length links) buckets watch)
 
--- an answer, the gate's eleven words, and the words of the five lent slices
+-- an answer, the gate's thirteen words, and the words of the five lent slices
 pub record GateLeft : Type 0 where
   pub answer : ℕ
   pub gate : List ℕ
@@ -37,21 +38,23 @@ pub record GateLeft : Type 0 where
   pub buckets : List ℕ
   pub links : List ℕ
   pub watch : List ℕ
+  pub failure : List ℕ
 
-abbrev pub left : ℕ → List ℕ → List ℕ → List ℕ → List ℕ → List ℕ → List ℕ → GateLeft
-left answer gate keys changes buckets links watch =
-    record { answer = answer; gate = gate; keys = keys; changes = changes; buckets = buckets; links = links; watch = watch }
+abbrev pub left : ℕ → List ℕ → List ℕ → List ℕ → List ℕ → List ℕ → List ℕ → List ℕ → GateLeft
+left answer gate keys changes buckets links watch failure =
+    record { answer = answer; gate = gate; keys = keys; changes = changes; buckets = buckets; links = links; watch = watch; failure = failure }
 
-abbrev pub leftAs : List ℕ → indexed.Offering → GateLeft
-leftAs gate l =
-    left (l .answer)
+abbrev pub leftAs : List ℕ → List ℕ → indexed.Offering → GateLeft
+leftAs gate failure l =
+    left (numberOf (l .answer))
     (wordsAfter gate (l .left .store .gate) (l .left .store .counters))
     (l .left .store .keys)
     (l .left .store .changes)
     (l .left .index .buckets)
     (l .left .index .links)
     (l .left .store .words)
+    (failureAfter (l .answer) failure)
 
-unfoldable pub gateOffered : List ℕ → List ℕ → List ℕ → List ℕ → List ℕ → List ℕ → ℕ → List ℕ → GateLeft
-gateOffered gate keys changes buckets links watch pid section =
-    leftAs gate (indexed.offeredBy (indexed.indexedOf (gateOf gate) (countersOf gate) keys changes (indexOf buckets links) watch) (pidNumber pid) section)
+unfoldable pub gateOffered : List ℕ → List ℕ → List ℕ → List ℕ → List ℕ → List ℕ → ℕ → List ℕ → List ℕ → GateLeft
+gateOffered gate keys changes buckets links watch pid section failure =
+    leftAs gate failure (indexed.offeredBy (indexed.indexedOf (gateOf gate) (countersOf gate) keys changes (indexOf buckets links) watch) (pidNumber pid) section)

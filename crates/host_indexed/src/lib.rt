@@ -4,7 +4,7 @@ ghost use Rattle.host_indexed.specs.Calls.{begun, gateOpened, left, gate
 
 // `petrizolu_gate_open` for a gate with an index over its rows: also the buckets are written.
 pub fn open(
-    gate: &mut [u64; 11],
+    gate: &mut [u64; 13],
     capacity: u64,
     settings: u32,
     change_rule: u64,
@@ -24,7 +24,7 @@ pub fn open(
 
 // `petrizolu_gate_offer` through the index.
 pub fn offer(
-    gate: &mut [u64; 11],
+    gate: &mut [u64; 13],
     keys: &mut [u64],
     changes: &mut [u64],
     buckets: &mut [u64],
@@ -32,8 +32,9 @@ pub fn offer(
     watch: &mut [u64],
     pid: u32,
     section: &[u8],
+    failure: &mut [u64; 3],
 ) -> u8
-    ensures { λ r. ⌜ left r (now (gate .exit)) (now (keys .exit)) (now (changes .exit)) (now (buckets .exit)) (now (links .exit)) (now (watch .exit)) ≡ gateOffered (now (gate .entry)) (now (keys .entry)) (now (changes .entry)) (now (buckets .entry)) (now (links .entry)) (now (watch .entry)) pid (now (section .entry)) ⌝ }
+    ensures { λ r. ⌜ left r (now (gate .exit)) (now (keys .exit)) (now (changes .exit)) (now (buckets .exit)) (now (links .exit)) (now (watch .exit)) (now (failure .exit)) ≡ gateOffered (now (gate .entry)) (now (keys .entry)) (now (changes .entry)) (now (buckets .entry)) (now (links .entry)) (now (watch .entry)) pid (now (section .entry)) (now (failure .entry)) ⌝ }
 {
     let held = host_gate_words::read(gate);
     let number = host_words::pids::number(pid);
@@ -48,5 +49,5 @@ pub fn offer(
         number,
         section,
     );
-    host_gate_words::write_offered(gate, offered)
+    host_gate_words::write_offered(gate, failure, offered)
 }

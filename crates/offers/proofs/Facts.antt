@@ -4,6 +4,7 @@ use Prim.Native.Nat.{ℕ, _^_, _<_}
 use mathlib.Core.Path.{_≡_, refl, sym, subst}
 use mathlib.Core.List.{List}
 use mathlib.Core.Bool.{Bool, true, false, cond, not}
+use lib.ListN.{length}
 use lib.Dec.{ltb}
 use native.Mathlib.Omega.{arith}
 use borrow.Author.Tests.{lt-ltb, le-ltb, not-true, not-false}
@@ -23,19 +24,22 @@ use Rattle.section.specs.declared.header.Judged.the-variants.{Short, Mismatch, 
 use Rattle.section.proofs.Facts.{judged-table, judged-change, origin-one, origin-none}
 use Rattle.offers.specs.Offers.{arrivalOf, readAs, readOf, verdictOf, Taken, Admissible, VerdictOk}
 use Rattle.offers.specs.declared.Arrival.{Arrival}
+use Rattle.offers.specs.declared.Failure.{Failure}
+use Rattle.offers.specs.declared.Failure.the-variants as failure
+use Rattle.offers.specs.declared.Failure.the-variants.{TooShort}
 use Rattle.offers.specs.declared.Verdict.{Verdict}
 use Rattle.offers.specs.declared.Verdict.the-variants.{Refused, Failed, Arrived}
 
 -- ---- 3
 
 module _ (from : Origin) (rule : ℕ) (c : ChangeRule) (section : List ℕ) (v : Judged) (n : c ≡ ruleOf rule) (e : v ≡ judgedOf c section) where
-  pub read-short : v ≡ Short → Failed ≡ readAs from (judgedOf (ruleOf rule) section)
+  pub read-short : v ≡ Short → Failed (TooShort (length section)) ≡ readAs from (length section) (judgedOf (ruleOf rule) section)
   read-short h = rw (← n, ← e, h)
 
-  pub read-mismatch : (a b : ℕ) → v ≡ Mismatch a b → Failed ≡ readAs from (judgedOf (ruleOf rule) section)
+  pub read-mismatch : (a b : ℕ) → v ≡ Mismatch a b → Failed (failure.Mismatch a b) ≡ readAs from (length section) (judgedOf (ruleOf rule) section)
   read-mismatch a b h = rw (← n, ← e, h)
 
-  pub read-sound : (p : Parts) (a : Arrival) → v ≡ Sound p → a ≡ arrivalOf from p → Arrived a ≡ readAs from (judgedOf (ruleOf rule) section)
+  pub read-sound : (p : Parts) (a : Arrival) → v ≡ Sound p → a ≡ arrivalOf from p → Arrived a ≡ readAs from (length section) (judgedOf (ruleOf rule) section)
   read-sound p a h j = rw (← n, ← e, h, j)
 
 -- ---- 12
@@ -45,7 +49,7 @@ module _ (rule pid : ℕ) (section : List ℕ) (m : OriginMade) (e : m ≡ origi
   unfolding readOf
   read-pid h = rw (le-ltb pid 8192 (origin-none pid m e h))
 
-  pub read-section : (from : Origin) (v : Verdict) → m ≡ origin.One from → v ≡ readAs from (judgedOf (ruleOf rule) section) → v ≡ readOf rule pid section
+  pub read-section : (from : Origin) (v : Verdict) → m ≡ origin.One from → v ≡ readAs from (length section) (judgedOf (ruleOf rule) section) → v ≡ readOf rule pid section
   unfolding readOf
   read-section from v h k = let n = origin-one pid m e from h in rw (lt-ltb pid 8192 (n .1), ← (n .0)) k
 
@@ -67,13 +71,13 @@ module _ (w : Bool) (c : Counters) (rule pid : ℕ) (section : List ℕ) where
 
   pub judged-ok : not w ≡ false → CanCount c → (v : Verdict) → Taken section v → VerdictOk w c section v
   judged-ok h n (Refused r) t = tt
-  judged-ok h n Failed t = n
+  judged-ok h n (Failed f) t = n
   judged-ok h n (Arrived a) t = record { whole = not-false w h; counts = n; table = t }
 
 -- what a caller learns of a verdict
 module _ (w : Bool) (c : Counters) (section : List ℕ) (v : Verdict) (o : VerdictOk w c section v) where
-  pub counts : v ≡ Failed → CanCount c
-  counts q = subst (VerdictOk w c section) q o
+  pub counts : (f : Failure) → v ≡ Failed f → CanCount c
+  counts f q = subst (VerdictOk w c section) q o
 
   pub admits : (a : Arrival) → v ≡ Arrived a → Admissible w c section a
   admits a q = subst (VerdictOk w c section) q o
@@ -81,7 +85,7 @@ module _ (w : Bool) (c : Counters) (section : List ℕ) (v : Verdict) (o : Verdi
 -- ---- what arrives
 
 module _ (section : List ℕ) (rule : ℕ) where
-  section-taken : (from : Origin) (v : Judged) → judgedOf (ruleOf rule) section ≡ v → Taken section (readAs from v)
+  section-taken : (from : Origin) (v : Judged) → judgedOf (ruleOf rule) section ≡ v → Taken section (readAs from (length section) v)
   section-taken from Short e = tt
   section-taken from (Mismatch a b) e = tt
   section-taken from (Sound p) e = judged-table (ruleOf rule) section p e
@@ -90,7 +94,7 @@ module _ (section : List ℕ) (rule : ℕ) where
   unfolding readOf
   taken pid = go (ltb pid 8192)
     where
-      go : (b : Bool) → Taken section (cond b (readAs (originOf pid) (judgedOf (ruleOf rule) section)) (Refused BadPid))
+      go : (b : Bool) → Taken section (cond b (readAs (originOf pid) (length section) (judgedOf (ruleOf rule) section)) (Refused BadPid))
       go true = section-taken (originOf pid) (judgedOf (ruleOf rule) section) refl
       go false = tt
 
@@ -99,7 +103,7 @@ module _ (section : List ℕ) (rule : ℕ) where
 
   -- of bytes, its change number has 32 bits
   module _ (b : Bytes section) where
-    section-small : (from : Origin) (v : Judged) → judgedOf (ruleOf rule) section ≡ v → (a : Arrival) → readAs from v ≡ Arrived a → a .change < 2 ^ 32
+    section-small : (from : Origin) (v : Judged) → judgedOf (ruleOf rule) section ≡ v → (a : Arrival) → readAs from (length section) v ≡ Arrived a → a .change < 2 ^ 32
     section-small from Short e a h = let z : _≡_ {A = ℕ} 0 1 = cc in absurd (omega arith)
     section-small from (Mismatch s w) e a h = let z : _≡_ {A = ℕ} 0 1 = cc in absurd (omega arith)
     section-small from (Sound p) e a h = let q : arrivalOf from p ≡ a = cc in subst (λ (x : Arrival). x .change < 2 ^ 32) q (judged-change (ruleOf rule) section b p e)
@@ -108,6 +112,6 @@ module _ (section : List ℕ) (rule : ℕ) where
     unfolding readOf
     arrived-small pid a h = go (ltb pid 8192) h
       where
-        go : (t : Bool) → cond t (readAs (originOf pid) (judgedOf (ruleOf rule) section)) (Refused BadPid) ≡ Arrived a → a .change < 2 ^ 32
+        go : (t : Bool) → cond t (readAs (originOf pid) (length section) (judgedOf (ruleOf rule) section)) (Refused BadPid) ≡ Arrived a → a .change < 2 ^ 32
         go true k = section-small (originOf pid) (judgedOf (ruleOf rule) section) refl a k
         go false k = let z : _≡_ {A = ℕ} 0 1 = cc in absurd (omega arith)

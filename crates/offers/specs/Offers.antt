@@ -2,7 +2,8 @@
 use Prim.Native.Nat.{ℕ}
 use mathlib.Core.Path.{_≡_}
 use mathlib.Core.List.{List}
-use mathlib.Core.Bool.{Bool, true, cond}
+use mathlib.Core.Bool.{Bool, true, false, cond}
+use lib.ListN.{length}
 use lib.Dec.{ltb}
 use Rattle.answers.specs.declared.Refusal.the-variants.{NotWhole, CounterFull, BadPid}
 use Rattle.counters.specs.Counters.{anyFull, CanCount}
@@ -16,6 +17,9 @@ use Rattle.section.specs.declared.header.Parts.{Parts}
 use Rattle.section.specs.declared.header.Judged.{Judged}
 use Rattle.section.specs.declared.header.Judged.the-variants.{Short, Mismatch, Sound}
 use Rattle.offers.specs.declared.Arrival.{Arrival}
+use Rattle.offers.specs.declared.Failure.{Failure}
+use Rattle.offers.specs.declared.Failure.the-variants as failure
+use Rattle.offers.specs.declared.Failure.the-variants.{TooShort}
 use Rattle.offers.specs.declared.Verdict.{Verdict}
 use Rattle.offers.specs.declared.Verdict.the-variants.{Refused, Failed, Arrived}
 
@@ -24,15 +28,19 @@ abbrev pub arrivalOf : Origin → Parts → Arrival
 arrivalOf from p =
     record { key = keyOf from (p .«table_id») (p .extension) (p .number); version = p .version; change = p .change; «table_id» = p .«table_id» }
 
--- too short, or a CRC that does not fit: 3
-abbrev pub readAs : Origin → Judged → Verdict
-readAs from Short = Failed
-readAs from (Mismatch stored worked) = Failed
-readAs from (Sound p) = Arrived (arrivalOf from p)
+abbrev pub isShort : Failure → Bool
+isShort (TooShort n) = true
+isShort (failure.Mismatch stored worked) = false
+
+-- of a section of n bytes: too short to hold its CRC, with its length (31); a CRC that does not fit, with the number stored and the number worked out (3)
+abbrev pub readAs : Origin → (n : ℕ) → Judged → Verdict
+readAs from n Short = Failed (TooShort n)
+readAs from n (Mismatch stored worked) = Failed (failure.Mismatch stored worked)
+readAs from n (Sound p) = Arrived (arrivalOf from p)
 
 -- what a section and its PID say by the change rule of this number: 12 where the PID is none
 unfoldable pub readOf : ℕ → ℕ → List ℕ → Verdict
-readOf rule pid section = cond (ltb pid 8192) (readAs (originOf pid) (judgedOf (ruleOf rule) section)) (Refused BadPid)
+readOf rule pid section = cond (ltb pid 8192) (readAs (originOf pid) (length section) (judgedOf (ruleOf rule) section)) (Refused BadPid)
 
 -- 10 where the store is not whole, then 11, then what the section and its PID say
 unfoldable pub verdictOf : Bool → Counters → ℕ → ℕ → List ℕ → Verdict
@@ -43,7 +51,7 @@ verdictOf whole c rule pid section = cond whole (cond (anyFull c) (Refused Count
 -- its table_id is the section's
 abbrev pub Taken : List ℕ → Verdict → Type 0
 Taken section (Refused r) = Unit {0}
-Taken section Failed = Unit {0}
+Taken section (Failed f) = Unit {0}
 Taken section (Arrived a) = a .«table_id» ≡ tableId section
 
 -- and the store is whole, and its counters can count
@@ -54,5 +62,5 @@ pub record Admissible (w : Bool) (c : Counters) (section : List ℕ) (a : Arriva
 
 abbrev pub VerdictOk : Bool → Counters → List ℕ → Verdict → Type 0
 VerdictOk w c section (Refused r) = Unit {0}
-VerdictOk w c section Failed = CanCount c
+VerdictOk w c section (Failed f) = CanCount c
 VerdictOk w c section (Arrived a) = Admissible w c section a

@@ -1,5 +1,5 @@
-// What an offer to the gate comes to before a row is looked at (docs/RULES.md, "Gate" and "Answers"): 10, 11, 12, a CRC failure, or a section that is
-// to be looked up. No slice of the store is lent.
+// What an offer to the gate comes to before a row is looked at (docs/RULES.md, "Gate" and "Answers"): 10, 11, 12, a CRC failure with
+// what tells it, or a section that is to be looked up. No slice of the store is lent.
 use answers::Refusal;
 use counters::Counters;
 use section::header::ChangeRule;
@@ -8,8 +8,9 @@ use section::header::Parts;
 use section::ids::Origin;
 use section::ids::OriginMade;
 ghost use mathlib.Core.Path.{_≡_};
+ghost use lib.ListN.{length};
 ghost use Rattle.section.specs.Judged.{ruleOf, judgedOf};
-ghost use Rattle.offers.specs.Offers.{arrivalOf, readAs, readOf, Taken, verdictOf, VerdictOk};
+ghost use Rattle.offers.specs.Offers.{isShort, arrivalOf, readAs, readOf, Taken, verdictOf, VerdictOk};
 
 // What tells one section from another at the gate: its key, the version and the change number that it came with. And its table_id.
 pub struct Arrival {
@@ -19,10 +20,27 @@ pub struct Arrival {
     pub table_id: u8,
 }
 
-// A refusal, 3, or a section that is to be looked up.
+// What a section failed by: too short to hold its CRC, with its length (31), or the CRC stored and the one worked out, which differ (3).
+pub enum Failure {
+    TooShort(usize),
+    Mismatch(u32, u32),
+}
+
+impl Failure {
+    pub fn is_short(self) -> bool
+        ensures { λ r. ⌜ r ≡ isShort self ⌝ }
+    {
+        match self {
+            Failure::TooShort(_) => true,
+            Failure::Mismatch(_, _) => false,
+        }
+    }
+}
+
+// A refusal, a failure, or a section that is to be looked up.
 pub enum Verdict {
     Refused(Refusal),
-    Failed,
+    Failed(Failure),
     Arrived(Arrival),
 }
 
@@ -40,7 +58,7 @@ pub fn judge(whole: bool, counters: Counters, rule: u64, pid: u16, section: &[u8
     read(rule, pid, section)
 }
 
-// 12, then 3.
+// 12, then 31 or 3.
 fn read(rule: u64, pid: u16, section: &[u8]) -> Verdict
     ensures { λ r. ⌜ r ≡ readOf rule pid (now (section .entry)) ⌝ }
     ensures { λ r. ⌜ Taken (now (section .entry)) r ⌝ }
@@ -51,13 +69,13 @@ fn read(rule: u64, pid: u16, section: &[u8]) -> Verdict
     }
 }
 
-// 3 where the section is too short for its CRC or the CRC does not fit.
+// 31 where the section is too short for its CRC, 3 where the CRC does not fit.
 fn read_from(from: Origin, rule: u64, section: &[u8]) -> Verdict
-    ensures { λ r. ⌜ r ≡ readAs from (judgedOf (ruleOf rule) (now (section .entry))) ⌝ }
+    ensures { λ r. ⌜ r ≡ readAs from (length (now (section .entry))) (judgedOf (ruleOf rule) (now (section .entry))) ⌝ }
 {
     match section::header::judge(section, ChangeRule::of(rule)) {
-        Judged::Short => Verdict::Failed,
-        Judged::Mismatch(_, _) => Verdict::Failed,
+        Judged::Short => Verdict::Failed(Failure::TooShort(section.len())),
+        Judged::Mismatch(stored, worked) => Verdict::Failed(Failure::Mismatch(stored, worked)),
         Judged::Sound(parts) => Verdict::Arrived(arrive(from, parts)),
     }
 }

@@ -20,7 +20,7 @@ pub extern "C" fn petrizolu_crc(bytes: &[u8]) -> u32
 // Opens a gate and its watch: 7, 12 or 13. `settings` are bits: 1 repeats, 2 follow, 4 well-known PIDs. A refusal writes nothing.
 #[no_mangle]
 pub extern "C" fn petrizolu_gate_open(
-    gate: &mut [u64; 11],
+    gate: &mut [u64; 13],
     capacity: u64,
     settings: u32,
     change_rule: u64,
@@ -43,19 +43,20 @@ pub extern "C" fn petrizolu_gate_open(
     )
 }
 
-// Offers a section that came on a PID, watched or not: 1, 2, 3, 10, 11 or 12.
+// Offers a section that came on a PID, watched or not: 1, 2, 3, 10, 11, 12 or 31. 31 and 3 tell what the section failed by, all others leave `failure`.
 #[no_mangle]
 pub extern "C" fn petrizolu_gate_offer(
-    gate: &mut [u64; 11],
+    gate: &mut [u64; 13],
     keys: &mut [u64],
     changes: &mut [u64],
     watch: &mut [u64],
     pid: u32,
     section: &[u8],
+    failure: &mut [u64; 3],
 ) -> u8
-    ensures { λ r. ⌜ left r (now (gate .exit)) (now (keys .exit)) (now (changes .exit)) (now (watch .exit)) ≡ gateOffered (now (gate .entry)) (now (keys .entry)) (now (changes .entry)) (now (watch .entry)) pid (now (section .entry)) ⌝ }
+    ensures { λ r. ⌜ left r (now (gate .exit)) (now (keys .exit)) (now (changes .exit)) (now (watch .exit)) (now (failure .exit)) ≡ gateOffered (now (gate .entry)) (now (keys .entry)) (now (changes .entry)) (now (watch .entry)) pid (now (section .entry)) (now (failure .entry)) ⌝ }
 {
-    host_gate::offer(gate, keys, changes, watch, pid, section)
+    host_gate::offer(gate, keys, changes, watch, pid, section, failure)
 }
 
 // Whether a PID is watched: 8, 9, 10 or 12.
@@ -69,7 +70,7 @@ pub extern "C" fn petrizolu_watch_ask(watch: &[u64], pid: u32) -> u8
 // `petrizolu_gate_open` for a gate with an index over its rows: also the buckets are written.
 #[no_mangle]
 pub extern "C" fn petrizolu_indexed_open(
-    gate: &mut [u64; 11],
+    gate: &mut [u64; 13],
     capacity: u64,
     settings: u32,
     change_rule: u64,
@@ -99,7 +100,7 @@ pub extern "C" fn petrizolu_indexed_open(
 // `petrizolu_gate_offer` through the index.
 #[no_mangle]
 pub extern "C" fn petrizolu_indexed_offer(
-    gate: &mut [u64; 11],
+    gate: &mut [u64; 13],
     keys: &mut [u64],
     changes: &mut [u64],
     buckets: &mut [u64],
@@ -107,10 +108,21 @@ pub extern "C" fn petrizolu_indexed_offer(
     watch: &mut [u64],
     pid: u32,
     section: &[u8],
+    failure: &mut [u64; 3],
 ) -> u8
-    ensures { λ r. ⌜ indexed.left r (now (gate .exit)) (now (keys .exit)) (now (changes .exit)) (now (buckets .exit)) (now (links .exit)) (now (watch .exit)) ≡ indexed.gateOffered (now (gate .entry)) (now (keys .entry)) (now (changes .entry)) (now (buckets .entry)) (now (links .entry)) (now (watch .entry)) pid (now (section .entry)) ⌝ }
+    ensures { λ r. ⌜ indexed.left r (now (gate .exit)) (now (keys .exit)) (now (changes .exit)) (now (buckets .exit)) (now (links .exit)) (now (watch .exit)) (now (failure .exit)) ≡ indexed.gateOffered (now (gate .entry)) (now (keys .entry)) (now (changes .entry)) (now (buckets .entry)) (now (links .entry)) (now (watch .entry)) pid (now (section .entry)) (now (failure .entry)) ⌝ }
 {
-    host_indexed::offer(gate, keys, changes, buckets, links, watch, pid, section)
+    host_indexed::offer(
+        gate,
+        keys,
+        changes,
+        buckets,
+        links,
+        watch,
+        pid,
+        section,
+        failure,
+    )
 }
 
 // Opens a set collector: 7 or 13. A refusal leaves the words as they were; nothing else lent is written.

@@ -4,6 +4,7 @@ use mathlib.Core.Path.{_≡_, refl, ap, _∙_}
 use mathlib.Core.Bool.{Bool, true, false, cond}
 use mathlib.Core.List.{List, [], _∷_, _++_, map}
 use Prim.Native.Nat.{ℕ, _<_}
+use lib.ListN.{length}
 use borrow.Author.Tests.{lt-ltb}
 use Rattle.rules_shared.specs.Same.{sameBytes, samePid, sameOrigin}
 use Rattle.rules_shared.specs.Slots.{isHeld, present}
@@ -25,6 +26,7 @@ use Rattle.answers.specs.declared.Refusal.the-variants.{BadPid}
 use Rattle.offers.specs.Offers.{readAs, readOf}
 use Rattle.offers.specs.declared.Verdict.the-variants.{Refused}
 use Rattle.ring.specs.Rules.{Row, offeredTo, later, atCapacity}
+use Rattle.gate_state.specs.State.{plain, short}
 use Rattle.gate.specs.Rules.{Manner, Told, admitted, carriedIn, told, tells, acts}
 use Rattle.rules_sets.specs.Rules.{sameKey, partOf, full, whole, metRow, judged, judge, finish, push, admit, step}
 use Rattle.rules_sets.specs.Rules.{acts as collects}
@@ -33,16 +35,16 @@ use Rattle.promises.specs.Examples.{pat, freshGate, heldAfter, gateKeys,
 -- ---- the gate
 
 says : (m : Manner) (watch : Watch) (pid : ℕ) (section : List ℕ) (j : Judged) → pid < 8192 → judgedOf (ruleOf (m .rule)) section ≡ j
-    → told m (freshGate watch) (record { pid = pid; section = section }) ≡ carriedIn m (freshGate watch) section (readAs (originOf pid) j)
+    → told m (freshGate watch) (record { pid = pid; section = section }) ≡ carriedIn m (freshGate watch) section (readAs (originOf pid) (length section) j)
 unfolding told readOf
 says m watch pid section j h e =
-    ap (λ (b : Bool). carriedIn m (freshGate watch) section (cond b (readAs (originOf pid) (judgedOf (ruleOf (m .rule)) section)) (Refused BadPid))) (lt-ltb pid 8192 h)
-    ∙ ap (λ (x : Judged). carriedIn m (freshGate watch) section (readAs (originOf pid) x)) e
+    ap (λ (b : Bool). carriedIn m (freshGate watch) section (cond b (readAs (originOf pid) (length section) (judgedOf (ruleOf (m .rule)) section)) (Refused BadPid))) (lt-ltb pid 8192 h)
+    ∙ ap (λ (x : Judged). carriedIn m (freshGate watch) section (readAs (originOf pid) (length section) x)) e
 
 abbrev ones : List ℕ
 ones = 0xFF ∷ 0xFF ∷ 0xFF ∷ 0xFF ∷ []
 
-emitted : (m : Manner) (watch : Watch) (pid : ℕ) → pid < 8192 → tells m (freshGate watch) (record { pid = pid; section = ones }) ≡ 1
+emitted : (m : Manner) (watch : Watch) (pid : ℕ) → pid < 8192 → tells m (freshGate watch) (record { pid = pid; section = ones }) ≡ plain 1
 unfolding tells carriedIn admitted
 emitted m watch pid h = ap (λ (t : Told). t .answer) (says m watch pid ones _ h (all-ones (ruleOf (m .rule))))
 
@@ -54,7 +56,7 @@ held m watch pid h = ap (λ (t : Told). map (λ (r : Row). r .key) (t .held .row
     go k true = refl
     go k false = refl
 
-fails : (m : Manner) (watch : Watch) (pid : ℕ) → pid < 8192 → tells m (freshGate watch) (record { pid = pid; section = 0x02 ∷ 0xB0 ∷ 0x00 ∷ [] }) ≡ 3
+fails : (m : Manner) (watch : Watch) (pid : ℕ) → pid < 8192 → tells m (freshGate watch) (record { pid = pid; section = 0x02 ∷ 0xB0 ∷ 0x00 ∷ [] }) ≡ short 3
 unfolding tells carriedIn
 fails m watch pid h = ap (λ (t : Told). t .answer) (says m watch pid (0x02 ∷ 0xB0 ∷ 0x00 ∷ []) _ h (cut-off (ruleOf (m .rule))))
 

@@ -17,6 +17,7 @@ use Rattle.pat.specs.declared.Pat.the-variants.{Readable}
 use Rattle.ring.specs.Rules.{Row, offeredTo}
 use Rattle.watched.specs.Rules.{Watch}
 use Rattle.counters.specs.Counters.{zeroes}
+use Rattle.gate_state.specs.State.{plain, short}
 use Rattle.gate.specs.Rules.{Manner, Held, tells, acts}
 use Rattle.rules_sets.specs.Rules.{Key, SetRow, Call, offer, opened}
 use Rattle.rules_sets.specs.Rules.{acts as collects}
@@ -66,11 +67,11 @@ pub record CheckedExamples : Type 0 where
   pub segment-past-last : segmentEnd 16 23 17 ≡ 17
   pub segment-at-248 : segmentEnd 248 255 255 ≡ 255
   -- "offering FF FF FF FF first: emitted, key with extension 0 and section 0", on any PID and with any settings
-  pub all-ones-emitted : (m : Manner) (watch : Watch) (pid : ℕ) → pid < 8192 → tells m (freshGate watch) (record { pid = pid; section = 0xFF ∷ 0xFF ∷ 0xFF ∷ 0xFF ∷ [] }) ≡ 1
+  pub all-ones-emitted : (m : Manner) (watch : Watch) (pid : ℕ) → pid < 8192 → tells m (freshGate watch) (record { pid = pid; section = 0xFF ∷ 0xFF ∷ 0xFF ∷ 0xFF ∷ [] }) ≡ plain 1
   pub all-ones-key : (m : Manner) (watch : Watch) (pid : ℕ) → pid < 8192
       → map (λ (r : Row). r .key) ((acts m (freshGate watch) (record { pid = pid; section = 0xFF ∷ 0xFF ∷ 0xFF ∷ 0xFF ∷ [] })) .rows) ≡ keyOf (originOf pid) 0xFF 0 0 ∷ []
-  -- "02 B0 00: CRC failure"
-  pub cut-off-fails : (m : Manner) (watch : Watch) (pid : ℕ) → pid < 8192 → tells m (freshGate watch) (record { pid = pid; section = 0x02 ∷ 0xB0 ∷ 0x00 ∷ [] }) ≡ 3
+  -- "02 B0 00: CRC failure": too short, 3 bytes
+  pub cut-off-fails : (m : Manner) (watch : Watch) (pid : ℕ) → pid < 8192 → tells m (freshGate watch) (record { pid = pid; section = 0x02 ∷ 0xB0 ∷ 0x00 ∷ [] }) ≡ short 3
   -- "capacity 2, keys A, B, A, C: the gate loses A"; 10, 11 and 12 stand for A, B and C
   pub gate-loses-A : gateKeys 2 (10 ∷ 11 ∷ 10 ∷ 12 ∷ []) ≡ 11 ∷ 12 ∷ []
   -- "the collector with limit 2 loses B"

@@ -28,6 +28,7 @@ use Rattle.offers.specs.Offers.{arrivalOf, readAs, readOf}
 use Rattle.offers.specs.declared.Verdict.{Verdict}
 use Rattle.offers.specs.declared.Verdict.the-variants.{Refused, Arrived}
 use Rattle.ring.specs.Rules.{Row, holds, has, updated, later, atCapacity, changed, offeredTo}
+use Rattle.gate_state.specs.State.{plain}
 use Rattle.gate.specs.Rules.{Offer, Manner, Held, Told, rowFrom, admitted, carriedIn, told, tells, acts}
 
 -- the row of a section without a header: its key has extension 0 and section_number 0, its version is 0
@@ -63,7 +64,7 @@ module _ (m : Manner) (h : Held) (o : Offer) (change : ℕ) (k : Sounds m h o ch
 -- suppressed, whatever it says
 pub never-again : (m : Manner) (h : Held) (o : Offer) (p : Parts) → ruleOf (m .rule) ≡ AllBytes → m .repeats ≡ false → anyFull (h .counters) ≡ false → o .pid < 8192
     → Bytes (o .section) → formOf (o .section) ≡ Checked → judgedOf AllBytes (o .section) ≡ Sound p
-    → has (bareRow (o .pid) (tableId (o .section)) 0) (h .rows) ≡ true → tells m h o ≡ 2
+    → has (bareRow (o .pid) (tableId (o .section)) 0) (h .rows) ≡ true → tells m h o ≡ plain 2
 unfolding tells admitted
 never-again m h o p r off c i b f s held =
     let k : Sounds m h o 0 = record { counts = c; pid = i; form = f; parts = p; sound = rw r s; number = stuck (o .section) b p s f } in
@@ -117,7 +118,7 @@ pub moves : (m : Manner) (h : Held) (o x : Offer) (p q : Parts) → ruleOf (m .r
     → anyFull (h .counters) ≡ false → anyFull (acts m h o .counters) ≡ false → x .pid < 8192
     → formOf (o .section) ≡ Checked → judgedOf StoredCrc (o .section) ≡ Sound p
     → formOf (x .section) ≡ Checked → judgedOf StoredCrc (x .section) ≡ Sound q
-    → (storedCrc (x .section) ≡ storedCrc (o .section) → ⊥) → tells m (acts m h o) x ≡ 1
+    → (storedCrc (x .section) ≡ storedCrc (o .section) → ⊥) → tells m (acts m h o) x ≡ plain 1
 unfolding tells acts admitted
 moves m h o x p q r same table c d i f s g t other =
     let j : Sounds m h o (storedCrc (o .section)) =

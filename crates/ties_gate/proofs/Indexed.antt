@@ -30,7 +30,7 @@ use Rattle.gate.specs.Store.{canOpen, isWhole, Store, admittedTo, carried, open
 use Rattle.counters.specs.Counters.{zeroes, anyFull}
 use Rattle.gate_state.specs.State.{seenBy as answeredBy}
 use Rattle.gate.specs.Store.{Offering as Told}
-use Rattle.gate.specs.Rules.{Offer, Held, rowFrom, tells, acts, OfBytes}
+use Rattle.gate.specs.Rules.{Offer, Held, rowFrom, tells, tellsNo, acts, OfBytes}
 use Rattle.gate.specs.View.{memoryOf, Opened, storeTells, storeActs}
 use Rattle.gate_state.specs.declared.Settings.{Settings}
 use Rattle.watched.specs.Store.{allPids, filled}
@@ -74,7 +74,7 @@ module _ (s : Indexed) (r : OpenedBy s) (section : List ℕ) where
   carried-same : (v : Verdict) → ((a : Arrival) → v ≡ Arrived a → a .change < 2 ^ 32) → Same (carriedBy s section v) (carried (s .store) section v)
   unfolding carriedBy carried
   carried-same (Refused x) k = record { answer = refl; store = refl; kept = r .kept }
-  carried-same Failed k = record { answer = refl; store = refl; kept = record { covers = r .kept .covers; holds = r .kept .holds } }
+  carried-same (Failed f) k = record { answer = refl; store = refl; kept = record { covers = r .kept .covers; holds = r .kept .holds } }
   carried-same (Arrived a) k = admitted-same a (k a refl)
 
 module _ (s : Indexed) (r : OpenedBy s) (pid : ℕ) (section : List ℕ) where
@@ -219,7 +219,7 @@ module _
         ∙ ask-in-every-history st extra keys changes words (opening-same st extra keys changes buckets links words h .0) os b pid k
 
     pub indexed-counters-in-every-history :
-        Tells (answers (tells (mannerFor st)) (acts (mannerFor st)) empty os) (evictionsIn (mannerFor st) empty os) (storeAfter actsBy start os .store .counters)
+        Tells (answers (tellsNo (mannerFor st)) (acts (mannerFor st)) empty os) (evictionsIn (mannerFor st) empty os) (storeAfter actsBy start os .store .counters)
     indexed-counters-in-every-history =
-        subst (λ (t : Store). Tells (answers (tells (mannerFor st)) (acts (mannerFor st)) empty os) (evictionsIn (mannerFor st) empty os) (t .counters)) (sym same-after)
+        subst (λ (t : Store). Tells (answers (tellsNo (mannerFor st)) (acts (mannerFor st)) empty os) (evictionsIn (mannerFor st) empty os) (t .counters)) (sym same-after)
         (counters-in-every-history st extra keys changes words (opening-same st extra keys changes buckets links words h .0) os b)

@@ -7,3 +7,4 @@ pub mod Watching
 pub mod Counting
 pub mod Indexed
 pub mod Change
+pub mod Failing

@@ -16,7 +16,7 @@ use Rattle.ring.proofs.Places.{seenIn}
 use Rattle.ring.proofs.Order.{Step, step}
 use Rattle.answers.specs.declared.Refusal.the-variants.{CounterFull}
 use Rattle.section.specs.Facts.{Bytes}
-use Rattle.offers.specs.Offers.{readOf, verdictOf}
+use Rattle.offers.specs.Offers.{isShort, readOf, verdictOf}
 use Rattle.offers.specs.declared.Arrival.{Arrival}
 use Rattle.offers.specs.declared.Verdict.{Verdict}
 use Rattle.offers.specs.declared.Verdict.the-variants.{Refused, Failed, Arrived}
@@ -30,7 +30,7 @@ use Rattle.watched.proofs.Meaning.{length-following, following-shown}
 use Rattle.gate_state.specs.State.{seenBy}
 use Rattle.gate.specs.Store.{isWhole, Store, Offering, admittedTo, carried, offered, programsOf, followedPat, watchAfter}
 use Rattle.gate.specs.Rules as rules
-use Rattle.gate_state.proofs.Laws.{answer-no}
+use Rattle.gate_state.proofs.Laws.{answer-said}
 use Rattle.counters.specs.Counters.{anyFull, failedOf}
 use Rattle.gate.specs.Rules.{Offer, Manner, Told, rowFrom, admitted, carriedIn, told, tells, acts, OfBytes}
 use Rattle.gate.specs.View.{mannerOf, memoryOf, heldBy, shownBy, Opened, storeTells, storeActs}
@@ -87,7 +87,7 @@ module _ (s : Store) (r : Opened s) (section : List ℕ) (b : Bytes section) (a 
         st .order,
         st .tells,
         st .leaves,
-        answer-no (changed (rowFrom a) (inOrder (memoryOf s)) || s .gate .repeats),
+        answer-said (changed (rowFrom a) (inOrder (memoryOf s)) || s .gate .repeats),
         watch-shown (changed (rowFrom a) (inOrder (memoryOf s)) && s .gate .follow) (s .words) section (r .watch) b,
       )
 
@@ -100,8 +100,8 @@ module _ (s : Store) (r : Opened s) (section : List ℕ) (b : Bytes section) (a 
   admitted-manner = rw (st .capacity)
 
 -- a section that failed its CRC leaves the memory
-failed-follows : (s : Store) → Opened s → Opened (record { gate = s .gate; counters = failedOf (s .counters); keys = s .keys; changes = s .changes; words = s .words })
-failed-follows s r = record { reached = r .reached; watch = r .watch; rule = r .rule }
+failed-follows : (s : Store) (short : Bool) → Opened s → Opened (record { gate = s .gate; counters = failedOf (s .counters) short; keys = s .keys; changes = s .changes; words = s .words })
+failed-follows s short r = record { reached = r .reached; watch = r .watch; rule = r .rule }
 
 -- of bytes, what arrives has a change number of 32 bits
 pub verdict-small : (rule : ℕ) (o : Offer) → Bytes (o .section) → (f : Bool) (a : Arrival) → cond f (Refused CounterFull) (readOf rule (o .pid) (o .section)) ≡ Arrived a → a .change < 2 ^ 32
@@ -115,7 +115,7 @@ module _ (s : Store) (o : Offer) (r : Opened s) (b : Bytes (o .section)) where
       Follows′ s (mannerOf (s .gate)) (carried s (o .section) v) (carriedIn (mannerOf (s .gate)) (heldBy s) (o .section) v)
   unfolding carried carriedIn
   carried-follows (Refused x) k = record { same = refl; opened = r; manner = refl }
-  carried-follows Failed k = record { same = refl; opened = failed-follows s r; manner = refl }
+  carried-follows (Failed f) k = record { same = refl; opened = failed-follows s (isShort f) r; manner = refl }
   carried-follows (Arrived a) k =
       let small : a .change < 2 ^ 32 = k a refl in
       record { same = admitted-same s r (o .section) b a small; opened = admitted-opened s r (o .section) b a small; manner = admitted-manner s r (o .section) b a small }

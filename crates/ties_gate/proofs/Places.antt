@@ -26,8 +26,8 @@ use Rattle.gate.specs.Store.{isWhole, Fits, Store, Offering, admittedTo, carrie
 use Rattle.gate.specs.Rules.{Offer, Manner, rowFrom, admitted, OfBytes}
 use Rattle.gate.specs.View.{mannerOf, memoryOf, storeTells, storeActs}
 use Rattle.gate.proofs.Laws.{fits}
-use Rattle.gate_state.proofs.Laws.{answer-no}
-use Rattle.ties_gate.specs.Places.{Said, carriedAt, said, saysAt, actsAt, placedBy, saidBy}
+use Rattle.gate_state.proofs.Laws.{answer-said}
+use Rattle.ties_gate.specs.Places.{SaidAt, carriedAt, said, saysAt, actsAt, placedBy, saidBy}
 use Rattle.ties_gate.proofs.Order.{watch-kept, watch-shown, verdict-small}
 
 -- a store that passes the test of 10
@@ -35,7 +35,7 @@ abbrev pub Passes : Store → Type 0
 Passes s = Fits (s .gate) (length (s .keys)) (length (s .changes)) (length (s .words))
 
 -- what a call answered and left is what the rule says, and the store passes again, with the same settings
-pub record Says (m : Manner) (l : Offering) (t : Said) : Type 0 where
+pub record Says (m : Manner) (l : Offering) (t : SaidAt) : Type 0 where
   pub same : saidBy l ≡ t
   pub passes : Passes (l .store)
   pub manner : mannerOf (l .store .gate) ≡ m
@@ -53,7 +53,7 @@ module _ (s : Store) (r : Passes s) (section : List ℕ) (b : Bytes section) (a 
               st .laid,
               st .tells,
               st .leaves,
-              answer-no (changed (rowFrom a) (laidIn (memoryOf s) .rows) || s .gate .repeats),
+              answer-said (changed (rowFrom a) (laidIn (memoryOf s) .rows) || s .gate .repeats),
               watch-shown (changed (rowFrom a) (laidIn (memoryOf s) .rows) && s .gate .follow) (s .words) section (r .watch) b,
             );
         passes = record { rows = st .whole; watch = watch-kept (seenIn (memoryOf s) (rowFrom a) .changed && s .gate .follow) (s .words) section (r .watch); rule = r .rule };
@@ -66,7 +66,7 @@ module _ (s : Store) (o : Offer) (r : Passes s) (b : Bytes (o .section)) where
       Says (mannerOf (s .gate)) (carried s (o .section) v) (carriedAt (mannerOf (s .gate)) (placedBy s) (o .section) v)
   unfolding carried carriedAt
   carried-says (Refused x) k = record { same = refl; passes = r; manner = refl }
-  carried-says Failed k = record { same = refl; passes = record { rows = r .rows; watch = r .watch; rule = r .rule }; manner = refl }
+  carried-says (Failed f) k = record { same = refl; passes = record { rows = r .rows; watch = r .watch; rule = r .rule }; manner = refl }
   carried-says (Arrived a) k = admitted-says s r (o .section) b a (k a refl)
 
   -- every offer
@@ -87,9 +87,9 @@ all-answers s [] r b = refl
 all-answers s (o ∷ os) r b =
     let f = says s o r (b .0) in
     let l : Offering = offered s (o .pid) (o .section) in
-    let t : Said = said (mannerOf (s .gate)) (placedBy s) o in
-    let e : l .answer ≡ t .answer = ap (λ (x : Said). x .answer) (f .same) in
-    let h : placedBy (l .store) ≡ t .held = ap (λ (x : Said). x .held) (f .same) in
+    let t : SaidAt = said (mannerOf (s .gate)) (placedBy s) o in
+    let e : l .answer ≡ t .answer = ap (λ (x : SaidAt). x .answer) (f .same) in
+    let h : placedBy (l .store) ≡ t .held = ap (λ (x : SaidAt). x .held) (f .same) in
     let ih = all-answers (l .store) os (f .passes) (b .1) in
     rw (e, ih, f .manner, h)
 
@@ -99,8 +99,8 @@ all-views s [] r b = refl
 all-views s (o ∷ os) r b =
     let f = says s o r (b .0) in
     let l : Offering = offered s (o .pid) (o .section) in
-    let t : Said = said (mannerOf (s .gate)) (placedBy s) o in
-    let h : placedBy (l .store) ≡ t .held = ap (λ (x : Said). x .held) (f .same) in
+    let t : SaidAt = said (mannerOf (s .gate)) (placedBy s) o in
+    let h : placedBy (l .store) ≡ t .held = ap (λ (x : SaidAt). x .held) (f .same) in
     let ih = all-views (l .store) os (f .passes) (b .1) in
     rw (ih, f .manner, h)
 

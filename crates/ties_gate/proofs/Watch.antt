@@ -52,7 +52,7 @@ watch-kept false words section k = k
 carried-kept : (s : Store) (section : List ℕ) (v : Verdict) → Kept (s .words) → Kept (carried s section v .store .words)
 unfolding carried admittedTo seenBy
 carried-kept s section (Refused r) k = k
-carried-kept s section Failed k = k
+carried-kept s section (Failed f) k = k
 carried-kept s section (Arrived a) k = watch-kept (changedBy s a && s .gate .follow) (s .words) section k
 
 -- every offer to every store

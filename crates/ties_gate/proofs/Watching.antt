@@ -59,7 +59,7 @@ module _ (m : Manner) (p : ℕ → Bool) where
       Watches (carriedIn m h section v .held .watch) p (cond (isChanged h v && m .follow && readable section) (setN section) n)
   unfolding carriedIn admitted
   carried-watches h n section k (Refused r) = k
-  carried-watches h n section k Failed = k
+  carried-watches h n section k (Failed f) = k
   carried-watches h n section k (Arrived a) = followed-watches (h .watch) n section k (changed (rowFrom a) (h .rows) && m .follow) (readable section)
 
   -- every history of the rule

@@ -13,7 +13,7 @@ use Rattle.gate.specs.Rules.{Offer, Manner, Held, rowFrom, acts}
 -- a key leaves for a section that arrived: its key is new, and as many keys are held as the capacity says
 abbrev pub leavesFor : Manner → Held → Verdict → Bool
 leavesFor m h (Refused r) = false
-leavesFor m h Failed = false
+leavesFor m h (Failed f) = false
 leavesFor m h (Arrived a) = evicts (m .capacity) (rowFrom a) (h .rows)
 
 unfoldable pub isEvicting : Manner → Held → Offer → Bool

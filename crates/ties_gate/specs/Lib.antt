@@ -1,3 +1,4 @@
 pub mod Watching
 pub mod Places
 pub mod Counting
+pub mod Failing

@@ -7,7 +7,8 @@ use Rattle.answers.specs.Answers.{refusalNo}
 use Rattle.answers.specs.declared.Refusal.the-variants.{CounterFull}
 use Rattle.counters.specs.Counters.{anyFull, failedOf}
 use Rattle.counters.specs.declared.Counters.{Counters}
-use Rattle.offers.specs.Offers.{readOf}
+use Rattle.offers.specs.Offers.{isShort, readOf}
+use Rattle.gate_state.specs.State.{Said, plain, failureSaid}
 use Rattle.offers.specs.declared.Verdict.{Verdict}
 use Rattle.offers.specs.declared.Verdict.the-variants.{Refused, Failed, Arrived}
 use Rattle.ring.specs.Rules.{Laid, laidAfter}
@@ -28,22 +29,23 @@ pub record Placed : Type 0 where
 abbrev pub heldAt : Placed → Held
 heldAt x = record { rows = x .laid .rows; counters = x .counters; watch = x .watch }
 
-pub record Said : Type 0 where
-  pub answer : ℕ
+pub record SaidAt : Type 0 where
+  pub answer : Said
   pub held : Placed
 
 -- answer, counters and watch are those of the gate's rule; the rows are updated, added to or replaced by place
-unfoldable pub carriedAt : Manner → Placed → List ℕ → Verdict → Said
-carriedAt m x section (Refused r) = record { answer = refusalNo r; held = x }
-carriedAt m x section Failed = record { answer = 3; held = record { laid = x .laid; counters = failedOf (x .counters); watch = x .watch } }
+unfoldable pub carriedAt : Manner → Placed → List ℕ → Verdict → SaidAt
+carriedAt m x section (Refused r) = record { answer = plain (refusalNo r); held = x }
+carriedAt m x section (Failed f) =
+    record { answer = failureSaid f; held = record { laid = x .laid; counters = failedOf (x .counters) (isShort f); watch = x .watch } }
 carriedAt m x section (Arrived a) =
     let t : Told = admitted m (heldAt x) (rowFrom a) section in
     record { answer = t .answer; held = record { laid = laidAfter (m .capacity) (rowFrom a) (x .laid); counters = t .held .counters; watch = t .held .watch } }
 
-unfoldable pub said : Manner → Placed → Offer → Said
+unfoldable pub said : Manner → Placed → Offer → SaidAt
 said m x o = carriedAt m x (o .section) (cond (anyFull (x .counters)) (Refused CounterFull) (readOf (m .rule) (o .pid) (o .section)))
 
-unfoldable pub saysAt : Manner → Placed → Offer → ℕ
+unfoldable pub saysAt : Manner → Placed → Offer → Said
 saysAt m x o = (said m x o) .answer
 
 unfoldable pub actsAt : Manner → Placed → Offer → Placed
@@ -53,5 +55,5 @@ actsAt m x o = (said m x o) .held
 abbrev pub placedBy : Store → Placed
 placedBy s = record { laid = laidIn (memoryOf s); counters = s .counters; watch = watchIn (s .words) }
 
-abbrev pub saidBy : Offering → Said
+abbrev pub saidBy : Offering → SaidAt
 saidBy l = record { answer = l .answer; held = placedBy (l .store) }

@@ -28,7 +28,7 @@ emptyHeld protected = record { rows = []; counters = zeroes; watch = record { wa
 -- what a section and its PID say is changed: it arrived, and its key is unknown or either number differs
 abbrev pub isChanged : Held → Verdict → Bool
 isChanged h (Refused r) = false
-isChanged h Failed = false
+isChanged h (Failed f) = false
 isChanged h (Arrived a) = changed (rowFrom a) (h .rows)
 
 -- an offer is followed where it is a changed section, following is on, and the section is a readable PAT

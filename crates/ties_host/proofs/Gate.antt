@@ -23,14 +23,14 @@ use Rattle.watched.specs.Store.{allPids, filled}
 use Rattle.watched.proofs.Meaning.{length-filled}
 use Rattle.gate.specs.Rules as rules
 use Rattle.gate.specs.Rules.{Offer, OfBytes}
-use Rattle.gate_state.specs.State.{emptyGate, gateWith, seenBy}
+use Rattle.gate_state.specs.State.{Said, numberOf, emptyGate, gateWith, seenBy}
 use Rattle.gate.specs.Store.{canOpen, begins, opened, Store, storeOf, admittedTo, carried, isWhole, offered}
 use Rattle.gate.specs.View.{mannerOf, heldBy, Opened, storeTells, storeActs}
 use Rattle.gate_state.specs.declared.Gate.{Gate}
 use Rattle.gate_state.specs.declared.Settings.{Settings}
 use Rattle.ties_gate.proofs.Order as order
 use Rattle.host_words.specs.Pids.{pidNumber}
-use Rattle.host_gate_words.specs.Words.{settingsOf, gateOf, countersOf, bit, isOn, wordsOf}
+use Rattle.host_gate_words.specs.Words.{settingsOf, gateOf, countersOf, bit, isOn, wordsOf, failureAfter}
 use Rattle.host_gate.specs.Calls.{begunAs, gateOpened, gateOffered}
 use Rattle.ties_host.specs.Gate.{Lent, tells, acts, storeIn, offerOf, OpenedBy}
 use Rattle.ties_host.proofs.Runs as runs
@@ -67,7 +67,7 @@ seen-counts g keys changes key number = picked-counts g changes (rowFor g keys k
 carried-counts : (s : Store) (section : List ℕ) (v : Verdict) → (carried s section v) .store .gate ≡ counted (s .gate) ((carried s section v) .store .gate)
 unfolding carried admittedTo seenBy
 carried-counts s section (Refused r) = refl
-carried-counts s section Failed = refl
+carried-counts s section (Failed f) = refl
 carried-counts s section (Arrived a) = ap (λ (r : Ring). gateWith (s .gate) r) (seen-counts (s .gate .ring) (s .keys) (s .changes) (a .key) (stampOf (a .version) (a .change)))
 
 offered-counts : (s : Store) (pid : ℕ) (section : List ℕ) → (offered s pid section) .store .gate ≡ counted (s .gate) ((offered s pid section) .store .gate)
@@ -83,17 +83,22 @@ reads-back l o =
     let a = (offered (storeIn l) (pidNumber (o .pid)) (o .section)) .store in
     ap (λ (g : Gate). storeOf g (a .counters) (a .keys) (a .changes) (a .words)) (sym (offered-counts (storeIn l) (pidNumber (o .pid)) (o .section)))
 
-pub tells-as : (l : Lent) (o : Offer) → tells l o ≡ storeTells (storeIn l) (offerOf o)
+pub tells-as : (l : Lent) (o : Offer) → tells l o ≡ numberOf (storeTells (storeIn l) (offerOf o))
 unfolding tells storeTells gateOffered
 tells-as l o = refl
 
+-- what a section failed by is told in its words, and every other answer leaves them
+pub tells-failure : (l : Lent) (o : Offer) → (acts l o) .failure ≡ failureAfter (storeTells (storeIn l) (offerOf o)) (l .failure)
+unfolding acts storeTells gateOffered
+tells-failure l o = refl
+
 -- ---- every sequence of C calls, on any words and slices
 
-pub same-answers : (offers : List Offer) (l : Lent) → answers tells acts l offers ≡ answers storeTells storeActs (storeIn l) (map offerOf offers)
-same-answers offers l = runs.same-answers storeIn offerOf (λ (n : ℕ). n) tells acts storeTells storeActs tells-as reads-back offers l ∙ runs.map-same _
+pub same-answers : (offers : List Offer) (l : Lent) → answers tells acts l offers ≡ map numberOf (answers storeTells storeActs (storeIn l) (map offerOf offers))
+same-answers offers l = runs.same-answers storeIn offerOf numberOf tells acts storeTells storeActs tells-as reads-back offers l
 
 pub same-store : (offers : List Offer) (l : Lent) → storeIn (storeAfter acts l offers) ≡ storeAfter storeActs (storeIn l) (map offerOf offers)
-same-store = runs.same-store storeIn offerOf (λ (n : ℕ). n) tells acts storeTells storeActs tells-as reads-back
+same-store = runs.same-store storeIn offerOf numberOf tells acts storeTells storeActs tells-as reads-back
 
 -- ---- from an opening on
 
@@ -140,5 +145,5 @@ opened-by l o = go (allPids (o .extra)) (canOpen (settingsOf (o .capacity) (o .s
 -- the answers are those of the rule without memory; 10 never occurs
 pub as-rules : (l : Lent) → OpenedBy l → (offers : List Offer) → OfBytes (map offerOf offers)
     → answers tells acts l offers
-    ≡ answers (rules.tells (mannerOf (gateOf (l .words)))) (rules.acts (mannerOf (gateOf (l .words)))) (heldBy (storeIn l)) (map offerOf offers)
-as-rules l o offers b = same-answers offers l ∙ order.same-answers (storeIn l) (map offerOf offers) (opened-by l o) b
+    ≡ map numberOf (answers (rules.tells (mannerOf (gateOf (l .words)))) (rules.acts (mannerOf (gateOf (l .words)))) (heldBy (storeIn l)) (map offerOf offers))
+as-rules l o offers b = same-answers offers l ∙ ap (map numberOf) (order.same-answers (storeIn l) (map offerOf offers) (opened-by l o) b)

@@ -17,7 +17,7 @@ use Rattle.offers.specs.declared.Verdict.the-variants.{Refused, Failed, Arrived
 use Rattle.watched.specs.Store.{allPids, filled}
 use Rattle.gate.specs.Rules as rules
 use Rattle.gate.specs.Rules.{Offer, OfBytes}
-use Rattle.gate_state.specs.State.{emptyGate, gateWith, seenBy}
+use Rattle.gate_state.specs.State.{Said, numberOf, emptyGate, gateWith, seenBy}
 use Rattle.gate.specs.View.{mannerOf, heldBy}
 use Rattle.gate_state.specs.declared.Gate.{Gate}
 use Rattle.gate_state.specs.declared.Settings.{Settings}
@@ -27,7 +27,7 @@ use Rattle.gate_indexed.specs.Runs.{tellsBy, actsBy}
 use Rattle.ties_gate.proofs.Indexed as same
 use Rattle.ties_gate.proofs.Indexed.{leftOpen, opening-opens}
 use Rattle.host_words.specs.Pids.{pidNumber}
-use Rattle.host_gate_words.specs.Words.{settingsOf, gateOf, countersOf, wordsOf}
+use Rattle.host_gate_words.specs.Words.{settingsOf, gateOf, countersOf, wordsOf, failureAfter}
 use Rattle.host_indexed.specs.Calls.{begunAs, gateOpened, gateOffered}
 use Rattle.ties_host.specs.Gate.{offerOf}
 use Rattle.ties_host.specs.Indexed.{Lent, tells, acts, storeIn, OpenedBy}
@@ -43,7 +43,7 @@ seen-counts g keys changes x key number = picked-counts g changes (foundBy g key
 carried-counts : (s : Indexed) (section : List ℕ) (v : Verdict) → (carriedBy s section v) .left .store .gate ≡ counted (s .store .gate) ((carriedBy s section v) .left .store .gate)
 unfolding carriedBy admittedBy seenBy
 carried-counts s section (Refused r) = refl
-carried-counts s section Failed = refl
+carried-counts s section (Failed f) = refl
 carried-counts s section (Arrived a) =
     ap (λ (r : Ring). gateWith (s .store .gate) r) (seen-counts (s .store .gate .ring) (s .store .keys) (s .store .changes) (s .index) (a .key) (stampOf (a .version) (a .change)))
 
@@ -60,17 +60,21 @@ reads-back l o =
     ap (λ (g : Gate). indexedOf g (a .store .counters) (a .store .keys) (a .store .changes) (indexOf (a .index .buckets) (a .index .links)) (a .store .words))
     (sym (offered-counts (storeIn l) (pidNumber (o .pid)) (o .section)))
 
-pub tells-as : (l : Lent) (o : Offer) → tells l o ≡ tellsBy (storeIn l) (offerOf o)
+pub tells-as : (l : Lent) (o : Offer) → tells l o ≡ numberOf (tellsBy (storeIn l) (offerOf o))
 unfolding tells tellsBy gateOffered
 tells-as l o = refl
 
+pub tells-failure : (l : Lent) (o : Offer) → (acts l o) .failure ≡ failureAfter (tellsBy (storeIn l) (offerOf o)) (l .failure)
+unfolding acts tellsBy gateOffered
+tells-failure l o = refl
+
 -- ---- every sequence of C calls, on any words and slices
 
-pub same-answers : (offers : List Offer) (l : Lent) → answers tells acts l offers ≡ answers tellsBy actsBy (storeIn l) (map offerOf offers)
-same-answers offers l = runs.same-answers storeIn offerOf (λ (n : ℕ). n) tells acts tellsBy actsBy tells-as reads-back offers l ∙ runs.map-same _
+pub same-answers : (offers : List Offer) (l : Lent) → answers tells acts l offers ≡ map numberOf (answers tellsBy actsBy (storeIn l) (map offerOf offers))
+same-answers offers l = runs.same-answers storeIn offerOf numberOf tells acts tellsBy actsBy tells-as reads-back offers l
 
 pub same-store : (offers : List Offer) (l : Lent) → storeIn (storeAfter acts l offers) ≡ storeAfter actsBy (storeIn l) (map offerOf offers)
-same-store = runs.same-store storeIn offerOf (λ (n : ℕ). n) tells acts tellsBy actsBy tells-as reads-back
+same-store = runs.same-store storeIn offerOf numberOf tells acts tellsBy actsBy tells-as reads-back
 
 -- ---- from an opening on
 
@@ -107,7 +111,7 @@ opened-by l o =
 -- the answers are those of the rule without memory; 10 never occurs
 pub as-rules : (l : Lent) → OpenedBy l → (offers : List Offer) → OfBytes (map offerOf offers)
     → answers tells acts l offers
-    ≡ answers (rules.tells (mannerOf (gateOf (l .words)))) (rules.acts (mannerOf (gateOf (l .words)))) (heldBy ((storeIn l) .store)) (map offerOf offers)
+    ≡ map numberOf (answers (rules.tells (mannerOf (gateOf (l .words)))) (rules.acts (mannerOf (gateOf (l .words)))) (heldBy ((storeIn l) .store)) (map offerOf offers))
 as-rules l o offers b =
-    same-answers offers l ∙ same.same-answers (storeIn l) (map offerOf offers) (opened-by l o) b
-    ∙ order.same-answers ((storeIn l) .store) (map offerOf offers) (opened-by l o .opened) b
+    same-answers offers l
+    ∙ ap (map numberOf) (same.same-answers (storeIn l) (map offerOf offers) (opened-by l o) b ∙ order.same-answers ((storeIn l) .store) (map offerOf offers) (opened-by l o .opened) b)

@@ -14,16 +14,17 @@ pub record Lent : Type 0 where
   pub keys : List ℕ
   pub changes : List ℕ
   pub watch : List ℕ
+  pub failure : List ℕ
 
 -- `petrizolu_gate_offer`: a PID of 32 bits and a section. The number that is answered
 unfoldable pub tells : Lent → Offer → ℕ
-tells l o = (gateOffered (l .words) (l .keys) (l .changes) (l .watch) (o .pid) (o .section)) .answer
+tells l o = (gateOffered (l .words) (l .keys) (l .changes) (l .watch) (o .pid) (o .section) (l .failure)) .answer
 
 -- what stands in the words and slices then
 unfoldable pub acts : Lent → Offer → Lent
 acts l o =
-    let r = gateOffered (l .words) (l .keys) (l .changes) (l .watch) (o .pid) (o .section) in
-    record { words = r .gate; keys = r .keys; changes = r .changes; watch = r .watch }
+    let r = gateOffered (l .words) (l .keys) (l .changes) (l .watch) (o .pid) (o .section) (l .failure) in
+    record { words = r .gate; keys = r .keys; changes = r .changes; watch = r .watch; failure = r .failure }
 
 -- the gate and the counters that the words stand for
 abbrev pub storeIn : Lent → Store

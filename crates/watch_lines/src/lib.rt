@@ -3,6 +3,7 @@ use answers::Refusal;
 use counters::Counters;
 use gate_state::Answer;
 use libc::STDOUT_FILENO;
+use offers::Failure;
 ghost use Prim.Native.Nat.{_≤_};
 ghost use lib.ListN.{length};
 
@@ -59,6 +60,16 @@ pub fn say_refusal(refusal: Refusal, pid: u16) -> bool {
     }
 }
 
+// The line of a section that failed its CRC.
+fn say_failure(failure: Failure, pid: u16, section: &[u8]) -> bool
+    requires { ⌜ (3 ≤ length (now section)) × (length (now section) ≤ 4098) ⌝ }
+{
+    match failure {
+        Failure::TooShort(_) => say_section(b"short ", pid, section),
+        Failure::Mismatch(_, _) => say_section(b"mismatch ", pid, section),
+    }
+}
+
 // The line of a section that was offered.
 pub fn say_answer(answer: Answer, pid: u16, section: &[u8]) -> bool
     requires { ⌜ (3 ≤ length (now section)) × (length (now section) ≤ 4098) ⌝ }
@@ -66,7 +77,7 @@ pub fn say_answer(answer: Answer, pid: u16, section: &[u8]) -> bool
     match answer {
         Answer::Emitted => say_section(b"emitted ", pid, section),
         Answer::Suppressed => say_section(b"suppressed ", pid, section),
-        Answer::CrcFailure => say_section(b"crc ", pid, section),
+        Answer::Failed(failure) => say_failure(failure, pid, section),
         Answer::Refused(refusal) => say_refusal(refusal, pid),
     }
 }

@@ -51,7 +51,9 @@ impl Monitor {
                 section[0]
             }
             Ok(Offered::Suppressed) => section[0],
-            _ => return,
+            Ok(Offered::TooShort(length)) => return println!("short pid {pid:04X}, {length} bytes"),
+            Ok(Offered::Mismatch { stored, worked }) => return println!("mismatch pid {pid:04X}, stored {stored:08X}, worked {worked:08X}"),
+            Err(_) => return,
         };
         if (0x4E..=0x6F).contains(&table_id) {
             self.collect_events(pid, section);

@@ -28,12 +28,36 @@ pub enum Held {
     Eit { evicted: [u64; 2], rows: [usize; 2] },
 }
 
+/// What the gate says of a section.
+#[derive(Clone, Copy, Debug, PartialEq, Eq)]
+pub enum Judgement {
+    Emitted,
+    Suppressed,
+    /// The CRC stored and the CRC worked out.
+    Mismatch(u32, u32),
+    /// How many bytes were offered.
+    Short(usize),
+}
+
+impl Judgement {
+    pub fn number(self) -> u8 {
+        match self {
+            Judgement::Emitted => 1,
+            Judgement::Suppressed => 2,
+            Judgement::Mismatch(..) => 3,
+            Judgement::Short(_) => 31,
+        }
+    }
+}
+
 #[derive(Debug, PartialEq, Eq)]
 pub enum Answer {
     /// A number alone.
     Number(Part, u8),
     /// The gate's answer to a section, with completed, emitted, suppressed, CRC failures and evictions.
-    Judged(u8, [u64; 5]),
+    Judged(Judgement, [u64; 5]),
+    /// The seven counters: the five, with short sections and CRC mismatches before evictions.
+    Counters([u64; 7]),
     /// No packet of this PID is looked at.
     Unwatched,
     /// No packets bring these bytes as one section.
@@ -48,10 +72,10 @@ impl Answer {
     pub fn number(&self) -> Option<(Part, u8)> {
         match self {
             Answer::Number(part, n) => Some((*part, *n)),
-            Answer::Judged(n, _) => Some((Part::Gate, *n)),
+            Answer::Judged(judgement, _) => Some((Part::Gate, judgement.number())),
             Answer::Collected(n, Held::Sets { .. }, _) => Some((Part::Sets, *n)),
             Answer::Collected(n, Held::Eit { .. }, _) => Some((Part::Eit, *n)),
-            Answer::Unwatched | Answer::Undeliverable | Answer::Watched(_) => None,
+            Answer::Unwatched | Answer::Undeliverable | Answer::Watched(_) | Answer::Counters(_) => None,
         }
     }
 }
@@ -90,8 +114,17 @@ impl Display for Answer {
     fn fmt(&self, f: &mut fmt::Formatter<'_>) -> fmt::Result {
         match self {
             Answer::Number(part, n) => write!(f, "{part} {n}"),
-            Answer::Judged(n, [completed, emitted, suppressed, crc, evicted]) => {
-                write!(f, "gate {n} {completed} {emitted} {suppressed} {crc} {evicted}")
+            Answer::Judged(judgement, [completed, emitted, suppressed, crc, evicted]) => {
+                write!(f, "gate {} {completed} {emitted} {suppressed} {crc} {evicted}", judgement.number())?;
+                match judgement {
+                    Judgement::Emitted | Judgement::Suppressed => Ok(()),
+                    Judgement::Mismatch(stored, worked) => write!(f, " {stored:08X} {worked:08X}"),
+                    Judgement::Short(length) => write!(f, " {length}"),
+                }
+            }
+            Answer::Counters(counters) => {
+                f.write_str("gate counters")?;
+                counters.iter().try_for_each(|count| write!(f, " {count}"))
             }
             Answer::Unwatched => f.write_str("gate unwatched"),
             Answer::Undeliverable => f.write_str("gate undeliverable"),

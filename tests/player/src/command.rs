@@ -42,6 +42,7 @@ pub enum Command {
     Gate { by: By, pid: u16, section: Vec<u8> },
     Ask { pid: u16 },
     Watched,
+    Counters,
     Open { part: Part, limit: u16, cells: u16, size: u16 },
     Push { part: Part, pid: Option<u16>, section: Vec<u8> },
     Clear { part: Part },
@@ -51,7 +52,7 @@ pub enum Command {
 impl Command {
     pub fn part(&self) -> Part {
         match self {
-            Command::GateOpen { .. } | Command::Gate { .. } | Command::Ask { .. } | Command::Watched => Part::Gate,
+            Command::GateOpen { .. } | Command::Gate { .. } | Command::Ask { .. } | Command::Watched | Command::Counters => Part::Gate,
             Command::Open { part, .. } | Command::Push { part, .. } | Command::Clear { part } => *part,
             Command::Drop(_) => Part::Eit,
         }
@@ -65,6 +66,7 @@ impl Command {
             Command::Gate { by: By::Offer, .. } => "gate offer",
             Command::Ask { .. } => "gate ask",
             Command::Watched => "gate watched",
+            Command::Counters => "gate counters",
             Command::Open { part: Part::Eit, .. } => "eit open",
             Command::Open { .. } => "sets open",
             Command::Push { part: Part::Eit, .. } => "eit push",

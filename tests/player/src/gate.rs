@@ -1,8 +1,8 @@
 //! The gate over lent memory, in both its forms, and the two beside each other.
-use crate::answer::Answer;
+use crate::answer::{Answer, Judgement};
 use crate::command::{By, Command, Part};
 use crate::lent::{Lent, words};
-use petrizolu::{Answer as Number, CHANGE_AS_THE_RUST, DEFAULT_CAPACITY, DEFAULT_SETTINGS, FOLLOW, GateState, REPEATS, WATCH_WORDS, WELL_KNOWN, calls};
+use petrizolu::{Answer as Number, CHANGE_AS_THE_RUST, DEFAULT_CAPACITY, DEFAULT_SETTINGS, FOLLOW, Failure, GateState, REPEATS, WATCH_WORDS, WELL_KNOWN, calls};
 
 /// Where the two forms differ, in words.
 #[derive(Debug)]
@@ -27,8 +27,8 @@ impl Plain {
         calls::gate_open(&mut self.state, capacity, settings, rule, extra, &self.keys, &self.changes, &mut self.watch)
     }
 
-    pub fn offer(&mut self, pid: u32, section: &[u8]) -> Number {
-        calls::gate_offer(&mut self.state, &mut self.keys, &mut self.changes, &mut self.watch, pid, section)
+    pub fn offer(&mut self, pid: u32, section: &[u8], failure: &mut Failure) -> Number {
+        calls::gate_offer(&mut self.state, &mut self.keys, &mut self.changes, &mut self.watch, pid, section, failure)
     }
 
     pub fn ask(&self, pid: u32) -> Number {
@@ -75,7 +75,7 @@ impl Indexed {
         )
     }
 
-    pub fn offer(&mut self, pid: u32, section: &[u8]) -> Number {
+    pub fn offer(&mut self, pid: u32, section: &[u8], failure: &mut Failure) -> Number {
         calls::indexed_offer(
             &mut self.state,
             &mut self.keys,
@@ -85,6 +85,7 @@ impl Indexed {
             &mut self.watch,
             pid,
             section,
+            failure,
         )
     }
 
@@ -100,6 +101,14 @@ fn deliverable(section: &[u8]) -> bool {
         [table_id, high, low, rest @ ..] => *table_id != 0xFF && rest.len() == usize::from(u16::from_be_bytes([high & 0x0F, *low])),
         _ => false,
     }
+}
+
+/// What stands in a failure before an offer, which no answer tells: so it shows where one was written that should not have been.
+const UNTOLD: Failure = Failure { length: u64::MAX, stored: u64::MAX, worked: u64::MAX };
+
+/// A CRC has 32 bits.
+fn small(crc: u64) -> u32 {
+    u32::try_from(crc).expect("a CRC has 32 bits")
 }
 
 /// Both forms, each with memory of its own. Every command goes to both.
@@ -130,6 +139,7 @@ impl Gates {
             Command::Gate { by: By::Offer, pid, section } => self.offer(*pid, section),
             Command::Ask { pid } => Ok(Answer::Number(Part::Gate, self.ask(*pid)?.0)),
             Command::Watched => self.watched(),
+            Command::Counters => self.counters(),
             other => panic!("no command of the gate: {other}"),
         }
     }
@@ -143,16 +153,34 @@ impl Gates {
     }
 
     fn offer(&mut self, pid: u16, section: &[u8]) -> Result<Answer, Differs> {
-        let plain = self.plain.offer(pid.into(), section);
-        let indexed = self.indexed.offer(pid.into(), section);
+        let mut failures = [UNTOLD; 2];
+        let plain = self.plain.offer(pid.into(), section, &mut failures[0]);
+        let indexed = self.indexed.offer(pid.into(), section, &mut failures[1]);
         let number = self.same(plain, indexed)?;
-        let GateState { completed, emitted, suppressed, crc_failures, evictions, .. } = self.plain.state;
-        Ok(match number {
-            Number::EMITTED | Number::SUPPRESSED | Number::CRC_FAILURE => {
-                Answer::Judged(number.0, [completed, emitted, suppressed, crc_failures, evictions])
-            }
-            refused => Answer::Number(Part::Gate, refused.0),
-        })
+        let [failure, other] = failures;
+        if failure != other {
+            return Err(Differs(format!("plain {failure:?}, indexed {other:?}")));
+        }
+        let judgement = match (number, failure) {
+            (Number::EMITTED, UNTOLD) => Judgement::Emitted,
+            (Number::SUPPRESSED, UNTOLD) => Judgement::Suppressed,
+            (Number::CRC_MISMATCH, Failure { length: 0, stored, worked }) => Judgement::Mismatch(small(stored), small(worked)),
+            (Number::TOO_SHORT, Failure { length, stored: 0, worked: 0 }) => Judgement::Short(length as usize),
+            (refused, UNTOLD) => return Ok(Answer::Number(Part::Gate, refused.0)),
+            (number, told) => return Err(Differs(format!("{number} tells {told:?}"))),
+        };
+        let [completed, emitted, suppressed, crc_failures, _, _, evictions] = self.all_counters();
+        Ok(Answer::Judged(judgement, [completed, emitted, suppressed, crc_failures, evictions]))
+    }
+
+    fn all_counters(&self) -> [u64; 7] {
+        let GateState { completed, emitted, suppressed, crc_failures, short_sections, crc_mismatches, evictions, .. } = self.plain.state;
+        [completed, emitted, suppressed, crc_failures, short_sections, crc_mismatches, evictions]
+    }
+
+    fn counters(&self) -> Result<Answer, Differs> {
+        self.same_state()?;
+        Ok(Answer::Counters(self.all_counters()))
     }
 
     fn ask(&self, pid: u16) -> Result<Number, Differs> {

@@ -17,7 +17,7 @@ impl Display for Command {
             Command::Ask { pid } => write!(f, " {pid:04X}"),
             Command::Open { limit, cells, size, .. } => write!(f, " limit={limit} cells={cells} size={size}"),
             Command::Push { pid, section, .. } => write!(f, " {} {}", pid_text(*pid), hex(section)),
-            Command::Watched | Command::Clear { .. } => Ok(()),
+            Command::Watched | Command::Counters | Command::Clear { .. } => Ok(()),
             Command::Drop(filter) => {
                 if let Some(pid) = filter.pid {
                     write!(f, " pid={}", pid_text(pid))?;
@@ -75,6 +75,7 @@ pub fn parse(line: &str) -> Option<Command> {
         },
         (Part::Gate, "ask") => Command::Ask { pid: hex16(words.get(2)?)? },
         (Part::Gate, "watched") => Command::Watched,
+        (Part::Gate, "counters") => Command::Counters,
         (Part::Sets | Part::Eit, "open") => {
             Command::Open { part, limit: small("limit", 64)?, cells: small("cells", 64)?, size: small("size", 4096)? }
         }

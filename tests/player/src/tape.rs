@@ -7,6 +7,7 @@
 //! 12 gate offer    PID u16, length u16, the bytes: offered, watched or not
 //! 13 gate ask      PID u16
 //! 14 gate watched
+//! 15 gate counters
 //! 20 sets open     limit u16, cells u16, cell size u16
 //! 21 sets push     PID u16 (FFFF none), length u16, the bytes
 //! 22 sets clear
@@ -72,6 +73,7 @@ impl<R: Read> Tape<R> {
             0x12 => Command::Gate { by: By::Offer, pid: self.short()?, section: self.section()? },
             0x13 => Command::Ask { pid: self.short()? },
             0x14 => Command::Watched,
+            0x15 => Command::Counters,
             0x20 | 0x30 => Command::Open { part, limit: self.short()?, cells: self.short()?, size: self.short()? },
             0x21 | 0x31 => Command::Push { part, pid: self.maybe_pid()?, section: self.section()? },
             0x22 | 0x32 => Command::Clear { part },
@@ -156,6 +158,7 @@ fn write_command(command: &Command, tape: &mut Vec<u8>) {
             tape.extend(pid.to_be_bytes());
         }
         Command::Watched => tape.push(0x14),
+        Command::Counters => tape.push(0x15),
         Command::Open { part, limit, cells, size } => {
             tape.push(collector(part, 0));
             tape.extend([limit, cells, size].into_iter().flat_map(|n| n.to_be_bytes()));

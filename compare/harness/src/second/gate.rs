@@ -2,6 +2,7 @@
 use super::Reading;
 use super::section::{crc, crc_fits, long_form, programs, stored_crc, version, word};
 use crate::faults::Fault;
+use player::answer::Judgement;
 use std::collections::BTreeSet;
 
 /// What the gate keeps for a key.
@@ -19,8 +20,8 @@ pub struct Gate {
     rule: u64,
     /// In order of first arrival.
     keys: Vec<Kept>,
-    /// Completed, emitted, suppressed, CRC failures, evictions.
-    pub counters: [u64; 5],
+    /// Completed, emitted, suppressed, CRC failures, short sections, CRC mismatches, evictions.
+    pub counters: [u64; 7],
     pub watched: BTreeSet<u16>,
     protected: BTreeSet<u16>,
     followed: BTreeSet<u16>,
@@ -30,7 +31,9 @@ const COMPLETED: usize = 0;
 const EMITTED: usize = 1;
 const SUPPRESSED: usize = 2;
 const CRC_FAILURES: usize = 3;
-const EVICTIONS: usize = 4;
+const SHORT_SECTIONS: usize = 4;
+const CRC_MISMATCHES: usize = 5;
+const EVICTIONS: usize = 6;
 
 const WELL_KNOWN: [u16; 8] = [0x0000, 0x0001, 0x0010, 0x0011, 0x0012, 0x0013, 0x0014, 0x001B];
 
@@ -46,7 +49,7 @@ impl Gate {
             follow,
             rule,
             keys: Vec::new(),
-            counters: [0; 5],
+            counters: [0; 7],
             watched: protected.clone(),
             protected,
             followed: BTreeSet::new(),
@@ -57,14 +60,17 @@ impl Gate {
         self.watched.contains(&pid)
     }
 
-    pub fn offer(&mut self, reading: &mut Reading, pid: u16, section: &[u8]) -> u8 {
+    pub fn offer(&mut self, reading: &mut Reading, pid: u16, section: &[u8]) -> Judgement {
         self.counters[COMPLETED] += 1;
         if section.len() < 3 || (has_crc(reading, section) && !crc_fits(section)) {
             self.counters[CRC_FAILURES] += 1;
+            let failure = failure(reading, section);
+            let own = if matches!(failure, Judgement::Short(_)) { SHORT_SECTIONS } else { CRC_MISMATCHES };
+            self.counters[own] += u64::from(!reading.has(Fault::FailureUncounted));
             if reading.has(Fault::FailureHeld) && section.len() >= 12 {
                 self.admit(reading, kept(reading, self.rule, pid, section));
             }
-            return 3;
+            return failure;
         }
         let changed = self.admit(reading, kept(reading, self.rule, pid, section));
         let emitted = changed || self.repeats;
@@ -76,7 +82,7 @@ impl Gate {
             self.follow_pat(reading, BTreeSet::from_iter(programs));
         }
         self.counters[if emitted { EMITTED } else { SUPPRESSED }] += 1;
-        if emitted { 1 } else { 2 }
+        if emitted { Judgement::Emitted } else { Judgement::Suppressed }
     }
 
     /// Whether the key was unknown, or known with another version or change number.
@@ -119,6 +125,17 @@ impl Gate {
 /// Long form, or a Time Offset Table.
 fn has_crc(reading: &Reading, section: &[u8]) -> bool {
     long_form(section) || (section[0] == 0x73 && !reading.has(Fault::TotUnchecked))
+}
+
+/// What a section failed by: too short to hold its CRC, or the CRC stored and the CRC of the bytes before it.
+fn failure(reading: &Reading, section: &[u8]) -> Judgement {
+    let (bytes, stored) = section.split_at(section.len().saturating_sub(4));
+    match stored.try_into().map(u32::from_be_bytes) {
+        Ok(stored) if reading.has(Fault::NumbersExchanged) => Judgement::Mismatch(crc(bytes), stored),
+        Ok(stored) => Judgement::Mismatch(stored, crc(bytes)),
+        Err(_) if reading.has(Fault::ShortAsMismatch) => Judgement::Mismatch(0, crc(section)),
+        Err(_) => Judgement::Short(section.len()),
+    }
 }
 
 /// Whether a section without a header is told by the CRC that it carries.

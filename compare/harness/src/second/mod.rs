@@ -88,11 +88,13 @@ impl Second {
             Command::Gate { by: By::Packets, pid, .. } if !self.gate.watches(*pid) => Answer::Unwatched,
             Command::Gate { by: By::Packets, section, .. } if !lent::deliverable(section) => Answer::Undeliverable,
             Command::Gate { pid, section, .. } => {
-                let number = self.gate.offer(&mut self.reading, *pid, section);
-                Answer::Judged(number, self.gate.counters)
+                let judgement = self.gate.offer(&mut self.reading, *pid, section);
+                let [completed, emitted, suppressed, crc, _, _, evicted] = self.gate.counters;
+                Answer::Judged(judgement, [completed, emitted, suppressed, crc, evicted])
             }
             Command::Ask { pid } => Answer::Number(Part::Gate, if self.gate.watches(*pid) { 8 } else { 9 }),
             Command::Watched => Answer::Watched(self.gate.watched.iter().copied().collect()),
+            Command::Counters => Answer::Counters(self.gate.counters),
             Command::Open { part, limit, cells, size } => {
                 let answer = lent::collector_opening(*limit, *cells, *size);
                 if answer == 7 {

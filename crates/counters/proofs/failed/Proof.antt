@@ -13,9 +13,17 @@ plus-requires c κs = search needs
 plus-requires-2 : tie.Need-plus-requires-2
 plus-requires-2 c κs = search needs
 
+-- src/lib.rt:65:25
+plus-requires-3 : tie.Need-plus-requires-3
+plus-requires-3 c κs = search needs
+
+-- src/lib.rt:66:25
+plus-requires-4 : tie.Need-plus-requires-4
+plus-requires-4 c κs = search needs
+
 -- src/lib.rt:56:1
 returns : tie.Need-returns
 returns c = cc
 
 pub failed-spec : {M : Type 1} → statement M
-failed-spec = tie.close (tie.spec plus-requires plus-requires-2 returns)
+failed-spec = tie.close (tie.spec plus-requires plus-requires-2 plus-requires-3 plus-requires-4 returns)

@@ -187,8 +187,8 @@ module _ {M : Type 1} (𝓤 : URA M) (H : Heap 𝓤) (A : Atoms 𝓤) (W : Given
         let told-is : Is T.the-row (told r) (vt r ∷ []) = LL.owes T.the-type T′.the-laws (told r) (fields .0, (fields .1 .0, tt)) in
         -- [what the result owns; the tokens; the last words; the last changes; the last keys; the counters' cell; the open borrow; obs; auth; _15; …]
         land ! (from ! (stop !)) (init ! 23 refl (LL.lawful O.the-type O′.the-laws 𝓤 H A W .typed r _ is .0)) $ rewrite ! 23 (λ (u : Val). ‵ (fat fullShare O′.mir l₈ 0 u)) (ap only (LL.tells O.the-type O′.the-laws r (w ∷ []) is)) refl $
-        assigns ! (of-opd ! (load ! (from ! (fld ! {τ = N′.mir} {d = 48} refl (stop !))) (look-in ! 23 {τ = N′.mir} (sub ! 2 {τ = N′.mir} {d = 48} refl (whole !))))) (from ! (hop ! (look ! 35 refl) (stop !))) (store-raw ! 5 refl (LL.lawful N.the-type N′.the-laws 𝓤 H A W .typed (r .counters) _ (fields .1 .1 .0) .0)) $
-        assigns ! (agg ! (and-then ! (load ! (from ! (fld ! {τ = R′.mir} {d = 0} refl (stop !))) (look-in ! 23 {τ = R′.mir} (sub ! 0 {τ = R′.mir} {d = 0} refl (whole !)))) (and-then ! (load ! (from ! (fld ! {τ = G′.mir} {d = 8} refl (stop !))) (look-in ! 23 {τ = G′.mir} (sub ! 1 {τ = G′.mir} {d = 8} refl (whole !)))) (no-more !)))) (from ! (stop !)) (init ! 39 refl (LL.lawful T.the-type T′.the-laws 𝓤 H A W .typed (told r) _ told-is .0)) $
+        assigns ! (of-opd ! (load ! (from ! (fld ! {τ = N′.mir} {d = 64} refl (stop !))) (look-in ! 23 {τ = N′.mir} (sub ! 2 {τ = N′.mir} {d = 64} refl (whole !))))) (from ! (hop ! (look ! 35 refl) (stop !))) (store-raw ! 5 refl (LL.lawful N.the-type N′.the-laws 𝓤 H A W .typed (r .counters) _ (fields .1 .1 .0) .0)) $
+        assigns ! (agg ! (and-then ! (load ! (from ! (fld ! {τ = R′.mir} {d = 0} refl (stop !))) (look-in ! 23 {τ = R′.mir} (sub ! 0 {τ = R′.mir} {d = 0} refl (whole !)))) (and-then ! (load ! (from ! (fld ! {τ = G′.mir} {d = 24} refl (stop !))) (look-in ! 23 {τ = G′.mir} (sub ! 1 {τ = G′.mir} {d = 24} refl (whole !)))) (no-more !)))) (from ! (stop !)) (init ! 39 refl (LL.lawful T.the-type T′.the-laws 𝓤 H A W .typed (told r) _ told-is .0)) $
         drop ! $ owned ! N.the-row (Is N.the-row) (LL.makes N.the-type N′.the-plain 𝓤 H A) (r .counters) _ (fields .1 .1 .0) $ move ! (5 ∷ 0 ∷ 6 ∷ 7 ∷ 8 ∷ []) $ closes ! tt N.the-row (r .counters) (vc (r .counters) ∷ []) b o $
         returns ! (look ! 37 refl) $
         forget ! 7 refl $ forget ! 9 refl $ forget ! 11 refl $ forget ! 13 refl $ forget ! 15 refl $ forget ! 17 refl $ forget ! 19 refl $ forget ! 21 refl $ forget ! 23 refl $ forget ! 25 refl $ forget ! 27 refl $ forget ! 29 refl $ forget ! 31 refl $ forget ! 33 refl $ forget ! 35 refl $ forget ! 37 refl $

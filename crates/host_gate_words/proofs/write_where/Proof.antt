@@ -1,4 +1,4 @@
-use Rattle.host_gate_words.proofs.Laws.{all-written}
+use Rattle.host_gate_words.proofs.Laws.{all-written, none-written}
 use borrow.Author.Needs.{needs}
 use Rattle.host_gate_words.proofs.write_where.Statement.{statement}
 use Rattle.host_gate_words.proofs.write_where.Tie as tie
@@ -23,7 +23,7 @@ returns c = search all-written
 
 -- src/words.rt:94:1
 returns-2 : tie.Need-returns-2
-returns-2 c = search needs
+returns-2 c = search none-written
 
 pub write-where-spec : {M : Type 1} → statement M
 write-where-spec = tie.close (tie.spec enum-told write-requires enum-told-2 returns returns-2)

@@ -12,8 +12,8 @@ judge-requires c κs = search needs
 enum-told : tie.Need-enum-told
 enum-told c = search needs
 
-enum-told-2 : tie.Need-enum-told-2
-enum-told-2 c = search needs
+enum-known-stored : tie.Need-enum-known-stored
+enum-known-stored c = search needs
 
 enum-known-parts : tie.Need-enum-known-parts
 enum-known-parts c = search needs
@@ -37,7 +37,7 @@ read-from-spec =
     of-requires
     judge-requires
     enum-told
-    enum-told-2
+    enum-known-stored
     enum-known-parts
     arrive-requires
     returns

@@ -1,6 +1,6 @@
 //! A gate of two rows, both in use.
 use crate::{Case, Store, case};
-use petrizolu::{Answer, CHANGE_STORED_CRC, DEFAULT_SETTINGS, GateState};
+use petrizolu::{Answer, CHANGE_STORED_CRC, DEFAULT_SETTINGS, Failure, GateState};
 use player::gate::Plain;
 
 #[derive(Clone, Copy)]
@@ -40,13 +40,23 @@ const OPENED: GateState = GateState {
     emitted: 0,
     suppressed: 0,
     crc_failures: 0,
+    short_sections: 0,
+    crc_mismatches: 0,
     evictions: 0,
 };
 const WHOLE: GateState = GateState { used: 2, completed: 2, emitted: 2, ..OPENED };
 
+/// No section offered here fails its CRC, so nothing is told of a failure.
+fn offer(gate: &mut Plain, pid: u16, section: &[u8]) -> Answer {
+    let mut failure = Failure::default();
+    let answer = gate.offer(pid.into(), section, &mut failure);
+    assert_eq!(failure, Failure::default());
+    answer
+}
+
 impl Damaged {
     fn offer(&mut self) -> Answer {
-        self.gate.offer(self.pid.into(), TDT)
+        offer(&mut self.gate, self.pid, TDT)
     }
 
     /// An opening with the capacity, the change rule and the PID that the case has. Whether a refusal left what is kept by value counts; what an opening makes of it
@@ -72,7 +82,7 @@ impl Damaged {
         let asked = self.gate.state;
         self.gate.state = state;
         assert_ne!(self.open(asked.capacity, asked.change_rule), Answer::DONE);
-        let answer = self.gate.offer(pid.into(), TDT);
+        let answer = offer(&mut self.gate, pid, TDT);
         if self.gate.state == state {
             self.gate.state = asked;
         }
@@ -88,7 +98,7 @@ impl Store for Damaged {
         let mut gate = Plain::lend(2, 0);
         assert_eq!(gate.open(2, DEFAULT_SETTINGS, CHANGE_STORED_CRC, &[0x0014]), Answer::DONE);
         assert_eq!(gate.state, OPENED);
-        assert_eq!((gate.offer(0, PAT), gate.offer(0x0014, TDT)), (Answer::EMITTED, Answer::EMITTED));
+        assert_eq!((offer(&mut gate, 0, PAT), offer(&mut gate, 0x0014, TDT)), (Answer::EMITTED, Answer::EMITTED));
         assert_eq!(gate.state, WHOLE);
         Self { gate, pid: 0x0014 }
     }
@@ -140,11 +150,13 @@ pub const CASES: &[Case<Damaged>] = &[
         d.gate.state.change_rule = 0;
         d.pid = 8192;
     }),
-    // 11: each of the five counters at its end.
+    // 11: each of the seven counters at its end.
     case("completed at its end", ALL, |d| d.gate.state.completed = u64::MAX),
     case("emitted at its end", ALL, |d| d.gate.state.emitted = u64::MAX),
     case("suppressed at its end", ALL, |d| d.gate.state.suppressed = u64::MAX),
     case("CRC failures at their end", ALL, |d| d.gate.state.crc_failures = u64::MAX),
+    case("short sections at their end", ALL, |d| d.gate.state.short_sections = u64::MAX),
+    case("CRC mismatches at their end", ALL, |d| d.gate.state.crc_mismatches = u64::MAX),
     case("evictions at their end", ALL, |d| d.gate.state.evictions = u64::MAX),
     // 12, and the lower number first.
     case("PID 8192", ALL, |d| d.pid = 8192),
