@@ -1,6 +1,7 @@
 pub mod Ages
 pub mod Touch
 pub mod Words
+pub mod Origins
 pub mod Slots
 pub mod Cells
 pub mod Taken

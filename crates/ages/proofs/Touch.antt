@@ -17,13 +17,22 @@ use Rattle.laws.proofs.Tests.{and-true}
 use Rattle.laws.proofs.Search.{first-passes, first-before}
 use Rattle.rules_shared.specs.Touch.{Rows, TouchOrder, Entry, under, find, someRow, aside, newest}
 use Rattle.rules_shared.proofs.All.{held-stays, new-below, new-at}
+use Rattle.rows.specs.declared.Origin.{Origin}
 use Rattle.rows.specs.declared.Key.{Key}
 use Rattle.rows.specs.declared.Room.{Room}
-use Rattle.rows.specs.Rows.{keyAt, sameKey, rowOf, elderOf, oldestOf, older, roomRenewed, roomNew, ageOf}
+use Rattle.rows.specs.Rows.{sameOrigin, keyAt, sameKey, rowOf, elderOf, oldestOf, older, roomRenewed, roomNew, ageOf}
 use Rattle.ages.specs.Order.{inOrder, rowsSeen, orderSeen, Ages, Stands, Goes, known, added, evicted, Touched}
 use Rattle.ages.proofs.Ages.{length-order, Aged, ages-none, ages-touched, without, touched-order, ages-more, more-without, known-found, known-removed, new-found, oldest-gone, order-none, none-order}
 
--- ---- six words are a key
+-- ---- the words of a key
+
+same-origin-true : (a b : Origin) → sameOrigin a b ≡ true → a ≡ b
+unfolding sameOrigin
+same-origin-true a b h = let e = eqb-true _ _ h in λ i. record { pid = e i }
+
+same-origin-refl : (a : Origin) → sameOrigin a a ≡ true
+unfolding sameOrigin
+same-origin-refl a = eq-eqb (a .pid) (a .pid) refl
 
 pub same-key-true : (a b : Key) → sameKey a b ≡ true → a ≡ b
 unfolding sameKey
@@ -33,19 +42,19 @@ same-key-true a b h =
     let p3 = and-true _ _ (p4 .0) in
     let p2 = and-true _ _ (p3 .0) in
     let p1 = and-true _ _ (p2 .0) in
-    let e0 = eqb-true _ _ (p1 .0) in
+    let e0 = same-origin-true _ _ (p1 .0) in
     let e1 = eqb-true _ _ (p1 .1) in
     let e2 = eqb-true _ _ (p2 .1) in
     let e3 = eqb-true _ _ (p3 .1) in
     let e4 = eqb-true _ _ (p4 .1) in
     let e5 = eqb-true _ _ (p5 .1) in
-    λ i. record { pid = e0 i; «table_id» = e1 i; extension = e2 i; «current_next» = e3 i; «transport_stream_id» = e4 i; «original_network_id» = e5 i }
+    λ i. record { from = e0 i; «table_id» = e1 i; extension = e2 i; «current_next» = e3 i; «transport_stream_id» = e4 i; «original_network_id» = e5 i }
 
 pub same-key-refl : (a : Key) → sameKey a a ≡ true
 unfolding sameKey
 same-key-refl a =
     rw (
-      eq-eqb (a .pid) (a .pid) refl,
+      same-origin-refl (a .from),
       eq-eqb (a .«table_id») (a .«table_id») refl,
       eq-eqb (a .extension) (a .extension) refl,
       eq-eqb (a .«current_next») (a .«current_next») refl,

@@ -10,31 +10,34 @@ use lib.ListN.{length}
 use Rattle.rows.specs.declared.Key.{Key}
 use Rattle.rows.specs.declared.Entry.{Entry}
 use Rattle.rows.specs.declared.Room.{Room}
-use Rattle.rows.specs.Rows.{word, put, keyAt, touched, freshHead, keptHeads, markOf, withMark, ageOf}
-use Rattle.rows.proofs.Words.{put-same, put-not, touched-not, touched-newest, touched-other, fresh-word, kept-fresh}
+use Rattle.rows.specs.Rows.{word, put, KeyWord, to-5, keyAt, touched, freshHead, keptHeads, markOf, withMark, ageOf}
+use Rattle.rows.proofs.Words.{OfKey, of-key, put-same, put-not, touched-not, touched-newest, touched-other, fresh-word, kept-fresh}
 use Rattle.ages.specs.Order.{Touched}
 
--- six words that are the same are the same key
-pub key-same : (h h′ : List ℕ) (i : ℕ) → ((m : ℕ) → m < 6 → word h′ i m ≡ word h i m) → keyAt h′ i ≡ keyAt h i
-key-same h h′ i e = rw (e 0 (omega arith), e 1 (omega arith), e 2 (omega arith), e 3 (omega arith), e 4 (omega arith), e 5 (omega arith))
+-- words that are the same are the same key
+pub key-same : (h h′ : List ℕ) (i : ℕ) → ((m : ℕ) → KeyWord m → word h′ i m ≡ word h i m) → keyAt h′ i ≡ keyAt h i
+key-same h h′ i e = rw (low 0 (omega arith), low 1 (omega arith), low 2 (omega arith), low 3 (omega arith), low 4 (omega arith), low 5 (omega arith))
+  where
+    low : (m : ℕ) → m < 6 → word h′ i m ≡ word h i m
+    low m l = e m (to-5 m l)
 
 -- row i was made ready, of age a and with the key, and is touched
 pub ready-touched : (heads heads₁ : List ℕ) (key : Key) (i a used′ : ℕ) → used′ * 12 ≤ length heads₁ → i < used′ → keyAt heads₁ i ≡ key → ageOf heads₁ i ≡ a
     → ((j m : ℕ) → j < used′ → j ≢ i → m < 12 → word heads₁ j m ≡ word heads j m) → Touched heads (touched used′ i heads₁) key i a used′
 ready-touched heads heads₁ key i a used′ l h own age others = record {
   newest = touched-newest used′ i heads₁ l h;
-  own = key-same heads₁ (touched used′ i heads₁) i (λ m k. touched-not used′ i heads₁ i m (omega arith) (omega arith)) ∙ own;
+  own = key-same heads₁ (touched used′ i heads₁) i (λ m k. touched-not used′ i heads₁ i m (of-key m k .no-age) (of-key m k .below)) ∙ own;
   aged = λ j k ne. touched-other used′ i heads₁ j l k ne ∙ rw (age, others j 9 k ne (omega arith));
-  others = λ j k ne. key-same heads₁ (touched used′ i heads₁) j (λ m q. touched-not used′ i heads₁ j m (omega arith) (omega arith))
-      ∙ key-same heads heads₁ j (λ m q. others j m k ne (omega arith));
+  others = λ j k ne. key-same heads₁ (touched used′ i heads₁) j (λ m q. touched-not used′ i heads₁ j m (of-key m q .no-age) (of-key m q .below))
+      ∙ key-same heads heads₁ j (λ m q. others j m k ne (of-key m q .below));
 }
 
 -- a word that is neither of the key nor the age does not matter
-pub put-touched : (heads heads₁ : List ℕ) (key : Key) (i a used′ r k v : ℕ) → Touched heads heads₁ key i a used′ → 6 ≤ k → k < 12 → k ≢ 9 → Touched heads (put r k v heads₁) key i a used′
+pub put-touched : (heads heads₁ : List ℕ) (key : Key) (i a used′ r k v : ℕ) → Touched heads heads₁ key i a used′ → ((m : ℕ) → KeyWord m → m ≢ k) → k < 12 → 9 ≢ k → Touched heads (put r k v heads₁) key i a used′
 put-touched heads heads₁ key i a used′ r k v t l h n = record {
-  newest = same 9 i (omega arith) (omega arith) ∙ t .newest;
+  newest = same 9 i n (omega arith) ∙ t .newest;
   own = keys i ∙ t .own;
-  aged = λ j q ne. same 9 j (omega arith) (omega arith) ∙ t .aged j q ne;
+  aged = λ j q ne. same 9 j n (omega arith) ∙ t .aged j q ne;
   others = λ j q ne. keys j ∙ t .others j q ne;
 }
   where
@@ -42,7 +45,7 @@ put-touched heads heads₁ key i a used′ r k v t l h n = record {
     same m j ne q = put-not heads₁ r k v j m ne h q
 
     keys : (j : ℕ) → keyAt (put r k v heads₁) j ≡ keyAt heads₁ j
-    keys j = key-same heads₁ (put r k v heads₁) j (λ m q. same m j (omega arith) (omega arith))
+    keys j = key-same heads₁ (put r k v heads₁) j (λ m q. same m j (l m q) (of-key m q .below))
 
 -- ---- the head of a section that is kept
 

@@ -17,12 +17,13 @@ use Rattle.eit_section.specs.declared.Kind.{Kind}
 use Rattle.eit_section.specs.declared.MaybeKind.{MaybeKind}
 use Rattle.eit_section.specs.declared.MaybeKind.the-variants as maybe
 use Rattle.eit_section.specs.declared.Reading.the-variants as reading
-use Rattle.arrivals.specs.declared.PidWord.{PidWord}
-use Rattle.arrivals.specs.declared.PidWord.the-variants as pid-word
+use Rattle.rows.specs.declared.Origin.{Origin}
+use Rattle.arrivals.specs.declared.OriginWords.{OriginWords}
+use Rattle.arrivals.specs.declared.OriginWords.the-variants as words
 use Rattle.arrivals.specs.declared.Arrival.{Arrival}
 use Rattle.arrivals.specs.declared.EitArrival.{EitArrival}
 use Rattle.arrivals.specs.declared.EitArrival.the-variants as eit-arrival
-use Rattle.arrivals.specs.Arrivals.{pidWord, kindNumber, arrivalOf, eitFields, eitRead, eitJudged, eitArrival}
+use Rattle.arrivals.specs.Arrivals.{originWords, kindNumber, arrivalOf, eitFields, eitRead, eitJudged, eitArrival}
 
 -- the kind by the arrival's table_id, and its number beside it
 pub record OfKind (a : Arrival) (k : Kind) : Type 0 where
@@ -35,33 +36,33 @@ arrivedOr d (eit-arrival.Refused r) = d
 arrivedOr d (eit-arrival.Arrived a) = a
 
 module _ (bytes : List ℕ) (a : Arrival) where
-  by-fields : (pid : ℕ) (h : Header) → collectedOf bytes ≡ collected.Good h → (m : MaybeKind) → kindOf (byteAt bytes 0) ≡ m → eitFields pid h (eitBy bytes m) ≡ eit-arrival.Arrived a → (k : Kind) × OfKind a k
+  by-fields : (from : Origin) (h : Header) → collectedOf bytes ≡ collected.Good h → (m : MaybeKind) → kindOf (byteAt bytes 0) ≡ m → eitFields from h (eitBy bytes m) ≡ eit-arrival.Arrived a → (k : Kind) × OfKind a k
   unfolding headerOf eitAs
-  by-fields pid h q maybe.None e f = let z : _≡_ {A = ℕ} 0 1 = cc in absurd (omega arith)
-  by-fields pid h q (maybe.Some k) e f = laid (layoutGood bytes) f
+  by-fields from h q maybe.None e f = let z : _≡_ {A = ℕ} 0 1 = cc in absurd (omega arith)
+  by-fields from h q (maybe.Some k) e f = laid (layoutGood bytes) f
     where
       table-is : h .«table_id» ≡ byteAt bytes 0
       table-is = rw (takes bytes h (collectedOf bytes) refl q .header)
 
-      of-kind : OfKind (arrivalOf pid h (fieldsOf bytes k)) k
+      of-kind : OfKind (arrivalOf from h (fieldsOf bytes k)) k
       of-kind = record { table = rw table-is e; number = refl }
 
-      laid : (b : Bool) → eitFields pid h (cond b (reading.Good (fieldsOf bytes k)) reading.Broken) ≡ eit-arrival.Arrived a → (k : Kind) × OfKind a k
+      laid : (b : Bool) → eitFields from h (cond b (reading.Good (fieldsOf bytes k)) reading.Broken) ≡ eit-arrival.Arrived a → (k : Kind) × OfKind a k
       laid true g = (k, subst (λ (x : Arrival). OfKind x k) (ap (arrivedOr a) g) of-kind)
       laid false g = let z : _≡_ {A = ℕ} 0 1 = cc in absurd (omega arith)
 
-  by-read : (pid : ℕ) (c : Collected) → collectedOf bytes ≡ c → eitRead pid bytes c ≡ eit-arrival.Arrived a → (k : Kind) × OfKind a k
+  by-read : (from : Origin) (c : Collected) → collectedOf bytes ≡ c → eitRead from bytes c ≡ eit-arrival.Arrived a → (k : Kind) × OfKind a k
   unfolding eitOf
-  by-read pid collected.Malformed q f = let z : _≡_ {A = ℕ} 0 1 = cc in absurd (omega arith)
-  by-read pid collected.ShortForm q f = let z : _≡_ {A = ℕ} 0 1 = cc in absurd (omega arith)
-  by-read pid collected.BadNumber q f = let z : _≡_ {A = ℕ} 0 1 = cc in absurd (omega arith)
-  by-read pid collected.BadCrc q f = let z : _≡_ {A = ℕ} 0 1 = cc in absurd (omega arith)
-  by-read pid (collected.Good h) q f = by-fields pid h q (kindOf (byteAt bytes 0)) refl f
+  by-read from collected.Malformed q f = let z : _≡_ {A = ℕ} 0 1 = cc in absurd (omega arith)
+  by-read from collected.ShortForm q f = let z : _≡_ {A = ℕ} 0 1 = cc in absurd (omega arith)
+  by-read from collected.BadNumber q f = let z : _≡_ {A = ℕ} 0 1 = cc in absurd (omega arith)
+  by-read from collected.BadCrc q f = let z : _≡_ {A = ℕ} 0 1 = cc in absurd (omega arith)
+  by-read from (collected.Good h) q f = by-fields from h q (kindOf (byteAt bytes 0)) refl f
 
-  by-pid : (v : PidWord) → eitJudged v bytes ≡ eit-arrival.Arrived a → (k : Kind) × OfKind a k
-  by-pid pid-word.TooLarge f = let z : _≡_ {A = ℕ} 0 1 = cc in absurd (omega arith)
-  by-pid (pid-word.Is pid) f = by-read pid (collectedOf bytes) refl f
+  by-origin : (v : OriginWords) → eitJudged v bytes ≡ eit-arrival.Arrived a → (k : Kind) × OfKind a k
+  by-origin (words.Refused r) f = let z : _≡_ {A = ℕ} 0 1 = cc in absurd (omega arith)
+  by-origin (words.Are from) f = by-read from (collectedOf bytes) refl f
 
   pub arrived-kind : (pid : MaybePid) → eitArrival pid bytes ≡ eit-arrival.Arrived a → (k : Kind) × OfKind a k
   unfolding eitArrival
-  arrived-kind pid f = by-pid (pidWord pid) f
+  arrived-kind pid f = by-origin (originWords pid) f

@@ -15,13 +15,14 @@ use Rattle.section.specs.declared.ids.MaybePid.{MaybePid}
 use Rattle.eit_section.specs.Eit.{eitOf}
 use Rattle.eit_section.specs.declared.Reading.{Reading}
 use Rattle.eit_section.specs.declared.Reading.the-variants as reading
+use Rattle.rows.specs.declared.Origin.{Origin}
 use Rattle.rows.specs.declared.Key.{Key}
 use Rattle.rows.specs.declared.Entry.{Entry}
-use Rattle.arrivals.specs.declared.PidWord.{PidWord}
-use Rattle.arrivals.specs.declared.PidWord.the-variants as pid-word
+use Rattle.arrivals.specs.declared.OriginWords.{OriginWords}
+use Rattle.arrivals.specs.declared.OriginWords.the-variants as words
 use Rattle.arrivals.specs.declared.SetArrival.{SetArrival}
 use Rattle.arrivals.specs.declared.EitArrival.{EitArrival}
-use Rattle.arrivals.specs.Arrivals.{pidWord, entryOf, setRead, setJudged, setArrival, eitFields, eitRead, eitJudged, eitArrival, Taken, SetTaken, EitTaken}
+use Rattle.arrivals.specs.Arrivals.{originWords, entryOf, setRead, setJudged, setArrival, eitFields, eitRead, eitJudged, eitArrival, Taken, SetTaken, EitTaken}
 
 entry-taken : (s : List ℕ) (h : Header) (key : Key) → collectedOf s ≡ collected.Good h → getD s 7 0 < 256 → Taken s (entryOf key h)
 unfolding headerOf
@@ -30,43 +31,43 @@ entry-taken s h key e b = let t = takes s h (collectedOf s) refl e in rw (t .hea
 -- ---- of bytes, every arrival
 
 module _ (s : List ℕ) (b : getD s 7 0 < 256) where
-  set-read-taken : (pid : ℕ) (c : Collected) → collectedOf s ≡ c → SetTaken s (setRead pid c)
-  set-read-taken pid collected.Malformed q = tt
-  set-read-taken pid collected.ShortForm q = tt
-  set-read-taken pid collected.BadNumber q = tt
-  set-read-taken pid collected.BadCrc q = tt
-  set-read-taken pid (collected.Good h) q = entry-taken s h _ q b
+  set-read-taken : (from : Origin) (c : Collected) → collectedOf s ≡ c → SetTaken s (setRead from c)
+  set-read-taken from collected.Malformed q = tt
+  set-read-taken from collected.ShortForm q = tt
+  set-read-taken from collected.BadNumber q = tt
+  set-read-taken from collected.BadCrc q = tt
+  set-read-taken from (collected.Good h) q = entry-taken s h _ q b
 
-  set-judged-taken : (v : PidWord) → SetTaken s (setJudged v s)
-  set-judged-taken pid-word.TooLarge = tt
-  set-judged-taken (pid-word.Is pid) = set-read-taken pid (collectedOf s) refl
+  set-judged-taken : (v : OriginWords) → SetTaken s (setJudged v s)
+  set-judged-taken (words.Refused r) = tt
+  set-judged-taken (words.Are from) = set-read-taken from (collectedOf s) refl
 
   pub set-taken : (pid : MaybePid) → SetTaken s (setArrival pid s)
   unfolding setArrival
-  set-taken pid = set-judged-taken (pidWord pid)
+  set-taken pid = set-judged-taken (originWords pid)
 
   pub set-arrived : (pid : MaybePid) (a : SetArrival) → a ≡ setArrival pid s → SetTaken s a
   set-arrived pid a e = subst (SetTaken s) (sym e) (set-taken pid)
 
-  eit-fields-taken : (pid : ℕ) (h : Header) → collectedOf s ≡ collected.Good h → (r : Reading) → EitTaken s (eitFields pid h r)
-  eit-fields-taken pid h q reading.NotEit = tt
-  eit-fields-taken pid h q reading.Broken = tt
-  eit-fields-taken pid h q (reading.Good f) = entry-taken s h _ q b
+  eit-fields-taken : (from : Origin) (h : Header) → collectedOf s ≡ collected.Good h → (r : Reading) → EitTaken s (eitFields from h r)
+  eit-fields-taken from h q reading.NotEit = tt
+  eit-fields-taken from h q reading.Broken = tt
+  eit-fields-taken from h q (reading.Good f) = entry-taken s h _ q b
 
-  eit-read-taken : (pid : ℕ) (c : Collected) → collectedOf s ≡ c → EitTaken s (eitRead pid s c)
-  eit-read-taken pid collected.Malformed q = tt
-  eit-read-taken pid collected.ShortForm q = tt
-  eit-read-taken pid collected.BadNumber q = tt
-  eit-read-taken pid collected.BadCrc q = tt
-  eit-read-taken pid (collected.Good h) q = eit-fields-taken pid h q (eitOf s)
+  eit-read-taken : (from : Origin) (c : Collected) → collectedOf s ≡ c → EitTaken s (eitRead from s c)
+  eit-read-taken from collected.Malformed q = tt
+  eit-read-taken from collected.ShortForm q = tt
+  eit-read-taken from collected.BadNumber q = tt
+  eit-read-taken from collected.BadCrc q = tt
+  eit-read-taken from (collected.Good h) q = eit-fields-taken from h q (eitOf s)
 
-  eit-judged-taken : (v : PidWord) → EitTaken s (eitJudged v s)
-  eit-judged-taken pid-word.TooLarge = tt
-  eit-judged-taken (pid-word.Is pid) = eit-read-taken pid (collectedOf s) refl
+  eit-judged-taken : (v : OriginWords) → EitTaken s (eitJudged v s)
+  eit-judged-taken (words.Refused r) = tt
+  eit-judged-taken (words.Are from) = eit-read-taken from (collectedOf s) refl
 
   pub eit-taken : (pid : MaybePid) → EitTaken s (eitArrival pid s)
   unfolding eitArrival
-  eit-taken pid = eit-judged-taken (pidWord pid)
+  eit-taken pid = eit-judged-taken (originWords pid)
 
   pub eit-arrived : (pid : MaybePid) (a : EitArrival) → a ≡ eitArrival pid s → EitTaken s a
   eit-arrived pid a e = subst (EitTaken s) (sym e) (eit-taken pid)

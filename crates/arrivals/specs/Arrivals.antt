@@ -5,13 +5,13 @@ use mathlib.Core.Bool.{Bool, cond}
 use lib.ListN.{length}
 use Rattle.answers.specs.declared.Refusal.{Refusal}
 use Rattle.answers.specs.declared.Refusal.the-variants as refusal
-use Rattle.section.specs.Ids.{pidMade}
+use Rattle.section.specs.Ids.{originMade}
 use Rattle.section.specs.Judged.{collectedOf}
 use Rattle.section.specs.declared.header.Header.{Header}
 use Rattle.section.specs.declared.header.Collected.{Collected}
 use Rattle.section.specs.declared.header.Collected.the-variants as collected
-use Rattle.section.specs.declared.ids.Made.{Made}
-use Rattle.section.specs.declared.ids.Made.the-variants as made
+use Rattle.section.specs.declared.ids.OriginMade.{OriginMade}
+use Rattle.section.specs.declared.ids.OriginMade.the-variants as origin
 use Rattle.section.specs.declared.ids.MaybePid.{MaybePid}
 use Rattle.section.specs.declared.ids.MaybePid.the-variants as maybe
 use Rattle.eit_section.specs.Eit.{eitOf}
@@ -20,10 +20,11 @@ use Rattle.eit_section.specs.declared.Kind.{Kind}
 use Rattle.eit_section.specs.declared.Kind.the-variants as kind
 use Rattle.eit_section.specs.declared.Reading.{Reading}
 use Rattle.eit_section.specs.declared.Reading.the-variants as reading
+use Rattle.rows.specs.declared.Origin.{Origin}
 use Rattle.rows.specs.declared.Key.{Key}
 use Rattle.rows.specs.declared.Entry.{Entry}
-use Rattle.arrivals.specs.declared.PidWord.{PidWord}
-use Rattle.arrivals.specs.declared.PidWord.the-variants as pid-word
+use Rattle.arrivals.specs.declared.OriginWords.{OriginWords}
+use Rattle.arrivals.specs.declared.OriginWords.the-variants as words
 use Rattle.arrivals.specs.declared.SetArrival.{SetArrival}
 use Rattle.arrivals.specs.declared.SetArrival.the-variants as set-arrival
 use Rattle.arrivals.specs.declared.Arrival.{Arrival}
@@ -33,22 +34,22 @@ use Rattle.arrivals.specs.declared.EitArrival.the-variants as eit-arriva
 -- ---- the key
 
 -- a PID of 8192 or more is none (12)
-abbrev pub pidOf : Made → PidWord
-pidOf (made.One p) = pid-word.Is (p .0)
-pidOf made.TooLarge = pid-word.TooLarge
+abbrev pub madeWords : OriginMade → OriginWords
+madeWords (origin.One o) = words.Are (record { pid = o .pid .0 })
+madeWords origin.BadPid = words.Refused refusal.BadPid
 
--- the PID word of a key: of one without a PID it is 8192
-abbrev pub pidWord : MaybePid → PidWord
-pidWord maybe.None = pid-word.Is 8192
-pidWord (maybe.Some v) = pidOf (pidMade v)
+-- where a section came from, in the words of a key: the PID word of one without a PID is 8192
+abbrev pub originWords : MaybePid → OriginWords
+originWords maybe.None = words.Are (record { pid = 8192 })
+originWords (maybe.Some v) = madeWords (originMade v)
 
 abbrev pub bitOf : Bool → ℕ
 bitOf b = cond b 1 0
 
 -- the set collector's key: PID or none, table_id, extension, current_next
-abbrev pub setKey : ℕ → Header → Key
-setKey pid h = record {
-  pid = pid;
+abbrev pub setKey : Origin → Header → Key
+setKey from h = record {
+  from = from;
   «table_id» = h .«table_id»;
   extension = h .extension;
   «current_next» = bitOf (h .«current_next»);
@@ -57,9 +58,9 @@ setKey pid h = record {
 }
 
 -- "EIT set key adds kind, transport_stream_id, original_network_id"; the kind follows from table_id, and the extension is service_id
-abbrev pub eitKey : ℕ → Header → Eit → Key
-eitKey pid h f = record {
-  pid = pid;
+abbrev pub eitKey : Origin → Header → Eit → Key
+eitKey from h f = record {
+  from = from;
   «table_id» = h .«table_id»;
   extension = f .«service_id» .0;
   «current_next» = bitOf (h .«current_next»);
@@ -79,9 +80,9 @@ kindNumber kind.PresentFollowingOther = 1
 kindNumber kind.ScheduleActual = 2
 kindNumber kind.ScheduleOther = 3
 
-abbrev pub arrivalOf : ℕ → Header → Eit → Arrival
-arrivalOf pid h f = record {
-  entry = entryOf (eitKey pid h f) h;
+abbrev pub arrivalOf : Origin → Header → Eit → Arrival
+arrivalOf from h f = record {
+  entry = entryOf (eitKey from h f) h;
   kind = kindNumber (f .kind);
   segment = f .«segment_last_section_number» + 1;
   tables = f .«last_table_id»;
@@ -90,44 +91,44 @@ arrivalOf pid h f = record {
 -- ---- the set collector
 
 -- 14 to 17
-abbrev pub setRead : ℕ → Collected → SetArrival
-setRead pid collected.Malformed = set-arrival.Refused refusal.Malformed
-setRead pid collected.ShortForm = set-arrival.Refused refusal.ShortForm
-setRead pid collected.BadNumber = set-arrival.Refused refusal.BadNumber
-setRead pid collected.BadCrc = set-arrival.Refused refusal.BadCrc
-setRead pid (collected.Good h) = set-arrival.Arrived (entryOf (setKey pid h) h)
+abbrev pub setRead : Origin → Collected → SetArrival
+setRead from collected.Malformed = set-arrival.Refused refusal.Malformed
+setRead from collected.ShortForm = set-arrival.Refused refusal.ShortForm
+setRead from collected.BadNumber = set-arrival.Refused refusal.BadNumber
+setRead from collected.BadCrc = set-arrival.Refused refusal.BadCrc
+setRead from (collected.Good h) = set-arrival.Arrived (entryOf (setKey from h) h)
 
 -- 12
-abbrev pub setJudged : PidWord → List ℕ → SetArrival
-setJudged pid-word.TooLarge bytes = set-arrival.Refused refusal.BadPid
-setJudged (pid-word.Is pid) bytes = setRead pid (collectedOf bytes)
+abbrev pub setJudged : OriginWords → List ℕ → SetArrival
+setJudged (words.Refused r) bytes = set-arrival.Refused r
+setJudged (words.Are from) bytes = setRead from (collectedOf bytes)
 
 unfoldable pub setArrival : MaybePid → List ℕ → SetArrival
-setArrival pid bytes = setJudged (pidWord pid) bytes
+setArrival pid bytes = setJudged (originWords pid) bytes
 
 -- ---- the EIT collector
 
 -- 18, 19
-abbrev pub eitFields : ℕ → Header → Reading → EitArrival
-eitFields pid h reading.NotEit = eit-arrival.Refused refusal.NotEit
-eitFields pid h reading.Broken = eit-arrival.Refused refusal.Broken
-eitFields pid h (reading.Good f) = eit-arrival.Arrived (arrivalOf pid h f)
+abbrev pub eitFields : Origin → Header → Reading → EitArrival
+eitFields from h reading.NotEit = eit-arrival.Refused refusal.NotEit
+eitFields from h reading.Broken = eit-arrival.Refused refusal.Broken
+eitFields from h (reading.Good f) = eit-arrival.Arrived (arrivalOf from h f)
 
 -- 14 to 17
-abbrev pub eitRead : ℕ → List ℕ → Collected → EitArrival
-eitRead pid bytes collected.Malformed = eit-arrival.Refused refusal.Malformed
-eitRead pid bytes collected.ShortForm = eit-arrival.Refused refusal.ShortForm
-eitRead pid bytes collected.BadNumber = eit-arrival.Refused refusal.BadNumber
-eitRead pid bytes collected.BadCrc = eit-arrival.Refused refusal.BadCrc
-eitRead pid bytes (collected.Good h) = eitFields pid h (eitOf bytes)
+abbrev pub eitRead : Origin → List ℕ → Collected → EitArrival
+eitRead from bytes collected.Malformed = eit-arrival.Refused refusal.Malformed
+eitRead from bytes collected.ShortForm = eit-arrival.Refused refusal.ShortForm
+eitRead from bytes collected.BadNumber = eit-arrival.Refused refusal.BadNumber
+eitRead from bytes collected.BadCrc = eit-arrival.Refused refusal.BadCrc
+eitRead from bytes (collected.Good h) = eitFields from h (eitOf bytes)
 
 -- 12
-abbrev pub eitJudged : PidWord → List ℕ → EitArrival
-eitJudged pid-word.TooLarge bytes = eit-arrival.Refused refusal.BadPid
-eitJudged (pid-word.Is pid) bytes = eitRead pid bytes (collectedOf bytes)
+abbrev pub eitJudged : OriginWords → List ℕ → EitArrival
+eitJudged (words.Refused r) bytes = eit-arrival.Refused r
+eitJudged (words.Are from) bytes = eitRead from bytes (collectedOf bytes)
 
 unfoldable pub eitArrival : MaybePid → List ℕ → EitArrival
-eitArrival pid bytes = eitJudged (pidWord pid) bytes
+eitArrival pid bytes = eitJudged (originWords pid) bytes
 
 -- ---- what holds of a section that arrived
 

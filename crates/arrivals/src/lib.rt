@@ -6,21 +6,21 @@ use eit_section::Kind;
 use eit_section::Reading;
 use rows::Entry;
 use rows::Key;
+use rows::Origin;
 use section::header::Collected;
 use section::header::Header;
-use section::ids::Made;
 use section::ids::MaybePid;
-use section::ids::Pid;
+use section::ids::OriginMade;
 ghost use mathlib.Core.Path.{_≡_};
 ghost use Rattle.section.specs.Judged.{collectedOf};
 ghost use Rattle.eit_section.specs.Eit.{eitOf};
-ghost use Rattle.arrivals.specs.Arrivals.{pidOf, pidWord, bitOf, setKey, eitKey, entryOf, kindNumber, arrivalOf};
+ghost use Rattle.arrivals.specs.Arrivals.{madeWords, originWords, bitOf, setKey, eitKey, entryOf, kindNumber, arrivalOf};
 ghost use Rattle.arrivals.specs.Arrivals.{setRead, setArrival, eitFields, eitRead, eitArrival, SetTaken, EitTaken};
 
-// The PID word of a key, or that the number given is no PID.
-pub enum PidWord {
-    Is(u64),
-    TooLarge,
+// The words of a key that say where a section came from, or why there is no such place.
+pub enum OriginWords {
+    Are(Origin),
+    Refused(Refusal),
 }
 
 // What a section says to the set collector.
@@ -48,9 +48,9 @@ pub fn set_arrival(pid: MaybePid, bytes: &[u8]) -> SetArrival
     ensures { λ r. ⌜ r ≡ setArrival pid (now (bytes .entry)) ⌝ }
     ensures { λ r. ⌜ SetTaken (now (bytes .entry)) r ⌝ }
 {
-    match pid_word(pid) {
-        PidWord::TooLarge => SetArrival::Refused(Refusal::BadPid),
-        PidWord::Is(p) => set_read(p, bytes),
+    match origin_words(pid) {
+        OriginWords::Refused(refusal) => SetArrival::Refused(refusal),
+        OriginWords::Are(from) => set_read(from, bytes),
     }
 }
 
@@ -59,28 +59,33 @@ pub fn eit_arrival(pid: MaybePid, bytes: &[u8]) -> EitArrival
     ensures { λ r. ⌜ r ≡ eitArrival pid (now (bytes .entry)) ⌝ }
     ensures { λ r. ⌜ EitTaken (now (bytes .entry)) r ⌝ }
 {
-    match pid_word(pid) {
-        PidWord::TooLarge => EitArrival::Refused(Refusal::BadPid),
-        PidWord::Is(p) => eit_read(p, bytes),
+    match origin_words(pid) {
+        OriginWords::Refused(refusal) => EitArrival::Refused(refusal),
+        OriginWords::Are(from) => eit_read(from, bytes),
     }
 }
 
-// The PID of a key: a number of 8192 or more is refused (12).
-pub fn pid_word(pid: MaybePid) -> PidWord
-    ensures { λ r. ⌜ r ≡ pidWord pid ⌝ }
+// Where a section came from, in the words of a key: a PID of 8192 or more is refused (12).
+pub fn origin_words(pid: MaybePid) -> OriginWords
+    ensures { λ r. ⌜ r ≡ originWords pid ⌝ }
 {
     match pid {
-        MaybePid::None => PidWord::Is(Key::NO_PID),
-        MaybePid::Some(v) => made_word(Pid::make(v)),
+        MaybePid::None => OriginWords::Are(Origin {
+            pid: Origin::NO_PID,
+        }),
+        MaybePid::Some(v) => made_words(section::ids::Origin::make(v)),
     }
 }
 
-fn made_word(m: Made) -> PidWord
-    ensures { λ r. ⌜ r ≡ pidOf m ⌝ }
+fn made_words(m: OriginMade) -> OriginWords
+    ensures { λ r. ⌜ r ≡ madeWords m ⌝ }
 {
     match m {
-        Made::One(p) => PidWord::Is(p.0 as u64),
-        Made::TooLarge => PidWord::TooLarge,
+        OriginMade::One(o) => {
+            let pid = o.pid;
+            OriginWords::Are(Origin { pid: pid.0 as u64 })
+        }
+        OriginMade::BadPid => OriginWords::Refused(Refusal::BadPid),
     }
 }
 
@@ -91,11 +96,11 @@ fn bit(b: bool) -> u64
     if b { 1 } else { 0 }
 }
 
-fn set_key(pid: u64, h: Header) -> Key
-    ensures { λ r. ⌜ r ≡ setKey pid h ⌝ }
+fn set_key(from: Origin, h: Header) -> Key
+    ensures { λ r. ⌜ r ≡ setKey from h ⌝ }
 {
     Key {
-        pid,
+        from,
         table_id: h.table_id as u64,
         extension: h.extension as u64,
         current_next: bit(h.current_next),
@@ -104,12 +109,12 @@ fn set_key(pid: u64, h: Header) -> Key
     }
 }
 
-fn eit_key(pid: u64, h: Header, f: Eit) -> Key
-    ensures { λ r. ⌜ r ≡ eitKey pid h f ⌝ }
+fn eit_key(from: Origin, h: Header, f: Eit) -> Key
+    ensures { λ r. ⌜ r ≡ eitKey from h f ⌝ }
 {
     let service = f.service_id;
     Key {
-        pid,
+        from,
         table_id: h.table_id as u64,
         extension: service.0 as u64,
         current_next: bit(h.current_next),
@@ -140,10 +145,10 @@ pub fn kind_number(kind: Kind) -> u64
     }
 }
 
-fn arrival_of(pid: u64, h: Header, f: Eit) -> Arrival
-    ensures { λ r. ⌜ r ≡ arrivalOf pid h f ⌝ }
+fn arrival_of(from: Origin, h: Header, f: Eit) -> Arrival
+    ensures { λ r. ⌜ r ≡ arrivalOf from h f ⌝ }
 {
-    let entry = entry_of(eit_key(pid, h, f), h);
+    let entry = entry_of(eit_key(from, h, f), h);
     let kind = f.kind;
     Arrival {
         entry,
@@ -154,38 +159,38 @@ fn arrival_of(pid: u64, h: Header, f: Eit) -> Arrival
 }
 
 // 14 to 17, then what the header says.
-fn set_read(pid: u64, bytes: &[u8]) -> SetArrival
-    ensures { λ r. ⌜ r ≡ setRead pid (collectedOf (now (bytes .entry))) ⌝ }
+fn set_read(from: Origin, bytes: &[u8]) -> SetArrival
+    ensures { λ r. ⌜ r ≡ setRead from (collectedOf (now (bytes .entry))) ⌝ }
 {
     match section::header::collect(bytes) {
         Collected::Malformed => SetArrival::Refused(Refusal::Malformed),
         Collected::ShortForm => SetArrival::Refused(Refusal::ShortForm),
         Collected::BadNumber => SetArrival::Refused(Refusal::BadNumber),
         Collected::BadCrc => SetArrival::Refused(Refusal::BadCrc),
-        Collected::Good(h) => SetArrival::Arrived(entry_of(set_key(pid, h), h)),
+        Collected::Good(h) => SetArrival::Arrived(entry_of(set_key(from, h), h)),
     }
 }
 
 // 14 to 17, then the rest.
-fn eit_read(pid: u64, bytes: &[u8]) -> EitArrival
-    ensures { λ r. ⌜ r ≡ eitRead pid (now (bytes .entry)) (collectedOf (now (bytes .entry))) ⌝ }
+fn eit_read(from: Origin, bytes: &[u8]) -> EitArrival
+    ensures { λ r. ⌜ r ≡ eitRead from (now (bytes .entry)) (collectedOf (now (bytes .entry))) ⌝ }
 {
     match section::header::collect(bytes) {
         Collected::Malformed => EitArrival::Refused(Refusal::Malformed),
         Collected::ShortForm => EitArrival::Refused(Refusal::ShortForm),
         Collected::BadNumber => EitArrival::Refused(Refusal::BadNumber),
         Collected::BadCrc => EitArrival::Refused(Refusal::BadCrc),
-        Collected::Good(h) => eit_fields(pid, h, bytes),
+        Collected::Good(h) => eit_fields(from, h, bytes),
     }
 }
 
 // 18 and 19, then what the section says.
-fn eit_fields(pid: u64, h: Header, bytes: &[u8]) -> EitArrival
-    ensures { λ r. ⌜ r ≡ eitFields pid h (eitOf (now (bytes .entry))) ⌝ }
+fn eit_fields(from: Origin, h: Header, bytes: &[u8]) -> EitArrival
+    ensures { λ r. ⌜ r ≡ eitFields from h (eitOf (now (bytes .entry))) ⌝ }
 {
     match eit_section::read(bytes) {
         Reading::NotEit => EitArrival::Refused(Refusal::NotEit),
         Reading::Broken => EitArrival::Refused(Refusal::Broken),
-        Reading::Good(f) => EitArrival::Arrived(arrival_of(pid, h, f)),
+        Reading::Good(f) => EitArrival::Arrived(arrival_of(from, h, f)),
     }
 }

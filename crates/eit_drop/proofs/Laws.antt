@@ -5,13 +5,14 @@ use mathlib.Core.List.{List}
 use Prim.Native.Nat.{ℕ, _*_, _≤_}
 use native.Mathlib.Omega.{arith}
 use lib.ListN.{length}
+use Rattle.answers.specs.declared.Refusal.{Refusal}
 use Rattle.answers.specs.declared.Refusal.the-variants as refusal
 use Rattle.section.specs.Ids.{pidMade}
 use Rattle.section.specs.declared.ids.Pid.{Pid}
 use Rattle.section.specs.declared.ids.Made.{Made}
 use Rattle.section.specs.declared.ids.Made.the-variants as made
-use Rattle.filter.specs.declared.Wanted.{Wanted}
 use Rattle.filter.specs.declared.Wanted.the-variants as wanted
+use Rattle.filter.specs.declared.WantedOrigin.{WantedOrigin}
 use Rattle.filter.specs.declared.Fields.{Fields}
 use Rattle.filter.specs.declared.Of.the-variants as of
 use Rattle.filter.specs.Drops.{rest, droppedRows, Fits}
@@ -20,29 +21,32 @@ use Rattle.eit_state.specs.State.{Rows, rows, withSets, withSchedules, RowsFit}
 use Rattle.eit_drop.specs.declared.WantedPid.{WantedPid}
 use Rattle.eit_drop.specs.declared.WantedPid.the-variants as wanted-pid
 use Rattle.eit_drop.specs.declared.Filter.{Filter}
-use Rattle.eit_drop.specs.declared.PidWanted.{PidWanted}
-use Rattle.eit_drop.specs.declared.PidWanted.the-variants as pid-wanted
+use Rattle.eit_drop.specs.declared.OriginWanted.{OriginWanted}
+use Rattle.eit_drop.specs.declared.OriginWanted.the-variants as origin-wanted
 use Rattle.eit_drop.specs.declared.Drop.{Drop}
 use Rattle.eit_drop.specs.declared.Drop.the-variants as drop
-use Rattle.eit_drop.specs.Drop.{madeWanted, wantedPid, fieldsOf, dropPid, dropWanted, matchingGone}
+use Rattle.eit_drop.specs.Drop.{madeWanted, wantedOrigin, fieldsOf, dropFrom, dropWanted, matchingGone}
 
-pub wanted-one : (m : Made) (p : Pid) → m ≡ made.One p → pid-wanted.Is (wanted.Exactly (p .0)) ≡ madeWanted m
+pub wanted-one : (m : Made) (p : Pid) → m ≡ made.One p → origin-wanted.Is (record { pid = wanted.Exactly (p .0) }) ≡ madeWanted m
 wanted-one m p e = rw e
 
-pub wanted-any : (pid : WantedPid) → pid ≡ wanted-pid.Any → pid-wanted.Is wanted.Any ≡ wantedPid pid
+pub wanted-large : (m : Made) → m ≡ made.TooLarge → origin-wanted.Refused refusal.BadPid ≡ madeWanted m
+wanted-large m e = rw e
+
+pub wanted-any : (pid : WantedPid) → pid ≡ wanted-pid.Any → origin-wanted.Is (record { pid = wanted.Any }) ≡ wantedOrigin pid
 wanted-any pid e = rw e
 
-pub wanted-without : (pid : WantedPid) → pid ≡ wanted-pid.Without → pid-wanted.Is (wanted.Exactly 8192) ≡ wantedPid pid
+pub wanted-without : (pid : WantedPid) → pid ≡ wanted-pid.Without → origin-wanted.Is (record { pid = wanted.Exactly 8192 }) ≡ wantedOrigin pid
 wanted-without pid e = rw e
 
-pub wanted-exactly : (pid : WantedPid) (v : ℕ) (m : Made) (r : PidWanted) → pid ≡ wanted-pid.Exactly v → m ≡ pidMade v → r ≡ madeWanted m → r ≡ wantedPid pid
+pub wanted-exactly : (pid : WantedPid) (v : ℕ) (m : Made) (r : OriginWanted) → pid ≡ wanted-pid.Exactly v → m ≡ pidMade v → r ≡ madeWanted m → r ≡ wantedOrigin pid
 wanted-exactly pid v m r e f g = rw (e, ← f) g
 
-module _ (f : Filter) (p : PidWanted) (e : p ≡ wantedPid (f .pid)) where
-  pub filter-large : p ≡ pid-wanted.TooLarge → drop.Refuse refusal.BadPid ≡ dropWanted f
-  filter-large k = rw (← e, k)
+module _ (f : Filter) (p : OriginWanted) (e : p ≡ wantedOrigin (f .pid)) where
+  pub filter-refused : (r : Refusal) → p ≡ origin-wanted.Refused r → drop.Refuse r ≡ dropWanted f
+  filter-refused r k = rw (← e, k)
 
-  pub filter-matching : (w : Wanted) (x : Fields) → p ≡ pid-wanted.Is w → x ≡ fieldsOf w f → drop.Matching x ≡ dropWanted f
+  pub filter-matching : (w : WantedOrigin) (x : Fields) → p ≡ origin-wanted.Is w → x ≡ fieldsOf w f → drop.Matching x ≡ dropWanted f
   filter-matching w x k m = rw (← e, k, ← m)
 
 module _ (e : Eit) (h l t u : List ℕ) (o : RowsFit (rows e h l t u)) where

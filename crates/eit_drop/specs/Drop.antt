@@ -7,6 +7,7 @@ use Rattle.section.specs.declared.ids.Made.{Made}
 use Rattle.section.specs.declared.ids.Made.the-variants as made
 use Rattle.filter.specs.declared.Wanted.{Wanted}
 use Rattle.filter.specs.declared.Wanted.the-variants as wanted
+use Rattle.filter.specs.declared.WantedOrigin.{WantedOrigin}
 use Rattle.filter.specs.declared.Fields.{Fields}
 use Rattle.filter.specs.declared.Of.the-variants as of
 use Rattle.filter.specs.Drops.{Rest, rest, droppedRows}
@@ -14,26 +15,26 @@ use Rattle.eit_state.specs.State.{Rows, rows, withSets, withSchedules}
 use Rattle.eit_drop.specs.declared.WantedPid.{WantedPid}
 use Rattle.eit_drop.specs.declared.WantedPid.the-variants as wanted-pid
 use Rattle.eit_drop.specs.declared.Filter.{Filter}
-use Rattle.eit_drop.specs.declared.PidWanted.{PidWanted}
-use Rattle.eit_drop.specs.declared.PidWanted.the-variants as pid-wanted
+use Rattle.eit_drop.specs.declared.OriginWanted.{OriginWanted}
+use Rattle.eit_drop.specs.declared.OriginWanted.the-variants as origin-wanted
 use Rattle.eit_drop.specs.declared.Drop.{Drop}
 use Rattle.eit_drop.specs.declared.Drop.the-variants as drop
 
 -- "an exact PID of 8192 or more" is refused (12)
-abbrev pub madeWanted : Made → PidWanted
-madeWanted (made.One p) = pid-wanted.Is (wanted.Exactly (p .0))
-madeWanted made.TooLarge = pid-wanted.TooLarge
+abbrev pub madeWanted : Made → OriginWanted
+madeWanted (made.One p) = origin-wanted.Is (record { pid = wanted.Exactly (p .0) })
+madeWanted made.TooLarge = origin-wanted.Refused refusal.BadPid
 
 -- the PID is free, exactly none or exactly p
-abbrev pub wantedPid : WantedPid → PidWanted
-wantedPid wanted-pid.Any = pid-wanted.Is wanted.Any
-wantedPid wanted-pid.Without = pid-wanted.Is (wanted.Exactly 8192)
-wantedPid (wanted-pid.Exactly v) = madeWanted (pidMade v)
+abbrev pub wantedOrigin : WantedPid → OriginWanted
+wantedOrigin wanted-pid.Any = origin-wanted.Is (record { pid = wanted.Any })
+wantedOrigin wanted-pid.Without = origin-wanted.Is (record { pid = wanted.Exactly 8192 })
+wantedOrigin (wanted-pid.Exactly v) = madeWanted (pidMade v)
 
 -- the filter in the words of a head
-abbrev pub fieldsOf : Wanted → Filter → Fields
-fieldsOf pid f = record {
-  pid = pid;
+abbrev pub fieldsOf : WantedOrigin → Filter → Fields
+fieldsOf from f = record {
+  from = from;
   kind = f .kind;
   «service_id» = f .«service_id»;
   «transport_stream_id» = f .«transport_stream_id»;
@@ -42,12 +43,12 @@ fieldsOf pid f = record {
 }
 
 -- 12
-abbrev pub dropPid : Filter → PidWanted → Drop
-dropPid f pid-wanted.TooLarge = drop.Refuse refusal.BadPid
-dropPid f (pid-wanted.Is w) = drop.Matching (fieldsOf w f)
+abbrev pub dropFrom : Filter → OriginWanted → Drop
+dropFrom f (origin-wanted.Refused r) = drop.Refuse r
+dropFrom f (origin-wanted.Is w) = drop.Matching (fieldsOf w f)
 
 abbrev pub dropWanted : Filter → Drop
-dropWanted f = dropPid f (wantedPid (f .pid))
+dropWanted f = dropFrom f (wantedOrigin (f .pid))
 
 -- "sets and schedules that match go"; no eviction is counted
 unfoldable pub matchingGone : Rows → Fields → Rows

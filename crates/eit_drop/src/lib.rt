@@ -4,12 +4,13 @@ use eit_state::Eit;
 use filter::Fields;
 use filter::Of;
 use filter::Wanted;
-use rows::Key;
+use filter::WantedOrigin;
+use rows::Origin;
 use section::ids::Made;
 use section::ids::Pid;
 ghost use mathlib.Core.Path.{_≡_};
 ghost use Rattle.eit_state.specs.State.{rows, RowsFit};
-ghost use Rattle.eit_drop.specs.Drop.{madeWanted, wantedPid, fieldsOf, dropWanted, matchingGone};
+ghost use Rattle.eit_drop.specs.Drop.{madeWanted, wantedOrigin, fieldsOf, dropWanted, matchingGone};
 
 // The PID that a filter wants: free, exactly none, or exactly a number.
 pub enum WantedPid {
@@ -29,10 +30,10 @@ pub struct Filter {
     pub current_next: Wanted,
 }
 
-// What a filter wants of the PID word, or that the number given is no PID.
-pub enum PidWanted {
-    Is(Wanted),
-    TooLarge,
+// What a filter wants of where sections came from, in the words of a head, or why none comes from there.
+pub enum OriginWanted {
+    Is(WantedOrigin),
+    Refused(Refusal),
 }
 
 // What a drop does: it is refused, or all that matches leaves.
@@ -41,29 +42,33 @@ pub enum Drop {
     Matching(Fields),
 }
 
-fn made_wanted(m: Made) -> PidWanted
+fn made_wanted(m: Made) -> OriginWanted
     ensures { λ r. ⌜ r ≡ madeWanted m ⌝ }
 {
     match m {
-        Made::One(p) => PidWanted::Is(Wanted::Exactly(p.0 as u64)),
-        Made::TooLarge => PidWanted::TooLarge,
+        Made::One(p) => OriginWanted::Is(WantedOrigin {
+            pid: Wanted::Exactly(p.0 as u64),
+        }),
+        Made::TooLarge => OriginWanted::Refused(Refusal::BadPid),
     }
 }
 
-// What a filter wants of the PID word: a number of 8192 or more is refused (12).
-fn wanted_pid(pid: WantedPid) -> PidWanted
-    ensures { λ r. ⌜ r ≡ wantedPid pid ⌝ }
+// What a filter wants of where sections came from: a PID of 8192 or more is refused (12).
+fn wanted_origin(pid: WantedPid) -> OriginWanted
+    ensures { λ r. ⌜ r ≡ wantedOrigin pid ⌝ }
 {
     match pid {
-        WantedPid::Any => PidWanted::Is(Wanted::Any),
-        WantedPid::Without => PidWanted::Is(Wanted::Exactly(Key::NO_PID)),
+        WantedPid::Any => OriginWanted::Is(WantedOrigin { pid: Wanted::Any }),
+        WantedPid::Without => OriginWanted::Is(WantedOrigin {
+            pid: Wanted::Exactly(Origin::NO_PID),
+        }),
         WantedPid::Exactly(v) => made_wanted(Pid::make(v)),
     }
 }
 
 // The filter in the words of a head.
-fn fields_of(pid: Wanted, filter: Filter) -> Fields
-    ensures { λ r. ⌜ r ≡ fieldsOf pid filter ⌝ }
+fn fields_of(from: WantedOrigin, filter: Filter) -> Fields
+    ensures { λ r. ⌜ r ≡ fieldsOf from filter ⌝ }
 {
     let kind = filter.kind;
     let service_id = filter.service_id;
@@ -71,7 +76,7 @@ fn fields_of(pid: Wanted, filter: Filter) -> Fields
     let original_network_id = filter.original_network_id;
     let current_next = filter.current_next;
     Fields {
-        pid,
+        from,
         kind,
         service_id,
         transport_stream_id,
@@ -85,9 +90,9 @@ pub fn read_filter(filter: Filter) -> Drop
     ensures { λ r. ⌜ r ≡ dropWanted filter ⌝ }
 {
     let pid = filter.pid;
-    match wanted_pid(pid) {
-        PidWanted::TooLarge => Drop::Refuse(Refusal::BadPid),
-        PidWanted::Is(w) => Drop::Matching(fields_of(w, filter)),
+    match wanted_origin(pid) {
+        OriginWanted::Refused(refusal) => Drop::Refuse(refusal),
+        OriginWanted::Is(from) => Drop::Matching(fields_of(from, filter)),
     }
 }
 

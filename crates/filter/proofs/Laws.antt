@@ -23,7 +23,7 @@ use Rattle.filter.specs.declared.Wanted.the-variants as wanted
 use Rattle.filter.specs.declared.Fields.{Fields}
 use Rattle.filter.specs.declared.Of.{Of}
 use Rattle.filter.specs.declared.Of.the-variants as of
-use Rattle.filter.specs.Drops.{matches, wants, kindTold, kindWord, kindIn, widthOf, movedTo, youngered, removedHeads, removedWords, Rest, rest, droppedRow, droppedRows, Fits}
+use Rattle.filter.specs.Drops.{matches, wants, wantsOrigin, kindTold, kindWord, kindIn, widthOf, movedTo, youngered, removedHeads, removedWords, Rest, rest, droppedRow, droppedRows, Fits}
 
 before : (n : ℕ) → 0 < n → n ≡ suc (n - 1)
 before n h = omega arith
@@ -45,7 +45,7 @@ kind-past t a =
     let d : 0x60 ≤ t = omega arith in
     simp (ne-eqb t 0x4E (omega arith), ne-eqb t 0x4F (omega arith), le-leb 0x50 t c, lt-leb t 0x5F (omega arith), le-leb 0x60 t d, lt-leb t 0x6F (omega arith))
 
-pub all-match : (o : Of) (f : Fields) (k : Key) (kind : ℕ) (p q r s t u : Bool) → p ≡ wants (f .pid) (k .pid) → kind ≡ kindIn o (k .«table_id») → q ≡ wants (f .kind) kind
+pub all-match : (o : Of) (f : Fields) (k : Key) (kind : ℕ) (p q r s t u : Bool) → p ≡ wantsOrigin (f .from) (k .from) → kind ≡ kindIn o (k .«table_id») → q ≡ wants (f .kind) kind
     → r ≡ wants (f .«service_id») (k .extension) → s ≡ wants (f .«transport_stream_id») (k .«transport_stream_id»)
     → t ≡ wants (f .«original_network_id») (k .«original_network_id») → u ≡ wants (f .«current_next») (k .«current_next») → (p && q && r && s && t && u) ≡ matches o f k
 unfolding matches

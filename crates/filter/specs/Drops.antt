@@ -10,10 +10,12 @@ use Rattle.eit_section.specs.Eit.{kindOf}
 use Rattle.eit_section.specs.declared.MaybeKind.{MaybeKind}
 use Rattle.eit_section.specs.declared.MaybeKind.the-variants as maybe
 use Rattle.arrivals.specs.Arrivals.{kindNumber}
+use Rattle.rows.specs.declared.Origin.{Origin}
 use Rattle.rows.specs.declared.Key.{Key}
 use Rattle.rows.specs.Rows.{keyAt, ageOf, withAge, younger}
 use Rattle.filter.specs.declared.Wanted.{Wanted}
 use Rattle.filter.specs.declared.Wanted.the-variants as wanted
+use Rattle.filter.specs.declared.WantedOrigin.{WantedOrigin}
 use Rattle.filter.specs.declared.Fields.{Fields}
 use Rattle.filter.specs.declared.Of.{Of}
 use Rattle.filter.specs.declared.Of.the-variants as of
@@ -24,6 +26,9 @@ use Rattle.filter.specs.declared.Of.the-variants as of
 abbrev pub wants : Wanted → ℕ → Bool
 wants wanted.Any v = true
 wants (wanted.Exactly x) v = eqb v x
+
+abbrev pub wantsOrigin : WantedOrigin → Origin → Bool
+wantsOrigin w o = wants (w .pid) (o .pid)
 
 -- the number of what a table_id says: 4 is no kind's
 abbrev pub kindTold : MaybeKind → ℕ
@@ -42,7 +47,7 @@ kindIn of.Schedules k = k
 -- "PID or none, kind, service_id, transport_stream_id, original_network_id and current_next"
 unfoldable pub matches : Of → Fields → Key → Bool
 matches o f k =
-    wants (f .pid) (k .pid) && wants (f .kind) (kindIn o (k .«table_id»)) && wants (f .«service_id») (k .extension)
+    wantsOrigin (f .from) (k .from) && wants (f .kind) (kindIn o (k .«table_id»)) && wants (f .«service_id») (k .extension)
     && wants (f .«transport_stream_id») (k .«transport_stream_id») && wants (f .«original_network_id») (k .«original_network_id»)
     && wants (f .«current_next») (k .«current_next»)
 

@@ -4,12 +4,13 @@
 use eit_section::Kind;
 use eit_section::MaybeKind;
 use rows::Key;
+use rows::Origin;
 ghost use mathlib.Core.Path.{_≡_};
 ghost use mathlib.Core.Bool.{Bool, true, false};
 ghost use Prim.Native.Nat.{ℕ, _+_, _-_, _*_, _<_, _≤_};
 ghost use lib.ListN.{length};
 ghost use Rattle.rows.specs.Rows.{younger};
-ghost use Rattle.filter.specs.Drops.{wants, kindTold, kindWord, kindIn, matches, widthOf, movedTo, youngered, removedHeads, removedWords};
+ghost use Rattle.filter.specs.Drops.{wants, wantsOrigin, kindTold, kindWord, kindIn, matches, widthOf, movedTo, youngered, removedHeads, removedWords};
 ghost use Rattle.filter.specs.Drops.{Fits, rest, droppedRow, droppedRows};
 
 // A field of a filter: free, or exactly a word.
@@ -18,9 +19,14 @@ pub enum Wanted {
     Exactly(u64),
 }
 
-// What a filter wants of each field, in the words of a head: PID 8192 is "no PID", the kinds are 0 to 3 as in a schedule's head.
-pub struct Fields {
+// What a filter wants of where a row's sections came from, in the words of a head: PID 8192 is "no PID".
+pub struct WantedOrigin {
     pub pid: Wanted,
+}
+
+// What a filter wants of each field, in the words of a head: the kinds are 0 to 3 as in a schedule's head.
+pub struct Fields {
+    pub from: WantedOrigin,
     pub kind: Wanted,
     pub service_id: Wanted,
     pub transport_stream_id: Wanted,
@@ -48,6 +54,13 @@ fn fits(w: Wanted, v: u64) -> bool
         Wanted::Any => true,
         Wanted::Exactly(x) => v == x,
     }
+}
+
+fn fits_origin(w: WantedOrigin, o: Origin) -> bool
+    ensures { λ r. ⌜ r ≡ wantsOrigin w o ⌝ }
+{
+    let pid = w.pid;
+    fits(pid, o.pid)
 }
 
 // The kind by the table_id word in a set's head, by its number.
@@ -82,13 +95,13 @@ fn kind_in(of: Of, word: u64) -> u64
 pub fn matching(of: Of, f: Fields, k: Key) -> bool
     ensures { λ r. ⌜ r ≡ matches of f k ⌝ }
 {
-    let pid = f.pid;
+    let from = f.from;
     let kind = f.kind;
     let service_id = f.service_id;
     let transport_stream_id = f.transport_stream_id;
     let original_network_id = f.original_network_id;
     let current_next = f.current_next;
-    fits(pid, k.pid)
+    fits_origin(from, k.from)
         & fits(kind, kind_in(of, k.table_id))
         & fits(service_id, k.extension)
         & fits(transport_stream_id, k.transport_stream_id)

@@ -106,7 +106,7 @@ module _ (larger : Collector) (calls : Calls) (q : answersOf larger calls ≡ ru
   agree : SegmentsAgree larger calls → rules.SegmentsAgree (settingsOf larger) (map reads calls)
   unfolding keyOf scheduleOf
   agree f x y k j a b e v l s = f x y (accepted x k a) (accepted y j b) (record {
-    pid = ap (λ (w : SetKey). w .schedule .pid) e;
+    from = ap (λ (w : SetKey). w .schedule .from) e;
     table-id = ap (λ (w : SetKey). w .tableId) e;
     service-id = ap (λ (w : SetKey). w .schedule .serviceId) e;
     transport-stream-id = ap (λ (w : SetKey). w .schedule .transportStreamId) e;

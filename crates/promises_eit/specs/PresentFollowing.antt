@@ -73,7 +73,7 @@ pub record Accepted (s : Collector) (calls : Calls) (x : Section) : Type 0 where
 
 -- ".. of one segment in the same set, version and last section number"
 pub record OfOneSegment (x y : Section) : Type 0 where
-  pub pid : x .pid ≡ y .pid
+  pub from : x .from ≡ y .from
   pub table-id : x .tableId ≡ y .tableId
   pub service-id : x .serviceId ≡ y .serviceId
   pub transport-stream-id : x .transportStreamId ≡ y .transportStreamId

@@ -8,24 +8,34 @@ use native.Mathlib.Nat.{le-of-eq}
 use native.Mathlib.Numerals.{add-one}
 use native.Mathlib.Omega.{arith}
 use borrow.Author.Tests.{lt-ltb, le-ltb, eq-eqb, ne-eqb}
-use lib.Dec.{ltb}
+use lib.Dec.{ltb, eqb}
 use lib.ListN.{length, take, drop, set, replicate, length-drop, length-replicate}
 use lib.Seq.{paste, set-getD, length-take-le, take-all, drop-drop}
 use Rattle.laws.proofs.Lists.{paste-end}
 use Rattle.cells.specs.Cells.{allWhole, allFilled, markedAll}
+use Rattle.rows.specs.declared.Origin.{Origin}
 use Rattle.rows.specs.declared.Key.{Key}
 use Rattle.rows.specs.declared.Entry.{Entry}
 use Rattle.rows.specs.declared.Room.{Room}
-use Rattle.rows.specs.Rows.{word, keyAt, sameKey, elderOf, oldestOf, older, aged, touched, freshHead, roomNew, keptHeads, slotsAt, slotCount, rowSlots, emptied, keptSlots, rowsWhole, markedRow, markedRows, ageOf, lastOf, withAge, withMark}
+use Rattle.rows.specs.Rows.{word, originAt, sameOrigin, keyAt, sameKey, elderOf, oldestOf, older, aged, touched, freshHead, roomNew, keptHeads, slotsAt, slotCount, rowSlots, emptied, keptSlots, rowsWhole, markedRow, markedRows, ageOf, lastOf, withAge, withMark}
 
 pub before : (n : ℕ) → 0 < n → n ≡ suc (n - 1)
 before n h = omega arith
 
 -- ---- find
 
-pub key-words : (heads : List ℕ) (i a b c d e f : ℕ) → a ≡ word heads i 0 → b ≡ word heads i 1 → c ≡ word heads i 2 → d ≡ word heads i 3 → e ≡ word heads i 4 → f ≡ word heads i 5
-    → _≡_ {A = Key} (record { pid = a; «table_id» = b; extension = c; «current_next» = d; «transport_stream_id» = e; «original_network_id» = f }) (keyAt heads i)
+pub origin-words : (heads : List ℕ) (i a : ℕ) → a ≡ word heads i 0 → _≡_ {A = Origin} (record { pid = a }) (originAt heads i)
+origin-words heads i a p = rw p
+
+pub key-words : (heads : List ℕ) (i : ℕ) (a : Origin) (b c d e f : ℕ) → a ≡ originAt heads i → b ≡ word heads i 1 → c ≡ word heads i 2 → d ≡ word heads i 3 → e ≡ word heads i 4 → f ≡ word heads i 5
+    → _≡_ {A = Key} (record { from = a; «table_id» = b; extension = c; «current_next» = d; «transport_stream_id» = e; «original_network_id» = f }) (keyAt heads i)
 key-words heads i a b c d e f p q r s t u = rw (p, q, r, s, t, u)
+
+pub keys-same : (a b : Key) (o : Bool) → o ≡ sameOrigin (a .from) (b .from)
+    → (o && eqb (a .«table_id») (b .«table_id») && eqb (a .extension) (b .extension) && eqb (a .«current_next») (b .«current_next») && eqb (a .«transport_stream_id») (b .«transport_stream_id»)
+    && eqb (a .«original_network_id») (b .«original_network_id»)) ≡ sameKey a b
+unfolding sameKey
+keys-same a b o e = rw e
 
 -- ---- oldest
 

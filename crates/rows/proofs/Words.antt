@@ -13,7 +13,7 @@ use lib.Seq.{getD-set-same, getD-set-other, paste, length-paste, getD-take, getD
 use Rattle.laws.proofs.Lists.{paste-past, paste-before, paste-in, getD-none}
 use Rattle.rows.specs.declared.Entry.{Entry}
 use Rattle.rows.specs.declared.Room.{Room}
-use Rattle.rows.specs.Rows.{word, put, older, aged, touched, headOf, freshHead, keptHeads, slotsAt, slotCount, rowSlots, emptied, keptSlots, ageOf, lastOf, withAge, withMark}
+use Rattle.rows.specs.Rows.{word, put, KeyWord, to-5, older, aged, touched, headOf, freshHead, keptHeads, slotsAt, slotCount, rowSlots, emptied, keptSlots, ageOf, lastOf, withAge, withMark}
 
 -- ---- one word
 
@@ -81,6 +81,17 @@ touched-newest used i h l k =
 pub touched-other : (used i : ℕ) (h : List ℕ) (j : ℕ) → used * 12 ≤ length h → j < used → j ≢ i → ageOf (touched used i h) j ≡ older (ageOf h i) (ageOf h j)
 unfolding touched
 touched-other used i h j l k ne = put-row (aged (ageOf h i) used h) i 9 0 j 9 ne (omega arith) (omega arith) ∙ aged-age (ageOf h i) used h j l k
+
+-- ---- the words of a key
+
+-- a word of a key is one of the 12, and neither the mark nor the age
+pub record OfKey (m : ℕ) : Type 0 where
+  pub below : m < 12
+  pub no-mark : m ≢ 8
+  pub no-age : m ≢ 9
+
+pub of-key : (m : ℕ) → KeyWord m → OfKey m
+of-key m (to-5 n h) = record { below = omega arith; no-mark = omega arith; no-age = omega arith }
 
 -- ---- a row that begins anew
 

@@ -1,6 +1,6 @@
 -- The rows of a collector: what their heads and slots say, for every content of the two lent slices.
 -- `cond test a b` is a where the test is true, else b.
-use Prim.Native.Nat.{ℕ, zero, suc, _+_, _-_, _*_, min}
+use Prim.Native.Nat.{ℕ, zero, suc, _+_, _-_, _*_, _<_, min}
 use mathlib.Core.List.{List, [], _∷_}
 use mathlib.Core.Bool.{Bool, true, false, cond, not, _&&_, _||_}
 use lib.ListN.{getD, take, drop, set, replicate}
@@ -8,6 +8,7 @@ use lib.Seq.{paste}
 use lib.Dec.{ltb, eqb}
 use Rattle.laws.specs.Lists.{firstFrom}
 use Rattle.cells.specs.Cells.{allWhole, someNames, markedAll}
+use Rattle.rows.specs.declared.Origin.{Origin}
 use Rattle.rows.specs.declared.Key.{Key}
 use Rattle.rows.specs.declared.Entry.{Entry}
 use Rattle.rows.specs.declared.Room.{Room}
@@ -44,9 +45,16 @@ withMark i mark heads = put i 8 mark heads
 abbrev pub withAge : ℕ → ℕ → List ℕ → List ℕ
 withAge i age heads = put i 9 age heads
 
+-- the words of a head that make its key
+pub data KeyWord : ℕ → Type 0 where
+  to-5 : (m : ℕ) → m < 6 → KeyWord m
+
+abbrev pub originAt : List ℕ → ℕ → Origin
+originAt heads i = record { pid = word heads i 0 }
+
 abbrev pub keyAt : List ℕ → ℕ → Key
 keyAt heads i = record {
-  pid = word heads i 0;
+  from = originAt heads i;
   «table_id» = word heads i 1;
   extension = word heads i 2;
   «current_next» = word heads i 3;
@@ -54,9 +62,12 @@ keyAt heads i = record {
   «original_network_id» = word heads i 5;
 }
 
+unfoldable pub sameOrigin : Origin → Origin → Bool
+sameOrigin a b = eqb (a .pid) (b .pid)
+
 unfoldable pub sameKey : Key → Key → Bool
 sameKey a b =
-    eqb (a .pid) (b .pid) && eqb (a .«table_id») (b .«table_id») && eqb (a .extension) (b .extension) && eqb (a .«current_next») (b .«current_next»)
+    sameOrigin (a .from) (b .from) && eqb (a .«table_id») (b .«table_id») && eqb (a .extension) (b .extension) && eqb (a .«current_next») (b .«current_next»)
     && eqb (a .«transport_stream_id») (b .«transport_stream_id») && eqb (a .«original_network_id») (b .«original_network_id»)
 
 -- the first row in use that has the key, or `used` where none has it
@@ -96,7 +107,7 @@ touched used i heads = withAge i 0 (aged (ageOf heads i) used heads)
 -- the head of a row that begins with the section: no mark
 abbrev pub headOf : Entry → ℕ → List ℕ
 headOf e age =
-    e .key .pid ∷ e .key .«table_id» ∷ e .key .extension ∷ e .key .«current_next» ∷ e .key .«transport_stream_id» ∷ e .key .«original_network_id»
+    e .key .from .pid ∷ e .key .«table_id» ∷ e .key .extension ∷ e .key .«current_next» ∷ e .key .«transport_stream_id» ∷ e .key .«original_network_id»
     ∷ e .version ∷ e .last ∷ 0 ∷ age ∷ 0 ∷ 0 ∷ []
 
 unfoldable pub freshHead : ℕ → Entry → ℕ → List ℕ → List ℕ

@@ -8,21 +8,26 @@ ghost use lib.ListN.{length, getD};
 ghost use lib.Seq.{paste};
 ghost use Rattle.cells.specs.Cells.{allFilled};
 ghost use Rattle.rows.specs.Rows.{roomNew, goneRow, keptHeads, slotsAt, slotCount, rowSlots, emptied, keptSlots, rowsWhole, markedRow, markedRows, ageOf, lastOf, markOf, versionOf, withMark};
-ghost use Rattle.rows.specs.Rows.{word, put, keyAt, sameKey, rowOf, elderOf, oldestOf, older, aged, touched, freshHead};
+ghost use Rattle.rows.specs.Rows.{word, put, originAt, sameOrigin, keyAt, sameKey, rowOf, elderOf, oldestOf, older, aged, touched, freshHead};
+
+// Where a row's sections came from, in the words of a head.
+pub struct Origin {
+    pub pid: u64,
+}
+
+impl Origin {
+    // The PID word of a row without a PID: no PID has this number.
+    pub const NO_PID: u64 = 8192;
+}
 
 // What tells one row from another. The set collector has 0 as transport_stream_id and original_network_id.
 pub struct Key {
-    pub pid: u64,
+    pub from: Origin,
     pub table_id: u64,
     pub extension: u64,
     pub current_next: u64,
     pub transport_stream_id: u64,
     pub original_network_id: u64,
-}
-
-impl Key {
-    // The PID word of a key without a PID: no PID has this number.
-    pub const NO_PID: u64 = 8192;
 }
 
 // What a section says of the row that it goes into, and of its slot there.
@@ -109,12 +114,21 @@ pub fn set_mark(heads: &mut [u64], i: usize, v: u64)
     change(heads, i, MARK, v);
 }
 
+fn origin_at(heads: &[u64], i: usize) -> Origin
+    requires { ⌜ i * 12 + 12 ≤ length (now heads) ⌝ }
+    ensures { λ r. ⌜ r ≡ originAt (now (heads .entry)) i ⌝ }
+{
+    Origin {
+        pid: get(heads, i, 0),
+    }
+}
+
 pub fn key_at(heads: &[u64], i: usize) -> Key
     requires { ⌜ i * 12 + 12 ≤ length (now heads) ⌝ }
     ensures { λ r. ⌜ r ≡ keyAt (now (heads .entry)) i ⌝ }
 {
     Key {
-        pid: get(heads, i, 0),
+        from: origin_at(heads, i),
         table_id: get(heads, i, 1),
         extension: get(heads, i, 2),
         current_next: get(heads, i, 3),
@@ -123,10 +137,16 @@ pub fn key_at(heads: &[u64], i: usize) -> Key
     }
 }
 
+fn same_origin(a: Origin, b: Origin) -> bool
+    ensures { λ r. ⌜ r ≡ sameOrigin a b ⌝ }
+{
+    a.pid == b.pid
+}
+
 pub fn same_key(a: Key, b: Key) -> bool
     ensures { λ r. ⌜ r ≡ sameKey a b ⌝ }
 {
-    (a.pid == b.pid)
+    same_origin(a.from, b.from)
         & (a.table_id == b.table_id)
         & (a.extension == b.extension)
         & (a.current_next == b.current_next)
@@ -236,8 +256,9 @@ pub fn fresh_head(heads: &mut [u64], i: usize, e: Entry, age: u64)
     ensures { λ _. ⌜ now (heads .exit) ≡ freshHead i e age (now (heads .entry)) ⌝ }
 {
     let k = e.key;
+    let from = k.from;
     let words = [
-        k.pid,
+        from.pid,
         k.table_id,
         k.extension,
         k.current_next,

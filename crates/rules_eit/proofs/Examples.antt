@@ -7,7 +7,7 @@ use mathlib.Core.List.{List, [], _∷_, map}
 use Prim.Native.Nat.{ℕ}
 use lib.ListN.{getElem?, replicate}
 use Rattle.answers.specs.declared.Refusal.the-variants as refusal
-use Rattle.rules_shared.specs.Same.{Bytes, sameBytes, samePid}
+use Rattle.rules_shared.specs.Same.{Bytes, sameBytes, samePid, sameOrigin}
 use Rattle.rules_shared.specs.Slots.{isHeld, present}
 use Rattle.rules_shared.specs.Touch.{Entry, oldestGone, room, leaves, count, retain, find, remove, others, evicts, untouched, aside, newest, touch, emptied, retained}
 use Rattle.rules_shared.specs.Row.{fresh, fits, start, slotOf, keep, marked, putOver, put}
@@ -36,7 +36,7 @@ bytes-of b = replicate 18 b
 unfoldable pub sect : (service table version number last segmentLast lastTable byte : ℕ) → Call
 unfolding bytes-of
 sect s t v n last g z b = offer (record {
-  pid = some 18;
+  from = record { pid = some 18 };
   tableId = t;
   serviceId = s;
   transportStreamId = 1;
@@ -55,7 +55,7 @@ unfoldable pub one : (service table version lastTable byte : ℕ) → Call
 one s t v z b = sect s t v 0 0 0 z b
 
 unfoldable pub key-of : ℕ → Kind → ScheduleKey
-key-of s k = record { pid = some 18; kind = k; serviceId = s; transportStreamId = 1; originalNetworkId = 1; currentNext = true }
+key-of s k = record { from = record { pid = some 18 }; kind = k; serviceId = s; transportStreamId = 1; originalNetworkId = 1; currentNext = true }
 
 unfoldable pub set-of : (service : ℕ) → Kind → (table version last : ℕ) → List ℕ → Whole
 unfolding key-of bytes-of
@@ -68,7 +68,7 @@ guide-of s k z ws = schedule (record { key = key-of s k; lastTable = z; tables =
 -- ---- runs, with every definition open
 
 unfoldable pub gives : (limit : ℕ) → List Call → List Answer
-unfolding sect one set-of guide-of sameBytes samePid isHeld present oldestGone room leaves count retain find remove others evicts untouched aside newest touch emptied retained fresh fits start slotOf keep marked putOver put between kindOf firstOf kindNumber sameKind sameSchedule sameSet badPid pidPasses passes matches segmentEnd heldFrom segmentFull segmentsFull complete copyOf whole copied refill begin enter allTables wholes guide scheduleOf keyOf partOf numberOf metRow setAside setNewest scheduleTouched told ranged ready judged judge cleared dropped finish push admit offered dropping step tells acts answers
+unfolding sect one set-of guide-of sameBytes samePid sameOrigin isHeld present oldestGone room leaves count retain find remove others evicts untouched aside newest touch emptied retained fresh fits start slotOf keep marked putOver put between kindOf firstOf kindNumber sameKind sameSchedule sameSet badPid pidPasses passes matches segmentEnd heldFrom segmentFull segmentsFull complete copyOf whole copied refill begin enter allTables wholes guide scheduleOf keyOf partOf numberOf metRow setAside setNewest scheduleTouched told ranged ready judged judge cleared dropped finish push admit offered dropping step tells acts answers
 gives limit calls = answers (tells (record { limit = limit; cellSize = 20 })) (acts (record { limit = limit; cellSize = 20 })) opened calls
 
 leaves-behind : (limit : ℕ) → List Call → Eit

@@ -5,7 +5,7 @@ use mathlib.Core.Path.{_≡_, refl, sym, ap, _∙_}
 use mathlib.Core.Bool.{true}
 use Prim.Native.Nat.{ℕ, zero, suc}
 use Rattle.laws.proofs.Tests.{and-true, beq-true}
-use Rattle.rules_shared.proofs.Same.{samePid-true}
+use Rattle.rules_shared.proofs.Same.{sameOrigin-true}
 use Rattle.rules_eit.specs.Keys.{Kind, presentActual, presentOther, scheduleActual, scheduleOther, kindNumber, sameKind, ScheduleKey, SetKey, sameSchedule, sameSet}
 
 kindAt : ℕ → Kind
@@ -33,13 +33,13 @@ sameSchedule-true a b h =
     let r = and-true _ _ (q .1) in
     let s = and-true _ _ (r .1) in
     let t = and-true _ _ (s .1) in
-    let e₁ = samePid-true _ _ (p .0) in
+    let e₁ = sameOrigin-true _ _ (p .0) in
     let e₂ = sameKind-true _ _ (q .0) in
     let e₃ = eqb-true _ _ (r .0) in
     let e₄ = eqb-true _ _ (s .0) in
     let e₅ = eqb-true _ _ (t .0) in
     let e₆ = beq-true _ _ (t .1) in
-    λ i. record { pid = e₁ i; kind = e₂ i; serviceId = e₃ i; transportStreamId = e₄ i; originalNetworkId = e₅ i; currentNext = e₆ i }
+    λ i. record { from = e₁ i; kind = e₂ i; serviceId = e₃ i; transportStreamId = e₄ i; originalNetworkId = e₅ i; currentNext = e₆ i }
 
 pub sameSet-true : (a b : SetKey) → sameSet a b ≡ true → a ≡ b
 unfolding sameSet

@@ -4,7 +4,7 @@ use mathlib.Core.Bool.{Bool, true, false, cond, _&&_, Bool·beq}
 use mathlib.Core.Option.{Option, none, some}
 use Prim.Native.Nat.{ℕ}
 use lib.Dec.{leb, eqb}
-use Rattle.rules_shared.specs.Same.{samePid}
+use Rattle.rules_shared.specs.Same.{Origin, samePid, sameOrigin}
 
 -- ---- kinds
 
@@ -41,7 +41,7 @@ sameKind a b = eqb (kindNumber a) (kindNumber b)
 
 -- the key of a schedule: all of the set key but table_id. An EIT's extension is service_id
 pub record ScheduleKey : Type 0 where
-  pub pid : Option ℕ
+  pub from : Origin
   pub kind : Kind
   pub serviceId : ℕ
   pub transportStreamId : ℕ
@@ -55,7 +55,7 @@ pub record SetKey : Type 0 where
 
 unfoldable pub sameSchedule : ScheduleKey → ScheduleKey → Bool
 sameSchedule a b =
-    samePid (a .pid) (b .pid) && (sameKind (a .kind) (b .kind) && (eqb (a .serviceId) (b .serviceId) && (eqb (a .transportStreamId) (b .transportStreamId)
+    sameOrigin (a .from) (b .from) && (sameKind (a .kind) (b .kind) && (eqb (a .serviceId) (b .serviceId) && (eqb (a .transportStreamId) (b .transportStreamId)
     && (eqb (a .originalNetworkId) (b .originalNetworkId) && Bool·beq (a .currentNext) (b .currentNext)))))
 
 unfoldable pub sameSet : SetKey → SetKey → Bool
@@ -93,5 +93,5 @@ passes same (some b) a = same b a
 
 unfoldable pub matches : Filter → ScheduleKey → Bool
 matches f k =
-    pidPasses (f .pid) (k .pid) && (passes sameKind (f .kind) (k .kind) && (passes eqb (f .serviceId) (k .serviceId) && (passes eqb (f .transportStreamId) (k .transportStreamId)
+    pidPasses (f .pid) (k .from .pid) && (passes sameKind (f .kind) (k .kind) && (passes eqb (f .serviceId) (k .serviceId) && (passes eqb (f .transportStreamId) (k .transportStreamId)
     && (passes eqb (f .originalNetworkId) (k .originalNetworkId) && passes Bool·beq (f .currentNext) (k .currentNext)))))

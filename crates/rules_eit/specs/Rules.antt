@@ -11,7 +11,7 @@ use Rattle.answers.specs.Answers.{refusalNo}
 use Rattle.answers.specs.declared.Refusal.{Refusal}
 use Rattle.answers.specs.declared.Refusal.the-variants as refusal
 use Rattle.rules_shared.specs.Refusals as refusals
-use Rattle.rules_shared.specs.Same.{Bytes}
+use Rattle.rules_shared.specs.Same.{Bytes, Origin}
 use Rattle.rules_shared.specs.Touch.{TouchOrder, find, untouched, aside, newest, touch, emptied, retained}
 use Rattle.rules_shared.specs.Row.{Part, start, slotOf, marked, put}
 use Rattle.rules_shared.specs.Cells.{Settings, wouldKeep}
@@ -26,7 +26,7 @@ pub record EitOf (A : Type 0) : Type 0 where
 
 -- a section whose PID and bytes give no reason to refuse it but, maybe, its table_id (12, 14 to 17, 19): what it says, and all its bytes
 pub record Section : Type 0 where
-  pub pid : Option ℕ
+  pub from : Origin
   pub tableId : ℕ
   pub serviceId : ℕ
   pub transportStreamId : ℕ
@@ -41,7 +41,7 @@ pub record Section : Type 0 where
 
 unfoldable pub scheduleOf : Section → Kind → ScheduleKey
 scheduleOf x k = record {
-  pid = x .pid;
+  from = x .from;
   kind = k;
   serviceId = x .serviceId;
   transportStreamId = x .transportStreamId;

@@ -16,12 +16,15 @@ use Rattle.section.proofs.Facts.{takes}
 use Rattle.section.specs.declared.header.Header.{Header}
 use Rattle.section.specs.declared.header.Collected.{Collected}
 use Rattle.section.specs.declared.header.Collected.the-variants as collected
+use Rattle.section.specs.Ids.{originMade}
+use Rattle.section.specs.declared.ids.OriginMade.{OriginMade}
+use Rattle.section.specs.declared.ids.OriginMade.the-variants as made
 use Rattle.section.specs.declared.ids.MaybePid.{MaybePid}
+use Rattle.section.specs.declared.ids.MaybePid.the-variants as maybe
+use Rattle.rows.specs.declared.Origin.{Origin}
 use Rattle.rows.specs.declared.Key.{Key}
-use Rattle.arrivals.specs.declared.PidWord.{PidWord}
-use Rattle.arrivals.specs.declared.PidWord.the-variants as pid-word
 use Rattle.arrivals.specs.declared.SetArrival.the-variants as set-arrival
-use Rattle.arrivals.specs.Arrivals.{pidWord, entryOf, setRead, setJudged, setArrival, Taken}
+use Rattle.arrivals.specs.Arrivals.{madeWords, entryOf, setRead, setJudged, setArrival, Taken}
 
 pub entry-taken : (s : List ℕ) (h : Header) (key : Key) → collectedOf s ≡ collected.Good h → getD s 7 0 < 256 → Taken s (entryOf key h)
 unfolding headerOf
@@ -30,20 +33,21 @@ entry-taken s h key e b = let t = takes s h (collectedOf s) refl e in rw (t .hea
 -- ---- by what a section is refused: 12, 14 to 17
 
 module _ (s : List ℕ) (P : Refusal → Type 0) (pid : P refusal.BadPid) (malformed : P refusal.Malformed) (short : P refusal.ShortForm) (number : P refusal.BadNumber) (crc : P refusal.BadCrc) where
-  read-by : (p : ℕ) (c : Collected) (r : Refusal) → setRead p c ≡ set-arrival.Refused r → P r
+  read-by : (p : Origin) (c : Collected) (r : Refusal) → setRead p c ≡ set-arrival.Refused r → P r
   read-by p collected.Malformed r q = let z : refusal.Malformed ≡ r = cc in subst P z malformed
   read-by p collected.ShortForm r q = let z : refusal.ShortForm ≡ r = cc in subst P z short
   read-by p collected.BadNumber r q = let z : refusal.BadNumber ≡ r = cc in subst P z number
   read-by p collected.BadCrc r q = let z : refusal.BadCrc ≡ r = cc in subst P z crc
   read-by p (collected.Good h) r q = let z : _≡_ {A = ℕ} 0 1 = cc in absurd (omega arith)
 
-  judged-by : (v : PidWord) (r : Refusal) → setJudged v s ≡ set-arrival.Refused r → P r
-  judged-by pid-word.TooLarge r q = let z : refusal.BadPid ≡ r = cc in subst P z pid
-  judged-by (pid-word.Is p) r q = read-by p (collectedOf s) r q
+  made-by : (m : OriginMade) (r : Refusal) → setJudged (madeWords m) s ≡ set-arrival.Refused r → P r
+  made-by (made.One o) r q = read-by (record { pid = o .pid .0 }) (collectedOf s) r q
+  made-by made.BadPid r q = let z : refusal.BadPid ≡ r = cc in subst P z pid
 
   pub set-refused-by : (m : MaybePid) (r : Refusal) → setArrival m s ≡ set-arrival.Refused r → P r
   unfolding setArrival
-  set-refused-by m r q = judged-by (pidWord m) r q
+  set-refused-by maybe.None r q = read-by (record { pid = 8192 }) (collectedOf s) r q
+  set-refused-by (maybe.Some v) r q = made-by (originMade v) r q
 
 -- so not by 10
 pub set-not-ten : (pid : MaybePid) (s : List ℕ) (r : Refusal) → setArrival pid s ≡ set-arrival.Refused r → eqb (refusalNo r) 10 ≡ false

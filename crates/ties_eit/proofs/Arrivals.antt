@@ -24,8 +24,10 @@ use Rattle.eit_section.specs.declared.MaybeKind.{MaybeKind}
 use Rattle.eit_section.specs.declared.MaybeKind.the-variants as maybe
 use Rattle.eit_section.specs.declared.Reading.{Reading}
 use Rattle.eit_section.specs.declared.Reading.the-variants as reading
+use Rattle.rows.specs.declared.Origin.{Origin as Words}
+use Rattle.ages.specs.Origins.{originShown}
 use Rattle.arrivals.specs.Arrivals.{arrivalOf, kindNumber as numberRead}
-use Rattle.ties_eit.specs.View.{pidShown, sectionOf}
+use Rattle.ties_eit.specs.View.{sectionOf}
 use Rattle.ties_eit.proofs.Keys.{bit-bit, bit-reads}
 use Rattle.ties_eit.proofs.Settle.{Arrives}
 use Rattle.ties_eit.proofs.Keep.{sectionFor}
@@ -115,8 +117,8 @@ module _ (s : List ℕ) (h : Header) (q : collectedOf s ≡ collected.Good h) wh
   unfolding headerOf
   numbers b = rw (taken .header) (taken .numbered, b)
 
-  pub arrives : getD s 7 0 < 256 → (pid : ℕ) (x : Read) → kindRead (byteAt s 0) ≡ maybe.Some x → (k : Kind) × Arrives (arrivalOf pid h (fieldsOf s x)) k
-  arrives b pid x e =
+  pub arrives : getD s 7 0 < 256 → (from : Words) (x : Read) → kindRead (byteAt s 0) ≡ maybe.Some x → (k : Kind) × Arrives (arrivalOf from h (fieldsOf s x)) k
+  arrives b from x e =
       let n = numbers b in
       let k = the-kind (kindRead (byteAt s 0)) (kindOf (byteAt s 0)) (kinds-agree (byteAt s 0)) x e in (
         k .0,
@@ -132,13 +134,13 @@ module _ (s : List ℕ) (h : Header) (q : collectedOf s ≡ collected.Good h) wh
 
 -- ---- the rules' section
 
-pub section-same : (pid : ℕ) (bytes : Bytes) (h : Header) (f : fields.Eit) → sectionFor (arrivalOf pid h f) bytes ≡ sectionOf (pidShown pid) bytes h f
+pub section-same : (from : Words) (bytes : Bytes) (h : Header) (f : fields.Eit) → sectionFor (arrivalOf from h f) bytes ≡ sectionOf (originShown from) bytes h f
 unfolding sectionOf
-section-same pid bytes h f =
+section-same from bytes h f =
     let c = bit-reads (h .«current_next») in
     let n : f .«segment_last_section_number» + 1 - 1 ≡ f .«segment_last_section_number» = omega arith in
     λ i. record {
-      pid = pidShown pid;
+      from = originShown from;
       tableId = h .«table_id»;
       serviceId = f .«service_id» .0;
       transportStreamId = f .«transport_stream_id»;

@@ -12,7 +12,7 @@ use borrow.Author.Tests.{eq-eqb, ne-eqb, eqb-true, ltb-true, ltb-false, leb-true
 use lib.Dec.{eqb, ltb, leb}
 use lib.ListN.{length}
 use Rattle.laws.proofs.Tests.{and-true, same-test}
-use Rattle.rules_shared.specs.Same.{Bytes}
+use Rattle.rules_shared.specs.Same.{Bytes, Origin}
 use Rattle.rules_shared.specs.Slots.{everyHeld}
 use Rattle.rules_shared.specs.Touch.{emptied, everyRow}
 use Rattle.rules_shared.specs.Row.{fits}
@@ -23,6 +23,7 @@ use Rattle.rules_eit.specs.Schedules.{ScheduleOf}
 use Rattle.rules_eit.specs.Rules.{Section, scheduleOf, keyOf, clear, drop, refuse, offer, cleared}
 use Rattle.rules_eit.specs.Cells.{onAnswer, storeWhole, anyAtEnd, ended, shows, pushIn, admitIn, offerIn, good, guarded, call}
 use Rattle.rules_eit.proofs.Keys.{sameSet-true, sameSchedule-true}
+use Rattle.section.specs.Ids.{originOf}
 use Rattle.section.specs.Judged.{collectedOf}
 use Rattle.eit_section.specs.Eit.{eitOf, fieldsOf}
 use Rattle.section.specs.Facts.{Bytes as AllBytes}
@@ -33,18 +34,21 @@ use Rattle.eit_section.specs.declared.Reading.{Reading}
 use Rattle.eit_section.specs.declared.Reading.the-variants as reading
 use Rattle.section.specs.declared.ids.MaybePid.{MaybePid}
 use Rattle.section.specs.declared.ids.MaybePid.the-variants as maybe
-use Rattle.section.specs.declared.ids.Made.the-variants as made
+use Rattle.section.specs.declared.ids.OriginMade.the-variants as made
 use Rattle.cells.specs.Cells.{allWhole}
+use Rattle.rows.specs.declared.Origin.{Origin as Words}
 use Rattle.rows.specs.declared.Key.{Key}
 use Rattle.rows.specs.Rows.{rowSlots, rowsWhole, ageOf}
 use Rattle.ages.specs.Order.{downFrom, inOrder, rowsSeen}
+use Rattle.ages.specs.Origins.{originShown}
 use Rattle.ages.specs.Slots.{cellsSeen}
 use Rattle.ages.proofs.Ages.{length-order}
 use Rattle.ages.proofs.Touch.{stands-none}
+use Rattle.ages.proofs.Origins.{shown-pid}
 use Rattle.ages.proofs.Slots.{held-whole, rows-whole}
 use Rattle.ages.proofs.Cells.{cells-length}
 use Rattle.store.specs.Store as sets
-use Rattle.arrivals.specs.Arrivals.{pidOf, pidWord, eitFields, eitRead, eitJudged, eitArrival}
+use Rattle.arrivals.specs.Arrivals.{madeWords, eitFields, eitRead, eitJudged, eitArrival}
 use Rattle.store.proofs.Whole.{long}
 use Rattle.placing.specs.Places.{placeOf as placeIn}
 use Rattle.schedules.specs.Schedules.{schedulesWhole}
@@ -67,7 +71,7 @@ use Rattle.eit_admit.specs.Admitting.{dropOf, admitted}
 use Rattle.eit_carry.specs.Carried.{pushedWhole}
 use Rattle.eit_state.proofs.Whole.{whole-store, units-whole, can-count}
 use Rattle.eit_state.proofs.Whole.{long as schedules-long}
-use Rattle.ties_eit.specs.View.{pidShown, keyShown, scheduleShown, keyWords, scheduleWords, rowSeen, scheduleSeen, seen, sectionOf, readsEit, readsAs, readSection, reads, answerTold, Given, clears, drops, section, FilterFits, filterShown, Fitting, called, Reached}
+use Rattle.ties_eit.specs.View.{keyShown, scheduleShown, keyWords, scheduleWords, rowSeen, scheduleSeen, seen, sectionOf, readsEit, readsAs, readSection, reads, answerTold, Given, clears, drops, section, FilterFits, filterShown, Fitting, called, Reached}
 use Rattle.ties_eit.proofs.Keys.{set-self, schedule-self}
 use Rattle.ties_eit.proofs.Places.{copyWhole, schedules-whole}
 use Rattle.ties_eit.proofs.Entered.{Tied, fits-schedules}
@@ -220,61 +224,60 @@ module _ (s : Store) (z : Reached s) where
             rw (le-leb (length bytes) (s .eit .sets .size) l) (limited l (s .eit .sets .limit) refl)
 
     -- 18 and 19
-    read-tied : AllBytes bytes → (pid : ℕ) (h : Header) → collectedOf bytes ≡ collected.Good h → (r : Reading) → Read-as bytes r
-        → Tied (pushedAs s bytes (eitFields pid h r)) (good (seen s) (readsEit (pidShown pid) bytes h r))
+    read-tied : AllBytes bytes → (from : Words) (h : Header) → collectedOf bytes ≡ collected.Good h → (r : Reading) → Read-as bytes r
+        → Tied (pushedAs s bytes (eitFields from h r)) (good (seen s) (readsEit (originShown from) bytes h r))
     unfolding readsEit good offerIn shows onAnswer answerTold seen sectionOf
-    read-tied o pid h q r (not-eit e) = rw (not-kind bytes h q e) (record { told = refl; shown = refl; reached = z })
-    read-tied o pid h q r broken = record { told = refl; shown = refl; reached = z }
-    read-tied o pid h q r (read-good kind e) =
-        let k = arrives bytes h q (o 7) pid kind e in
-        subst (λ (x : Section). Tied (toldStep (pushedWhole s bytes (arrivalOf pid h (fieldsOf bytes kind)))) (good (seen s) (offer x))) (section-same pid bytes h (fieldsOf bytes kind))
-        (good-tied (arrivalOf pid h (fieldsOf bytes kind)) (k .0) (k .1) (good-length bytes h q))
+    read-tied o from h q r (not-eit e) = rw (not-kind bytes h q e) (record { told = refl; shown = refl; reached = z })
+    read-tied o from h q r broken = record { told = refl; shown = refl; reached = z }
+    read-tied o from h q r (read-good kind e) =
+        let k = arrives bytes h q (o 7) from kind e in
+        subst (λ (x : Section). Tied (toldStep (pushedWhole s bytes (arrivalOf from h (fieldsOf bytes kind)))) (good (seen s) (offer x))) (section-same from bytes h (fieldsOf bytes kind))
+        (good-tied (arrivalOf from h (fieldsOf bytes kind)) (k .0) (k .1) (good-length bytes h q))
 
     -- 14 to 17
-    judged-tied : AllBytes bytes → (pid : ℕ) (c : Collected) → collectedOf bytes ≡ c → Tied (pushedAs s bytes (eitRead pid bytes c)) (good (seen s) (readsAs (pidShown pid) bytes c))
+    judged-tied : AllBytes bytes → (from : Words) (c : Collected) → collectedOf bytes ≡ c → Tied (pushedAs s bytes (eitRead from bytes c)) (good (seen s) (readsAs (originShown from) bytes c))
     unfolding readsAs good shows onAnswer answerTold seen
-    judged-tied o pid collected.Malformed q = record { told = refl; shown = refl; reached = z }
-    judged-tied o pid collected.ShortForm q = record { told = refl; shown = refl; reached = z }
-    judged-tied o pid collected.BadNumber q = record { told = refl; shown = refl; reached = z }
-    judged-tied o pid collected.BadCrc q = record { told = refl; shown = refl; reached = z }
-    judged-tied o pid (collected.Good h) q = read-tied o pid h q (eitOf bytes) (read-as bytes)
+    judged-tied o from collected.Malformed q = record { told = refl; shown = refl; reached = z }
+    judged-tied o from collected.ShortForm q = record { told = refl; shown = refl; reached = z }
+    judged-tied o from collected.BadNumber q = record { told = refl; shown = refl; reached = z }
+    judged-tied o from collected.BadCrc q = record { told = refl; shown = refl; reached = z }
+    judged-tied o from (collected.Good h) q = read-tied o from h q (eitOf bytes) (read-as bytes)
 
     -- 12
     pid-tied : AllBytes bytes → (pid : MaybePid) → Tied (pushedAs s bytes (eitArrival pid bytes)) (good (seen s) (readSection pid bytes))
-    unfolding eitArrival readSection good shows onAnswer answerTold seen pidShown
-    pid-tied o maybe.None = judged-tied o 8192 (collectedOf bytes) refl
+    unfolding eitArrival readSection good shows onAnswer answerTold seen originShown
+    pid-tied o maybe.None = judged-tied o (record { pid = 8192 }) (collectedOf bytes) refl
     pid-tied o (maybe.Some v) = go (ltb v 8192) refl
       where
         go : (b : Bool) → ltb v 8192 ≡ b
-            → Tied (pushedAs s bytes (eitJudged (pidOf (cond b (made.One (record { 0 = v })) made.TooLarge)) bytes)) (good (seen s) (cond b (readsAs (some v) bytes (collectedOf bytes)) (refuse refusal.BadPid refl)))
+            → Tied (pushedAs s bytes (eitJudged (madeWords (cond b (made.One (originOf v)) made.BadPid)) bytes)) (good (seen s) (cond b (readsAs (record { pid = some v }) bytes (collectedOf bytes)) (refuse refusal.BadPid refl)))
         go true q =
             let l = ltb-true v 8192 q in
-            let d : pidShown v ≡ some v = rw (ne-eqb v 8192 (λ (t : v ≡ 8192). absurd (omega arith))) in
-            rw (← d) (judged-tied o v (collectedOf bytes) refl)
+            rw (← (shown-pid v l)) (judged-tied o (record { pid = v }) (collectedOf bytes) refl)
         go false q = record { told = refl; shown = refl; reached = z }
 
   -- 11 comes before what the section is read as
-  ended-eit : (bytes : Bytes) (pid : Option ℕ) (h : Header) (r : Reading) → ended (seen s) (readsEit pid bytes h r) ≡ anyAtEnd (seen s)
+  ended-eit : (bytes : Bytes) (from : Origin) (h : Header) (r : Reading) → ended (seen s) (readsEit from bytes h r) ≡ anyAtEnd (seen s)
   unfolding ended readsEit
-  ended-eit bytes pid h reading.NotEit = refl
-  ended-eit bytes pid h reading.Broken = refl
-  ended-eit bytes pid h (reading.Good f) = refl
+  ended-eit bytes from h reading.NotEit = refl
+  ended-eit bytes from h reading.Broken = refl
+  ended-eit bytes from h (reading.Good f) = refl
 
-  ended-as : (bytes : Bytes) (pid : Option ℕ) (c : Collected) → ended (seen s) (readsAs pid bytes c) ≡ anyAtEnd (seen s)
+  ended-as : (bytes : Bytes) (from : Origin) (c : Collected) → ended (seen s) (readsAs from bytes c) ≡ anyAtEnd (seen s)
   unfolding ended readsAs
-  ended-as bytes pid collected.Malformed = refl
-  ended-as bytes pid collected.ShortForm = refl
-  ended-as bytes pid collected.BadNumber = refl
-  ended-as bytes pid collected.BadCrc = refl
-  ended-as bytes pid (collected.Good h) = ended-eit bytes pid h (eitOf bytes)
+  ended-as bytes from collected.Malformed = refl
+  ended-as bytes from collected.ShortForm = refl
+  ended-as bytes from collected.BadNumber = refl
+  ended-as bytes from collected.BadCrc = refl
+  ended-as bytes from (collected.Good h) = ended-eit bytes from h (eitOf bytes)
 
   ended-read : (pid : MaybePid) (bytes : Bytes) → ended (seen s) (readSection pid bytes) ≡ anyAtEnd (seen s)
   unfolding readSection ended
-  ended-read maybe.None bytes = ended-as bytes none (collectedOf bytes)
+  ended-read maybe.None bytes = ended-as bytes (record { pid = none }) (collectedOf bytes)
   ended-read (maybe.Some v) bytes = go (ltb v 8192)
     where
-      go : (b : Bool) → ended (seen s) (cond b (readsAs (some v) bytes (collectedOf bytes)) (refuse refusal.BadPid refl)) ≡ anyAtEnd (seen s)
-      go true = ended-as bytes (some v) (collectedOf bytes)
+      go : (b : Bool) → ended (seen s) (cond b (readsAs (record { pid = some v }) bytes (collectedOf bytes)) (refuse refusal.BadPid refl)) ≡ anyAtEnd (seen s)
+      go true = ended-as bytes (record { pid = some v }) (collectedOf bytes)
       go false = refl
 
   -- 10, then 11

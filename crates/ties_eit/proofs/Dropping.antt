@@ -14,16 +14,18 @@ use Rattle.rules_eit.specs.Keys.{kindNumber, ScheduleKey, SetKey, badPid, pidPa
 use Rattle.rules_eit.specs.Rules.{done, gives, dropped}
 use Rattle.rules_eit.specs.Cells.{onAnswer, shows, dropIn}
 use Rattle.section.specs.declared.ids.Made.the-variants as made
+use Rattle.rows.specs.declared.Origin.{Origin as Words}
 use Rattle.rows.specs.declared.Key.{Key}
 use Rattle.rows.specs.Rows.{tableWord, keyAt, slotCount, slotsAt}
 use Rattle.ages.specs.Order.{movedFrom}
+use Rattle.ages.specs.Origins.{originShown}
 use Rattle.ages.proofs.Cells.{up-cong}
 use Rattle.segments.specs.Segments.{wordOf}
 use Rattle.schedules.specs.Schedules.{tablesOf}
 use Rattle.filter.specs.declared.Of.the-variants as of
-use Rattle.filter.specs.declared.Wanted.{Wanted}
+use Rattle.filter.specs.declared.WantedOrigin.{WantedOrigin}
 use Rattle.filter.specs.declared.Wanted.the-variants as wanted
-use Rattle.filter.specs.Drops.{wants, matches, removedHeads, removedWords, Rest, rest, droppedRows}
+use Rattle.filter.specs.Drops.{wantsOrigin, matches, removedHeads, removedWords, Rest, rest, droppedRows}
 use Rattle.ties_eit.proofs.Removed.{removed-word, removed-words, removed-part, removed-slots}
 use Rattle.eit_drop.specs.declared.Filter.{Filter}
 use Rattle.eit_drop.specs.declared.WantedPid.{WantedPid}
@@ -31,9 +33,9 @@ use Rattle.eit_drop.specs.declared.WantedPid.the-variants as wanted-pid
 use Rattle.eit_drop.specs.declared.Drop.{Drop}
 use Rattle.eit_drop.specs.declared.Drop.the-variants as drop
 use Rattle.eit_state.specs.State.{Store, store, Whole, withSets, withSchedules}
-use Rattle.eit_drop.specs.Drop.{madeWanted, wantedPid, fieldsOf, dropPid, matchingGone}
+use Rattle.eit_drop.specs.Drop.{madeWanted, wantedOrigin, fieldsOf, dropFrom, matchingGone}
 use Rattle.eit.specs.Store.{After, carriedDrop}
-use Rattle.ties_eit.specs.View.{pidShown, kindBy, keyShown, scheduleShown, keyWords, scheduleWords, rowSeen, copySeen, placeSeen, scheduleSeen, seen, pidTest, filterShown, answerTold, FilterFits, HeadFits, Reached}
+use Rattle.ties_eit.specs.View.{kindBy, keyShown, scheduleShown, keyWords, scheduleWords, rowSeen, copySeen, placeSeen, scheduleSeen, seen, pidTest, filterShown, answerTold, FilterFits, HeadFits, Reached}
 use Rattle.ties_eit.proofs.Keys.{Bit}
 use Rattle.ties_eit.proofs.Rows.{row-as}
 use Rattle.ties_eit.proofs.Units.{copy-as}
@@ -111,7 +113,7 @@ pub schedule-bit : (k : Key) → scheduleWords (scheduleShown k) ≡ k → Bit (
 unfolding scheduleWords scheduleShown
 schedule-bit k e = (ap (λ (q : Key). q .«current_next») e, sym (ap (λ (q : Key). q .«table_id») e))
 
-module _ (f : Filter) (fit : FilterFits f) (w : Wanted) (pid : (p : ℕ) → wants w p ≡ pidPasses (pidTest (f .pid)) (pidShown p)) where
+module _ (f : Filter) (fit : FilterFits f) (w : WantedOrigin) (from : (o : Words) → wantsOrigin w o ≡ pidPasses (pidTest (f .pid)) ((originShown o) .pid)) where
   -- the keys that stay
   abbrev setStays : SetKey → Bool
   setStays k = not (keyMatches (filterShown f) (k .schedule))
@@ -121,7 +123,7 @@ module _ (f : Filter) (fit : FilterFits f) (w : Wanted) (pid : (p : ℕ) → wan
 
   set-agrees : (heads : List ℕ) (j : ℕ) → HeadFits heads j → keyWords (keyShown (keyAt heads j)) ≡ keyAt heads j → matches of.Sets (fieldsOf w f) (keyAt heads j) ≡ not (setStays (keyShown (keyAt heads j)))
   set-agrees heads j h e =
-      sets-match f fit w pid (keyAt heads j) (set-bit (keyAt heads j) e) (kind-word (tableWord heads j) (h .kind)) ∙ not-twice (keyMatches (filterShown f) ((keyShown (keyAt heads j)) .schedule))
+      sets-match f fit w from (keyAt heads j) (set-bit (keyAt heads j) e) (kind-word (tableWord heads j) (h .kind)) ∙ not-twice (keyMatches (filterShown f) ((keyShown (keyAt heads j)) .schedule))
 
   abbrev Any : List ℕ → ℕ → Type 0
   Any heads j = Unit {0}
@@ -130,7 +132,7 @@ module _ (f : Filter) (fit : FilterFits f) (w : Wanted) (pid : (p : ℕ) → wan
       → matches of.Schedules (fieldsOf w f) (keyAt heads j) ≡ not (scheduleStays (scheduleShown (keyAt heads j)))
   schedule-agrees heads j h e =
       let b = schedule-bit (keyAt heads j) e in
-      schedules-match f fit w pid (keyAt heads j) (b .0) (b .1) ∙ not-twice (keyMatches (filterShown f) (scheduleShown (keyAt heads j)))
+      schedules-match f fit w from (keyAt heads j) (b .0) (b .1) ∙ not-twice (keyMatches (filterShown f) (scheduleShown (keyAt heads j)))
 
   -- ---- the sets and the schedules
 
@@ -204,19 +206,19 @@ module _ (s : Store) (z : Reached s) (g : Whole s) (f : Filter) (fit : FilterFit
   abbrev leaves : Drop → After
   leaves d = carriedDrop s d
 
-  pub drop-tied : Tied (leaves (dropPid f (wantedPid (f .pid)))) (dropIn (seen s) (filterShown f) (badPid ((filterShown f) .pid)))
+  pub drop-tied : Tied (leaves (dropFrom f (wantedOrigin (f .pid)))) (dropIn (seen s) (filterShown f) (badPid ((filterShown f) .pid)))
   unfolding filterShown badPid dropIn shows onAnswer answerTold seen
   drop-tied = go (f .pid) refl
     where
       exactly-tied : (v : ℕ) → f .pid ≡ wanted-pid.Exactly v → (b : Bool) → ltb v 8192 ≡ b
-          → Tied (leaves (dropPid f (madeWanted (cond b (made.One (record { 0 = v })) made.TooLarge)))) (dropIn (seen s) (filterShown f) (leb 8192 v))
+          → Tied (leaves (dropFrom f (madeWanted (cond b (made.One (record { 0 = v })) made.TooLarge)))) (dropIn (seen s) (filterShown f) (leb 8192 v))
       exactly-tied v e true q =
           let l = ltb-true v 8192 q in
           rw (lt-leb 8192 v l)
-          (matching-tied f fit (wanted.Exactly v) (λ p. pid-exactly v l p ∙ ap (λ (t : WantedPid). pidPasses (pidTest t) (pidShown p)) (sym e)) s z g)
+          (matching-tied f fit (record { pid = wanted.Exactly v }) (λ o. pid-exactly v l o ∙ ap (λ (t : WantedPid). pidPasses (pidTest t) ((originShown o) .pid)) (sym e)) s z g)
       exactly-tied v e false q = rw (le-leb 8192 v (ltb-false v 8192 q)) (record { told = refl; shown = refl; reached = z })
 
-      go : (p : WantedPid) → f .pid ≡ p → Tied (leaves (dropPid f (wantedPid p))) (dropIn (seen s) (filterShown f) (badPid (pidTest p)))
-      go wanted-pid.Any e = matching-tied f fit wanted.Any (λ p. pid-any p ∙ ap (λ (t : WantedPid). pidPasses (pidTest t) (pidShown p)) (sym e)) s z g
-      go wanted-pid.Without e = matching-tied f fit (wanted.Exactly 8192) (λ p. pid-without p ∙ ap (λ (t : WantedPid). pidPasses (pidTest t) (pidShown p)) (sym e)) s z g
+      go : (p : WantedPid) → f .pid ≡ p → Tied (leaves (dropFrom f (wantedOrigin p))) (dropIn (seen s) (filterShown f) (badPid (pidTest p)))
+      go wanted-pid.Any e = matching-tied f fit (record { pid = wanted.Any }) (λ o. pid-any o ∙ ap (λ (t : WantedPid). pidPasses (pidTest t) ((originShown o) .pid)) (sym e)) s z g
+      go wanted-pid.Without e = matching-tied f fit (record { pid = wanted.Exactly 8192 }) (λ o. pid-without o ∙ ap (λ (t : WantedPid). pidPasses (pidTest t) ((originShown o) .pid)) (sym e)) s z g
       go (wanted-pid.Exactly v) e = exactly-tied v e (ltb v 8192) refl

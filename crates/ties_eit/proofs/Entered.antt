@@ -28,7 +28,7 @@ use Rattle.rows.specs.declared.Key.{Key}
 use Rattle.rows.specs.declared.Entry.{Entry}
 use Rattle.rows.specs.declared.Room.{Room}
 use Rattle.rows.specs.Rows.{tableWord, word, keyAt, rowOf, touched, keptHeads, roomIn, roomRenewed, roomNew, rowSlots, rowsWhole, oldestOf, ageOf, lastOf}
-use Rattle.rows.proofs.Words.{length-kept, kept-row, kept-fresh, kept-known, length-touched, touched-not}
+use Rattle.rows.proofs.Words.{OfKey, of-key, length-kept, kept-row, kept-fresh, kept-known, length-touched, touched-not}
 use Rattle.rows.proofs.Whole.{rows-get}
 use Rattle.ages.specs.Order.{orderSeen, Goes, Touched}
 use Rattle.ages.specs.Slots.{upFrom}
@@ -296,7 +296,7 @@ module _ (L : Store) (z : Reached L) (a : Arrival) (kind : Kind) (first i : ℕ)
       record {
         age = ageOf schedule-heads there;
         goes = goes-known schedule-heads limit held evictions skey k;
-        own = key-same schedule-heads (keptHeads r entry schedule-heads) there (λ m q. kept-known r entry schedule-heads long refl m (omega arith) (omega arith)) ∙ row-has-key schedule-heads skey held k;
+        own = key-same schedule-heads (keptHeads r entry schedule-heads) there (λ m q. kept-known r entry schedule-heads long refl m (of-key m q .no-mark) (of-key m q .below)) ∙ row-has-key schedule-heads skey held k;
         aged = kept-known r entry schedule-heads long refl 9 (omega arith) (omega arith);
         last = kept-known r entry schedule-heads long refl 7 (omega arith) (omega arith) ∙ e;
         begun = rw (found-known k, eq-eqb (lastOf schedule-heads there) (a .tables) e);

@@ -11,17 +11,20 @@ use Rattle.laws.proofs.Tests.{eqb-sym}
 use Rattle.rules_shared.specs.Same.{samePid}
 use Rattle.rules_eit.specs.Keys.{Kind, presentActual, presentOther, scheduleActual, scheduleOther, between, kindOf, kindNumber, sameKind, anyPid, exactly, pidPasses, passes, matches as keyMatches}
 use Rattle.eit_section.specs.Eit.{within}
+use Rattle.rows.specs.declared.Origin.{Origin as Words}
 use Rattle.rows.specs.declared.Key.{Key}
+use Rattle.ages.specs.Origins.{originShown}
 use Rattle.arrivals.specs.Arrivals.{bitOf}
 use Rattle.eit_section.specs.declared.Kind.the-variants.{PresentFollowingActual, PresentFollowingOther, ScheduleActual, ScheduleOther}
 use Rattle.eit_section.specs.declared.MaybeKind.the-variants as maybe
 use Rattle.filter.specs.declared.Wanted.{Wanted}
 use Rattle.filter.specs.declared.Wanted.the-variants as wanted
+use Rattle.filter.specs.declared.WantedOrigin.{WantedOrigin}
 use Rattle.filter.specs.declared.Of.the-variants as of
-use Rattle.filter.specs.Drops.{wants, kindTold, kindWord, matches}
+use Rattle.filter.specs.Drops.{wants, wantsOrigin, kindTold, kindWord, matches}
 use Rattle.eit_drop.specs.declared.Filter.{Filter}
 use Rattle.eit_drop.specs.Drop.{fieldsOf}
-use Rattle.ties_eit.specs.View.{pidShown, theKind, kindBy, keyShown, scheduleShown, Below, FilterFits, wantedAs, pidTest, filterShown}
+use Rattle.ties_eit.specs.View.{theKind, kindBy, keyShown, scheduleShown, Below, FilterFits, wantedAs, pidTest, filterShown}
 use Rattle.ties_eit.proofs.Keys.{Bit}
 
 -- ---- field by field
@@ -57,25 +60,25 @@ wants-current wanted.Any b c e = refl
 wants-current (wanted.Exactly x) b c e = ap (λ (y : ℕ). eqb y x) (sym e) ∙ current-is x (not (eqb c 0)) b
 
 -- the PID that is wanted, as a head has it
-pub pid-any : (p : ℕ) → wants wanted.Any p ≡ pidPasses anyPid (pidShown p)
+pub pid-any : (o : Words) → wants wanted.Any (o .pid) ≡ pidPasses anyPid ((originShown o) .pid)
 unfolding pidPasses
-pid-any p = refl
+pid-any o = refl
 
-pub pid-without : (p : ℕ) → wants (wanted.Exactly 8192) p ≡ pidPasses (exactly none) (pidShown p)
-unfolding pidPasses pidShown samePid
-pid-without p = go (eqb p 8192)
+pub pid-without : (o : Words) → wants (wanted.Exactly 8192) (o .pid) ≡ pidPasses (exactly none) ((originShown o) .pid)
+unfolding pidPasses originShown samePid
+pid-without o = go (eqb (o .pid) 8192)
   where
-    go : (b : Bool) → b ≡ samePid none (cond b none (some p))
+    go : (b : Bool) → b ≡ samePid none (cond b none (some (o .pid)))
     go true = refl
     go false = refl
 
-pub pid-exactly : (v : ℕ) → v < 8192 → (p : ℕ) → wants (wanted.Exactly v) p ≡ pidPasses (exactly (some v)) (pidShown p)
-unfolding pidPasses pidShown samePid
-pid-exactly v h p = go (eqb p 8192) refl
+pub pid-exactly : (v : ℕ) → v < 8192 → (o : Words) → wants (wanted.Exactly v) (o .pid) ≡ pidPasses (exactly (some v)) ((originShown o) .pid)
+unfolding pidPasses originShown samePid
+pid-exactly v h o = go (eqb (o .pid) 8192) refl
   where
-    go : (b : Bool) → eqb p 8192 ≡ b → eqb p v ≡ samePid (some v) (cond b none (some p))
-    go true e = let q = eqb-true p 8192 e in ne-eqb p v (λ (t : p ≡ v). absurd (omega arith))
-    go false e = eqb-sym p v
+    go : (b : Bool) → eqb (o .pid) 8192 ≡ b → eqb (o .pid) v ≡ samePid (some v) (cond b none (some (o .pid)))
+    go true e = let q = eqb-true (o .pid) 8192 e in ne-eqb (o .pid) v (λ (t : o .pid ≡ v). absurd (omega arith))
+    go false e = eqb-sym (o .pid) v
 
 -- ---- a key
 
@@ -92,12 +95,12 @@ six : {a b c d e g a′ b′ c′ d′ e′ g′ : Bool} → a ≡ a′ → b �
     → (((((a && b) && c) && d) && e) && g) ≡ (a′ && (b′ && (c′ && (d′ && (e′ && g′)))))
 six {a′ = a′} {b′ = b′} {c′ = c′} {d′ = d′} {e′ = e′} {g′ = g′} p q r s t u = (λ i. (((((p i && q i) && r i) && s i) && t i) && u i)) ∙ turn a′ b′ c′ d′ e′ g′
 
-module _ (f : Filter) (fit : FilterFits f) (w : Wanted) (pid : (p : ℕ) → wants w p ≡ pidPasses (pidTest (f .pid)) (pidShown p)) (k : Key) (bit : Bit (k .«current_next»)) where
+module _ (f : Filter) (fit : FilterFits f) (w : WantedOrigin) (from : (o : Words) → wantsOrigin w o ≡ pidPasses (pidTest (f .pid)) ((originShown o) .pid)) (k : Key) (bit : Bit (k .«current_next»)) where
   -- of a set, whose kind follows from table_id
   pub sets-match : kindWord (k .«table_id») ≡ kindNumber (theKind (kindOf (k .«table_id»))) → matches of.Sets (fieldsOf w f) k ≡ keyMatches (filterShown f) ((keyShown k) .schedule)
   unfolding matches keyMatches filterShown keyShown
   sets-match e =
-      six (pid (k .pid)) (wants-kind (f .kind) (fit .kind) (kindWord (k .«table_id»)) (theKind (kindOf (k .«table_id»))) e) (wants-exact (f .«service_id») (k .extension))
+      six (from (k .from)) (wants-kind (f .kind) (fit .kind) (kindWord (k .«table_id»)) (theKind (kindOf (k .«table_id»))) e) (wants-exact (f .«service_id») (k .extension))
       (wants-exact (f .«transport_stream_id») (k .«transport_stream_id»)) (wants-exact (f .«original_network_id») (k .«original_network_id»))
       (wants-current (f .«current_next») (fit .current-next) (k .«current_next») bit)
 
@@ -105,7 +108,7 @@ module _ (f : Filter) (fit : FilterFits f) (w : Wanted) (pid : (p : ℕ) → wan
   pub schedules-match : k .«table_id» ≡ kindNumber (kindBy (k .«table_id»)) → matches of.Schedules (fieldsOf w f) k ≡ keyMatches (filterShown f) (scheduleShown k)
   unfolding matches keyMatches filterShown scheduleShown
   schedules-match e =
-      six (pid (k .pid)) (wants-kind (f .kind) (fit .kind) (k .«table_id») (kindBy (k .«table_id»)) e) (wants-exact (f .«service_id») (k .extension))
+      six (from (k .from)) (wants-kind (f .kind) (fit .kind) (k .«table_id») (kindBy (k .«table_id»)) e) (wants-exact (f .«service_id») (k .extension))
       (wants-exact (f .«transport_stream_id») (k .«transport_stream_id»)) (wants-exact (f .«original_network_id») (k .«original_network_id»))
       (wants-current (f .«current_next») (fit .current-next) (k .«current_next») bit)
 

@@ -16,14 +16,15 @@ use Rattle.filter.specs.declared.Of.{Of}
 use Rattle.filter.specs.declared.Of.the-variants as of
 use Rattle.filter.specs.declared.Wanted.{Wanted}
 use Rattle.filter.specs.declared.Wanted.the-variants as wanted
+use Rattle.filter.specs.declared.WantedOrigin.{WantedOrigin}
 use Rattle.filter.specs.declared.Fields.{Fields}
-use Rattle.filter.specs.Drops.{wants, kindIn, matches, Rest, rest, droppedRow, droppedRows}
+use Rattle.filter.specs.Drops.{wants, wantsOrigin, kindIn, matches, Rest, rest, droppedRow, droppedRows}
 use Rattle.eit_drop.specs.declared.Filter.{Filter}
 use Rattle.eit_drop.specs.declared.Drop.the-variants as drop
-use Rattle.eit_drop.specs.declared.PidWanted.{PidWanted}
-use Rattle.eit_drop.specs.declared.PidWanted.the-variants as pid-wanted
+use Rattle.eit_drop.specs.declared.OriginWanted.{OriginWanted}
+use Rattle.eit_drop.specs.declared.OriginWanted.the-variants as origin-wanted
 use Rattle.eit_state.specs.State.{Store, wholeOf}
-use Rattle.eit_drop.specs.Drop.{wantedPid, fieldsOf, dropPid, matchingGone}
+use Rattle.eit_drop.specs.Drop.{wantedOrigin, fieldsOf, dropFrom, matchingGone}
 use Rattle.eit_admit.specs.Admitting.{dropOf}
 use Rattle.eit.specs.Store.{carriedDrop, droppedOf}
 use Rattle.rules_eit.specs.Rules.{Answer, done, refused}
@@ -61,18 +62,18 @@ last : (a b c d e g : Bool) → g ≡ false → (((((a && b) && c) && d) && e) &
 last a b c d e g q = rw q (and-none ((((a && b) && c) && d) && e))
 
 -- a key whose kind is one of the four and whose current_next is a bit
-no-match : (o : Of) (f : Filter) (w : Wanted) → Foreign f → (k : Key) → kindIn o (k .«table_id») < 4 → k .«current_next» < 2 → matches o (fieldsOf w f) k ≡ false
+no-match : (o : Of) (f : Filter) (w : WantedOrigin) → Foreign f → (k : Key) → kindIn o (k .«table_id») < 4 → k .«current_next» < 2 → matches o (fieldsOf w f) k ≡ false
 unfolding matches
 no-match o f w (kind x e h) k l m =
-    second (wants w (k .pid)) (wants (f .kind) (kindIn o (k .«table_id»))) (wants (f .«service_id») (k .extension)) (wants (f .«transport_stream_id») (k .«transport_stream_id»))
+    second (wantsOrigin w (k .from)) (wants (f .kind) (kindIn o (k .«table_id»))) (wants (f .«service_id») (k .extension)) (wants (f .«transport_stream_id») (k .«transport_stream_id»))
     (wants (f .«original_network_id») (k .«original_network_id»)) (wants (f .«current_next») (k .«current_next»))
     (ap (λ (q : Wanted). wants q (kindIn o (k .«table_id»))) e ∙ ne-eqb (kindIn o (k .«table_id»)) x (λ (t : kindIn o (k .«table_id») ≡ x). absurd (omega arith)))
 no-match o f w (current-next x e h) k l m =
-    last (wants w (k .pid)) (wants (f .kind) (kindIn o (k .«table_id»))) (wants (f .«service_id») (k .extension)) (wants (f .«transport_stream_id») (k .«transport_stream_id»))
+    last (wantsOrigin w (k .from)) (wants (f .kind) (kindIn o (k .«table_id»))) (wants (f .«service_id») (k .extension)) (wants (f .«transport_stream_id») (k .«transport_stream_id»))
     (wants (f .«original_network_id») (k .«original_network_id»)) (wants (f .«current_next») (k .«current_next»))
     (ap (λ (q : Wanted). wants q (k .«current_next»)) e ∙ ne-eqb (k .«current_next») x (λ (t : k .«current_next» ≡ x). absurd (omega arith)))
 
-module _ (s : Store) (z : Reached s) (f : Filter) (g : Foreign f) (w : Wanted) where
+module _ (s : Store) (z : Reached s) (f : Filter) (g : Foreign f) (w : WantedOrigin) where
   sets-stay : droppedRows of.Sets (fieldsOf w f) (s .eit .sets .used) (rest (s .heads) (s .slots) (s .eit .sets .used)) ≡ rest (s .heads) (s .slots) (s .eit .sets .used)
   sets-stay =
       none-leave of.Sets (fieldsOf w f) (s .eit .sets .used) (rest (s .heads) (s .slots) (s .eit .sets .used)) (λ j h.
@@ -100,23 +101,23 @@ module _ (s : Store) (z : Reached s) (f : Filter) (g : Foreign f) (w : Wanted) w
 -- nothing is dropped
 pub foreign-drop : (s : Store) → Reached s → (f : Filter) → Foreign f → acts s (drops f) ≡ s
 unfolding acts droppedOf dropOf
-foreign-drop s z f g = go (wholeOf s) (wantedPid (f .pid))
+foreign-drop s z f g = go (wholeOf s) (wantedOrigin (f .pid))
   where
-    go : (b : Bool) (p : PidWanted) → (carriedDrop s (cond b (dropPid f p) (drop.Refuse refusal.NotWhole))) .store ≡ s
-    go true pid-wanted.TooLarge = refl
-    go true (pid-wanted.Is w) = gone-stays s z f g w
+    go : (b : Bool) (p : OriginWanted) → (carriedDrop s (cond b (dropFrom f p) (drop.Refuse refusal.NotWhole))) .store ≡ s
+    go true (origin-wanted.Refused r) = refl
+    go true (origin-wanted.Is w) = gone-stays s z f g w
     go false p = refl
 
 -- 12 for a PID of 8192 or more, else 7, whatever the other fields of the filter are
-abbrev pub dropAnswer : PidWanted → Answer
-dropAnswer pid-wanted.TooLarge = refused refusal.BadPid
-dropAnswer (pid-wanted.Is w) = done
+abbrev pub dropAnswer : OriginWanted → Answer
+dropAnswer (origin-wanted.Refused r) = refused r
+dropAnswer (origin-wanted.Is w) = done
 
 -- a filter that names no kind and no current_next is answered as any other: by its PID alone
-pub drop-answered : (s : Store) → wholeOf s ≡ true → (f : Filter) → tells s (drops f) ≡ dropAnswer (wantedPid (f .pid))
+pub drop-answered : (s : Store) → wholeOf s ≡ true → (f : Filter) → tells s (drops f) ≡ dropAnswer (wantedOrigin (f .pid))
 unfolding tells droppedOf dropOf answerTold
-drop-answered s w f = rw w (go (wantedPid (f .pid)))
+drop-answered s w f = rw w (go (wantedOrigin (f .pid)))
   where
-    go : (p : PidWanted) → answerTold ((carriedDrop s (dropPid f p)) .told) ≡ dropAnswer p
-    go pid-wanted.TooLarge = refl
-    go (pid-wanted.Is x) = refl
+    go : (p : OriginWanted) → answerTold ((carriedDrop s (dropFrom f p)) .told) ≡ dropAnswer p
+    go (origin-wanted.Refused r) = refl
+    go (origin-wanted.Is x) = refl

@@ -10,7 +10,7 @@ use Prim.Native.Nat.{ℕ, suc}
 use native.Mathlib.Omega.{arith}
 use lib.Dec.{ltb}
 use lib.ListN.{length}
-use Rattle.rules_shared.specs.Same.{Bytes}
+use Rattle.rules_shared.specs.Same.{Bytes, Origin}
 use Rattle.rules_shared.specs.Touch.{untouched, onOrder, seenAs}
 use Rattle.rules_shared.specs.Cells.{Settings}
 use Rattle.laws.specs.Runs.{answers, storeAfter, At, Never, Obeys, bars, does}
@@ -203,29 +203,29 @@ same-store (i ∷ is) o s z =
     (q .0 ∙ ap (λ (t : Shown). storeAfter callActs t (map reads is)) (acts-seen s z i (o 0 i refl)), q .1)
 
 -- a section that is read has 12 bytes or more
-eit-long : (pid : Option ℕ) (bytes : Bytes) (h : Header) → collectedOf bytes ≡ collected.Good h → (r : Reading) → LongEnough (readsEit pid bytes h r)
+eit-long : (from : Origin) (bytes : Bytes) (h : Header) → collectedOf bytes ≡ collected.Good h → (r : Reading) → LongEnough (readsEit from bytes h r)
 unfolding readsEit sectionOf
-eit-long pid bytes h e reading.NotEit = good-length bytes h e
-eit-long pid bytes h e reading.Broken = tt
-eit-long pid bytes h e (reading.Good f) = good-length bytes h e
+eit-long from bytes h e reading.NotEit = good-length bytes h e
+eit-long from bytes h e reading.Broken = tt
+eit-long from bytes h e (reading.Good f) = good-length bytes h e
 
-read-long : (pid : Option ℕ) (bytes : Bytes) (c : Collected) → collectedOf bytes ≡ c → LongEnough (readsAs pid bytes c)
+read-long : (from : Origin) (bytes : Bytes) (c : Collected) → collectedOf bytes ≡ c → LongEnough (readsAs from bytes c)
 unfolding readsAs
-read-long pid bytes collected.Malformed e = tt
-read-long pid bytes collected.ShortForm e = tt
-read-long pid bytes collected.BadNumber e = tt
-read-long pid bytes collected.BadCrc e = tt
-read-long pid bytes (collected.Good h) e = eit-long pid bytes h e (eitOf bytes)
+read-long from bytes collected.Malformed e = tt
+read-long from bytes collected.ShortForm e = tt
+read-long from bytes collected.BadNumber e = tt
+read-long from bytes collected.BadCrc e = tt
+read-long from bytes (collected.Good h) e = eit-long from bytes h e (eitOf bytes)
 
 reads-long : (i : Given) → LongEnough (reads i)
 unfolding reads readSection
 reads-long clears = tt
 reads-long (drops f) = tt
-reads-long (section maybe.None bytes) = read-long none bytes (collectedOf bytes) refl
+reads-long (section maybe.None bytes) = read-long (record { pid = none }) bytes (collectedOf bytes) refl
 reads-long (section (maybe.Some p) bytes) = pick (ltb p 8192)
   where
-    pick : (b : Bool) → LongEnough (cond b (readsAs (some p) bytes (collectedOf bytes)) (refuse refusal.BadPid refl))
-    pick true = read-long (some p) bytes (collectedOf bytes) refl
+    pick : (b : Bool) → LongEnough (cond b (readsAs (record { pid = some p }) bytes (collectedOf bytes)) (refuse refusal.BadPid refl))
+    pick true = read-long (record { pid = some p }) bytes (collectedOf bytes) refl
     pick false = tt
 
 -- in no history 10 occurs

@@ -29,10 +29,11 @@ use Rattle.cells.specs.Cells.{slotWord, allWhole, lowestFree}
 use Rattle.rows.specs.declared.Entry.{Entry}
 use Rattle.rows.specs.declared.Room.{Room}
 use Rattle.rows.specs.Rows.{keyAt, touched, keptHeads, goneRow, rowSlots, takenIn, rowsWhole, lastOf, ageOf}
-use Rattle.rows.proofs.Words.{length-kept, kept-row, kept-fresh, kept-known}
+use Rattle.rows.proofs.Words.{OfKey, of-key, length-kept, kept-row, kept-fresh, kept-known}
 use Rattle.rows.proofs.Whole.{rows-get, rows-all}
 use Rattle.ages.specs.Order.{Goes, Touched}
 use Rattle.ages.specs.Slots.{heldOf, heldSlots, cellsSeen}
+use Rattle.ages.specs.Origins.{originShown}
 use Rattle.ages.proofs.Words.{key-same, ready-touched, kept-fresh-key, kept-unmarked}
 use Rattle.ages.proofs.Slots.{held-new, held-set, held-none, lowest-is}
 use Rattle.ages.proofs.Slots.{held-whole as words-whole}
@@ -51,7 +52,7 @@ use Rattle.placing.specs.declared.Place.the-variants as place
 use Rattle.answers.specs.declared.Refusal.the-variants as refusal
 use Rattle.eit.specs.Store.{toldStep}
 use Rattle.eit_carry.specs.Carried.{carried, keptAndSettled}
-use Rattle.ties_eit.specs.View.{pidShown, keyShown, keyWords, rowSeen, seen, answerTold, HeadFits, Reached}
+use Rattle.ties_eit.specs.View.{keyShown, keyWords, rowSeen, seen, answerTold, HeadFits, Reached}
 use Rattle.ties_eit.proofs.Keys.{set-self, key-reads}
 use Rattle.ties_eit.proofs.Rows.{row-takes}
 use Rattle.ties_eit.proofs.Places.{schedules-taken}
@@ -62,7 +63,7 @@ use Rattle.ties_eit.proofs.Kept.{after-length, after-other, after-own, 
 -- the section of an arrival, as the rules have it
 abbrev pub sectionFor : Arrival → Bytes → Section
 sectionFor a bytes = record {
-  pid = pidShown (a .entry .key .pid);
+  from = originShown (a .entry .key .from);
   tableId = a .entry .key .«table_id»;
   serviceId = a .entry .key .extension;
   transportStreamId = a .entry .key .«transport_stream_id»;
@@ -121,7 +122,7 @@ module _ (s : Store) (z : Reached s) (f : Whole s)
 
   own-key : {met : SetOf Held} → Meets s a bytes r age met → keyAt heads₁ (r .row) ≡ e .key
   own-key (anew t u) = kept-fresh-key r e (s .heads) head-long t
-  own-key (goesOn t l q u v) = key-same (s .heads) heads₁ (r .row) (λ m c. kept-known r e (s .heads) head-long t m (omega arith) (omega arith)) ∙ q
+  own-key (goesOn t l q u v) = key-same (s .heads) heads₁ (r .row) (λ m c. kept-known r e (s .heads) head-long t m (of-key m c .no-mark) (of-key m c .below)) ∙ q
 
   own-age : {met : SetOf Held} → Meets s a bytes r age met → ageOf heads₁ (r .row) ≡ age
   own-age (anew t u) = kept-fresh r e (s .heads) head-long t 9 (omega arith) ∙ u

@@ -1,6 +1,6 @@
 -- Keys: what the words of heads show reads back, and kinds and table_ids go together.
 -- Assumes nothing.
-use mathlib.Core.Path.{_≡_, refl, sym, subst}
+use mathlib.Core.Path.{_≡_, refl, subst}
 use mathlib.Core.Bool.{Bool, true, false, cond, not, _&&_, Bool·beq}
 use mathlib.Core.Option.{Option, none, some}
 use Prim.Native.Nat.{ℕ, _+_, _-_, _%_, _≤_, _<_}
@@ -9,19 +9,15 @@ use borrow.Author.Tests.{eqb-true, ne-eqb, le-leb, leb-true}
 use lib.Dec.{eqb, leb}
 use Rattle.laws.proofs.Tests.{and-true}
 use Rattle.laws.proofs.Facts.{eq-passes}
-use Rattle.rules_shared.specs.Same.{samePid}
+use Rattle.rules_shared.proofs.Same.{sameOrigin-refl}
 use Rattle.rules_eit.specs.Keys.{Kind, presentActual, presentOther, scheduleActual, scheduleOther, between, kindOf, firstOf, kindNumber, sameKind, ScheduleKey, SetKey, sameSchedule, sameSet}
 use Rattle.rows.specs.declared.Key.{Key}
+use Rattle.ages.proofs.Origins.{origin-reads}
 use Rattle.arrivals.specs.Arrivals.{bitOf}
 use Rattle.units.specs.Units.{firstTable, withTable}
-use Rattle.ties_eit.specs.View.{pidShown, pidWords, kindBy, keyShown, scheduleShown, keyWords, scheduleWords}
+use Rattle.ties_eit.specs.View.{kindBy, keyShown, scheduleShown, keyWords, scheduleWords}
 
 -- ---- a key is the same as itself
-
-pid-self : (p : Option ℕ) → samePid p p ≡ true
-unfolding samePid
-pid-self none = refl
-pid-self (some p) = eq-passes p
 
 beq-self : (b : Bool) → Bool·beq b b ≡ true
 beq-self true = refl
@@ -30,21 +26,13 @@ beq-self false = refl
 pub schedule-self : (a : ScheduleKey) → sameSchedule a a ≡ true
 unfolding sameSchedule sameKind
 schedule-self a =
-    rw (pid-self (a .pid), eq-passes (kindNumber (a .kind)), eq-passes (a .serviceId), eq-passes (a .transportStreamId), eq-passes (a .originalNetworkId), beq-self (a .currentNext))
+    rw (sameOrigin-refl (a .from), eq-passes (kindNumber (a .kind)), eq-passes (a .serviceId), eq-passes (a .transportStreamId), eq-passes (a .originalNetworkId), beq-self (a .currentNext))
 
 pub set-self : (a : SetKey) → sameSet a a ≡ true
 unfolding sameSet
 set-self a = rw (schedule-self (a .schedule), eq-passes (a .tableId))
 
 -- ---- a key in use reads back
-
-pid-reads : (p : ℕ) → pidWords (pidShown p) ≡ p
-unfolding pidShown
-pid-reads p = go (eqb p 8192) refl
-  where
-    go : (b : Bool) → eqb p 8192 ≡ b → pidWords (cond b none (some p)) ≡ p
-    go true e = sym (eqb-true p 8192 e)
-    go false e = refl
 
 -- the current_next word is 0 or 1
 abbrev pub Bit : ℕ → Type 0
@@ -61,9 +49,9 @@ bit-reads false = refl
 pub key-reads : (k : Key) → Bit (k .«current_next») → keyWords (keyShown k) ≡ k
 unfolding keyWords keyShown
 key-reads k b =
-    let p = pid-reads (k .pid) in
+    let p = origin-reads (k .from) in
     λ i. record {
-      pid = p i;
+      from = p i;
       «table_id» = k .«table_id»;
       extension = k .extension;
       «current_next» = b i;
@@ -74,9 +62,9 @@ key-reads k b =
 pub schedule-reads : (k : Key) → Bit (k .«current_next») → kindNumber (kindBy (k .«table_id»)) ≡ k .«table_id» → scheduleWords (scheduleShown k) ≡ k
 unfolding scheduleWords scheduleShown
 schedule-reads k b t =
-    let p = pid-reads (k .pid) in
+    let p = origin-reads (k .from) in
     λ i. record {
-      pid = p i;
+      from = p i;
       «table_id» = t i;
       extension = k .extension;
       «current_next» = b i;

@@ -24,7 +24,7 @@ use Rattle.rules_eit.proofs.Keys.{sameSet-true}
 use Rattle.cells.specs.Cells.{allWhole, kept}
 use Rattle.rows.specs.declared.Key.{Key}
 use Rattle.rows.specs.Rows.{tableWord, word, keyAt, touched, rowSlots, rowsWhole, lastOf, markOf, versionOf, withMark, ageOf}
-use Rattle.rows.proofs.Words.{put-same, put-not, put-row, length-put, length-touched, touched-not}
+use Rattle.rows.proofs.Words.{OfKey, of-key, put-same, put-not, put-row, length-put, length-touched, touched-not}
 use Rattle.rows.proofs.Whole.{rows-get, rows-all}
 use Rattle.ages.specs.Order.{orderSeen, Goes, Touched}
 use Rattle.ages.specs.Slots.{cellsSeen}
@@ -142,7 +142,7 @@ module _ (s : Store) (z : Reached s) (f : Whole s)
   newer-touched = ready-touched (s .heads) heads₁ key i age used₁ (r .long) hi (r .own) (r .aged) (r .others)
 
   left-touched : (b : Bool) → Touched (s .heads) (leftHeads b) key i age used₁
-  left-touched true = put-touched (s .heads) newer key i age used₁ i 8 1 newer-touched (omega arith) (omega arith) (omega arith)
+  left-touched true = put-touched (s .heads) newer key i age used₁ i 8 1 newer-touched (λ m q. of-key m q .no-mark) (omega arith) (omega arith)
   left-touched false = newer-touched
 
   left-row : (b : Bool) (j : ℕ) → j < s .eit .sets .used → j ≢ i → j < used₁ → rowSeen (leftHeads b) slots₁ j ≡ rowSeen (s .heads) (s .slots) j
@@ -203,7 +203,7 @@ module _ (s : Store) (z : Reached s) (f : Whole s)
   unfolding answerTold setOut onAnswer onWhole whole copyOf rowSeen
   set-out =
       let e : (m : ℕ) → m < 8 → word (leftHeads true) i m ≡ word heads₁ i m = λ m l. left-words true i m (omega arith) (omega arith) (omega arith) in
-      let q : keyAt (leftHeads true) i ≡ key = key-same heads₁ (leftHeads true) i (λ m l. e m (omega arith)) ∙ r .own in
+      let q : keyAt (leftHeads true) i ≡ key = key-same heads₁ (leftHeads true) i (λ m o. left-words true i m (of-key m o .below) (of-key m o .no-mark) (of-key m o .no-age)) ∙ r .own in
       let v = e 6 (omega arith) in
       let l = e 7 (omega arith) in
       let c = ap (λ (ws : List ℕ). map (kept cells₁ (s .eit .sets .size)) (filledSlots ws)) (slots-same heads₁ (leftHeads true) slots₁ i l)

@@ -7,7 +7,7 @@ use mathlib.Core.Option.{Option, none, some}
 use mathlib.Core.List.{List, [], _∷_}
 use lib.Dec.{eqb, ltb}
 use lib.ListN.{length, getD}
-use Rattle.rules_shared.specs.Same.{Bytes}
+use Rattle.rules_shared.specs.Same.{Bytes, Origin}
 use Rattle.rules_shared.specs.Cells.{Settings, Held}
 use Rattle.rules_eit.specs.Keys.{Kind, presentActual, presentOther, scheduleActual, scheduleOther, kindOf, kindNumber, ScheduleKey, SetKey, PidTest, anyPid, exactly, Filter as KeyFilter}
 use Rattle.rules_eit.specs.Segments.{SetOf}
@@ -30,6 +30,7 @@ use Rattle.rows.specs.declared.Key.{Key}
 use Rattle.rows.specs.Rows.{tableWord, rowSlots, lastOf, markOf, versionOf}
 use Rattle.ages.specs.Order.{orderSeen, Stands}
 use Rattle.ages.specs.Slots.{heldSlots, upFrom, cellsSeen}
+use Rattle.ages.specs.Origins.{originShown, originWords}
 use Rattle.arrivals.specs.Arrivals.{bitOf}
 use Rattle.segments.specs.Segments.{wordOf}
 use Rattle.units.specs.Units.{isPresent, unitSlots, firstTable}
@@ -45,14 +46,6 @@ use Rattle.eit.specs.Store.{Told, a-set, a-schedule, TableOut, After, openedOf,
 
 -- ---- keys
 
--- the PID word of a row without a PID is 8192
-unfoldable pub pidShown : ℕ → Option ℕ
-pidShown p = cond (eqb p 8192) none (some p)
-
-abbrev pub pidWords : Option ℕ → ℕ
-pidWords none = 8192
-pidWords (some p) = p
-
 -- the kind of a row's table_id. Every row in use has a table_id of one of the four kinds (`Reached`): the first line is never met
 abbrev pub theKind : Option Kind → Kind
 theKind none = presentActual
@@ -65,7 +58,7 @@ kindBy n = cond (eqb n 0) presentActual (cond (eqb n 1) presentOther (cond (eqb 
 -- what the words of a key other than table_id show
 abbrev pub shownUnder : Key → Kind → ScheduleKey
 shownUnder k kind = record {
-  pid = pidShown (k .pid);
+  from = originShown (k .from);
   kind = kind;
   serviceId = k .extension;
   transportStreamId = k .«transport_stream_id»;
@@ -82,7 +75,7 @@ scheduleShown k = shownUnder k (kindBy (k .«table_id»))
 -- the words that a key is written in
 abbrev pub wordsUnder : ScheduleKey → ℕ → Key
 wordsUnder l table = record {
-  pid = pidWords (l .pid);
+  from = originWords (l .from);
   «table_id» = table;
   extension = l .serviceId;
   «current_next» = bitOf (l .currentNext);
@@ -190,9 +183,9 @@ filterShown f = record {
 }
 
 -- what a section says
-unfoldable pub sectionOf : Option ℕ → Bytes → Header → fields.Eit → Section
-sectionOf pid bytes h f = record {
-  pid = pid;
+unfoldable pub sectionOf : Origin → Bytes → Header → fields.Eit → Section
+sectionOf from bytes h f = record {
+  from = from;
   tableId = h .«table_id»;
   serviceId = f .«service_id» .0;
   transportStreamId = f .«transport_stream_id»;
@@ -207,23 +200,23 @@ sectionOf pid bytes h f = record {
 }
 
 -- 19, or what the section says. Whether its table_id is one of an EIT (18) is for the rules to say, which do not look at the kind that was read
-unfoldable pub readsEit : Option ℕ → Bytes → Header → Reading → Call
-readsEit pid bytes h reading.NotEit = offer (sectionOf pid bytes h (fieldsOf bytes kind.PresentFollowingActual))
-readsEit pid bytes h reading.Broken = refuse refusal.Broken refl
-readsEit pid bytes h (reading.Good f) = offer (sectionOf pid bytes h f)
+unfoldable pub readsEit : Origin → Bytes → Header → Reading → Call
+readsEit from bytes h reading.NotEit = offer (sectionOf from bytes h (fieldsOf bytes kind.PresentFollowingActual))
+readsEit from bytes h reading.Broken = refuse refusal.Broken refl
+readsEit from bytes h (reading.Good f) = offer (sectionOf from bytes h f)
 
 -- 14 to 17
-unfoldable pub readsAs : Option ℕ → Bytes → Collected → Call
-readsAs pid bytes collected.Malformed = refuse refusal.Malformed refl
-readsAs pid bytes collected.ShortForm = refuse refusal.ShortForm refl
-readsAs pid bytes collected.BadNumber = refuse refusal.BadNumber refl
-readsAs pid bytes collected.BadCrc = refuse refusal.BadCrc refl
-readsAs pid bytes (collected.Good h) = readsEit pid bytes h (eitOf bytes)
+unfoldable pub readsAs : Origin → Bytes → Collected → Call
+readsAs from bytes collected.Malformed = refuse refusal.Malformed refl
+readsAs from bytes collected.ShortForm = refuse refusal.ShortForm refl
+readsAs from bytes collected.BadNumber = refuse refusal.BadNumber refl
+readsAs from bytes collected.BadCrc = refuse refusal.BadCrc refl
+readsAs from bytes (collected.Good h) = readsEit from bytes h (eitOf bytes)
 
 -- 12 first: a PID of 8192 or more
 unfoldable pub readSection : MaybePid → Bytes → Call
-readSection maybe.None bytes = readsAs none bytes (collectedOf bytes)
-readSection (maybe.Some p) bytes = cond (ltb p 8192) (readsAs (some p) bytes (collectedOf bytes)) (refuse refusal.BadPid refl)
+readSection maybe.None bytes = readsAs (record { pid = none }) bytes (collectedOf bytes)
+readSection (maybe.Some p) bytes = cond (ltb p 8192) (readsAs (record { pid = some p }) bytes (collectedOf bytes)) (refuse refusal.BadPid refl)
 
 unfoldable pub reads : Given → Call
 reads clears = clear

@@ -23,28 +23,32 @@ use Rattle.rules_shared.proofs.Slots.{free-slot}
 use Rattle.rules_sets.specs.Rules.{sameKey, SetOf, Section, partOf, clear, refuse, offer, metRow, Key as SetKey}
 use Rattle.rules_sets.specs.Cells.{onAnswer, taken, storeWhole, ended, shows, rest, roomFor, placeOf, carry, pushIn, admitIn, good, guarded, call}
 use Rattle.rules_sets.proofs.Keys.{sameKey-true}
+use Rattle.section.specs.Ids.{originOf}
 use Rattle.section.specs.Judged.{collectedOf}
 use Rattle.section.specs.declared.header.Collected.{Collected}
 use Rattle.section.specs.declared.header.Collected.the-variants.{Malformed, ShortForm, BadNumber, BadCrc, Good}
 use Rattle.section.specs.declared.ids.MaybePid.{MaybePid}
 use Rattle.section.specs.declared.ids.MaybePid.the-variants as maybe
-use Rattle.section.specs.declared.ids.Made.the-variants as made
+use Rattle.section.specs.declared.ids.OriginMade.the-variants as made
 use Rattle.section.specs.Facts.{Bytes as AllBytes}
 use Rattle.cells.specs.Cells.{keptLength, filled, slotWhole, allWhole, kept}
+use Rattle.rows.specs.declared.Origin.{Origin as Words}
 use Rattle.rows.specs.declared.Entry.{Entry}
 use Rattle.rows.specs.declared.Room.{Room}
 use Rattle.rows.specs.Rows.{rowOf, roomIn, roomRenewed, roomNew, slotsAt, slotCount, rowSlots, oldestOf, ageOf, lastOf, versionOf}
 use Rattle.rows.specs.declared.Key.{Key}
 use Rattle.ages.specs.Order.{downFrom, inOrder, rowsSeen, Goes, known}
+use Rattle.ages.specs.Origins.{originShown}
 use Rattle.ages.specs.Slots.{heldOf, cellsSeen}
 use Rattle.ages.proofs.Ages.{length-order}
 use Rattle.ages.proofs.Touch.{row-has-key, no-row-has-key, goes-known, goes-new, stands-none, finds-known, finds-none}
+use Rattle.ages.proofs.Origins.{shown-pid}
 use Rattle.ages.proofs.Slots.{place, held-filled, held-empty, held-get, held-whole, rows-whole}
 use Rattle.rows.proofs.Words.{slot-at, length-slots}
 use Rattle.rows.proofs.Whole.{rows-get}
 use Rattle.ages.proofs.Cells.{cells-length, bytes-kept, same-bytes}
 use Rattle.answers.specs.declared.Refusal.the-variants as refusal
-use Rattle.arrivals.specs.Arrivals.{Numbered, Taken, pidOf, pidWord, setKey, entryOf, setRead, setJudged, setArrival}
+use Rattle.arrivals.specs.Arrivals.{Numbered, Taken, madeWords, setKey, entryOf, setRead, setJudged, setArrival}
 use Rattle.arrivals.specs.declared.SetArrival.the-variants as arrival
 use Rattle.sets.proofs.Arrived.{entry-taken}
 use Rattle.store.specs.Store.{Store, store, wholeOf, Whole, emptySets}
@@ -59,7 +63,7 @@ use Rattle.sets_settle.specs.Settle.{after, done, refused, carried}
 use Rattle.sets.specs.Store.{clearedOf, pushedAs, pushedOf}
 use Rattle.sets_push.specs.Pushing.{wholePushed, admitted}
 use Rattle.sets.specs.History.{Call as Given, empty as clears, offer as section, Bytes as OfBytes, called}
-use Rattle.ties_sets.specs.View.{originShown, keyShown, keyWords, rowSeen, seen, readsAs, readSection, reads, answerTold, Reached}
+use Rattle.ties_sets.specs.View.{keyShown, keyWords, rowSeen, seen, readsAs, readSection, reads, answerTold, Reached}
 use Rattle.ties_sets.proofs.Rows.{same-self, written-shown, written-reads}
 use Rattle.ties_sets.proofs.Settle.{Tied, Ready, settle-tied, conflict-tied}
 use Rattle.ties_sets.proofs.Keep.{sectionFor, anew, goesOn, keep-tied}
@@ -296,7 +300,7 @@ module _ (s : Store) (z : Reached s) where
             rw (le-leb (length bytes) (s .sets .size) l) (limited l (s .sets .limit) refl)
 
     -- 14 to 17
-    judged-tied : AllBytes bytes → (p : ℕ) (c : Collected) → collectedOf bytes ≡ c → Tied (pushedAs s bytes (setRead p c)) (good (seen s) (readsAs (originShown p) bytes c))
+    judged-tied : AllBytes bytes → (p : Words) (c : Collected) → collectedOf bytes ≡ c → Tied (pushedAs s bytes (setRead p c)) (good (seen s) (readsAs (originShown p) bytes c))
     unfolding wholePushed readsAs good shows onAnswer answerTold seen
     judged-tied o p Malformed q = record { told = refl; shown = refl; reached = z }
     judged-tied o p ShortForm q = record { told = refl; shown = refl; reached = z }
@@ -309,15 +313,14 @@ module _ (s : Store) (z : Reached s) where
     -- 12
     pid-tied : AllBytes bytes → (pid : MaybePid) → Tied (pushedAs s bytes (setArrival pid bytes)) (good (seen s) (readSection pid bytes))
     unfolding setArrival readSection good shows onAnswer answerTold seen originShown
-    pid-tied o maybe.None = judged-tied o 8192 (collectedOf bytes) refl
+    pid-tied o maybe.None = judged-tied o (record { pid = 8192 }) (collectedOf bytes) refl
     pid-tied o (maybe.Some v) = go (ltb v 8192) refl
       where
         go : (b : Bool) → ltb v 8192 ≡ b
-            → Tied (pushedAs s bytes (setJudged (pidOf (cond b (made.One (record { 0 = v })) made.TooLarge)) bytes)) (good (seen s) (cond b (readsAs (record { pid = some v }) bytes (collectedOf bytes)) (refuse refusal.BadPid)))
+            → Tied (pushedAs s bytes (setJudged (madeWords (cond b (made.One (originOf v)) made.BadPid)) bytes)) (good (seen s) (cond b (readsAs (record { pid = some v }) bytes (collectedOf bytes)) (refuse refusal.BadPid)))
         go true q =
             let l = ltb-true v 8192 q in
-            let d : originShown v ≡ record { pid = some v } = rw (ne-eqb v 8192 (λ (t : v ≡ 8192). absurd (omega arith))) in
-            rw (← d) (judged-tied o v (collectedOf bytes) refl)
+            rw (← (shown-pid v l)) (judged-tied o (record { pid = v }) (collectedOf bytes) refl)
         go false q = record { told = refl; shown = refl; reached = z }
 
   -- 11 comes before what the section is read as

@@ -26,7 +26,7 @@ use Rattle.rows.specs.declared.Room.{Room}
 use Rattle.rows.specs.Rows.{keyAt, touched, keptHeads, goneRow, rowSlots, keptSlots, takenIn, lastOf, ageOf}
 use Rattle.ages.specs.Order.{Goes, known, added, evicted, Touched}
 use Rattle.ages.specs.Slots.{heldOf, heldSlots, cellsSeen}
-use Rattle.rows.proofs.Words.{length-kept, kept-row, kept-fresh, kept-known, length-kept-slots}
+use Rattle.rows.proofs.Words.{OfKey, of-key, length-kept, kept-row, kept-fresh, kept-known, length-kept-slots}
 use Rattle.rows.proofs.Whole.{rows-get}
 use Rattle.ages.proofs.Words.{key-same, ready-touched, kept-fresh-key, kept-unmarked}
 use Rattle.ages.proofs.Slots.{held-new, held-set, held-none, other-slots, own-slots, fresh-slots, lowest-is}
@@ -86,7 +86,7 @@ module _ (s : Store) (z : Reached s) (f : Whole (s .sets) (s .heads) (s .slots) 
 
   own-key : {met : SetOf Held} → Meets s e bytes r a met → keyAt (keptHeads r e (s .heads)) (r .row) ≡ e .key
   own-key (anew t u) = kept-fresh-key r e (s .heads) head-long t
-  own-key (goesOn t l k u v) = key-same (s .heads) (keptHeads r e (s .heads)) (r .row) (λ m q. kept-known r e (s .heads) head-long t m (omega arith) (omega arith)) ∙ k
+  own-key (goesOn t l k u v) = key-same (s .heads) (keptHeads r e (s .heads)) (r .row) (λ m q. kept-known r e (s .heads) head-long t m (of-key m q .no-mark) (of-key m q .below)) ∙ k
 
   own-age : {met : SetOf Held} → Meets s e bytes r a met → ageOf (keptHeads r e (s .heads)) (r .row) ≡ a
   own-age (anew t u) = kept-fresh r e (s .heads) head-long t 9 (omega arith) ∙ u

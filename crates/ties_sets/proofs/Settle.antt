@@ -19,7 +19,7 @@ use Rattle.rows.specs.declared.Key.{Key}
 use Rattle.rows.specs.Rows.{word, keyAt, touched, rowSlots, markOf, withMark, ageOf}
 use Rattle.ages.specs.Order.{Goes, Touched}
 use Rattle.ages.specs.Slots.{cellsSeen}
-use Rattle.rows.proofs.Words.{put-same, put-not, put-row, length-put, length-touched, touched-not}
+use Rattle.rows.proofs.Words.{OfKey, of-key, put-same, put-not, put-row, length-put, length-touched, touched-not}
 use Rattle.ages.proofs.Words.{ready-touched, put-touched, key-same}
 use Rattle.ages.proofs.Slots.{slots-same}
 use Rattle.ages.proofs.Touch.{goes-row, touched-seen, touched-stands, goes-in}
@@ -89,7 +89,7 @@ module _ (s s₁ : Store) (key : Key) (i a : ℕ) (z : Reached s) (proper : keyW
   newer-touched = ready-touched (s .heads) (s₁ .heads) key i a used₁ (r .long) hi (r .own) (r .age) (r .others)
 
   left-touched : (b : Bool) → Touched (s .heads) (leftHeads b) key i a used₁
-  left-touched true = put-touched (s .heads) newer key i a used₁ i 8 1 newer-touched (omega arith) (omega arith) (omega arith)
+  left-touched true = put-touched (s .heads) newer key i a used₁ i 8 1 newer-touched (λ m q. of-key m q .no-mark) (omega arith) (omega arith)
   left-touched false = newer-touched
 
   left-row : (b : Bool) (j : ℕ) → j < s .sets .used → j ≢ i → j < used₁ → rowSeen (leftHeads b) (s₁ .slots) j ≡ rowSeen (s .heads) (s .slots) j
@@ -131,7 +131,7 @@ module _ (s s₁ : Store) (key : Key) (i a : ℕ) (z : Reached s) (proper : keyW
   unfolding answerTold setIn onAnswer onWhole whole rowSeen
   set-out f =
       let e : (m : ℕ) → m < 8 → word (leftHeads true) i m ≡ word (s₁ .heads) i m = λ m l. left-words true i m (omega arith) (omega arith) (omega arith) in
-      let k : keyAt (leftHeads true) i ≡ key = key-same (s₁ .heads) (leftHeads true) i (λ m l. e m (omega arith)) ∙ r .own in
+      let k : keyAt (leftHeads true) i ≡ key = key-same (s₁ .heads) (leftHeads true) i (λ m q. left-words true i m (of-key m q .below) (of-key m q .no-mark) (of-key m q .no-age)) ∙ r .own in
       let v = e 6 (omega arith) in
       let l = e 7 (omega arith) in
       let c = ap (map (kept (s₁ .cells) (s₁ .sets .size))) (slots-same (s₁ .heads) (leftHeads true) (s₁ .slots) i l) ∙ sym (sections-kept (s₁ .cells) (s₁ .sets .size) (s₁ .sets .count) (rowSlots (s₁ .heads) (s₁ .slots) i) f (r .row-whole)) in

@@ -3,7 +3,7 @@
 use Prim.Native.Nat.{ℕ, _≤_}
 use mathlib.Core.Path.{_≡_}
 use mathlib.Core.Bool.{true, cond, not}
-use mathlib.Core.Option.{Option, none, some}
+use mathlib.Core.Option.{none, some}
 use mathlib.Core.List.{List}
 use lib.Dec.{eqb, ltb}
 use lib.ListN.{length}
@@ -21,6 +21,7 @@ use Rattle.rows.specs.declared.Key.{Key}
 use Rattle.rows.specs.Rows.{rowSlots, lastOf, markOf, versionOf}
 use Rattle.ages.specs.Order.{orderSeen, Stands}
 use Rattle.ages.specs.Slots.{heldSlots, cellsSeen}
+use Rattle.ages.specs.Origins.{originShown, originWords}
 use Rattle.sets.specs.History.{Call as Given, offer as section, empty as clears, called, OpenedStore}
 use Rattle.arrivals.specs.Arrivals.{bitOf}
 use Rattle.store.specs.Store.{Store, settingsFit}
@@ -29,24 +30,13 @@ use Rattle.sets_settle.specs.Settle.{Told}
 
 -- ---- a key
 
--- the PID word of a row without a PID is 8192
-unfoldable pub originShown : ℕ → Origin
-originShown p = record { pid = cond (eqb p 8192) none (some p) }
-
 unfoldable pub keyShown : Key → SetKey
-keyShown k = record { from = originShown (k .pid); tableId = k .«table_id»; extension = k .extension; currentNext = not (eqb (k .«current_next») 0) }
+keyShown k = record { from = originShown (k .from); tableId = k .«table_id»; extension = k .extension; currentNext = not (eqb (k .«current_next») 0) }
 
 -- the words that a key is written in; transport_stream_id and original_network_id are 0 in the set collector
-abbrev pub pidWords : Option ℕ → ℕ
-pidWords none = 8192
-pidWords (some p) = p
-
-abbrev pub originWords : Origin → ℕ
-originWords o = pidWords (o .pid)
-
 unfoldable pub keyWords : SetKey → Key
 keyWords k = record {
-  pid = originWords (k .from);
+  from = originWords (k .from);
   «table_id» = k .tableId;
   extension = k .extension;
   «current_next» = bitOf (k .currentNext);

@@ -73,7 +73,7 @@ firstTable kind = cond (eqb kind 2) 0x50 0x60
 -- the key with another word in the place of table_id
 abbrev pub withTable : Key → ℕ → Key
 withTable key table = record {
-  pid = key .pid;
+  from = key .from;
   «table_id» = table;
   extension = key .extension;
   «current_next» = key .«current_next»;

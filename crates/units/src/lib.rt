@@ -171,8 +171,9 @@ fn table_of_kind(kind: u64, j: usize) -> u64
 pub fn with_table(key: Key, table_id: u64) -> Key
     ensures { λ r. ⌜ r ≡ withTable key «table_id» ⌝ }
 {
+    let from = key.from;
     Key {
-        pid: key.pid,
+        from,
         table_id,
         extension: key.extension,
         current_next: key.current_next,

@@ -1,24 +1,24 @@
 use native.Mathlib.Omega.{arith}
-use Rattle.arrivals.proofs.Ways.{set-large, set-section}
+use Rattle.arrivals.proofs.Ways.{set-nowhere, set-section}
 use Rattle.arrivals.proofs.Facts.{set-arrived}
 use borrow.Author.Needs.{needs}
 use Rattle.arrivals.proofs.set_arrival.Statement.{statement}
 use Rattle.arrivals.proofs.set_arrival.Tie as tie
 
-pid-word-requires : tie.Need-pid-word-requires
-pid-word-requires c κs = search needs
+origin-words-requires : tie.Need-origin-words-requires
+origin-words-requires c κs = search needs
 
-enum-told : tie.Need-enum-told
-enum-told c = search needs
+enum-known-refusal : tie.Need-enum-known-refusal
+enum-known-refusal c = search needs
 
-enum-known-p : tie.Need-enum-known-p
-enum-known-p c = search needs
+enum-known-from : tie.Need-enum-known-from
+enum-known-from c = search needs
 
 set-read-requires : tie.Need-set-read-requires
 set-read-requires c κs = search needs
 
 returns : tie.Need-returns
-returns c = (search set-large, tt)
+returns c = (search set-nowhere, tt)
 
 returns-2 : tie.Need-returns-2
 returns-2 c = let a = c .before .before .before .before .before .before .args in (search set-section, set-arrived (a .bytes .now) (omega (arith, c .before .before .before .before .before .shared-slice-known .given 7)) (a .pid) (c .set-read .result) (search set-section))
@@ -26,4 +26,4 @@ returns-2 c = let a = c .before .before .before .before .before .before .args in
 pub set-arrival-spec : {M : Type 1} → statement M
 set-arrival-spec =
     tie.close
-    (tie.spec pid-word-requires enum-told enum-known-p set-read-requires returns returns-2)
+    (tie.spec origin-words-requires enum-known-refusal enum-known-from set-read-requires returns returns-2)

@@ -1,4 +1,4 @@
-use Rattle.eit_drop.proofs.Laws.{wanted-one}
+use Rattle.eit_drop.proofs.Laws.{wanted-one, wanted-large}
 use borrow.Author.Needs.{needs}
 use Rattle.eit_drop.proofs.made_wanted.Statement.{statement}
 use Rattle.eit_drop.proofs.made_wanted.Tie as tie
@@ -16,7 +16,7 @@ returns : tie.Need-returns
 returns c = search wanted-one
 
 returns-2 : tie.Need-returns-2
-returns-2 c = search needs
+returns-2 c = search wanted-large
 
 pub made-wanted-spec : {M : Type 1} → statement M
 made-wanted-spec = tie.close (tie.spec enum-known-m cast-t4 enum-told returns returns-2)

@@ -3,11 +3,14 @@ use borrow.Author.Needs.{needs}
 use Rattle.filter.proofs.matching.Statement.{statement}
 use Rattle.filter.proofs.matching.Tie as tie
 
-fits-requires : tie.Need-fits-requires
-fits-requires c κs = search needs
+fits-origin-requires : tie.Need-fits-origin-requires
+fits-origin-requires c κs = search needs
 
 kind-in-requires : tie.Need-kind-in-requires
 kind-in-requires c κs = search needs
+
+fits-requires : tie.Need-fits-requires
+fits-requires c κs = search needs
 
 fits-requires-2 : tie.Need-fits-requires-2
 fits-requires-2 c κs = search needs
@@ -21,9 +24,6 @@ fits-requires-4 c κs = search needs
 fits-requires-5 : tie.Need-fits-requires-5
 fits-requires-5 c κs = search needs
 
-fits-requires-6 : tie.Need-fits-requires-6
-fits-requires-6 c κs = search needs
-
 returns : tie.Need-returns
 returns c = search all-match
 
@@ -31,11 +31,11 @@ pub matching-spec : {M : Type 1} → statement M
 matching-spec =
     tie.close
     (tie.spec
-    fits-requires
+    fits-origin-requires
     kind-in-requires
+    fits-requires
     fits-requires-2
     fits-requires-3
     fits-requires-4
     fits-requires-5
-    fits-requires-6
     returns)

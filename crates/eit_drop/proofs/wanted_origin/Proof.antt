@@ -1,7 +1,7 @@
 use Rattle.eit_drop.proofs.Laws.{wanted-any, wanted-without, wanted-exactly}
 use borrow.Author.Needs.{needs}
-use Rattle.eit_drop.proofs.wanted_pid.Statement.{statement}
-use Rattle.eit_drop.proofs.wanted_pid.Tie as tie
+use Rattle.eit_drop.proofs.wanted_origin.Statement.{statement}
+use Rattle.eit_drop.proofs.wanted_origin.Tie as tie
 
 enum-told : tie.Need-enum-told
 enum-told c = search needs
@@ -27,8 +27,8 @@ returns-2 c = search wanted-without
 returns-3 : tie.Need-returns-3
 returns-3 c = search wanted-exactly
 
-pub wanted-pid-spec : {M : Type 1} → statement M
-wanted-pid-spec =
+pub wanted-origin-spec : {M : Type 1} → statement M
+wanted-origin-spec =
     tie.close
     (tie.spec
     enum-told
