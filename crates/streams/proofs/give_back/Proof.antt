@@ -1,0 +1,58 @@
+use Rattle.streams.proofs.Laws.{back-turn, back-end}
+use mathlib.Core.Path.{_≡_, refl}
+use Prim.Native.Nat.{_≤_, _-_, _*_}
+use native.Mathlib.Omega.{arith}
+use borrow.Author.Needs.{needs}
+use lib.ListN.{length}
+use Rattle.streams.specs.Store.{givenBack}
+use Rattle.streams.proofs.give_back.Statement.{statement}
+use Rattle.streams.proofs.give_back.Tie as tie
+
+abbrev Inv-loop : tie.InvT-loop
+Inv-loop pids₀ left k₀ pids k = (k ≤ 128) × (length pids ≡ length pids₀) × (givenBack left (k * 64) pids ≡ givenBack left 8192 pids₀)
+
+abbrev μ-loop : tie.MeasureT-loop
+μ-loop pids₀ left k₀ pids k = k
+
+loop-holds : tie.Need-loop-holds Inv-loop μ-loop
+loop-holds c = (omega arith, refl, refl)
+
+sub-k : tie.Need-sub-k Inv-loop μ-loop
+sub-k c = search needs
+
+mul-give-word : tie.Need-mul-give-word Inv-loop μ-loop
+mul-give-word c = search needs
+
+shared-slice-read-give-word : tie.Need-shared-slice-read-give-word Inv-loop μ-loop
+shared-slice-read-give-word c = search needs
+
+give-word-requires : tie.Need-give-word-requires Inv-loop μ-loop
+give-word-requires c κs = search needs
+
+loop-less : tie.Need-loop-less Inv-loop μ-loop
+loop-less c = search needs
+
+loop-again : tie.Need-loop-again Inv-loop μ-loop
+loop-again c = (search needs, search needs, search back-turn)
+
+same-length : tie.Need-same-length Inv-loop μ-loop
+same-length c = search needs
+
+returns : tie.Need-returns Inv-loop μ-loop
+returns c = search back-end
+
+pub give-back-spec : {M : Type 1} → statement M
+give-back-spec =
+    tie.close
+    (tie.spec
+    Inv-loop
+    μ-loop
+    loop-holds
+    sub-k
+    mul-give-word
+    shared-slice-read-give-word
+    give-word-requires
+    loop-less
+    loop-again
+    same-length
+    returns)
