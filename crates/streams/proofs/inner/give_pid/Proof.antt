@@ -1,7 +1,7 @@
 use Rattle.streams.proofs.Laws.{second-word, third-word, fourth-word, pid-gone, pid-stays}
 use borrow.Author.Needs.{needs}
-use Rattle.streams.proofs.give_pid.Statement.{statement}
-use Rattle.streams.proofs.give_pid.Tie as tie
+use Rattle.streams.proofs.inner.give_pid.Statement.{statement}
+use Rattle.streams.proofs.inner.give_pid.Tie as tie
 
 mul-at : tie.Need-mul-at
 mul-at c = search needs

@@ -1,7 +1,7 @@
 use Rattle.streams.proofs.Laws.{second-word, third-word, fourth-word}
 use borrow.Author.Needs.{needs}
-use Rattle.streams.proofs.put.Statement.{statement}
-use Rattle.streams.proofs.put.Tie as tie
+use Rattle.streams.proofs.inner.put.Statement.{statement}
+use Rattle.streams.proofs.inner.put.Tie as tie
 
 cast-at : tie.Need-cast-at
 cast-at c = search needs

@@ -5,8 +5,8 @@ use native.Mathlib.Omega.{arith}
 use borrow.Author.Needs.{needs}
 use lib.ListN.{length}
 use Rattle.streams.specs.Store.{wordBack}
-use Rattle.streams.proofs.give_word.Statement.{statement}
-use Rattle.streams.proofs.give_word.Tie as tie
+use Rattle.streams.proofs.inner.give_word.Statement.{statement}
+use Rattle.streams.proofs.inner.give_word.Tie as tie
 
 abbrev Inv-loop : tie.InvT-loop
 Inv-loop pids₀ k left n₀ pids n = (n ≤ 64) × (length pids ≡ length pids₀) × (wordBack left k n pids ≡ wordBack left k 64 pids₀)

@@ -1,7 +1,7 @@
 use Rattle.streams.proofs.Laws.{mark-some, mark-none}
 use borrow.Author.Needs.{needs}
-use Rattle.streams.proofs.mark.Statement.{statement}
-use Rattle.streams.proofs.mark.Tie as tie
+use Rattle.streams.proofs.inner.mark.Statement.{statement}
+use Rattle.streams.proofs.inner.mark.Tie as tie
 
 buffer-requires : tie.Need-buffer-requires
 buffer-requires c κs = search needs

@@ -4,8 +4,8 @@ use Prim.Native.Nat.{_≤_, _-_}
 use native.Mathlib.Omega.{arith}
 use borrow.Author.Needs.{needs}
 use Rattle.streams.specs.Store.{markedTo}
-use Rattle.streams.proofs.mark_to.Statement.{statement}
-use Rattle.streams.proofs.mark_to.Tie as tie
+use Rattle.streams.proofs.inner.mark_to.Statement.{statement}
+use Rattle.streams.proofs.inner.mark_to.Tie as tie
 
 abbrev Inv-loop : tie.InvT-loop
 Inv-loop map₀ pids to count n₀ map n = (n ≤ to) × (markedTo pids count n map ≡ markedTo pids count to map₀)

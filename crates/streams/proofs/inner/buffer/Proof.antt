@@ -1,7 +1,7 @@
 use Rattle.streams.proofs.Laws.{no-number, past-count, a-buffer}
 use borrow.Author.Needs.{needs}
-use Rattle.streams.proofs.buffer.Statement.{statement}
-use Rattle.streams.proofs.buffer.Tie as tie
+use Rattle.streams.proofs.inner.buffer.Statement.{statement}
+use Rattle.streams.proofs.inner.buffer.Tie as tie
 
 returns : tie.Need-returns
 returns c = search no-number

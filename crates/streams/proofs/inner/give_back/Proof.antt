@@ -5,8 +5,8 @@ use native.Mathlib.Omega.{arith}
 use borrow.Author.Needs.{needs}
 use lib.ListN.{length}
 use Rattle.streams.specs.Store.{givenBack}
-use Rattle.streams.proofs.give_back.Statement.{statement}
-use Rattle.streams.proofs.give_back.Tie as tie
+use Rattle.streams.proofs.inner.give_back.Statement.{statement}
+use Rattle.streams.proofs.inner.give_back.Tie as tie
 
 abbrev Inv-loop : tie.InvT-loop
 Inv-loop pids₀ left k₀ pids k = (k ≤ 128) × (length pids ≡ length pids₀) × (givenBack left (k * 64) pids ≡ givenBack left 8192 pids₀)

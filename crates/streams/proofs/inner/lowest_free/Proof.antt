@@ -1,7 +1,7 @@
 use Rattle.streams.proofs.Laws.{lowest-free}
 use borrow.Author.Needs.{needs}
-use Rattle.streams.proofs.lowest_free.Statement.{statement}
-use Rattle.streams.proofs.lowest_free.Tie as tie
+use Rattle.streams.proofs.inner.lowest_free.Statement.{statement}
+use Rattle.streams.proofs.inner.lowest_free.Tie as tie
 
 mark-to-requires : tie.Need-mark-to-requires
 mark-to-requires c κs = search needs
