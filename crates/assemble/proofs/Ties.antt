@@ -24,7 +24,7 @@ use Rattle.payload.specs.declared.Span.{Span}
 use Rattle.payload.specs.declared.Parts.{Parts}
 use Rattle.payload.specs.Payload.{front, bytesOf, endedOf, goingOf, goneOf, parts, partsOf, partOf, placed, toldFrom}
 use Rattle.payload.proofs.Ends.{Ways, nothing, longer, finished, ways, none-lacks, under-lacks, Suffix, under-last, Behind, behind, one-behind}
-use Rattle.payload.proofs.Laws.{placed-length}
+use Rattle.payload.proofs.Laws.{placed-length, length-front}
 use Rattle.assemble.specs.declared.Words.{Words}
 use Rattle.assemble.specs.Store.{span, spanIn, underIn, stateIn, isRepeat, followsOn, spanBy, payloadOf, Reading, readingIn, reading, unlessNone, sectionsOf, endedCount, takenOf, endedTold, placesOf, wordsOf, marked, repeated, moved, steppedOf, bufferAfter, placesAfter, sectionsIn, toldAt, Fits, Reads}
 use Rattle.assemble.proofs.Laws.{span-reads, gone-fits}
@@ -376,6 +376,28 @@ module _ (fresh : Bool) (w : Words) (buffer : Bytes) (number : ℕ) (l : Load) (
       let g = gone-fits buffer number under l packet places reads p refl (goneOf (l .start) u (partOf packet p)) refl in
       let s : Suffix (drop (p .begin) packet) (rest .under) = under-last true [] (drop (p .begin) packet) in
       omega (arith, g, s .fewer, length-drop (p .begin) packet, length-append (goingOf (l .start) u (partOf packet p)) (rest .under))
+
+  -- the buffer is as long as it was
+  pub buffer-length : length (bufferAfter fresh w buffer l packet) ≡ length buffer
+  unfolding bufferAfter
+  buffer-length = go again
+    where
+      go : (a : Bool) → length (cond a buffer (front (r .ended ++ r .under) buffer)) ≡ length buffer
+      go true = refl
+      go false = length-front (r .ended ++ r .under) buffer (omega (arith, left-fits, length-append (r .ended) (r .under), h .room))
+
+  -- the PID holds its buffer then
+  pub number-then : (fresh ≡ false → w .number ≡ number + 1) → (steppedOf fresh w buffer number l packet) .words .number ≡ number + 1
+  unfolding steppedOf
+  number-then f = go fresh refl
+    where
+      go : (a : Bool) → fresh ≡ a → (cond (isRepeat a (w .counter) (l .counter)) (repeated w (l .counter)) (moved number (l .counter) (takenOf r))) .words .number ≡ number + 1
+      go true e = refl
+      go false e = repeat (eqb (l .counter) (w .counter % 16) && ltb (w .counter % 32) 16)
+        where
+          repeat : (b : Bool) → (cond b (repeated w (l .counter)) (moved number (l .counter) (takenOf r))) .words .number ≡ number + 1
+          repeat true = f e
+          repeat false = refl
 
   front-ended : take (length (r .ended)) (front (r .ended ++ r .under) buffer) ≡ r .ended
   unfolding front
