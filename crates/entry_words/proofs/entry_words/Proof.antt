@@ -1,0 +1,34 @@
+use Rattle.entry_words.proofs.Laws.{entry-event, entry-plain}
+use borrow.Author.Needs.{needs}
+use Rattle.entry_words.proofs.entry_words.Statement.{statement}
+use Rattle.entry_words.proofs.entry_words.Tie as tie
+use Rattle.entry_words.proofs.entry_words.Reads as reads
+use Rattle.entry_words.proofs.entry_words.Lts as lts
+use Rattle.entry_words.proofs.event_of.Reads as event-of-reads
+use Rattle.entry_words.proofs.event_words.Reads as event-words-reads
+use Rattle.entry_words.proofs.plain_words.Reads as plain-words-reads
+
+-- src/lib.rt:124:28
+event-of-requires : tie.Need-event-of-requires
+event-of-requires c κs = search needs
+
+-- src/lib.rt:124:9
+event-words-requires : tie.Need-event-words-requires
+event-words-requires c κs = search needs
+
+-- src/lib.rt:124:9
+returns : tie.Need-returns
+returns c = search entry-event
+
+-- src/lib.rt:126:5
+plain-words-requires : tie.Need-plain-words-requires
+plain-words-requires c κs = search needs
+
+-- src/lib.rt:119:1
+returns-2 : tie.Need-returns-2
+returns-2 c = search entry-plain
+
+pub entry-words-spec : {M : Type 1} → statement M
+entry-words-spec =
+    tie.close
+    (tie.spec event-of-requires event-words-requires returns plain-words-requires returns-2)
