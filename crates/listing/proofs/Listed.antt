@@ -192,7 +192,7 @@ module _ (number : ℕ) where
   words-parts [] at f = refl
   words-parts (d ∷ ds) at f = ap (λ (l : List (List ℕ)). descriptorWords number at (byteAt (d .header) 0) (byteAt (d .header) 1) ∷ l) (words-parts ds (at + 2 + length (d .body)) f)
 
-  words-items : (items : List Item) (at : ℕ) (f : Found) → wordsOf number (foundItems at items f) ≡ flat number at items ++ wordsOf number f
+  pub words-items : (items : List Item) (at : ℕ) (f : Found) → wordsOf number (foundItems at items f) ≡ flat number at items ++ wordsOf number f
   unfolding foundItems flat wordsOf
   words-items [] at f = refl
   words-items (i ∷ is) at f =

@@ -1,0 +1,4 @@
+pub mod Ways
+pub mod Held
+pub mod Unique
+pub mod Examples

@@ -1,0 +1,4 @@
+pub mod Walks
+pub mod Ways
+pub mod Order
+pub mod Sections
