@@ -1,0 +1,5 @@
+pub mod Upward
+pub mod Held
+pub mod Places
+pub mod Listing
+pub mod Tabling
