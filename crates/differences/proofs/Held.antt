@@ -80,7 +80,7 @@ pub entry-none : (r : ℕ) → entryOf r [] [] ≡ []
 unfolding kindOf placeOf
 entry-none r = refl
 
-entry-at-none : (r : ℕ) (a b : List (List ℕ)) → heldIn a r ≡ [] → heldIn b r ≡ [] → entryAt a b r ≡ []
+pub entry-at-none : (r : ℕ) (a b : List (List ℕ)) → heldIn a r ≡ [] → heldIn b r ≡ [] → entryAt a b r ≡ []
 entry-at-none r a b p q = ap (λ (x : List ℕ). entryOf r x (heldIn b r)) p ∙ ap (λ (y : List ℕ). entryOf r [] y) q ∙ entry-none r
 
 -- a turn: the lower of the first ranks gives its entry, and the rest the others

@@ -27,7 +27,7 @@ or-le x y rest e = go (ltb (tableId x) (tableId y)) refl e
     go true z q = let a = ltb-true (tableId x) (tableId y) z in omega arith
     go false z q = let a = eqb-true (tableId x) (tableId y) (and-true (eqb (tableId x) (tableId y)) rest q .0) in omega arith
 
-never-falls : (x y : List ℕ) → inSchedule x y ≡ true → tableId x ≤ tableId y
+pub never-falls : (x y : List ℕ) → inSchedule x y ≡ true → tableId x ≤ tableId y
 unfolding inSchedule
 never-falls x y e = or-le x y (inTable x y) (and-true (sameKey (scheduleKeyIn 0 x) (scheduleKeyIn 0 y)) (ltb (tableId x) (tableId y) || (eqb (tableId x) (tableId y) && inTable x y)) e .1)
 
