@@ -18,7 +18,7 @@ use Rattle.differences.specs.Walk.{rises, allDifferences}
 use Rattle.differences.proofs.Upward.{up-first, up-none}
 
 -- below the first rank nothing is held
-held-after : (x : List ℕ) (xs : List (List ℕ)) (m : ℕ) → chainFrom rises x xs ≡ true → m ≤ rankOf x → heldIn xs m ≡ []
+pub held-after : (x : List ℕ) (xs : List (List ℕ)) (m : ℕ) → chainFrom rises x xs ≡ true → m ≤ rankOf x → heldIn xs m ≡ []
 unfolding chainFrom heldIn
 held-after x [] m e h = refl
 held-after x (y ∷ ys) m e h =

@@ -3,3 +3,4 @@ pub mod Held
 pub mod Places
 pub mod Listing
 pub mod Tabling
+pub mod Theorems

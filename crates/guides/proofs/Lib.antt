@@ -1,3 +1,5 @@
 pub mod Ranges
 pub mod Ways
 pub mod Unique
+pub mod Theorems
+pub mod Examples

@@ -25,7 +25,7 @@ use Rattle.guides.specs.Store.{setEntries, scheduleEntries, AlikeSets, A
 
 -- ---- ranks within a range
 
-abbrev within : ℕ → ℕ → List ℕ → Bool
+abbrev pub within : ℕ → ℕ → List ℕ → Bool
 within low high x = leb low (rankOf x) && ltb (rankOf x) high
 
 held-outside : (low high m : ℕ) (xs : List (List ℕ)) → every (within low high) xs ≡ true → ((r : ℕ) → low ≤ r → r < high → r ≡ m → ⊥) → heldIn xs m ≡ []
@@ -45,7 +45,7 @@ entries-within k low a b h ea eb =
     (λ m l o. entry-at-none m a b (held-outside low (low + k) m a ea (λ r p q z. omega arith)) (held-outside low (low + k) m b eb (λ r p q z. omega arith)))
 
 -- two tests that all pass give a third
-every-both : (p q r : List ℕ → Bool) → ((x : List ℕ) → p x ≡ true → q x ≡ true → r x ≡ true) → (xs : List (List ℕ)) → every p xs ≡ true → every q xs ≡ true → every r xs ≡ true
+pub every-both : (p q r : List ℕ → Bool) → ((x : List ℕ) → p x ≡ true → q x ≡ true → r x ≡ true) → (xs : List (List ℕ)) → every p xs ≡ true → every q xs ≡ true → every r xs ≡ true
 unfolding every
 every-both p q r f [] a b = refl
 every-both p q r f (x ∷ xs) a b =
@@ -72,14 +72,19 @@ kind-within f x a b =
 -- ---- two sets
 
 module _ (a b : List ℕ) (w : AlikeSets a b) (x : Bytes a) (y : Bytes b) where
+  pub set-within : (every (within (tableId a * 256) (tableId a * 256 + 256)) (sectionsIn a) ≡ true) × (every (within (tableId a * 256) (tableId a * 256 + 256)) (sectionsIn b) ≡ true)
+  set-within = (
+    every-both (λ (s : List ℕ). eqb (tableId s) (tableId a)) smallNumber (within (tableId a * 256) (tableId a * 256 + 256)) (table-within (tableId a)) (sectionsIn a)
+        (set-tables a (w .first)) (small-numbers a (set-run a (w .first) .laid) x),
+    every-both (λ (s : List ℕ). eqb (tableId s) (tableId a)) smallNumber (within (tableId a * 256) (tableId a * 256 + 256)) (table-within (tableId a)) (sectionsIn b)
+        (rw (w .table) (set-tables b (w .second))) (small-numbers b (set-run b (w .second) .laid) y),
+  )
+
   pub set-entries : allDifferences (sectionsIn a) (sectionsIn b) ≡ setEntries a b
   unfolding setEntries differences
   set-entries =
       let h : tableId a * 256 + 256 ≤ 65536 = let z = x 0 in omega arith in
-      entries-within 256 (tableId a * 256) (sectionsIn a) (sectionsIn b) h
-      (every-both (λ (s : List ℕ). eqb (tableId s) (tableId a)) smallNumber (within (tableId a * 256) (tableId a * 256 + 256)) (table-within (tableId a)) (sectionsIn a) (set-tables a (w .first)) (small-numbers a (set-run a (w .first) .laid) x))
-      (every-both (λ (s : List ℕ). eqb (tableId s) (tableId a)) smallNumber (within (tableId a * 256) (tableId a * 256 + 256)) (table-within (tableId a)) (sectionsIn b)
-      (rw (w .table) (set-tables b (w .second))) (small-numbers b (set-run b (w .second) .laid) y))
+      entries-within 256 (tableId a * 256) (sectionsIn a) (sectionsIn b) h (set-within .0) (set-within .1)
 
 pub set-ranked : (s : List ℕ) → isSet s ≡ true → Ranked s
 set-ranked s e = record { laid = set-run s e .laid; rising = set-chain rises s (λ x y q. lt-ltb (rankOf x) (rankOf y) (set-pair-rank x y q)) e }
@@ -87,16 +92,20 @@ set-ranked s e = record { laid = set-run s e .laid; rising = set-chain rises s (
 -- ---- two schedules
 
 module _ (a b : List ℕ) (w : AlikeSchedules a b) (x : Bytes a) (y : Bytes b) where
+  pub schedule-within : (every (within (kindFirst (tableId a) * 256) (kindFirst (tableId a) * 256 + 4096)) (sectionsIn a) ≡ true)
+      × (every (within (kindFirst (tableId a) * 256) (kindFirst (tableId a) * 256 + 4096)) (sectionsIn b) ≡ true)
+  schedule-within = (
+    every-both (λ (s : List ℕ). eqb (kindFirst (tableId s)) (kindFirst (tableId a))) smallNumber (within (kindFirst (tableId a) * 256) (kindFirst (tableId a) * 256 + 4096)) (kind-within (kindFirst (tableId a))) (sectionsIn a)
+        (schedule-kinds a (w .first)) (small-numbers a (schedule-run a (w .first) .laid) x),
+    every-both (λ (s : List ℕ). eqb (kindFirst (tableId s)) (kindFirst (tableId a))) smallNumber (within (kindFirst (tableId a) * 256) (kindFirst (tableId a) * 256 + 4096)) (kind-within (kindFirst (tableId a))) (sectionsIn b)
+        (rw (w .kind) (schedule-kinds b (w .second))) (small-numbers b (schedule-run b (w .second) .laid) y),
+  )
+
   pub schedule-entries : allDifferences (sectionsIn a) (sectionsIn b) ≡ scheduleEntries a b
   unfolding scheduleEntries scheduleDifferences differences
   schedule-entries =
-      let f = kindFirst (tableId a) in
       let h : kindFirst (tableId a) * 256 + 4096 ≤ 65536 = let z = x 0 in omega arith in
-      entries-within 4096 (kindFirst (tableId a) * 256) (sectionsIn a) (sectionsIn b) h
-      (every-both (λ (s : List ℕ). eqb (kindFirst (tableId s)) (kindFirst (tableId a))) smallNumber (within (kindFirst (tableId a) * 256) (kindFirst (tableId a) * 256 + 4096)) (kind-within (kindFirst (tableId a))) (sectionsIn a)
-      (schedule-kinds a (w .first)) (small-numbers a (schedule-run a (w .first) .laid) x))
-      (every-both (λ (s : List ℕ). eqb (kindFirst (tableId s)) (kindFirst (tableId a))) smallNumber (within (kindFirst (tableId a) * 256) (kindFirst (tableId a) * 256 + 4096)) (kind-within (kindFirst (tableId a))) (sectionsIn b)
-      (rw (w .kind) (schedule-kinds b (w .second))) (small-numbers b (schedule-run b (w .second) .laid) y))
+      entries-within 4096 (kindFirst (tableId a) * 256) (sectionsIn a) (sectionsIn b) h (schedule-within .0) (schedule-within .1)
       ∙ sym (up-product 16 256 (kindFirst (tableId a)) (entryAt (sectionsIn a) (sectionsIn b)))
 
 pub schedule-ranked : (s : List ℕ) → Bytes s → isSchedule s ≡ true → Ranked s

@@ -20,7 +20,7 @@ pub const NO_RANK: usize = 65536;
 // ---- keys
 
 // An EIT's table_id (EN 300 468, table 2).
-fn is_eit(table_id: u8) -> bool
+pub fn is_eit(table_id: u8) -> bool
     ensures { λ r. ⌜ r ≡ isEit «table_id» ⌝ }
 {
     (0x4E <= table_id) & (table_id <= 0x6F)
