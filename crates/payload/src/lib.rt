@@ -99,7 +99,7 @@ fn end_in(buffer: &[u8], first: usize, size: usize, part: &[u8]) -> usize
 // ---- the buffer
 
 // Moves bytes to the buffer's front.
-fn to_front(buffer: &mut [u8], first: usize, size: usize)
+pub fn to_front(buffer: &mut [u8], first: usize, size: usize)
     requires { ⌜ first + size ≤ length (now buffer) ⌝ }
     ensures { λ _. ⌜ now (buffer .exit) ≡ front (take size (drop first (now (buffer .entry)))) (now (buffer .entry)) ⌝ }
 {
