@@ -4,12 +4,13 @@ use mathlib.Core.Path.{_≡_, refl, sym, ap, _∙_}
 use mathlib.Core.Logic.{_≢_}
 use mathlib.Core.Bool.{Bool, true, false, cond, not, _&&_, _||_}
 use mathlib.Core.Option.{Option, none, some}
-use mathlib.Core.List.{List}
+use mathlib.Core.List.{List, _++_, append-assoc}
 use Prim.Native.Nat.{ℕ, zero, suc, _+_, _-_, _*_, _≤_, _<_}
 use native.Mathlib.Omega.{arith}
 use lib.Dec.{eqb, ltb, leb}
 use lib.ListN.{length, take, drop, getD}
-use lib.Seq.{paste}
+use lib.Seq.{paste, take-all, drop-drop}
+use borrow.Rule.Slice.PartMut.{putMid}
 use borrow.Author.Tests.{le-leb, lt-ltb, le-ltb, ltb-true, ltb-false, leb-true, eq-eqb, ne-eqb, eqb-true}
 use Rattle.laws.specs.Bits.{hasBit}
 use Rattle.laws.proofs.Search.{first-same}
@@ -24,6 +25,13 @@ use Rattle.assemble.specs.Store.{stateIn}
 use Rattle.streams.specs.Store.{bufferOf, isNamed, withWords, givenBack, cleared}
 use Rattle.streams.proofs.After.{wordsOf, put-there, put-apart, back-stays, back-gone, cleared-word, not-named}
 use Rattle.ties_streams.specs.View.{bufferAt, wordsAt, heldBuffer, heldWith, heldBy, holdsIt, isHeld, below, lowestOf, usedBuffer, Lent, Apart}
+
+-- ---- a buffer that was lent as a part of the bytes, and came back
+
+pub part-back : (xs ys : List ℕ) (a e : ℕ) → length ys ≡ e - a → putMid a (e - a) xs ys ≡ paste xs a ys (e - a)
+part-back xs ys a e l =
+    let q : take (e - a) ys ≡ ys = take-all (e - a) ys (omega arith) in
+    sym (append-assoc (take a xs) ys (drop (e - a) (drop a xs))) ∙ (λ i. (take a xs ++ sym q i) ++ drop-drop (e - a) a xs i)
 
 -- ---- a word 0
 
