@@ -39,7 +39,8 @@ fn say_service(key: Key) -> bool {
 }
 
 pub fn say_set(key: Key, version: u64, last: u64) -> bool {
-    say_low16(b"set ", key.pid);
+    let from = key.from;
+    say_low16(b"set ", from.pid);
     say_low8(b" ", key.table_id);
     say_service(key);
     say_number(b" version ", version);
@@ -49,7 +50,8 @@ pub fn say_set(key: Key, version: u64, last: u64) -> bool {
 
 // A schedule, from its first table_id to its last.
 pub fn say_schedule(key: Key, first: u64, last: u64) -> bool {
-    say_low16(b"schedule ", key.pid);
+    let from = key.from;
+    say_low16(b"schedule ", from.pid);
     say_low8(b" ", first);
     say_low8(b" ", last);
     say_service(key);

@@ -17,7 +17,7 @@ use Rattle.section.specs.Facts.{Bytes}
 use Rattle.section.specs.Header.{tableId, longForm, sectionLength, sectionNumber, versionOf, lastSectionNumber}
 use Rattle.section.specs.declared.ids.MaybePid.{MaybePid}
 use Rattle.rows.specs.declared.Key.{Key}
-use Rattle.rows.specs.Rows.{sameKey}
+use Rattle.rows.specs.Rows.{sameKey, sameOrigin}
 use Rattle.arrivals.specs.Arrivals.{pidWord}
 use Rattle.arrivals.specs.declared.PidWord.{PidWord}
 use Rattle.arrivals.specs.declared.PidWord.the-variants as pid
@@ -212,9 +212,9 @@ and-swap false true = refl
 and-swap false false = refl
 
 keys-swap : (j k : Key) → sameKey j k ≡ sameKey k j
-unfolding sameKey
+unfolding sameKey sameOrigin
 keys-swap j k = rw (
-  eqb-sym (j .pid) (k .pid),
+  eqb-sym (j .from .pid) (k .from .pid),
   eqb-sym (j .«table_id») (k .«table_id»),
   eqb-sym (j .extension) (k .extension),
   eqb-sym (j .«current_next») (k .«current_next»),

@@ -14,7 +14,7 @@ use Rattle.laws.proofs.Tests.{and-true, true-and}
 use Rattle.section.specs.Facts.{Bytes}
 use Rattle.section.specs.Header.{byteAt, tableId, sectionNumber, versionOf, lastSectionNumber}
 use Rattle.rows.specs.declared.Key.{Key}
-use Rattle.rows.specs.Rows.{sameKey}
+use Rattle.rows.specs.Rows.{sameKey, sameOrigin}
 use Rattle.laid.specs.Laid.{sizeOf, sectionsIn, laidOut, keyIn, scheduleKeyIn, kindFirst, chainFrom, chain, inTable, inSet, inSchedule, joins, joined, isSet, isSchedule, sameVersion, sameLast}
 use Rattle.laid.specs.Walk.{rankOf}
 use Rattle.laid.proofs.Sections.{Begins, Front, laid-begins, sections-one, sections-none}
@@ -28,7 +28,7 @@ keys-table j k e =
     let b = and-true _ (eqb (j .«transport_stream_id») (k .«transport_stream_id»)) a .0 in
     let c = and-true _ (eqb (j .«current_next») (k .«current_next»)) b .0 in
     let d = and-true _ (eqb (j .extension) (k .extension)) c .0 in
-    eqb-true (j .«table_id») (k .«table_id») (and-true (eqb (j .pid) (k .pid)) (eqb (j .«table_id») (k .«table_id»)) d .1)
+    eqb-true (j .«table_id») (k .«table_id») (and-true (sameOrigin (j .from) (k .from)) (eqb (j .«table_id») (k .«table_id»)) d .1)
 
 module _ (x y : List ℕ) where
   pub set-pair-table : inSet x y ≡ true → tableId x ≡ tableId y

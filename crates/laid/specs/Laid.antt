@@ -50,7 +50,7 @@ kindFirst t = t / 16 * 16
 -- the key of a section on this PID (8192: none), its table under this number: an EIT has its transport stream and its original network in it
 abbrev pub keyOf : ℕ → ℕ → List ℕ → Key
 keyOf table pid s = record {
-  pid = pid;
+  from = record { pid = pid };
   «table_id» = table;
   extension = extensionOf s;
   «current_next» = byteAt s 5 % 2;

@@ -2,6 +2,7 @@
 // sections or a schedule, the section that starts at a place, the section of a number, and the part of a table. These are the parts of `guides`:
 // where one asks for bytes that are laid so, the public calls there have looked.
 use rows::Key;
+use rows::Origin;
 use section::bytes::long_form;
 use section::bytes::section_length;
 use section::bytes::wide;
@@ -40,7 +41,7 @@ fn key_of(table: u64, pid: u64, s: &[u8]) -> Key
 {
     let eit = is_eit(s[0]);
     Key {
-        pid,
+        from: Origin { pid },
         table_id: table,
         extension: word(s, 3) as u64,
         current_next: (s[5] % 2) as u64,

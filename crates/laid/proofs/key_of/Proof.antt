@@ -12,14 +12,14 @@ is-eit-requires c κs = search needs
 word-requires : tie.Need-word-requires
 word-requires c κs = search needs
 
-cast-t8 : tie.Need-cast-t8
-cast-t8 c = search needs
+cast-t9 : tie.Need-cast-t9
+cast-t9 c = search needs
 
 shared-slice-read-t6 : tie.Need-shared-slice-read-t6
 shared-slice-read-t6 c = search needs
 
-cast-t11 : tie.Need-cast-t11
-cast-t11 c = search needs
+cast-t12 : tie.Need-cast-t12
+cast-t12 c = search needs
 
 word-if-requires : tie.Need-word-if-requires
 word-if-requires c κs = search needs
@@ -37,9 +37,9 @@ key-of-spec =
     shared-slice-read-is-eit
     is-eit-requires
     word-requires
-    cast-t8
+    cast-t9
     shared-slice-read-t6
-    cast-t11
+    cast-t12
     word-if-requires
     word-if-requires-2
     returns)
