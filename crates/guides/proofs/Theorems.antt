@@ -18,9 +18,9 @@ use Rattle.section.specs.Header.{tableId, longForm, sectionLength, sectionNumbe
 use Rattle.section.specs.declared.ids.MaybePid.{MaybePid}
 use Rattle.rows.specs.declared.Key.{Key}
 use Rattle.rows.specs.Rows.{sameKey, sameOrigin}
-use Rattle.arrivals.specs.Arrivals.{pidWord}
-use Rattle.arrivals.specs.declared.PidWord.{PidWord}
-use Rattle.arrivals.specs.declared.PidWord.the-variants as pid
+use Rattle.laid.specs.Laid.{pidWord}
+use Rattle.laid.specs.declared.PidWord.{PidWord}
+use Rattle.laid.specs.declared.PidWord.the-variants as pid
 use Rattle.laid.specs.Laid.{sectionsIn, isLong, laidOut, isSet, isSchedule, keyIn, scheduleKeyIn, kindFirst, sameVersion, sameLast}
 use Rattle.laid.specs.Walk.{rankOf, numbered, placeIn}
 use Rattle.laid.proofs.Sections.{sections-all}

@@ -9,9 +9,9 @@ use Rattle.section.specs.Header.{tableId}
 use Rattle.section.specs.declared.ids.MaybePid.{MaybePid}
 use Rattle.rows.specs.declared.Key.{Key}
 use Rattle.rows.specs.Rows.{sameKey}
-use Rattle.arrivals.specs.Arrivals.{pidWord}
-use Rattle.arrivals.specs.declared.PidWord.{PidWord}
-use Rattle.arrivals.specs.declared.PidWord.the-variants as pid
+use Rattle.laid.specs.Laid.{pidWord}
+use Rattle.laid.specs.declared.PidWord.{PidWord}
+use Rattle.laid.specs.declared.PidWord.the-variants as pid
 use Rattle.laid.specs.Laid.{sectionsIn, laidOut, isSet, isSchedule, keyIn, scheduleKeyIn, kindFirst, sameVersion, sameLast, tableIn}
 use Rattle.laid.specs.Walk.{numbered, placeIn}
 use Rattle.differences.specs.Rules.{Entry, differences, scheduleDifferences, tableWords, versionsAgree, lastsAgree, oneOf}

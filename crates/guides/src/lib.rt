@@ -1,7 +1,7 @@
 // Compares two guides (docs/RULES.md, "Compared guides"): two sets of sections, or two schedules, each as its sections by rising number in its own
 // lent bytes, its PID beside them. Says where they differ, and gives the bytes of a section that one side alone holds. Every call takes any bytes
 // and has one answer for them; a refusal leaves the lent list and words as they were.
-use arrivals::PidWord;
+use laid::PidWord;
 use rows::Key;
 use section::ids::MaybePid;
 
@@ -171,9 +171,9 @@ fn set_sides(first: &[u8], first_pid: MaybePid, second: &[u8], second_pid: Maybe
     if !(laid::is_set(first) & laid::is_set(second)) {
         return Sides::NotSets;
     }
-    match arrivals::pid_word(first_pid) {
+    match laid::pid_word(first_pid) {
         PidWord::TooLarge => Sides::BadPid,
-        PidWord::Is(p) => match arrivals::pid_word(second_pid) {
+        PidWord::Is(p) => match laid::pid_word(second_pid) {
             PidWord::TooLarge => Sides::BadPid,
             PidWord::Is(q) => keyed(laid::key_in(p, first), laid::key_in(q, second)),
         },
@@ -186,9 +186,9 @@ fn schedule_sides(first: &[u8], first_pid: MaybePid, second: &[u8], second_pid: 
     if !(laid::is_schedule(first) & laid::is_schedule(second)) {
         return Sides::NotSets;
     }
-    match arrivals::pid_word(first_pid) {
+    match laid::pid_word(first_pid) {
         PidWord::TooLarge => Sides::BadPid,
-        PidWord::Is(p) => match arrivals::pid_word(second_pid) {
+        PidWord::Is(p) => match laid::pid_word(second_pid) {
             PidWord::TooLarge => Sides::BadPid,
             PidWord::Is(q) => keyed(
                 laid::schedule_key_in(p, first),

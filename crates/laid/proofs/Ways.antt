@@ -10,14 +10,36 @@ use lib.ListN.{length, take, drop, length-take, length-drop}
 use lib.Seq.{drop-drop}
 use lib.Dec.{leb, ltb, eqb}
 use borrow.Author.Tests.{le-leb, lt-leb, lt-ltb, le-ltb, leb-true, ltb-true, eqb-true, eqb-false, not-true, not-false}
+use Rattle.section.specs.Ids.{pidMade}
+use Rattle.section.specs.declared.ids.Pid.{Pid}
+use Rattle.section.specs.declared.ids.Made.{Made}
+use Rattle.section.specs.declared.ids.Made.the-variants as made
+use Rattle.section.specs.declared.ids.MaybePid.{MaybePid}
+use Rattle.section.specs.declared.ids.MaybePid.the-variants as maybe
+use Rattle.laid.specs.declared.PidWord.{PidWord}
+use Rattle.laid.specs.declared.PidWord.the-variants as word
 use Rattle.laws.proofs.Lists.{rest-part}
 use Rattle.laws.proofs.Tests.{and-true, and-none}
 use Rattle.section.specs.Header.{byteAt, word16, longForm, sectionLength, tableId, extensionOf}
 use Rattle.rows.specs.declared.Key.{Key}
 use Rattle.rows.specs.Rows.{sameKey}
-use Rattle.laid.specs.Laid.{isEit, keyOf, keyIn, scheduleKeyIn, inTable, inSet, inSchedule, sizeOf, sectionsIn, laidOut, chain, chainFrom, joins, joined, isSchedule, ofSchedule}
+use Rattle.laid.specs.Laid.{wordOf, pidWord, isEit, keyOf, keyIn, scheduleKeyIn, inTable, inSet, inSchedule, sizeOf, sectionsIn, laidOut, chain, chainFrom, joins, joined, isSchedule, ofSchedule}
 use Rattle.laid.specs.Walk.{longSize, Sized, from}
 use Rattle.laid.proofs.Sections.{Front, Begins, sections-none, sections-front, laid-empty, laid-none, laid-front, laid-begins, size-front, front-size}
+
+-- ---- the PID word
+
+pub word-one : (m : Made) (p : Pid) → m ≡ made.One p → word.Is (p .0) ≡ wordOf m
+word-one m p h = rw h
+
+pub word-none : (m : Made) → m ≡ made.TooLarge → word.TooLarge ≡ wordOf m
+word-none m h = rw h
+
+pub pid-some : (pid : MaybePid) (v : ℕ) (m : Made) (r : PidWord) → pid ≡ maybe.Some v → m ≡ pidMade v → r ≡ wordOf m → r ≡ pidWord pid
+pid-some pid v m r h e j = rw (h, ← e) j
+
+pub pid-none : (pid : MaybePid) → pid ≡ maybe.None → word.Is 8192 ≡ pidWord pid
+pid-none pid h = rw h
 
 -- ---- keys
 

@@ -5,6 +5,13 @@ use mathlib.Core.List.{List, [], _∷_, flatten}
 use mathlib.Core.Bool.{Bool, true, false, cond, _&&_, _||_}
 use lib.ListN.{length, take, drop}
 use lib.Dec.{leb, ltb, eqb}
+use Rattle.section.specs.Ids.{pidMade}
+use Rattle.section.specs.declared.ids.Made.{Made}
+use Rattle.section.specs.declared.ids.Made.the-variants as made
+use Rattle.section.specs.declared.ids.MaybePid.{MaybePid}
+use Rattle.section.specs.declared.ids.MaybePid.the-variants as maybe
+use Rattle.laid.specs.declared.PidWord.{PidWord}
+use Rattle.laid.specs.declared.PidWord.the-variants as word
 use Rattle.laws.specs.Entries.{entrySize, wholeEntries}
 use Rattle.laws.specs.Lists.{every}
 use Rattle.section.specs.Header.{byteAt, word16, tableId, longForm, extensionOf, versionOf, sectionNumber, lastSectionNumber}
@@ -46,6 +53,15 @@ ofSchedule t = leb 0x50 t && leb t 0x6F
 -- the first table_id of a schedule's kind, 0x50 or 0x60
 abbrev pub kindFirst : ℕ → ℕ
 kindFirst t = t / 16 * 16
+
+-- the PID word of a key: of one without a PID it is 8192; a number that is no PID has none
+abbrev pub wordOf : Made → PidWord
+wordOf (made.One p) = word.Is (p .0)
+wordOf made.TooLarge = word.TooLarge
+
+abbrev pub pidWord : MaybePid → PidWord
+pidWord maybe.None = word.Is 8192
+pidWord (maybe.Some v) = wordOf (pidMade v)
 
 -- the key of a section on this PID (8192: none), its table under this number: an EIT has its transport stream and its original network in it
 abbrev pub keyOf : ℕ → ℕ → List ℕ → Key

@@ -7,18 +7,45 @@ use section::bytes::long_form;
 use section::bytes::section_length;
 use section::bytes::wide;
 use section::bytes::word;
+use section::ids::Made;
+use section::ids::MaybePid;
+use section::ids::Pid;
 ghost use mathlib.Core.Path.{_≡_};
 ghost use mathlib.Core.Bool.{true, cond};
 ghost use Prim.Native.Nat.{_+_, _≤_, _<_};
 ghost use lib.ListN.{length};
 ghost use Rattle.section.specs.Header.{byteAt, word16};
-ghost use Rattle.laid.specs.Laid.{isEit, ofSchedule, keyOf, keyIn, scheduleKeyIn, inTable, inSet, inSchedule, joins, joined, laidOut, isSet, isSchedule, tableIn};
+ghost use Rattle.laid.specs.Laid.{wordOf, pidWord, isEit, ofSchedule, keyOf, keyIn, scheduleKeyIn, inTable, inSet, inSchedule, joins, joined, laidOut, isSet, isSchedule, tableIn};
 ghost use Rattle.laid.specs.Walk.{Sized, LaidFrom, from, RankAt, headIf, leads, Sectioned, EndAt, Placed, belowTable, Passed};
 
 // The rank that stands for the end of the bytes: a section's is below it.
 pub const NO_RANK: usize = 65536;
 
 // ---- keys
+
+// The PID word of a side's key, or none where the number is no PID (12).
+pub enum PidWord {
+    Is(u64),
+    TooLarge,
+}
+
+pub fn pid_word(pid: MaybePid) -> PidWord
+    ensures { λ r. ⌜ r ≡ pidWord pid ⌝ }
+{
+    match pid {
+        MaybePid::None => PidWord::Is(Origin::NO_PID),
+        MaybePid::Some(v) => made_word(Pid::make(v)),
+    }
+}
+
+fn made_word(m: Made) -> PidWord
+    ensures { λ r. ⌜ r ≡ wordOf m ⌝ }
+{
+    match m {
+        Made::One(p) => PidWord::Is(p.0 as u64),
+        Made::TooLarge => PidWord::TooLarge,
+    }
+}
 
 // An EIT's table_id (EN 300 468, table 2).
 pub fn is_eit(table_id: u8) -> bool
