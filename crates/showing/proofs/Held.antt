@@ -105,7 +105,7 @@ module _ (e : Eit) (heads slots cells schedule-heads units : List ℕ) (b : Bool
   size-small = whole .sets .size-high
 
   module _ (row : ℕ) (o : Bool) where
-    in-use : o ≡ setOut heads (e .sets .used) row → o ≡ true → row < e .sets .used
+    pub in-use : o ≡ setOut heads (e .sets .used) row → o ≡ true → row < e .sets .used
     unfolding setOut
     in-use p y = cond-there (ltb row (e .sets .used)) (not (eqb (markOf heads row) 0)) refl (sym p ∙ y)
       where
@@ -128,7 +128,7 @@ module _ (e : Eit) (heads slots cells schedule-heads units : List ℕ) (b : Bool
         pub table-in : table < tablesOf schedule-heads row
         pub all-in : scheduleWhole schedule-heads units row ≡ true
 
-      there : o ≡ tableOut schedule-heads units (e .schedules) row table → o ≡ true → There
+      pub there : o ≡ tableOut schedule-heads units (e .schedules) row table → o ≡ true → There
       unfolding tableOut
       there p y = go (ltb row (e .schedules)) (ltb table (tablesOf schedule-heads row)) refl refl (sym p ∙ y)
         where
@@ -144,14 +144,22 @@ module _ (e : Eit) (heads slots cells schedule-heads units : List ℕ) (b : Bool
       pub unit-long : o ≡ tableOut schedule-heads units (e .schedules) row table → o ≡ true → (row * 16 + table) * 288 + 288 ≤ length units
       unit-long p y = let w = whole in let h = there p y in let f = tables-few in omega arith
 
-      pub table-held : (part : List ℕ) → o ≡ tableOut schedule-heads units (e .schedules) row table → o ≡ true → part ≡ unitSlots units (row * 16 + table) → HeldSlots (length cells) (e .sets .size) part
+      pub table-present : o ≡ tableOut schedule-heads units (e .schedules) row table → o ≡ true → isPresent units (row * 16 + table) ≡ true
       unfolding scheduleWhole tablesThere tablesOf
-      table-held part p y f =
-          let w = whole .sets in
+      table-present p y =
+          let h = there p y in
+          let a = and-true (ltb (lastOf schedule-heads row - firstTable (tableWord schedule-heads row)) 16) (allPresent units (row * 16) (tableCount (keyAt schedule-heads row .«table_id») (lastOf schedule-heads row))) (h .all-in) in
+          present-get units (row * 16) (tablesOf schedule-heads row) table (a .1) (h .table-in)
+
+      pub table-whole : o ≡ tableOut schedule-heads units (e .schedules) row table → o ≡ true → allWhole (e .sets .count) (e .sets .size) (unitSlots units (row * 16 + table)) ≡ true
+      table-whole p y =
           let h = there p y in
           let count = e .sets .count in
           let size = e .sets .size in
-          let a = and-true (ltb (lastOf schedule-heads row - firstTable (tableWord schedule-heads row)) 16) (allPresent units (row * 16) (tableCount (keyAt schedule-heads row .«table_id») (lastOf schedule-heads row))) (h .all-in) in
           let v = units-get units count size (row * 16) (tablesOf schedule-heads row) table (schedules-get schedule-heads units count size (e .schedules) row (units-whole all (sym q ∙ t)) (h .row-in)) (h .table-in) in
-          rw f (slots-held (length cells) count size (unitSlots units (row * 16 + table)) (w .cells-long)
-          (unit-there units count size (row * 16 + table) v (present-get units (row * 16) (tablesOf schedule-heads row) table (a .1) (h .table-in))))
+          unit-there units count size (row * 16 + table) v (table-present p y)
+
+      pub table-held : (part : List ℕ) → o ≡ tableOut schedule-heads units (e .schedules) row table → o ≡ true → part ≡ unitSlots units (row * 16 + table) → HeldSlots (length cells) (e .sets .size) part
+      table-held part p y f =
+          let w = whole .sets in
+          rw f (slots-held (length cells) (e .sets .count) (e .sets .size) (unitSlots units (row * 16 + table)) (w .cells-long) (table-whole p y))
