@@ -1,5 +1,4 @@
 // The lines that `compare_guides` prints: hex in upper case, lengths, numbers and places in decimal. Each function writes to standard output as it goes.
-pub mod compared;
 
 use libc::STDOUT_FILENO;
 use section::bytes::word;

@@ -4,89 +4,64 @@ use Rattle.compare_guides.specs.Read.{FileFits}
 use borrow.Author.Needs.{needs}
 use Rattle.compare_guides.proofs.with_first.Statement.{statement}
 use Rattle.compare_guides.proofs.with_first.Tie as tie
-use Rattle.compare_guides.proofs.with_first.Reads as reads
-use Rattle.compare_guides.proofs.with_first.Lts as lts
-use Rattle.compare_guides.proofs.read_file.Reads as read-file-reads
-use Rattle.compare_guides.proofs.with_second.Reads as with-second-reads
-use Rattle.guide_lines.proofs.say.Reads as say-reads
 
--- src/main.rt:167:11
 read-file-requires : tie.Need-read-file-requires
 read-file-requires c κs = search needs
 
--- src/main.rt:168:33
 enum-told : tie.Need-enum-told
 enum-told c = search needs
 
--- src/main.rt:168:33
 slice-aggregate-say : tie.Need-slice-aggregate-say
 slice-aggregate-say c = search needs
 
--- src/main.rt:168:29
 say-requires : tie.Need-say-requires
 say-requires c κs = search needs
 
--- src/main.rt:169:30
 enum-told-2 : tie.Need-enum-told-2
 enum-told-2 c = search needs
 
--- src/main.rt:169:30
 slice-aggregate-say-2 : tie.Need-slice-aggregate-say-2
 slice-aggregate-say-2 c = search needs
 
--- src/main.rt:169:26
 say-requires-2 : tie.Need-say-requires-2
 say-requires-2 c κs = search needs
 
--- src/main.rt:170:21
 enum-known-n : tie.Need-enum-known-n
 enum-known-n c = search needs
 
--- src/main.rt:170:59
 sub-with-second : tie.Need-sub-with-second
 sub-with-second c = search needs
 
--- src/main.rt:170:59
 part-with-second-start : tie.Need-part-with-second-start
 part-with-second-start c = search needs
 
--- src/main.rt:170:59
 part-with-second-end : tie.Need-part-with-second-end
 part-with-second-end c = let w = subst FileFits (c .before .before .n .given .1) (c .before .before .before .before .before .before .read-file .ensures) in omega (arith, w, c .before .before .before .before .before .before .read-file .kept, c .before .before .before .before .before .before .before .before .before .before .before .pre)
 
--- src/main.rt:170:27
 with-second-requires : tie.Need-with-second-requires
 with-second-requires c κs = search needs
 
--- src/main.rt:158:1
 same-length : tie.Need-same-length
 same-length c = search needs
 
--- src/main.rt:158:1
 returns : tie.Need-returns
 returns c = search needs
 
--- src/main.rt:158:1
 same-length-2 : tie.Need-same-length-2
 same-length-2 c = search needs
 
--- src/main.rt:158:1
 returns-2 : tie.Need-returns-2
 returns-2 c = search needs
 
--- src/main.rt:158:1
 same-length-3 : tie.Need-same-length-3
 same-length-3 c = search needs
 
--- src/main.rt:158:1
 same-length-4 : tie.Need-same-length-4
 same-length-4 c = search needs
 
--- src/main.rt:158:1
 same-length-5 : tie.Need-same-length-5
 same-length-5 c = search needs
 
--- src/main.rt:158:1
 returns-3 : tie.Need-returns-3
 returns-3 c = search needs
 

@@ -4,49 +4,34 @@ use Rattle.compare_guides.specs.Read.{RoomFits}
 use borrow.Author.Needs.{needs}
 use Rattle.compare_guides.proofs.with_room.Statement.{statement}
 use Rattle.compare_guides.proofs.with_room.Tie as tie
-use Rattle.compare_guides.proofs.with_room.Reads as reads
-use Rattle.compare_guides.proofs.with_room.Lts as lts
-use Rattle.compare_guides.proofs.asked_room.Reads as asked-room-reads
-use Rattle.compare_guides.proofs.usage.Reads as usage-reads
-use Rattle.compare_guides.proofs.with_first.Reads as with-first-reads
 
--- src/main.rt:182:11
 asked-room-requires : tie.Need-asked-room-requires
 asked-room-requires c κs = search needs
 
--- src/main.rt:183:22
 enum-told : tie.Need-enum-told
 enum-told c = search needs
 
--- src/main.rt:183:22
 usage-requires : tie.Need-usage-requires
 usage-requires c κs = search needs
 
--- src/main.rt:184:23
 enum-known-n : tie.Need-enum-known-n
 enum-known-n c = search needs
 
--- src/main.rt:184:29
 with-first-requires : tie.Need-with-first-requires
 with-first-requires c κs = let w = subst RoomFits (c .before .before .before .before .n .given .1) (c .before .before .before .before .before .before .asked-room .ensures) in (w, omega (arith, c .before .before .before .before .before .before .before .before .before .before .pre), omega (arith, c .before .before .before .before .before .before .before .before .before .before .pre), omega (arith, c .before .before .before .before .before .before .before .before .before .before .pre))
 
--- src/main.rt:174:1
 returns : tie.Need-returns
 returns c = search needs
 
--- src/main.rt:174:1
 same-length : tie.Need-same-length
 same-length c = search needs
 
--- src/main.rt:174:1
 same-length-2 : tie.Need-same-length-2
 same-length-2 c = search needs
 
--- src/main.rt:174:1
 same-length-3 : tie.Need-same-length-3
 same-length-3 c = search needs
 
--- src/main.rt:174:1
 returns-2 : tie.Need-returns-2
 returns-2 c = search needs
 

@@ -5,9 +5,6 @@ use native.Mathlib.Omega.{arith}
 use borrow.Author.Needs.{needs}
 use Rattle.guide_lines.proofs.spell.Statement.{statement}
 use Rattle.guide_lines.proofs.spell.Tie as tie
-use Rattle.guide_lines.proofs.spell.Reads as reads
-use Rattle.guide_lines.proofs.spell.Lts as lts
-use Rattle.text.proofs.put_hex2.Reads as put-hex2-reads
 
 abbrev Inv-loop : tie.InvT-loop
 Inv-loop bytes at n digits₀ k₀ digits k = (k ≤ n) × (length digits ≡ length digits₀)
@@ -15,43 +12,33 @@ Inv-loop bytes at n digits₀ k₀ digits k = (k ≤ n) × (length digits ≡ le
 abbrev μ-loop : tie.MeasureT-loop
 μ-loop bytes at n digits₀ k₀ digits k = n - k
 
--- src/lib.rt:70:5
 loop-holds : tie.Need-loop-holds Inv-loop μ-loop
 loop-holds c = search needs
 
--- src/lib.rt:71:32
 mul-put-hex2 : tie.Need-mul-put-hex2 Inv-loop μ-loop
 mul-put-hex2 c = search needs
 
--- src/lib.rt:71:45
 add-put-hex2 : tie.Need-add-put-hex2 Inv-loop μ-loop
 add-put-hex2 c = search needs
 
--- src/lib.rt:71:39
 shared-slice-read-put-hex2 : tie.Need-shared-slice-read-put-hex2 Inv-loop μ-loop
 shared-slice-read-put-hex2 c = search needs
 
--- src/lib.rt:71:9
 put-hex2-requires : tie.Need-put-hex2-requires Inv-loop μ-loop
 put-hex2-requires c κs = search needs
 
--- src/lib.rt:72:9
 add-k : tie.Need-add-k Inv-loop μ-loop
 add-k c = search needs
 
--- src/lib.rt:70:5
 loop-less : tie.Need-loop-less Inv-loop μ-loop
 loop-less c = search needs
 
--- src/lib.rt:70:5
 loop-again : tie.Need-loop-again Inv-loop μ-loop
 loop-again c = search needs
 
--- src/lib.rt:66:1
 same-length : tie.Need-same-length Inv-loop μ-loop
 same-length c = search needs
 
--- src/lib.rt:66:1
 returns : tie.Need-returns Inv-loop μ-loop
 returns c = search needs
 

@@ -1,14 +1,8 @@
 use Prim.Native.Nat.{_≤_, _-_}
 use native.Mathlib.Omega.{arith}
 use borrow.Author.Needs.{needs}
-use Rattle.guide_lines.proofs.compared.say_tables.Statement.{statement}
-use Rattle.guide_lines.proofs.compared.say_tables.Tie as tie
-use Rattle.guide_lines.proofs.compared.say_tables.Reads as reads
-use Rattle.guide_lines.proofs.compared.say_tables.Lts as lts
-use Rattle.guide_lines.proofs.compared.say_entries.Reads as say-entries-reads
-use Rattle.guide_lines.proofs.compared.word_of.Reads as word-of-reads
-use Rattle.guide_lines.proofs.say_table.Reads as say-table-reads
-use Rattle.guides.proofs.table_part.Reads as table-part-reads
+use Rattle.guide_report.proofs.say_tables.Statement.{statement}
+use Rattle.guide_report.proofs.say_tables.Tie as tie
 
 abbrev Inv-loop : tie.InvT-loop
 Inv-loop first second base tables list n k₀ t₀ k t = (k ≤ n) × (t ≤ 16)
@@ -16,59 +10,45 @@ Inv-loop first second base tables list n k₀ t₀ k t = (k ≤ n) × (t ≤ 16)
 abbrev μ-loop : tie.MeasureT-loop
 μ-loop first second base tables list n k₀ t₀ k t = 16 - t
 
--- src/compared.rt:93:5
 loop-holds : tie.Need-loop-holds Inv-loop μ-loop
 loop-holds c = search needs
 
--- src/compared.rt:94:17
 cast-i : tie.Need-cast-i Inv-loop μ-loop
 cast-i c = search needs
 
--- src/compared.rt:95:24
 add-table-id : tie.Need-add-table-id Inv-loop μ-loop
 add-table-id c = search needs
 
--- src/compared.rt:96:29
 mul-say-table : tie.Need-mul-say-table Inv-loop μ-loop
 mul-say-table c = search needs
 
--- src/compared.rt:96:29
 element-copy-out-say-table : tie.Need-element-copy-out-say-table Inv-loop μ-loop
 element-copy-out-say-table c = search needs
 
--- src/compared.rt:96:9
 say-table-requires : tie.Need-say-table-requires Inv-loop μ-loop
 say-table-requires c κs = search needs
 
--- src/compared.rt:98:13
 table-part-requires : tie.Need-table-part-requires Inv-loop μ-loop
 table-part-requires c κs = search needs
 
--- src/compared.rt:99:13
 table-part-requires-2 : tie.Need-table-part-requires-2 Inv-loop μ-loop
 table-part-requires-2 c κs = search needs
 
--- src/compared.rt:100:13
 word-of-requires : tie.Need-word-of-requires Inv-loop μ-loop
 word-of-requires c κs = search needs
 
--- src/compared.rt:97:9
 say-entries-requires : tie.Need-say-entries-requires Inv-loop μ-loop
 say-entries-requires c κs = search needs
 
--- src/compared.rt:105:9
 add-t : tie.Need-add-t Inv-loop μ-loop
 add-t c = search needs
 
--- src/compared.rt:93:5
 loop-less : tie.Need-loop-less Inv-loop μ-loop
 loop-less c = search needs
 
--- src/compared.rt:93:5
 loop-again : tie.Need-loop-again Inv-loop μ-loop
 loop-again c = search needs
 
--- src/compared.rt:88:1
 returns : tie.Need-returns Inv-loop μ-loop
 returns c = search needs
 

@@ -1,12 +1,12 @@
 // What `compare_guides` says of two files: each a PID in two bytes, high byte first, FFFF for none, and then its sections to the end.
-use crate::say;
-use crate::say_count;
-use crate::say_entry;
-use crate::say_number;
-use crate::say_revisions;
-use crate::say_schedule;
-use crate::say_set;
-use crate::say_table;
+use guide_lines::say;
+use guide_lines::say_count;
+use guide_lines::say_entry;
+use guide_lines::say_number;
+use guide_lines::say_revisions;
+use guide_lines::say_schedule;
+use guide_lines::say_set;
+use guide_lines::say_table;
 use guides::CompareAnswer;
 use guides::Compared;
 use section::bytes::wide;

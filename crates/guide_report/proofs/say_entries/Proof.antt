@@ -1,11 +1,8 @@
 use Prim.Native.Nat.{_≤_, _-_}
 use native.Mathlib.Omega.{arith}
 use borrow.Author.Needs.{needs}
-use Rattle.guide_lines.proofs.compared.say_entries.Statement.{statement}
-use Rattle.guide_lines.proofs.compared.say_entries.Tie as tie
-use Rattle.guide_lines.proofs.compared.say_entries.Reads as reads
-use Rattle.guide_lines.proofs.compared.say_entries.Lts as lts
-use Rattle.guide_lines.proofs.say_entry.Reads as say-entry-reads
+use Rattle.guide_report.proofs.say_entries.Statement.{statement}
+use Rattle.guide_report.proofs.say_entries.Tie as tie
 
 abbrev Inv-loop : tie.InvT-loop
 Inv-loop first second table-id list k n i₀ i = (k ≤ i) × (i ≤ n)
@@ -13,91 +10,69 @@ Inv-loop first second table-id list k n i₀ i = (k ≤ i) × (i ≤ n)
 abbrev μ-loop : tie.MeasureT-loop
 μ-loop first second table-id list k n i₀ i = n - i
 
--- src/compared.rt:37:5
 loop-holds : tie.Need-loop-holds Inv-loop μ-loop
 loop-holds c = search needs
 
--- src/compared.rt:38:17
 mul-if1 : tie.Need-mul-if1 Inv-loop μ-loop
 mul-if1 c = search needs
 
--- src/compared.rt:38:12
 mul-if1-2 : tie.Need-mul-if1-2 Inv-loop μ-loop
 mul-if1-2 c = search needs
 
--- src/compared.rt:38:12
 shared-slice-read-if1 : tie.Need-shared-slice-read-if1 Inv-loop μ-loop
 shared-slice-read-if1 c = search needs
 
--- src/compared.rt:39:13
 returns : tie.Need-returns Inv-loop μ-loop
 returns c = search needs
 
--- src/compared.rt:41:39
 mul-say-entry : tie.Need-mul-say-entry Inv-loop μ-loop
 mul-say-entry c = search needs
 
--- src/compared.rt:41:39
 add-say-entry : tie.Need-add-say-entry Inv-loop μ-loop
 add-say-entry c = search needs
 
--- src/compared.rt:41:34
 mul-say-entry-2 : tie.Need-mul-say-entry-2 Inv-loop μ-loop
 mul-say-entry-2 c = search needs
 
--- src/compared.rt:41:34
 shared-slice-read-say-entry : tie.Need-shared-slice-read-say-entry Inv-loop μ-loop
 shared-slice-read-say-entry c = search needs
 
--- src/compared.rt:41:56
 mul-say-entry-3 : tie.Need-mul-say-entry-3 Inv-loop μ-loop
 mul-say-entry-3 c = search needs
 
--- src/compared.rt:41:56
 add-say-entry-2 : tie.Need-add-say-entry-2 Inv-loop μ-loop
 add-say-entry-2 c = search needs
 
--- src/compared.rt:41:51
 mul-say-entry-4 : tie.Need-mul-say-entry-4 Inv-loop μ-loop
 mul-say-entry-4 c = search needs
 
--- src/compared.rt:41:51
 shared-slice-read-say-entry-2 : tie.Need-shared-slice-read-say-entry-2 Inv-loop μ-loop
 shared-slice-read-say-entry-2 c = search needs
 
--- src/compared.rt:41:73
 mul-say-entry-5 : tie.Need-mul-say-entry-5 Inv-loop μ-loop
 mul-say-entry-5 c = search needs
 
--- src/compared.rt:41:73
 add-say-entry-3 : tie.Need-add-say-entry-3 Inv-loop μ-loop
 add-say-entry-3 c = search needs
 
--- src/compared.rt:41:68
 mul-say-entry-6 : tie.Need-mul-say-entry-6 Inv-loop μ-loop
 mul-say-entry-6 c = search needs
 
--- src/compared.rt:41:68
 shared-slice-read-say-entry-3 : tie.Need-shared-slice-read-say-entry-3 Inv-loop μ-loop
 shared-slice-read-say-entry-3 c = search needs
 
--- src/compared.rt:41:9
 say-entry-requires : tie.Need-say-entry-requires Inv-loop μ-loop
 say-entry-requires c κs = search needs
 
--- src/compared.rt:42:9
 add-i : tie.Need-add-i Inv-loop μ-loop
 add-i c = search needs
 
--- src/compared.rt:37:5
 loop-less : tie.Need-loop-less Inv-loop μ-loop
 loop-less c = search needs
 
--- src/compared.rt:37:5
 loop-again : tie.Need-loop-again Inv-loop μ-loop
 loop-again c = search needs
 
--- src/compared.rt:32:1
 returns-2 : tie.Need-returns-2 Inv-loop μ-loop
 returns-2 c = search needs
 
