@@ -17,7 +17,7 @@ use Rattle.laws.specs.Runs.{storeAfter}
 use Rattle.laws.proofs.Runs.{each-read}
 use Rattle.laws.proofs.Tests.{and-true, none≢some}
 use Rattle.answers.specs.declared.Refusal.the-variants as refusal
-use Rattle.rules_shared.specs.Same.{Bytes}
+use Rattle.rules_shared.specs.Same.{Bytes, Origin}
 use Rattle.rules_shared.specs.Slots.{everyHeld}
 use Rattle.rules_shared.specs.Touch.{everyRow, under}
 use Rattle.rules_shared.specs.Cells.{Held, Cells, bytesOf}
@@ -89,29 +89,29 @@ no-kind s r (not-eit e) q = e
 no-kind s r broken q = absurd (let z : _≡_ {A = ℕ} 0 1 = cc in omega arith)
 no-kind s r (good x e) q = absurd (let z : _≡_ {A = ℕ} 0 1 = cc in omega arith)
 
-eit-good : (pid : Option ℕ) (bytes : Bytes) (h : Header) → collectedOf bytes ≡ collected.Good h → (r : Reading) → eitOf bytes ≡ r → GoodCall readsGood (readsEit pid bytes h r)
+eit-good : (from : Origin) (bytes : Bytes) (h : Header) → collectedOf bytes ≡ collected.Good h → (r : Reading) → eitOf bytes ≡ r → GoodCall readsGood (readsEit from bytes h r)
 unfolding readsEit sectionOf readsGood isGood
-eit-good pid bytes h e reading.NotEit q = λ kind k. absurd (none≢some (not-kind bytes h e (no-kind bytes (eitOf bytes) (read-as bytes) q)) k)
-eit-good pid bytes h e reading.Broken q = tt
-eit-good pid bytes h e (reading.Good f) q = λ kind k. ap isGood q
+eit-good from bytes h e reading.NotEit q = λ kind k. absurd (none≢some (not-kind bytes h e (no-kind bytes (eitOf bytes) (read-as bytes) q)) k)
+eit-good from bytes h e reading.Broken q = tt
+eit-good from bytes h e (reading.Good f) q = λ kind k. ap isGood q
 
-read-good : (pid : Option ℕ) (bytes : Bytes) (c : Collected) → collectedOf bytes ≡ c → GoodCall readsGood (readsAs pid bytes c)
+read-good : (from : Origin) (bytes : Bytes) (c : Collected) → collectedOf bytes ≡ c → GoodCall readsGood (readsAs from bytes c)
 unfolding readsAs
-read-good pid bytes collected.Malformed e = tt
-read-good pid bytes collected.ShortForm e = tt
-read-good pid bytes collected.BadNumber e = tt
-read-good pid bytes collected.BadCrc e = tt
-read-good pid bytes (collected.Good h) e = eit-good pid bytes h e (eitOf bytes) refl
+read-good from bytes collected.Malformed e = tt
+read-good from bytes collected.ShortForm e = tt
+read-good from bytes collected.BadNumber e = tt
+read-good from bytes collected.BadCrc e = tt
+read-good from bytes (collected.Good h) e = eit-good from bytes h e (eitOf bytes) refl
 
 reads-good : (i : Given) → GoodCall readsGood (reads i)
 unfolding reads readSection
 reads-good clears = tt
 reads-good (drops f) = tt
-reads-good (section maybe-pid.None bytes) = read-good none bytes (collectedOf bytes) refl
+reads-good (section maybe-pid.None bytes) = read-good (record { pid = none }) bytes (collectedOf bytes) refl
 reads-good (section (maybe-pid.Some p) bytes) = pick (ltb p 8192)
   where
-    pick : (b : Bool) → GoodCall readsGood (cond b (readsAs (some p) bytes (collectedOf bytes)) (refuse refusal.BadPid refl))
-    pick true = read-good (some p) bytes (collectedOf bytes) refl
+    pick : (b : Bool) → GoodCall readsGood (cond b (readsAs (record { pid = some p }) bytes (collectedOf bytes)) (refuse refusal.BadPid refl))
+    pick true = read-good (record { pid = some p }) bytes (collectedOf bytes) refl
     pick false = tt
 
 -- ---- what a history leaves
