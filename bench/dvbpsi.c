@@ -145,14 +145,15 @@ static double time_port(size_t size, bool with_gate)
 {
     double best = 1e30;
     uint64_t row;
+    petrizolu_failure failure;
     if (!open_port())
         exit(2);
     for (int round = 0; round <= ROUNDS; round++) {
         double start = now(), took;
         for (int turn = 0; turn < TURNS; turn++)
             for (int s = 0; s < SERVICES; s++)
-                if (!with_gate || petrizolu_indexed_offer(&gate, GATE, EVENT_PID, sections[s], size) == PETRIZOLU_EMITTED)
-                    petrizolu_eit_push(&eit, EIT, EVENT_PID, sections[s], size, &row);
+                if (!with_gate || petrizolu_indexed_offer(&gate, GATE, 0, EVENT_PID, sections[s], size, &failure) == PETRIZOLU_EMITTED)
+                    petrizolu_eit_push(&eit, EIT, 0, EVENT_PID, sections[s], size, &row);
         took = (now() - start) / (TURNS * SERVICES);
         if (round > 0 && took < best)
             best = took;

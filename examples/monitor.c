@@ -11,6 +11,9 @@
 #include <stdio.h>
 #include <stdlib.h>
 
+/* All records come on one input. */
+enum { INPUT = 0 };
+
 enum { CAPACITY = 4096, LIMIT = 64, CELL_SIZE = 4096, CELLS = 1024, LONGEST_SECTION = 3 + 0xFFF };
 
 /* ---- the stores: a struct of words and the arrays that it goes with */
@@ -128,7 +131,7 @@ static bool is_event_table(uint8_t table_id)
 static void collect_events(struct monitor *m, uint32_t pid, const uint8_t *section, size_t length)
 {
     uint64_t row;
-    uint8_t answer = petrizolu_eit_push(&m->eit.state, LEND_EIT(&m->eit), pid, section, length, &row);
+    uint8_t answer = petrizolu_eit_push(&m->eit.state, LEND_EIT(&m->eit), INPUT, pid, section, length, &row);
     switch (answer) {
     case PETRIZOLU_NOTHING:
         break;
@@ -149,7 +152,7 @@ static void collect_events(struct monitor *m, uint32_t pid, const uint8_t *secti
 static void collect_set(struct monitor *m, uint32_t pid, const uint8_t *section, size_t length)
 {
     uint64_t row;
-    uint8_t answer = petrizolu_sets_push(&m->sets.state, LEND_SETS(&m->sets), pid, section, length, &row);
+    uint8_t answer = petrizolu_sets_push(&m->sets.state, LEND_SETS(&m->sets), INPUT, pid, section, length, &row);
     switch (answer) {
     case PETRIZOLU_NOTHING:
     case PETRIZOLU_SHORT_FORM: /* a TDT or TOT: there is no set of it */
@@ -171,7 +174,7 @@ static void take(struct monitor *m, uint32_t pid, const uint8_t *section, size_t
         m->unwatched++;
         return;
     }
-    switch (petrizolu_indexed_offer(&m->gate.state, LEND_GATE(&m->gate), pid, section, length, &failure)) {
+    switch (petrizolu_indexed_offer(&m->gate.state, LEND_GATE(&m->gate), INPUT, pid, section, length, &failure)) {
     case PETRIZOLU_EMITTED:
         printf("new pid %04" PRIX32 " table %02X, %zu bytes\n", pid, section[0], length);
         break;

@@ -15,7 +15,8 @@
  * Threads: a store (a struct with its arrays) is used by one caller at a time. Different stores may be used at the same time, and the calls
  * that ask (const struct) may run together on one store while nobody changes it.
  *
- * Each call has an example, which goes on from those before it: `section` has `length` bytes and came on the PID `pid`.
+ * Each call has an example, which goes on from those before it: `section` has `length` bytes and came on the input `input` and the
+ * PID `pid`.
  */
 #ifndef PETRIZOLU_H
 #define PETRIZOLU_H
@@ -53,13 +54,15 @@ enum petrizolu_answer {
     PETRIZOLU_NO_CELL = 21,          /* it would be kept, and no cell is free */
     PETRIZOLU_CONFLICT = 22,         /* other bytes under a section number that is held; its key is the newest now, else all is as before */
     PETRIZOLU_RANGE = 23,            /* EIT: complete, but its table_id is above the section's last_table_id; the section is kept */
-    PETRIZOLU_TOO_SHORT = 31         /* gate: too short to hold its CRC, or under 3 bytes; its length is told */
+    PETRIZOLU_TOO_SHORT = 31,        /* gate: too short to hold its CRC, or under 3 bytes; its length is told */
+    PETRIZOLU_BAD_INPUT = 37         /* an input of 16 or more */
 };
 
 /* ---- numbers */
 
 #define PETRIZOLU_NO_PID UINT32_MAX    /* to a collector: the section came with no PID */
 #define PETRIZOLU_ANY UINT64_MAX       /* in a filter: this field is free */
+#define PETRIZOLU_INPUTS 16u           /* inputs of a card: 0 to 15 */
 
 #define PETRIZOLU_DEFAULT_CAPACITY 65536u    /* keys of a gate */
 #define PETRIZOLU_DEFAULT_LIMIT 256u         /* keys of a collector */
@@ -110,6 +113,7 @@ enum petrizolu_answer {
 #define PETRIZOLU_HEAD_ORIGINAL_NETWORK_ID 5u    /* EIT only */
 #define PETRIZOLU_HEAD_VERSION 6u
 #define PETRIZOLU_HEAD_LAST 7u                   /* last_section_number; in schedule_heads: last_table_id */
+#define PETRIZOLU_HEAD_INPUT 10u
 
 /*
  * ---- the CRC of ISO/IEC 13818-1, Annex A: over a section with its own CRC at the end it is 0
@@ -152,13 +156,14 @@ typedef struct petrizolu_failure {
 
 /*
  * Opens a gate and its watch. settings: PETRIZOLU_REPEATS and so on, or'ed; other bits are not looked at. extra: PIDs that are watched and
- * protected besides the well-known ones. keys and changes need not be written before.
+ * protected besides the well-known ones. keys and changes need not be written before. watch is the record of one input: petrizolu_watch_open opens
+ * those of the others.
  * 7: *gate and watch are written, counters 0. 12: an extra PID is 8192 or more. 13: keys, changes or watch are too short, or a change rule that there is not. A refusal writes nothing.
  *
- *     static uint64_t keys[512], changes[512], watch[PETRIZOLU_WATCH_WORDS];
+ *     static uint64_t keys[512], changes[512], watch[PETRIZOLU_INPUTS][PETRIZOLU_WATCH_WORDS];
  *     static const uint16_t extra[] = {0x0100};
  *     petrizolu_gate gate;
- *     if (petrizolu_gate_open(&gate, 512, PETRIZOLU_DEFAULT_SETTINGS, PETRIZOLU_DEFAULT_CHANGE_RULE, extra, 1, keys, 512, changes, 512, watch,
+ *     if (petrizolu_gate_open(&gate, 512, PETRIZOLU_DEFAULT_SETTINGS, PETRIZOLU_DEFAULT_CHANGE_RULE, extra, 1, keys, 512, changes, 512, watch[0],
  *                             PETRIZOLU_WATCH_WORDS) != PETRIZOLU_DONE)
  *         return 1;
  */
@@ -167,11 +172,36 @@ uint8_t petrizolu_gate_open(petrizolu_gate *gate, uint64_t capacity, uint32_t se
                             uint64_t *watch, size_t watch_words);
 
 /*
- * Offers a section that came on a PID, watched or not: 1 or 2, and counters and rows move, and a changed PAT changes the watch where following is
- * on; 3 or 31, and only counters move, and *failure is written. Every other answer leaves *failure as it was. 10, 11, 12: all as before.
+ * ---- Several inputs
+ *
+ * A card has up to sixteen inputs, and one gate. What an input has of its own is its watch: a call on an input is lent the record of that input, and
+ * only that one. Everything else is one for the card, whatever the input: the gate with its counters, keys and changes (buckets and links), the set
+ * collector and the EIT collector with all that is lent to them. Sections of different inputs are never taken for each other, but they share the
+ * capacity, the limits and the cells: an eviction can come from a neighbour. A host opens as many records as it has tuners; the library does not
+ * count them, and does not notice a record that is lent for another input.
+ *
+ * Opens the record of one input. Of settings only PETRIZOLU_WELL_KNOWN is looked at.
+ * 7: watch is written. 12: an extra PID is 8192 or more. 13: watch is too short. A refusal writes nothing.
+ *
+ *     for (uint32_t i = 1; i < PETRIZOLU_INPUTS; i++)
+ *         if (petrizolu_watch_open(PETRIZOLU_DEFAULT_SETTINGS, extra, 1, watch[i], PETRIZOLU_WATCH_WORDS) != PETRIZOLU_DONE)
+ *             return 1;
+ *     bool wanted = petrizolu_watch_ask(watch[input], PETRIZOLU_WATCH_WORDS, pid) == PETRIZOLU_YES;
+ */
+uint8_t petrizolu_watch_open(uint32_t settings, const uint16_t *extra, size_t extra_count, uint64_t *watch, size_t watch_words);
+
+/*
+ * Is this PID watched on the input whose record is lent? 8, 9; 10 (fewer than 384 words), 12. The example is above.
+ */
+uint8_t petrizolu_watch_ask(const uint64_t *watch, size_t watch_words, uint32_t pid);
+
+/*
+ * Offers a section that came on an input and a PID, watched or not: 1 or 2, and counters and rows move, and a changed PAT changes the watch that is
+ * lent where following is on; 3 or 31, and only counters move, and *failure is written. Every other answer leaves *failure as it was. 10, 11, 12, 37, in
+ * this order: all as before.
  *
  *     petrizolu_failure failure;
- *     switch (petrizolu_gate_offer(&gate, keys, 512, changes, 512, watch, PETRIZOLU_WATCH_WORDS, pid, section, length, &failure)) {
+ *     switch (petrizolu_gate_offer(&gate, keys, 512, changes, 512, watch[input], PETRIZOLU_WATCH_WORDS, input, pid, section, length, &failure)) {
  *     case PETRIZOLU_EMITTED:
  *         printf("new, %llu so far\n", (unsigned long long)gate.emitted);
  *         break;
@@ -184,14 +214,8 @@ uint8_t petrizolu_gate_open(petrizolu_gate *gate, uint64_t capacity, uint32_t se
  *     }
  */
 uint8_t petrizolu_gate_offer(petrizolu_gate *gate, uint64_t *keys, size_t key_count, uint64_t *changes, size_t change_count, uint64_t *watch,
-                             size_t watch_words, uint32_t pid, const uint8_t *section, size_t section_length, petrizolu_failure *failure);
-
-/*
- * Is this PID watched? 8, 9; 10 (fewer than 384 words), 12.
- *
- *     bool wanted = petrizolu_watch_ask(watch, PETRIZOLU_WATCH_WORDS, pid) == PETRIZOLU_YES;
- */
-uint8_t petrizolu_watch_ask(const uint64_t *watch, size_t watch_words, uint32_t pid);
+                             size_t watch_words, uint32_t input, uint32_t pid, const uint8_t *section, size_t section_length,
+                             petrizolu_failure *failure);
 
 /*
  * The same gate with an index over its rows: for thousands of keys. It answers as the one above and keeps the same rows; opening writes the
@@ -202,7 +226,7 @@ uint8_t petrizolu_watch_ask(const uint64_t *watch, size_t watch_words, uint32_t 
  *     static uint64_t rows[4][ROWS];
  *     petrizolu_gate large;
  *     if (petrizolu_indexed_open(&large, ROWS, PETRIZOLU_DEFAULT_SETTINGS, PETRIZOLU_DEFAULT_CHANGE_RULE, extra, 1, rows[0], ROWS, rows[1], ROWS, rows[2],
- *                                ROWS, rows[3], ROWS, watch, PETRIZOLU_WATCH_WORDS) != PETRIZOLU_DONE)
+ *                                ROWS, rows[3], ROWS, watch[0], PETRIZOLU_WATCH_WORDS) != PETRIZOLU_DONE)
  *         return 1;
  */
 uint8_t petrizolu_indexed_open(petrizolu_gate *gate, uint64_t capacity, uint32_t settings, uint64_t change_rule, const uint16_t *extra,
@@ -213,13 +237,14 @@ uint8_t petrizolu_indexed_open(petrizolu_gate *gate, uint64_t capacity, uint32_t
 /*
  * As petrizolu_gate_offer.
  *
- *     if (petrizolu_indexed_offer(&large, rows[0], ROWS, rows[1], ROWS, rows[2], ROWS, rows[3], ROWS, watch, PETRIZOLU_WATCH_WORDS, pid, section,
- *                                 length, &failure) == PETRIZOLU_SUPPRESSED)
+ *     if (petrizolu_indexed_offer(&large, rows[0], ROWS, rows[1], ROWS, rows[2], ROWS, rows[3], ROWS, watch[input], PETRIZOLU_WATCH_WORDS,
+ *                                 input, pid, section, length, &failure) == PETRIZOLU_SUPPRESSED)
  *         printf("seen before\n");
  */
 uint8_t petrizolu_indexed_offer(petrizolu_gate *gate, uint64_t *keys, size_t key_count, uint64_t *changes, size_t change_count,
                                 uint64_t *buckets, size_t bucket_count, uint64_t *links, size_t link_count, uint64_t *watch,
-                                size_t watch_words, uint32_t pid, const uint8_t *section, size_t section_length, petrizolu_failure *failure);
+                                size_t watch_words, uint32_t input, uint32_t pid, const uint8_t *section, size_t section_length,
+                                petrizolu_failure *failure);
 
 /* ---- a section of a row */
 
@@ -262,15 +287,16 @@ uint8_t petrizolu_sets_open(petrizolu_sets *sets, uint64_t limit, uint64_t size,
                             const uint32_t *slots, size_t slot_words, const uint8_t *cells, size_t cell_bytes);
 
 /*
- * Gives a section with the PID that it came on, or PETRIZOLU_NO_PID. 5: the set in *row is complete and handed out. 4, 10 to 12, 14 to 17, 20 to
- * 22 else, and *row is not written then.
+ * Gives a section with the input and the PID that it came on, or PETRIZOLU_NO_PID. Sections of different inputs are never of one set, but the
+ * inputs share the rows and the cells: an eviction can come from a neighbour. 5: the set in *row is complete and handed out. 4, 10 to 12, 37, 14 to
+ * 17, 20 to 22 else, and *row is not written then.
  *
  *     uint64_t row = 0;
- *     if (petrizolu_sets_push(&sets, heads, sizeof heads / 8, slots, sizeof slots / 4, cells, sizeof cells, pid, section, length, &row) == PETRIZOLU_SET)
+ *     if (petrizolu_sets_push(&sets, heads, sizeof heads / 8, slots, sizeof slots / 4, cells, sizeof cells, input, pid, section, length, &row) == PETRIZOLU_SET)
  *         printf("table %02llX\n", (unsigned long long)heads[row * PETRIZOLU_HEAD_WORDS + PETRIZOLU_HEAD_TABLE_ID]);
  */
 uint8_t petrizolu_sets_push(petrizolu_sets *sets, uint64_t *heads, size_t head_words, uint32_t *slots, size_t slot_words, uint8_t *cells,
-                            size_t cell_bytes, uint32_t pid, const uint8_t *section, size_t section_length, uint64_t *row);
+                            size_t cell_bytes, uint32_t input, uint32_t pid, const uint8_t *section, size_t section_length, uint64_t *row);
 
 /*
  * Empties all rows; the eviction count stays. 7, 10.
@@ -322,15 +348,15 @@ uint8_t petrizolu_eit_open(petrizolu_eit *eit, uint64_t limit, uint64_t size, ui
                            size_t schedule_head_words, const uint32_t *units, size_t unit_words);
 
 /*
- * Gives an EIT section. 5: the present/following set in row *row is complete. 6: the schedule in row *row of the schedules is complete. 4, 10
- * to 12, 14 to 23 else, and *row is not written then.
+ * Gives an EIT section, with input and PID as the set collector takes them. 5: the present/following set in row *row is complete. 6: the schedule
+ * in row *row of the schedules is complete. 4, 10 to 12, 37, 14 to 23 else, and *row is not written then.
  *
  *     uint8_t answer = petrizolu_eit_push(&eit, heads, sizeof heads / 8, slots, sizeof slots / 4, cells, sizeof cells, schedule_heads,
- *                                         sizeof schedule_heads / 8, units, sizeof units / 4, pid, section, length, &row);
+ *                                         sizeof schedule_heads / 8, units, sizeof units / 4, input, pid, section, length, &row);
  */
 uint8_t petrizolu_eit_push(petrizolu_eit *eit, uint64_t *heads, size_t head_words, uint32_t *slots, size_t slot_words, uint8_t *cells,
                            size_t cell_bytes, uint64_t *schedule_heads, size_t schedule_head_words, uint32_t *units, size_t unit_words,
-                           uint32_t pid, const uint8_t *section, size_t section_length, uint64_t *row);
+                           uint32_t input, uint32_t pid, const uint8_t *section, size_t section_length, uint64_t *row);
 
 /*
  * Empties all sets and schedules; the eviction counts stay. 7, 10.
@@ -350,12 +376,14 @@ typedef struct petrizolu_filter {
     uint64_t transport_stream_id;
     uint64_t original_network_id;
     uint64_t current_next;    /* 0 or 1 */
+    uint64_t input;
 } petrizolu_filter;
 
 /*
- * Drops each set and each schedule that the filter matches; no eviction is counted. 7; 10 and 12 (an exact PID of 8192 or more): as before.
+ * Drops each set and each schedule that the filter matches; no eviction is counted. 7; 10, 12 (an exact PID of 8192 or more) and 37 (an
+ * exact input of 16 or more): as before.
  *
- *     petrizolu_filter service = {PETRIZOLU_ANY, PETRIZOLU_ANY, 0x0001, PETRIZOLU_ANY, PETRIZOLU_ANY, PETRIZOLU_ANY};
+ *     petrizolu_filter service = {PETRIZOLU_ANY, PETRIZOLU_ANY, 0x0001, PETRIZOLU_ANY, PETRIZOLU_ANY, PETRIZOLU_ANY, PETRIZOLU_ANY};
  *     petrizolu_eit_drop(&eit, heads, sizeof heads / 8, slots, sizeof slots / 4, cells, sizeof cells, schedule_heads, sizeof schedule_heads / 8, units,
  *                        sizeof units / 4, &service);
  */

@@ -142,37 +142,37 @@ static void damage(struct array *a)
 
 /* ---- what must hold */
 
-enum call { GATE_OPEN, GATE_OFFER, WATCH_ASK, INDEXED_OPEN, INDEXED_OFFER, SETS_OPEN, SETS_PUSH, SETS_CLEAR, SETS_NEXT, EIT_OPEN, EIT_PUSH, EIT_CLEAR, EIT_DROP, EIT_NEXT, EIT_NEXT_IN_SCHEDULE, CALLS };
+enum call { GATE_OPEN, GATE_OFFER, WATCH_OPEN, WATCH_ASK, INDEXED_OPEN, INDEXED_OFFER, SETS_OPEN, SETS_PUSH, SETS_CLEAR, SETS_NEXT, EIT_OPEN, EIT_PUSH, EIT_CLEAR, EIT_DROP, EIT_NEXT, EIT_NEXT_IN_SCHEDULE, CALLS };
 
+#define ANSWERS 38
 #define ONE(n) ((uint64_t)1 << (n))
-
-enum { LARGEST_ANSWER = 31 };
 
 static const struct {
     const char *name;
     uint64_t answers;
 } calls[CALLS] = {
     {"gate_open", ONE(7) | ONE(12) | ONE(13)},
-    {"gate_offer", ONE(1) | ONE(2) | ONE(3) | ONE(10) | ONE(11) | ONE(12) | ONE(31)},
+    {"gate_offer", ONE(1) | ONE(2) | ONE(3) | ONE(10) | ONE(11) | ONE(12) | ONE(31) | ONE(37)},
+    {"watch_open", ONE(7) | ONE(12) | ONE(13)},
     {"watch_ask", ONE(8) | ONE(9) | ONE(10) | ONE(12)},
     {"indexed_open", ONE(7) | ONE(12) | ONE(13)},
-    {"indexed_offer", ONE(1) | ONE(2) | ONE(3) | ONE(10) | ONE(11) | ONE(12) | ONE(31)},
+    {"indexed_offer", ONE(1) | ONE(2) | ONE(3) | ONE(10) | ONE(11) | ONE(12) | ONE(31) | ONE(37)},
     {"sets_open", ONE(7) | ONE(13)},
-    {"sets_push", ONE(4) | ONE(5) | ONE(10) | ONE(11) | ONE(12) | ONE(14) | ONE(15) | ONE(16) | ONE(17) | ONE(20) | ONE(21) | ONE(22)},
+    {"sets_push", ONE(4) | ONE(5) | ONE(10) | ONE(11) | ONE(12) | ONE(14) | ONE(15) | ONE(16) | ONE(17) | ONE(20) | ONE(21) | ONE(22) | ONE(37)},
     {"sets_clear", ONE(7) | ONE(10)},
     {"sets_next", ONE(8) | ONE(9) | ONE(10)},
     {"eit_open", ONE(7) | ONE(13)},
-    {"eit_push", ONE(4) | ONE(5) | ONE(6) | ONE(10) | ONE(11) | ONE(12) | 0xFFC000u},
+    {"eit_push", ONE(4) | ONE(5) | ONE(6) | ONE(10) | ONE(11) | ONE(12) | 0xFFC000u | ONE(37)},
     {"eit_clear", ONE(7) | ONE(10)},
-    {"eit_drop", ONE(7) | ONE(10) | ONE(12)},
+    {"eit_drop", ONE(7) | ONE(10) | ONE(12) | ONE(37)},
     {"eit_next", ONE(8) | ONE(9) | ONE(10)},
     {"eit_next_in_schedule", ONE(8) | ONE(9) | ONE(10)},
 };
 
-/* Refusals that leave all as before: 10 to 21. */
-#define REFUSALS 0x3FFC00u
+/* Refusals that leave all as before: 10 to 21, and 37. */
+#define REFUSALS (0x3FFC00u | ONE(37))
 
-static uint64_t answered[CALLS][32];
+static uint64_t answered[CALLS][ANSWERS];
 
 static void fail(enum call call, unsigned answer, const char *what)
 {
@@ -212,7 +212,7 @@ static bool as_before(const struct part *p)
 
 static void judge(enum call call, const struct part *p, unsigned answer)
 {
-    if (answer > LARGEST_ANSWER || !(calls[call].answers & ONE(answer)))
+    if (answer >= ANSWERS || !(calls[call].answers & ONE(answer)))
         fail(call, answer, "not an answer of this call");
     answered[call][answer]++;
     if ((REFUSALS & ONE(answer)) && !as_before(p))
@@ -348,6 +348,23 @@ static uint32_t draw_pid(void)
     }
 }
 
+/* Mostly one of two inputs, so that keys meet; each of the sixteen; and such as there are not. */
+static uint32_t draw_input(void)
+{
+    static const uint32_t wrong[] = {16, 17, 255, 256, 257, UINT32_MAX};
+    switch (below(16)) {
+    case 0:
+        return (uint32_t)any_word();
+    case 1:
+        return wrong[below(sizeof wrong / sizeof wrong[0])];
+    case 2:
+    case 3:
+        return (uint32_t)below(PETRIZOLU_INPUTS);
+    default:
+        return (uint32_t)below(2);
+    }
+}
+
 /* ---- lengths around what is needed */
 
 static size_t around(size_t needed)
@@ -406,20 +423,32 @@ static bool failure_told(unsigned answer, const petrizolu_failure *told, const p
     }
 }
 
-static unsigned gate_offer(struct part *p, bool with_index, uint32_t pid)
+static unsigned gate_offer(struct part *p, bool with_index, uint32_t input, uint32_t pid)
 {
     unsigned answer;
     petrizolu_failure before = {any_word(), any_word(), any_word()}, failure = before;
     remember(p);
     if (with_index) {
-        answer = petrizolu_indexed_offer((petrizolu_gate *)p->words, A(p, KEYS), A(p, CHANGES), A(p, BUCKETS), A(p, LINKS), A(p, WATCH), pid, SECTION, &failure);
+        answer = petrizolu_indexed_offer((petrizolu_gate *)p->words, A(p, KEYS), A(p, CHANGES), A(p, BUCKETS), A(p, LINKS), A(p, WATCH), input, pid, SECTION, &failure);
         judge(INDEXED_OFFER, p, answer);
     } else {
-        answer = petrizolu_gate_offer((petrizolu_gate *)p->words, A(p, KEYS), A(p, CHANGES), A(p, WATCH), pid, SECTION, &failure);
+        answer = petrizolu_gate_offer((petrizolu_gate *)p->words, A(p, KEYS), A(p, CHANGES), A(p, WATCH), input, pid, SECTION, &failure);
         judge(GATE_OFFER, p, answer);
     }
     if (!failure_told(answer, &failure, &before))
         fail(with_index ? INDEXED_OFFER : GATE_OFFER, answer, "tells another failure");
+    if (answer != PETRIZOLU_NOT_WHOLE && answer != PETRIZOLU_COUNTER_FULL && answer != PETRIZOLU_BAD_PID && (answer == PETRIZOLU_BAD_INPUT) != (input >= PETRIZOLU_INPUTS))
+        fail(with_index ? INDEXED_OFFER : GATE_OFFER, answer, "an input that there is not");
+    return answer;
+}
+
+/* The record of a further input: nothing else of the gate is lent. */
+static unsigned watch_open(struct part *p, uint32_t settings, const uint16_t *extra, size_t extras)
+{
+    unsigned answer;
+    remember(p);
+    answer = petrizolu_watch_open(settings, extra, extras, A(p, WATCH));
+    judge(WATCH_OPEN, p, answer);
     return answer;
 }
 
@@ -456,9 +485,11 @@ static void round_of_gates(void)
             p->words[i] = once_in(2) ? below(6) : any_word();
         for (int i = 0; i < 4; i++) {
             draw_section();
-            gate_offer(p, p == &indexed, draw_pid());
+            gate_offer(p, p == &indexed, draw_input(), draw_pid());
             gate_ask(p, draw_pid());
         }
+        if (once_in(2))
+            watch_open(p, settings, extra, extras);
         gate_open(p, p == &indexed, once_in(4) ? any_word() : capacity, settings, rule, extra, extras);
         return;
     }
@@ -472,12 +503,19 @@ static void round_of_gates(void)
         fail(INDEXED_OPEN, opened, "not as the gate without an index");
     if (opened != PETRIZOLU_DONE)
         return;
+    if (once_in(4)) { /* the record that the opening wrote, by itself */
+        static uint64_t watch[PETRIZOLU_WATCH_WORDS];
+        memcpy(watch, gate.arrays[WATCH].data, sizeof watch);
+        scramble(&gate.arrays[WATCH]);
+        if (watch_open(&gate, settings, extra, extras) != PETRIZOLU_DONE || memcmp(watch, gate.arrays[WATCH].data, sizeof watch) != 0)
+            fail(WATCH_OPEN, opened, "not the record that opening the gate writes");
+    }
     for (int i = 0; i < 12; i++) {
-        uint32_t pid = draw_pid();
+        uint32_t input = draw_input(), pid = draw_pid();
         unsigned a, b;
         draw_section();
-        a = gate_offer(&gate, false, pid);
-        b = gate_offer(&indexed, true, pid);
+        a = gate_offer(&gate, false, input, pid);
+        b = gate_offer(&indexed, true, input, pid);
         if (a != b || memcmp(gate.words, indexed.words, sizeof gate.words) != 0 || memcmp(gate.arrays[WATCH].data, indexed.arrays[WATCH].data, size_of(&gate.arrays[WATCH])) != 0
             || memcmp(gate.arrays[KEYS].data, indexed.arrays[KEYS].data, 8 * gate.words[USED]) != 0 || memcmp(gate.arrays[CHANGES].data, indexed.arrays[CHANGES].data, 8 * gate.words[USED]) != 0)
             fail(INDEXED_OFFER, b, "not as the gate without an index");
@@ -498,8 +536,8 @@ static void round_of_gates(void)
     }
     for (int i = 0; i < 3; i++) {
         draw_section();
-        gate_offer(&gate, false, draw_pid());
-        gate_offer(&indexed, true, draw_pid());
+        gate_offer(&gate, false, draw_input(), draw_pid());
+        gate_offer(&indexed, true, draw_input(), draw_pid());
     }
 }
 
@@ -551,7 +589,7 @@ static void sets_push(uint32_t pid)
     uint64_t row[1] = {77};
     unsigned answer;
     remember(&sets);
-    answer = petrizolu_sets_push((petrizolu_sets *)sets.words, SETS(&sets), pid, SECTION, row);
+    answer = petrizolu_sets_push((petrizolu_sets *)sets.words, SETS(&sets), draw_input(), pid, SECTION, row);
     judge(SETS_PUSH, &sets, answer);
     if (answer == PETRIZOLU_CONFLICT)
         check_conflict(SETS_PUSH, &sets);
@@ -585,7 +623,7 @@ static void eit_push(uint32_t pid)
     uint64_t row[1] = {77};
     unsigned answer;
     remember(&eit);
-    answer = petrizolu_eit_push((petrizolu_eit *)eit.words, EIT(&eit), pid, SECTION, row);
+    answer = petrizolu_eit_push((petrizolu_eit *)eit.words, EIT(&eit), draw_input(), pid, SECTION, row);
     judge(EIT_PUSH, &eit, answer);
     if (answer == PETRIZOLU_CONFLICT)
         check_conflict(EIT_PUSH, &eit);
@@ -620,11 +658,13 @@ static void eit_clear(void)
 
 static void eit_drop(void)
 {
-    uint64_t filter[6];
-    for (int i = 0; i < 6; i++)
+    uint64_t filter[7];
+    for (int i = 0; i < 7; i++)
         filter[i] = once_in(3) ? below(4) : PETRIZOLU_ANY;
     if (once_in(2))
         filter[0] = draw_pid();
+    if (once_in(4))
+        filter[6] = draw_input();
     remember(&eit);
     judge(EIT_DROP, &eit, petrizolu_eit_drop((petrizolu_eit *)eit.words, EIT(&eit), (const petrizolu_filter *)filter));
 }
@@ -719,7 +759,7 @@ static void print_counts(void)
     uint64_t total = 0;
     for (int c = 0; c < CALLS; c++) {
         printf("%s:", calls[c].name);
-        for (int a = 0; a < 32; a++) {
+        for (int a = 0; a < ANSWERS; a++) {
             if (answered[c][a] != 0)
                 printf(" %d=%llu", a, (unsigned long long)answered[c][a]);
             total += answered[c][a];

@@ -120,17 +120,17 @@ fn gate(rounds: usize) {
             let mut gate = Gate::open(65_536, &[]).expect("opens");
             let mut demux = SiDemux::builder().build();
             for section in &all {
-                let _ = (small.offer(PID, section), gate.offer(PID, section), demux.offer(Pid::new(PID), section.clone()));
+                let _ = (small.offer(0, PID, section), gate.offer(0, PID, section), demux.offer(Pid::new(PID), section.clone()));
             }
             let mut port: [Side; 2] = [
                 Box::new(|| {
                     for &i in order.iter().cycle().take(turns * keys) {
-                        let _ = black_box(small.offer(PID, &all[i]));
+                        let _ = black_box(small.offer(0, PID, &all[i]));
                     }
                 }),
                 Box::new(|| {
                     for &i in order.iter().cycle().take(turns * keys) {
-                        let _ = black_box(gate.offer(PID, &all[i]));
+                        let _ = black_box(gate.offer(0, PID, &all[i]));
                     }
                 }),
             ];
@@ -155,12 +155,12 @@ fn gate_new_keys(rounds: usize) {
         let mut port: [Side; 2] = [
             Box::new(|| {
                 for section in &all {
-                    let _ = black_box(small.offer(PID, section));
+                    let _ = black_box(small.offer(0, PID, section));
                 }
             }),
             Box::new(|| {
                 for section in &all {
-                    let _ = black_box(gate.offer(PID, section));
+                    let _ = black_box(gate.offer(0, PID, section));
                 }
             }),
         ];
@@ -185,7 +185,7 @@ fn sets(rounds: usize) {
             let mut collector = SectionSetCollector::new().with_max_partial_keys(limit);
             let mut port: [Side; 1] = [Box::new(|| {
                 for &i in order.iter().cycle().take(turns * limit) {
-                    let _ = black_box(sets.push(Some(PID), &all[i]));
+                    let _ = black_box(sets.push(0, Some(PID), &all[i]));
                 }
             })];
             let mut original: Side = Box::new(|| {
@@ -208,7 +208,7 @@ fn sets_new_keys(rounds: usize) {
             let mut collector = SectionSetCollector::new().with_max_partial_keys(limit);
             let mut port: [Side; 1] = [Box::new(|| {
                 for section in &all {
-                    let _ = black_box(sets.push(Some(PID), section));
+                    let _ = black_box(sets.push(0, Some(PID), section));
                 }
             })];
             let mut original: Side = Box::new(|| {
@@ -232,7 +232,7 @@ fn event_repeats(rounds: usize, title: &str, table_id: u8) {
             let mut collector = EitCollector::new().with_max_logical_keys(limit);
             let mut port: [Side; 1] = [Box::new(|| {
                 for &i in order.iter().cycle().take(turns * limit) {
-                    assert!(black_box(port_eit.push(Some(0x12), &all[i])).is_ok());
+                    assert!(black_box(port_eit.push(0, Some(0x12), &all[i])).is_ok());
                 }
             })];
             let mut original: Side = Box::new(|| {
@@ -259,7 +259,7 @@ fn full_guide(rounds: usize) {
         let mut port: [Side; 1] = [Box::new(|| {
             port_eit.clear().expect("whole");
             for section in &all {
-                assert!(black_box(port_eit.push(Some(0x12), section)).is_ok());
+                assert!(black_box(port_eit.push(0, Some(0x12), section)).is_ok());
             }
         })];
         let mut original: Side = Box::new(|| {
@@ -282,7 +282,7 @@ fn check_of_the_store(rounds: usize) {
         let mut sets = Sets::open(limit, 64, (limit * slots).min(65_535)).expect("opens");
         for i in 0..limit {
             for number in 0..=last {
-                let _ = sets.push(None, &long(0x42, i as u16, number, last, &[0; 52]));
+                let _ = sets.push(0, None, &long(0x42, i as u16, number, last, &[0; 52]));
             }
         }
         let turns = 400_000 / (limit * slots) + 4;

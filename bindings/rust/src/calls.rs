@@ -81,16 +81,22 @@ pub struct Filter {
     pub transport_stream_id: u64,
     pub original_network_id: u64,
     pub current_next: u64,
+    pub input: u64,
 }
 
 impl Filter {
     /// Matches all.
     pub const ALL: Self =
-        Self { pid: ANY, kind: ANY, service_id: ANY, transport_stream_id: ANY, original_network_id: ANY, current_next: ANY };
+        Self { pid: ANY, kind: ANY, service_id: ANY, transport_stream_id: ANY, original_network_id: ANY, current_next: ANY, input: ANY };
 
     /// Only those with this PID, or only those without one.
     pub fn pid(self, pid: Option<u16>) -> Self {
         Self { pid: rows::pid_word(pid).into(), ..self }
+    }
+
+    /// Only those of this input.
+    pub fn input(self, input: u8) -> Self {
+        Self { input: input.into(), ..self }
     }
 
     pub fn service_id(self, service_id: u16) -> Self {
@@ -140,6 +146,7 @@ pub fn gate_offer(
     keys: &mut [u64],
     changes: &mut [u64],
     watch: &mut [u64],
+    input: u32,
     pid: u32,
     section: &[u8],
     failure: &mut Failure,
@@ -154,12 +161,19 @@ pub fn gate_offer(
             changes.len(),
             watch.as_mut_ptr(),
             watch.len(),
+            input,
             pid,
             section.as_ptr(),
             section.len(),
             failure,
         )
     })
+}
+
+/// The record of one input.
+pub fn watch_open(settings: u32, extra: &[u16], watch: &mut [u64]) -> Answer {
+    // SAFETY: as above.
+    Answer(unsafe { raw::petrizolu_watch_open(settings, extra.as_ptr(), extra.len(), watch.as_mut_ptr(), watch.len()) })
 }
 
 pub fn watch_ask(watch: &[u64], pid: u32) -> Answer {
@@ -209,6 +223,7 @@ pub fn indexed_offer(
     buckets: &mut [u64],
     links: &mut [u64],
     watch: &mut [u64],
+    input: u32,
     pid: u32,
     section: &[u8],
     failure: &mut Failure,
@@ -227,6 +242,7 @@ pub fn indexed_offer(
             links.len(),
             watch.as_mut_ptr(),
             watch.len(),
+            input,
             pid,
             section.as_ptr(),
             section.len(),
@@ -261,6 +277,7 @@ pub fn sets_push(
     heads: &mut [u64],
     slots: &mut [u32],
     cells: &mut [u8],
+    input: u32,
     pid: u32,
     section: &[u8],
     row: &mut u64,
@@ -275,6 +292,7 @@ pub fn sets_push(
             slots.len(),
             cells.as_mut_ptr(),
             cells.len(),
+            input,
             pid,
             section.as_ptr(),
             section.len(),
@@ -350,6 +368,7 @@ pub fn eit_push(
     cells: &mut [u8],
     schedule_heads: &mut [u64],
     units: &mut [u32],
+    input: u32,
     pid: u32,
     section: &[u8],
     row: &mut u64,
@@ -368,6 +387,7 @@ pub fn eit_push(
             schedule_heads.len(),
             units.as_mut_ptr(),
             units.len(),
+            input,
             pid,
             section.as_ptr(),
             section.len(),

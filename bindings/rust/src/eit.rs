@@ -34,8 +34,8 @@ impl Eit {
             .map(|()| eit)
     }
 
-    /// Gives an EIT section; the row of a set or of a schedule that is complete with it.
-    pub fn push(&mut self, pid: Option<u16>, section: &[u8]) -> Result<Option<Complete>, Refused> {
+    /// Gives an EIT section of an input; the row of a set or of a schedule that is complete with it.
+    pub fn push(&mut self, input: u8, pid: Option<u16>, section: &[u8]) -> Result<Option<Complete>, Refused> {
         let mut row = 0;
         let answer = calls::eit_push(
             &mut self.state,
@@ -44,6 +44,7 @@ impl Eit {
             &mut self.cells,
             &mut self.schedule_heads,
             &mut self.units,
+            input.into(),
             pid_word(pid),
             section,
             &mut row,

@@ -1,6 +1,6 @@
-//! The gate in both its forms, each with the watch.
+//! The gate in both its forms, each with a watch record for each input.
 use crate::calls::{self, Failure, GateState};
-use crate::{Answer, DEFAULT_CHANGE_RULE, DEFAULT_SETTINGS, Refused, WATCH_WORDS};
+use crate::{Answer, DEFAULT_CHANGE_RULE, DEFAULT_SETTINGS, INPUTS, Refused, WATCH_WORDS};
 
 #[derive(Debug, Clone, Copy, PartialEq, Eq)]
 pub enum Offered {
@@ -9,7 +9,10 @@ pub enum Offered {
     /// Too short to hold its CRC, or under 3 bytes: so many bytes.
     TooShort(usize),
     /// The CRC that the section carries is not that of its bytes.
-    Mismatch { stored: u32, worked: u32 },
+    Mismatch {
+        stored: u32,
+        worked: u32,
+    },
 }
 
 fn offered(answer: Answer, failure: Failure) -> Result<Offered, Refused> {
@@ -27,8 +30,28 @@ fn rows(capacity: usize) -> Box<[u64]> {
     vec![0; capacity.max(1)].into_boxed_slice()
 }
 
-fn watch() -> Box<[u64]> {
-    vec![0; WATCH_WORDS].into_boxed_slice()
+/// The watch record of each input. Who gives an input gets its own record, and no other.
+struct Watches(Box<[[u64; WATCH_WORDS]]>);
+
+impl Watches {
+    fn new() -> Self {
+        Self(vec![[0; WATCH_WORDS]; INPUTS].into_boxed_slice())
+    }
+
+    /// Opens the records of all inputs but 0: that one is opened with the gate.
+    fn open_further(&mut self, extra: &[u16]) -> Result<(), Refused> {
+        self.0[1..].iter_mut().try_for_each(|watch| calls::watch_open(DEFAULT_SETTINGS, extra, watch).done())
+    }
+
+    /// What is lent to a call on an input. An input that there is not is refused whatever is lent (37).
+    fn of(&mut self, input: u8) -> &mut [u64] {
+        let at = usize::from(input);
+        &mut self.0[if at < INPUTS { at } else { 0 }]
+    }
+
+    fn watches(&self, input: u8, pid: u16) -> bool {
+        self.0.get(usize::from(input)).is_some_and(|watch| calls::watch_ask(watch, pid.into()) == Answer::YES)
+    }
 }
 
 /// The gate that looks through its rows in order: for some hundreds of keys.
@@ -36,13 +59,13 @@ pub struct SmallGate {
     state: GateState,
     keys: Box<[u64]>,
     changes: Box<[u64]>,
-    watch: Box<[u64]>,
+    watches: Watches,
 }
 
 impl SmallGate {
-    /// A gate with the default settings; the extra PIDs are watched and protected besides the well-known ones.
+    /// A gate with the default settings; the extra PIDs are watched and protected besides the well-known ones, on every input.
     pub fn open(capacity: usize, extra: &[u16]) -> Result<Self, Refused> {
-        let mut gate = Self { state: GateState::default(), keys: rows(capacity), changes: rows(capacity), watch: watch() };
+        let mut gate = Self { state: GateState::default(), keys: rows(capacity), changes: rows(capacity), watches: Watches::new() };
         let answer = calls::gate_open(
             &mut gate.state,
             capacity as u64,
@@ -51,20 +74,32 @@ impl SmallGate {
             extra,
             &gate.keys,
             &gate.changes,
-            &mut gate.watch,
+            gate.watches.of(0),
         );
-        answer.done().map(|()| gate)
+        answer.done()?;
+        gate.watches.open_further(extra)?;
+        Ok(gate)
     }
 
-    pub fn offer(&mut self, pid: u16, section: &[u8]) -> Result<Offered, Refused> {
+    /// Offers a section that came on an input and a PID.
+    pub fn offer(&mut self, input: u8, pid: u16, section: &[u8]) -> Result<Offered, Refused> {
         let mut failure = Failure::default();
-        let answer =
-            calls::gate_offer(&mut self.state, &mut self.keys, &mut self.changes, &mut self.watch, pid.into(), section, &mut failure);
+        let answer = calls::gate_offer(
+            &mut self.state,
+            &mut self.keys,
+            &mut self.changes,
+            self.watches.of(input),
+            input.into(),
+            pid.into(),
+            section,
+            &mut failure,
+        );
         offered(answer, failure)
     }
 
-    pub fn watches(&self, pid: u16) -> bool {
-        calls::watch_ask(&self.watch, pid.into()) == Answer::YES
+    /// Whether the PID is watched on the input.
+    pub fn watches(&self, input: u8, pid: u16) -> bool {
+        self.watches.watches(input, pid)
     }
 
     /// Settings and counters.
@@ -80,11 +115,11 @@ pub struct Gate {
     changes: Box<[u64]>,
     buckets: Box<[u64]>,
     links: Box<[u64]>,
-    watch: Box<[u64]>,
+    watches: Watches,
 }
 
 impl Gate {
-    /// A gate with the default settings; the extra PIDs are watched and protected besides the well-known ones.
+    /// A gate with the default settings; the extra PIDs are watched and protected besides the well-known ones, on every input.
     pub fn open(capacity: usize, extra: &[u16]) -> Result<Self, Refused> {
         let mut gate = Self {
             state: GateState::default(),
@@ -92,7 +127,7 @@ impl Gate {
             changes: rows(capacity),
             buckets: rows(capacity),
             links: rows(capacity),
-            watch: watch(),
+            watches: Watches::new(),
         };
         let answer = calls::indexed_open(
             &mut gate.state,
@@ -104,12 +139,15 @@ impl Gate {
             &gate.changes,
             &mut gate.buckets,
             &gate.links,
-            &mut gate.watch,
+            gate.watches.of(0),
         );
-        answer.done().map(|()| gate)
+        answer.done()?;
+        gate.watches.open_further(extra)?;
+        Ok(gate)
     }
 
-    pub fn offer(&mut self, pid: u16, section: &[u8]) -> Result<Offered, Refused> {
+    /// Offers a section that came on an input and a PID.
+    pub fn offer(&mut self, input: u8, pid: u16, section: &[u8]) -> Result<Offered, Refused> {
         let mut failure = Failure::default();
         let answer = calls::indexed_offer(
             &mut self.state,
@@ -117,7 +155,8 @@ impl Gate {
             &mut self.changes,
             &mut self.buckets,
             &mut self.links,
-            &mut self.watch,
+            self.watches.of(input),
+            input.into(),
             pid.into(),
             section,
             &mut failure,
@@ -125,8 +164,9 @@ impl Gate {
         offered(answer, failure)
     }
 
-    pub fn watches(&self, pid: u16) -> bool {
-        calls::watch_ask(&self.watch, pid.into()) == Answer::YES
+    /// Whether the PID is watched on the input.
+    pub fn watches(&self, input: u8, pid: u16) -> bool {
+        self.watches.watches(input, pid)
     }
 
     /// Settings and counters.

@@ -22,6 +22,8 @@ pub use sets::Sets;
 pub const NO_PID: u32 = u32::MAX;
 /// In a filter: this field is free.
 pub const ANY: u64 = u64::MAX;
+/// Inputs of a card: 0 to 15.
+pub const INPUTS: usize = 16;
 
 /// Keys of a gate by default.
 pub const DEFAULT_CAPACITY: u64 = 65_536;

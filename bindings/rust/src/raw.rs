@@ -25,11 +25,13 @@ unsafe extern "C" {
         change_count: usize,
         watch: *mut u64,
         watch_words: usize,
+        input: u32,
         pid: u32,
         section: *const u8,
         section_length: usize,
         failure: *mut Failure,
     ) -> u8;
+    pub fn petrizolu_watch_open(settings: u32, extra: *const u16, extra_count: usize, watch: *mut u64, watch_words: usize) -> u8;
     pub fn petrizolu_watch_ask(watch: *const u64, watch_words: usize, pid: u32) -> u8;
     pub fn petrizolu_indexed_open(
         gate: *mut GateState,
@@ -61,6 +63,7 @@ unsafe extern "C" {
         link_count: usize,
         watch: *mut u64,
         watch_words: usize,
+        input: u32,
         pid: u32,
         section: *const u8,
         section_length: usize,
@@ -86,6 +89,7 @@ unsafe extern "C" {
         slot_words: usize,
         cells: *mut u8,
         cell_bytes: usize,
+        input: u32,
         pid: u32,
         section: *const u8,
         section_length: usize,
@@ -140,6 +144,7 @@ unsafe extern "C" {
         schedule_head_words: usize,
         units: *mut u32,
         unit_words: usize,
+        input: u32,
         pid: u32,
         section: *const u8,
         section_length: usize,

@@ -8,6 +8,7 @@ pub struct Row(pub(crate) u64);
 /// What names a row that was handed out.
 #[derive(Debug, Clone, Copy)]
 pub struct Name {
+    pub input: u8,
     pub pid: Option<u16>,
     /// Of a schedule: its kind.
     pub table_id: u8,
@@ -20,6 +21,7 @@ pub struct Name {
 pub(crate) fn name(heads: &[u64], row: &Row) -> Name {
     let head = &heads[row.0 as usize * HEAD_WORDS..][..HEAD_WORDS];
     Name {
+        input: head[10] as u8,
         pid: u16::try_from(head[0]).ok().filter(|&pid| pid < 8192),
         table_id: head[1] as u8,
         extension: head[2] as u16,

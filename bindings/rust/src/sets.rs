@@ -22,10 +22,19 @@ impl Sets {
         calls::sets_open(&mut sets.state, limit, size, count, &sets.heads, &sets.slots, &sets.cells).done().map(|()| sets)
     }
 
-    /// Gives a section; the row of a set that is complete with it.
-    pub fn push(&mut self, pid: Option<u16>, section: &[u8]) -> Result<Option<Row>, Refused> {
+    /// Gives a section of an input; the row of a set that is complete with it.
+    pub fn push(&mut self, input: u8, pid: Option<u16>, section: &[u8]) -> Result<Option<Row>, Refused> {
         let mut row = 0;
-        let answer = calls::sets_push(&mut self.state, &mut self.heads, &mut self.slots, &mut self.cells, pid_word(pid), section, &mut row);
+        let answer = calls::sets_push(
+            &mut self.state,
+            &mut self.heads,
+            &mut self.slots,
+            &mut self.cells,
+            input.into(),
+            pid_word(pid),
+            section,
+            &mut row,
+        );
         match answer {
             Answer::NOTHING => Ok(None),
             Answer::SET => Ok(Some(Row(row))),

@@ -15,8 +15,8 @@ fn complete_sets(rounds: &[[(u8, u8); 4]], goes_on: impl Fn(Offered) -> bool) ->
     let mut complete = 0;
     for &(extension, number) in rounds.iter().flatten() {
         let bytes = section(extension, number);
-        if goes_on(gate.offer(0x11, &bytes).expect("the gate judges")) {
-            complete += usize::from(sets.push(Some(0x11), &bytes).expect("the collector takes it").is_some());
+        if goes_on(gate.offer(0, 0x11, &bytes).expect("the gate judges")) {
+            complete += usize::from(sets.push(0, Some(0x11), &bytes).expect("the collector takes it").is_some());
         }
     }
     complete

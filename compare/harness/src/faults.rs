@@ -26,6 +26,13 @@ impl Fault {
     pub fn of_rule_2(self) -> bool {
         matches!(self, Fault::RuleIgnored | Fault::OnlyTotStoredCrc | Fault::PlainStoredCrc)
     }
+
+    /// Whether it shows where there are several inputs alone.
+    pub fn of_inputs(self) -> bool {
+        let of_gate = matches!(self, Fault::InputNotInKey | Fault::InputBeforePid | Fault::PatOfAnotherInput);
+        let of_eit = matches!(self, Fault::InputNotInEitKey | Fault::InputNotInScheduleKey | Fault::InputNotInFilter);
+        of_gate || of_eit || self == Fault::InputNotInSetKey
+    }
 }
 
 faults! {
@@ -53,6 +60,9 @@ faults! {
     FormerKept Gate "PIDs of the former PAT are never dropped",
     PatRemainderRead Gate "a PAT with a remainder after its groups of four is followed",
     PatNextIgnored Gate "a PAT marked next is not followed",
+    InputNotInKey Gate "the input is no part of the gate's key",
+    InputBeforePid Gate "an input that there is not is answered before a PID that there is not",
+    PatOfAnotherInput Gate "a PAT changes the watch of input 0, whatever input it came on",
 
     NewestLeaves Sets "the most recently touched key leaves",
     RepeatUntouched Sets "a repeat does not make its key the newest",
@@ -67,6 +77,7 @@ faults! {
     LimitZeroHoldsOne Sets "limit 0 holds one key",
     LeavingCellsKept Sets "the cells of a row that leaves or is emptied are not free for the section that did it",
     LimitBeforeLength Sets "limit 0 is looked at before the cell's size",
+    InputNotInSetKey Sets "the input is no part of a set's key",
 
     EventsUnread Eit "the event loop is not read to its end",
     FirstSegmentWins Eit "the first segment_last_section_number of a segment stays",
@@ -86,4 +97,7 @@ faults! {
     DropKeepsSchedules Eit "a drop leaves the schedules",
     DropCountsEvictions Eit "a drop counts what goes as evicted",
     ScheduleWithoutNetwork Eit "original_network_id is no part of a schedule's key",
+    InputNotInEitKey Eit "the input is no part of the key of an EIT's set",
+    InputNotInScheduleKey Eit "the input is no part of a schedule's key",
+    InputNotInFilter Eit "a drop that asks for one input drops what matches on every input",
 }

@@ -8,8 +8,15 @@ const KEYS: u16 = 64;
 /// Bytes of a collector's cells.
 const CELL_BYTES: u32 = 1 << 20;
 
+/// Inputs of a card.
+pub const INPUTS: usize = 16;
+
 pub const fn is_pid(pid: u16) -> bool {
     pid < 8192
+}
+
+pub const fn is_input(input: u8) -> bool {
+    (input as usize) < INPUTS
 }
 
 /// What opening a gate answers: 12, 13 or 7.

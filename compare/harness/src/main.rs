@@ -1,4 +1,5 @@
 //! Runs the port beside the original and beside a second implementation, in one process, and compares what they answer, command for command.
+mod apart;
 mod faults;
 mod lent;
 mod make;
@@ -14,7 +15,7 @@ mod written;
 
 use faults::Fault;
 use make::Domain;
-use pairs::{Found, Side, differing, first_difference, smallest};
+use pairs::{Found, Side, differing, differing_apart, first_difference, smallest};
 use player::command::Command;
 use player::play::play;
 use player::port::Port;
@@ -29,10 +30,11 @@ use written::Written;
 
 const USAGE: &str = "usage: compare/run [SEEDS] [COMMANDS]             scripts inside the rules' domain, damaged and cell-bound
        compare/run --rule-2 [SEEDS] [COMMANDS]    the same by change rule 2: the port beside the second implementation, the original has none
+       compare/run --inputs [SEEDS] [COMMANDS]    several inputs: each beside an original of its own where nothing leaves, else the port beside the second implementation
        compare/run --faults [SEEDS] [COMMANDS]    the same, with each fault in turn in the second implementation
        compare/run --present [SEEDS] [COMMANDS]   two EIT collectors, one with a smaller limit: the third demand for present and following
        compare/run --script FILE                  a script of your own
-       compare/run --tape DOMAIN SEED COMMANDS    writes the script of a seed as a tape (inside, damaged or cells)
+       compare/run --tape DOMAIN SEED COMMANDS    writes the script of a seed as a tape (inside, damaged or cells; inputs or apart for several inputs)
        compare/run --store                        makes the tapes of tests/tapes and the output of examples_run anew";
 
 fn main() -> ExitCode {
@@ -45,6 +47,10 @@ fn main() -> ExitCode {
             (Some(seeds), Some(commands)) => compare_rule_2(&root, seeds, commands),
             _ => return usage(),
         },
+        Some(&"--inputs") => match (number(1, 50), number(2, 20_000)) {
+            (Some(seeds), Some(commands)) => compare_inputs(&root, seeds, commands),
+            _ => return usage(),
+        },
         Some(&"--faults") => match (number(1, 40), number(2, 2000)) {
             (Some(seeds), Some(commands)) => compare_faults(seeds, commands),
             _ => return usage(),
@@ -54,8 +60,11 @@ fn main() -> ExitCode {
             _ => return usage(),
         },
         Some(&"--script") if words.len() == 2 => compare_file(Path::new(words[1])),
-        Some(&"--tape") if words.len() == 4 => match (Domain::named(words[1]), number(2, 0), number(3, 0)) {
-            (Some(domain), Some(seed), Some(commands)) => write_tape(domain, seed as u64, commands),
+        Some(&"--tape") if words.len() == 4 => match (number(2, 0), number(3, 0)) {
+            (Some(seed), Some(commands)) => match named_script(words[1], seed as u64, commands) {
+                Some(script) => std::io::stdout().write_all(&tape_of(&script)).is_ok(),
+                None => return usage(),
+            },
             _ => return usage(),
         },
         Some(&"--store") if words.len() == 1 => store::store(&root),
@@ -122,6 +131,42 @@ fn compare_rule_2(root: &Path, seeds: usize, commands: usize) -> bool {
     wrong.is_empty()
 }
 
+/// Several inputs. Where nothing leaves, each input beside an original of its own; where they share little room, the port beside the second implementation.
+fn compare_inputs(root: &Path, seeds: usize, commands: usize) -> bool {
+    let scripts = Written::all(root, "inputs");
+    let sides = [Side::RULES, Side::Port];
+    let wrong: Vec<String> = scripts.iter().flat_map(|script| sides.map(|side| script.not_as_said(side))).flatten().collect();
+    println!("{} written scripts of inputs/: {}", scripts.len(), if wrong.is_empty() { "as said" } else { "NOT as said" });
+    wrong.iter().for_each(|line| println!("  {line}"));
+    let mut report = Report::default();
+    for seed in 0..seeds as u64 {
+        let script = make::apart(seed, commands);
+        assert!(apart::is_apart(&script), "apart, seed {seed}");
+        if let Some(found) = differing_apart(&script, &mut report) {
+            println!("apart, seed {seed}: a difference at command {}; the smallest script found:", found.line + 1);
+            println!("{}", smallest(found));
+            return false;
+        }
+    }
+    println!("apart: {seeds} seeds, 0 differences that are not named\n{report}");
+    let mut good = wrong.is_empty() && report.named_as_expected(Domain::Inside) && report.none_dead();
+    for (domain, name) in DOMAINS {
+        let mut report = Report::default();
+        for seed in 0..seeds as u64 {
+            let script = make::counted(make::on_inputs(seed, commands, domain));
+            if let Some(found) = first_difference(sides, &script) {
+                println!("{name}, seed {seed}: a difference at command {}; the smallest script found:", found.line + 1);
+                println!("{}", smallest(found));
+                return false;
+            }
+            script.iter().zip(Side::RULES.answers(&script)).for_each(|(command, answer)| report.count(command, &answer));
+        }
+        println!("{name}, on several inputs: {seeds} seeds, 0 differences\n{report}");
+        good &= report.commands() > 0;
+    }
+    good
+}
+
 /// What is the same in every run: the CRC's published check, the written scripts, the program `watch`, and tapes that end early.
 fn fixed(root: &Path, answered: &mut Answered) -> bool {
     let check = second::crc(b"123456789");
@@ -152,8 +197,12 @@ fn compare_written(root: &Path, answered: &mut Answered) -> bool {
     differ.is_empty() && wrong.is_empty() && named
 }
 
-fn write_tape(domain: Domain, seed: u64, commands: usize) -> bool {
-    std::io::stdout().write_all(&tape_of(&make::script(seed, commands, domain))).is_ok()
+fn named_script(name: &str, seed: u64, commands: usize) -> Option<Vec<Command>> {
+    Some(match name {
+        "inputs" => make::on_inputs(seed, commands, Domain::Damaged),
+        "apart" => make::apart(seed, commands),
+        _ => make::script(seed, commands, Domain::named(name)?),
+    })
 }
 
 /// What the player prints for a tape.
@@ -165,7 +214,8 @@ fn played(tape: &[u8]) -> String {
 
 /// A tape that ends inside a command, at each place, and a command that there is not.
 fn compare_ends(root: &Path) -> bool {
-    let script = &first_of_each_kind(Written::all(root, "scripts").into_iter().flat_map(|script| script.commands))[..];
+    let written = ["scripts", "inputs"].into_iter().flat_map(|folder| Written::all(root, folder));
+    let script = &first_of_each_kind(written.flat_map(|script| script.commands))[..];
     let lines = Side::RULES.lines(script);
     let starts: Vec<usize> = (0..=script.len()).map(|whole| tape_of(&script[..whole]).len()).collect();
     let tape = tape_of(script);
@@ -175,7 +225,7 @@ fn compare_ends(root: &Path) -> bool {
         lines[..whole].iter().map(|line| format!("{line}\n")).collect::<String>() + cut
     };
     let mut good = (0..=tape.len()).all(|end| played(&tape[..end]) == expected(end));
-    for bad in [0x00, 0x0F, 0x16, 0x1F, 0x23, 0x34, 0xFF] {
+    for bad in [0x00, 0x0F, 0x16, 0x1F, 0x23, 0x34, 0x4F, 0x51, 0xFF] {
         let output = played(&[&tape[..], &[bad, 0x14]].concat());
         good &= output == expected(tape.len()) + &format!("bad {}\n", tape.len());
     }
@@ -201,7 +251,7 @@ fn compare_watch(root: &Path) -> bool {
     inputs.extend((0..20).map(watch_stream));
     let mut good = watch_second(2, &example) == watch::EXAMPLE_OUTPUT;
     for input in &inputs {
-        let mut original = original::Original::new();
+        let mut original = original::Original::new(0);
         good &= watch_second(1, input) == watch::output(|command| original.answer(command), 1, input);
         good &= watch_second(2, input) == program.output(input);
     }
@@ -255,20 +305,38 @@ fn compare_faults(seeds: usize, commands: usize) -> bool {
 
 /// The commands of a seed that the faulty part is given.
 fn script_for(fault: Fault, seed: u64, commands: usize, domain: Domain) -> Vec<Command> {
-    let mut script = make::counted(make::script(seed, commands, domain));
+    let script = if fault.of_inputs() { make::on_inputs } else { make::script };
+    let mut script = make::counted(script(seed, commands, domain));
     if fault.of_rule_2() {
         script = make::by_rule_2(script);
     }
-    script.retain(|command| command.part() == fault.part());
+    of_part(fault, script)
+}
+
+fn of_part(fault: Fault, mut script: Vec<Command>) -> Vec<Command> {
+    script.retain(|command| command.part().is_none_or(|part| part == fault.part()));
     script
+}
+
+/// Beside an original for each input.
+fn find_apart(fault: Fault, seed: u64, commands: usize) -> Option<Found> {
+    let faulty = Side::Second { as_original: true, fault: Some(fault) };
+    let script = of_part(fault, make::apart(seed, commands));
+    first_difference([Side::Apart, faulty], &script).filter(|_| apart::is_apart(&script))
 }
 
 fn find_fault(fault: Fault, seeds: usize, commands: usize) -> Option<(u64, &'static str, Found)> {
     let with = |as_original| Side::Second { as_original, fault: Some(fault) };
     for seed in 0..seeds as u64 {
+        if fault.of_inputs()
+            && let Some(found) = find_apart(fault, seed, commands)
+        {
+            return Some((seed, "apart", smallest(found)));
+        }
         for (domain, name) in DOMAINS {
             let script = script_for(fault, seed, commands, domain);
-            let beside_original = || first_difference([Side::Original, with(true)], &script).filter(|_| !fault.of_rule_2());
+            let has_original = !fault.of_rule_2() && !fault.of_inputs();
+            let beside_original = || has_original.then(|| first_difference([Side::Original, with(true)], &script)).flatten();
             let found = beside_original().or_else(|| first_difference([Side::RULES, with(false)], &script));
             if let Some(found) = found {
                 return Some((seed, name, smallest(found)));
@@ -292,7 +360,9 @@ fn compare_file(path: &Path) -> bool {
     for (command, line) in script.iter().zip(Side::RULES.lines(&script)) {
         println!("{command}\n    {line}");
     }
-    match differing(&script, &mut Report::default()) {
+    let on_inputs = script.iter().any(|command| matches!(command, Command::Input(_)));
+    let found = if on_inputs { first_difference([Side::RULES, Side::Port], &script) } else { differing(&script, &mut Report::default()) };
+    match found {
         None => true,
         Some(found) => {
             println!("a difference at command {}; the smallest script found:\n{}", found.line + 1, smallest(found));

@@ -1,5 +1,6 @@
 //! Scripts made from a seed. Inside the domain: sections of exactly 3 + section_length bytes that obey the layouts, PIDs 0 to 8191, enough
 //! cells. Damaged: bytes of every kind, openings that are refused. Cell-bound: few and small cells.
+use crate::apart::is_apart;
 use crate::second::{Reading, Second, crc};
 use player::command::{By, Command, Filter, Part};
 
@@ -347,6 +348,83 @@ pub fn by_rule_2(mut script: Vec<Command>) -> Vec<Command> {
     script
 }
 
+// ---- Several inputs
+
+/// The script of a seed with its commands on several inputs, which share its capacity and its limits; where it is damaged, on inputs too that there are not.
+pub fn on_inputs(seed: u64, commands: usize, domain: Domain) -> Vec<Command> {
+    let mut dice = Dice::new(seed ^ 0x1A << 48 ^ (domain as u64) << 60);
+    let wrong = domain == Domain::Damaged;
+    spread(&mut dice, script(seed, commands, domain), &[0, 1, 1, 3, 15], wrong)
+}
+
+/// The commands, each on the input before it, mostly. Some sections come on one input and then on another, as those of two tuners on one multiplex do.
+fn spread(dice: &mut Dice, commands: Vec<Command>, inputs: &[u8], wrong: bool) -> Vec<Command> {
+    let mut all = vec![Command::Input(dice.of(inputs))];
+    for mut command in commands {
+        if dice.once_in(12) {
+            all.push(another_input(dice, inputs, wrong));
+        }
+        if let Command::Drop(filter) = &mut command {
+            filter.this_input = dice.once_in(2);
+        }
+        let section = matches!(command, Command::Gate { .. } | Command::Push { .. });
+        if section && dice.once_in(6) {
+            all.extend([command.clone(), another_input(dice, inputs, wrong)]);
+        }
+        all.push(command);
+    }
+    all
+}
+
+fn another_input(dice: &mut Dice, inputs: &[u8], wrong: bool) -> Command {
+    let wrong = wrong && dice.once_in(15);
+    Command::Input(dice.of(if wrong { &[16, 17, 255] } else { inputs }))
+}
+
+/// A script on several inputs that share room enough: nothing leaves, so each input answers as if it were alone.
+pub fn apart(seed: u64, commands: usize) -> Vec<Command> {
+    let mut dice = Dice::new(seed ^ 0x2A << 48);
+    let first = dice.below(14) as u8;
+    let inputs = dice.of(&[[0, 1, 2], [0, 7, 15], [first, first + 1, first + 2], [15, 14, 0]]);
+    let mut script = Vec::new();
+    while script.len() < commands {
+        let part = dice.of(&[Part::Gate, Part::Sets, Part::Eit]);
+        let run = apart_run(&mut dice, part, &inputs);
+        if is_apart(&run) {
+            script.extend(run);
+        }
+    }
+    script
+}
+
+/// A run of one part, opened with all the room that is lent.
+fn apart_run(dice: &mut Dice, part: Part, inputs: &[u8]) -> Vec<Command> {
+    let length = 40 + dice.below(400);
+    let mut run = match part {
+        Part::Gate => gate_run(dice, length, Domain::Inside),
+        _ => collector_run(dice, length, Domain::Inside, part),
+    };
+    let opening = run.remove(0);
+    let mut all = match opening {
+        Command::GateOpen { repeats, follow, rule, .. } => {
+            inputs.iter().flat_map(|&input| [Command::Input(input), roomy_gate(dice, repeats, follow, rule)]).collect()
+        }
+        Command::Open { part, cells, size, .. } => vec![Command::Open { part, limit: 64, cells, size }],
+        other => panic!("no opening: {other}"),
+    };
+    all.extend(spread(dice, run, inputs, false));
+    if part == Part::Gate {
+        all.push(Command::Counters);
+    }
+    all
+}
+
+/// An opening whose watch is of one input: each has its own extra PIDs.
+fn roomy_gate(dice: &mut Dice, repeats: bool, follow: bool, rule: u64) -> Command {
+    let Command::GateOpen { well_known, extra, .. } = gate_opening(dice, false) else { panic!("an opening") };
+    Command::GateOpen { capacity: 65_536, repeats, follow, well_known, rule, extra }
+}
+
 // ---- The collectors
 
 /// A sub-table as a broadcaster sends it, section after section.
@@ -589,6 +667,7 @@ fn filter(dice: &mut Dice, tables: &[Table], domain: Domain) -> Filter {
         transport_stream_id: exact(3).then_some(table.network.0),
         original_network_id: exact(3).then_some(table.network.1),
         current_next: exact(5).then_some(table.head.current_next.into()),
+        this_input: false,
     };
     if domain == Domain::Damaged && exact(6) {
         filter.pid = Some(Some(0x2000));

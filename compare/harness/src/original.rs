@@ -9,6 +9,8 @@ use player::answer::{Answer, Held, Judgement, Out, Set};
 use player::command::{By, Command, Filter, Part};
 
 pub struct Original {
+    /// The input that its sets are said to be of. The original has no inputs: every command is on this one.
+    input: u8,
     gate: SiDemux,
     sets: Option<SectionSetCollector>,
     eit: Option<EitCollector>,
@@ -19,12 +21,13 @@ pub struct Original {
 }
 
 impl Original {
-    pub fn new() -> Original {
-        Original { gate: SiDemux::builder().build(), sets: None, eit: None, failures: [0; 2], below: 0 }
+    pub fn new(input: u8) -> Original {
+        Original { input, gate: SiDemux::builder().build(), sets: None, eit: None, failures: [0; 2], below: 0 }
     }
 
     pub fn answer(&mut self, command: &Command) -> Answer {
         match command {
+            Command::Input(input) => Answer::Input(*input),
             Command::GateOpen { capacity, repeats, follow, well_known, rule, extra } => {
                 let answer = lent::gate_opening(*capacity, *rule, extra);
                 if answer == 7 {
@@ -46,17 +49,20 @@ impl Original {
             }),
             Command::Ask { pid } => Answer::Number(Part::Gate, if self.gate.watched().contains(pid) { 8 } else { 9 }),
             Command::Watched => Answer::Watched(self.gate.watched()),
-            Command::Counters => {
-                let Stats { sections_completed, emitted, suppressed, crc_failures, gate_evictions, .. } = self.gate.stats();
-                let [short, mismatch] = self.failures;
-                Answer::Counters([sections_completed, emitted, suppressed, crc_failures, short, mismatch, gate_evictions])
-            }
+            Command::Counters => Answer::Counters(self.counters()),
             Command::Open { part, limit, cells, size } => self.open(*part, *limit, *cells, *size),
             Command::Push { part: Part::Eit, pid, section } => self.push_eit(*pid, section),
             Command::Push { pid, section, .. } => self.push_set(*pid, section),
             Command::Clear { part } => self.clear(*part),
             Command::Drop(filter) => self.drop(filter),
         }
+    }
+
+    /// The seven counters.
+    pub fn counters(&self) -> [u64; 7] {
+        let Stats { sections_completed, emitted, suppressed, crc_failures, gate_evictions, .. } = self.gate.stats();
+        let [short, mismatch] = self.failures;
+        [sections_completed, emitted, suppressed, crc_failures, short, mismatch, gate_evictions]
     }
 
     /// The answer by the counter that moved; `offer` says how many events came of it. Which failure it was the original does not say: that is told by the
@@ -115,12 +121,13 @@ impl Original {
     }
 
     fn push_set(&mut self, pid: Option<u16>, section: &[u8]) -> Answer {
+        let input = self.input;
         let Some(sets) = &mut self.sets else { return Answer::Collected(10, self.sets_held(), Out::Nothing) };
         let (number, out) = match pid {
             Some(pid) if !lent::is_pid(pid) => (12, Out::Nothing),
             _ => match sets.push_section_with_pid(pid.map(Pid::new), section) {
                 Ok(None) => (4, Out::Nothing),
-                Ok(Some(set)) => (5, Out::Set(set_of(&set))),
+                Ok(Some(set)) => (5, Out::Set(set_of(input, &set))),
                 Err(error) => (number(&error), Out::Nothing),
             },
         };
@@ -128,14 +135,15 @@ impl Original {
     }
 
     fn push_eit(&mut self, pid: Option<u16>, section: &[u8]) -> Answer {
+        let input = self.input;
         let Some(eit) = &mut self.eit else { return Answer::Collected(10, self.eit_held(), Out::Nothing) };
         let (number, out) = match pid {
             Some(pid) if !lent::is_pid(pid) => (12, Out::Nothing),
             _ => match eit.push_section_with_pid(pid.map(Pid::new), section) {
                 Ok(None) => (4, Out::Nothing),
-                Ok(Some(CompletedEit::PresentFollowing(set))) => (5, Out::Set(set_of(&set))),
+                Ok(Some(CompletedEit::PresentFollowing(set))) => (5, Out::Set(set_of(input, &set))),
                 Ok(Some(CompletedEit::Schedule(schedule))) => {
-                    let sets: Vec<Set> = schedule.table_sets().iter().map(set_of).collect();
+                    let sets: Vec<Set> = schedule.table_sets().iter().map(|set| set_of(input, set)).collect();
                     let (first, last) = (sets[0].table_id, sets[sets.len() - 1].table_id);
                     (6, Out::Schedule { first, last, sets })
                 }
@@ -171,12 +179,12 @@ impl Original {
         Answer::Collected(number, self.eit_held(), Out::Nothing)
     }
 
-    fn sets_held(&self) -> Held {
+    pub fn sets_held(&self) -> Held {
         let (evicted, rows) = self.sets.as_ref().map_or((0, 0), |sets| (sets.evicted_for_capacity(), sets.len()));
         Held::Sets { evicted, rows }
     }
 
-    fn eit_held(&self) -> Held {
+    pub fn eit_held(&self) -> Held {
         self.eit.as_ref().map_or(Held::Eit { evicted: [0; 2], rows: [0; 2] }, |eit| Held::Eit {
             evicted: [eit.sections_evicted_for_capacity(), eit.schedules_evicted_for_capacity()],
             rows: [eit.section_set_len(), eit.schedule_len()],
@@ -207,9 +215,10 @@ fn number(error: &CollectError) -> u8 {
     }
 }
 
-fn set_of(set: &CompleteSectionSet) -> Set {
+fn set_of(input: u8, set: &CompleteSectionSet) -> Set {
     let meta = set.meta();
     Set {
+        input,
         pid: meta.key.pid.map(Pid::value),
         table_id: meta.key.table_id,
         extension: meta.key.extension_id,

@@ -1,4 +1,5 @@
 //! Which implementations are compared, and the smallest script that tells two apart.
+use crate::apart::{Apart, is_apart};
 use crate::faults::Fault;
 use crate::original::Original;
 use crate::report::Report;
@@ -10,8 +11,10 @@ use std::fmt::{self, Display};
 
 #[derive(Clone, Copy, Debug, PartialEq, Eq)]
 pub enum Side {
-    /// dvb-si 12.0.1.
+    /// dvb-si 12.0.1, on input 0.
     Original,
+    /// dvb-si 12.0.1, one for each input.
+    Apart,
     /// The second implementation, on the side of docs/RULES.md, or the original's, in the named differences.
     Second { as_original: bool, fault: Option<Fault> },
     /// The proved library.
@@ -24,7 +27,8 @@ impl Side {
 
     fn begin(self) -> Running {
         match self {
-            Side::Original => Running::Original(Box::new(Original::new())),
+            Side::Original => Running::Original(Box::new(Original::new(0))),
+            Side::Apart => Running::Apart(Box::new(Apart::new())),
             Side::Second { as_original, fault } => {
                 Running::Second(Box::new(Second::new(Reading { as_original, fault, ..Reading::default() })))
             }
@@ -49,6 +53,7 @@ impl Display for Side {
     fn fmt(&self, f: &mut fmt::Formatter<'_>) -> fmt::Result {
         f.write_str(match self {
             Side::Original => "original",
+            Side::Apart => "original, one for each input",
             Side::Port => "port",
             Side::Second { as_original: false, .. } => "second",
             Side::Second { as_original: true, .. } => "second, as original",
@@ -58,6 +63,12 @@ impl Display for Side {
 
 /// What a side answers; or, where the two forms of the port's gate differ, how.
 type Told = Result<Answer, String>;
+
+/// What two sides say; in full where the lines do not show how they differ.
+fn apart_in_words(told: [&Told; 2]) -> [String; 2] {
+    let lines = told.map(line);
+    if lines[0] == lines[1] { told.map(|told| format!("{told:?}")) } else { lines }
+}
 
 fn line(told: &Told) -> String {
     match told {
@@ -69,6 +80,7 @@ fn line(told: &Told) -> String {
 /// A side in the middle of a script.
 enum Running {
     Original(Box<Original>),
+    Apart(Box<Apart>),
     Second(Box<Second>),
     Port(Box<Port>),
 }
@@ -77,6 +89,7 @@ impl Running {
     fn answer(&mut self, command: &Command) -> Told {
         match self {
             Running::Original(original) => Ok(original.answer(command)),
+            Running::Apart(apart) => Ok(apart.answer(command)),
             Running::Second(second) => Ok(second.answer(command)),
             Running::Port(port) => port.answer(command).map_err(|differs| differs.0),
         }
@@ -86,6 +99,15 @@ impl Running {
     fn entered(&self) -> u64 {
         match self {
             Running::Second(second) => second.entered(),
+            _ => 0,
+        }
+    }
+
+    /// How many answers of the original came from a branch that no section takes.
+    fn below(&self) -> u64 {
+        match self {
+            Running::Original(original) => original.below,
+            Running::Apart(apart) => apart.below(),
             _ => 0,
         }
     }
@@ -117,7 +139,8 @@ pub fn first_difference(sides: [Side; 2], script: &[Command]) -> Option<Found> {
     for (at, command) in script.iter().enumerate() {
         let told = running.each_mut().map(|side| side.answer(command));
         if told[0] != told[1] {
-            return Some(Found::at(script, at, [(sides[0], line(&told[0])), (sides[1], line(&told[1]))]));
+            let [one, other] = apart_in_words([&told[0], &told[1]]);
+            return Some(Found::at(script, at, [(sides[0], one), (sides[1], other)]));
         }
     }
     let [one, other] = running.each_ref().map(Running::end);
@@ -128,7 +151,16 @@ pub fn first_difference(sides: [Side; 2], script: &[Command]) -> Option<Found> {
 /// Runs a script through all sides at once, command by command. The original has to be equal to the second implementation on its side, the port to
 /// the second implementation on the side of the rules, whose answers are counted.
 pub fn differing(script: &[Command], report: &mut Report) -> Option<Found> {
-    let sides = [Side::Original, Side::AS_ORIGINAL, Side::RULES, Side::Port];
+    differing_beside(Side::Original, script, report)
+}
+
+/// The same with one original for each input.
+pub fn differing_apart(script: &[Command], report: &mut Report) -> Option<Found> {
+    differing_beside(Side::Apart, script, report)
+}
+
+fn differing_beside(original: Side, script: &[Command], report: &mut Report) -> Option<Found> {
+    let sides = [original, Side::AS_ORIGINAL, Side::RULES, Side::Port];
     let mut running = sides.map(Side::begin);
     let mut full_and_empty = 0;
     for (at, command) in script.iter().enumerate() {
@@ -137,7 +169,8 @@ pub fn differing(script: &[Command], report: &mut Report) -> Option<Found> {
         full_and_empty += u64::from(running[1].entered() > entered && holds_no_schedule(&told[0]));
         for pair in [[0, 1], [2, 3]] {
             if told[pair[0]] != told[pair[1]] {
-                return Some(Found::at(script, at, pair.map(|side| (sides[side], line(&told[side])))));
+                let [one, other] = apart_in_words(pair.map(|side| &told[side]));
+                return Some(Found::at(script, at, [(sides[pair[0]], one), (sides[pair[1]], other)]));
             }
         }
         report.count(command, told[2].as_ref().expect("the second implementation is one"));
@@ -145,9 +178,7 @@ pub fn differing(script: &[Command], report: &mut Report) -> Option<Found> {
     if let Running::Second(second) = &running[2] {
         report.met(second.reading.met);
     }
-    if let Running::Original(original) = &running[0] {
-        report.dead([original.below, full_and_empty]);
-    }
+    report.dead([running[0].below(), full_and_empty]);
     let end = running[3].end().err()?;
     Some(Found::at(script, script.len(), [(Side::RULES, String::new()), (Side::Port, end)]))
 }
@@ -166,7 +197,8 @@ pub fn smallest(mut found: Found) -> Found {
         while from < found.script.len() {
             let mut shorter = found.script.clone();
             shorter.drain(from..(from + run).min(shorter.len()));
-            match first_difference(sides, &shorter) {
+            let measured = !sides.contains(&Side::Apart) || is_apart(&shorter);
+            match first_difference(sides, &shorter).filter(|_| measured) {
                 Some(less) => found = less,
                 None => from += run,
             }

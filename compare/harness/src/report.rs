@@ -75,8 +75,13 @@ impl Display for Report {
 }
 
 /// How often each number of docs/RULES.md, "Answers", was answered.
-#[derive(Default)]
-pub struct Answered([usize; 32]);
+pub struct Answered([usize; 38]);
+
+impl Default for Answered {
+    fn default() -> Answered {
+        Answered([0; 38])
+    }
+}
 
 impl Answered {
     pub fn add(&mut self, report: &Report) {
@@ -88,7 +93,7 @@ impl Answered {
 
 impl Display for Answered {
     fn fmt(&self, f: &mut fmt::Formatter<'_>) -> fmt::Result {
-        let given = |(number, _): &(usize, &usize)| !(24..31).contains(number);
+        let given = |(number, _): &(usize, &usize)| *number < 24 || matches!(number, 31 | 37);
         self.0.iter().enumerate().skip(1).filter(given).try_for_each(|(number, count)| writeln!(f, "  answer {number}: {count}"))
     }
 }

@@ -1,6 +1,6 @@
 //! The stored tapes of tests/tapes with the lines that they print, and the stored output of the program `examples_run`.
 use crate::make::{self, Domain};
-use crate::pairs::{Side, differing, smallest};
+use crate::pairs::{Side, differing, first_difference, smallest};
 use crate::report::Report;
 use crate::second::{Reading, Second};
 use crate::written::Written;
@@ -15,7 +15,7 @@ const SEEDS: std::ops::Range<u64> = 1000..1004;
 const COMMANDS: usize = 2500;
 
 /// `domain` has the written scripts and some seeds inside the domain, without what a named difference decides, answered by the original; `damaged` has
-/// damaged and cell-bound seeds, answered by the second implementation.
+/// damaged and cell-bound seeds, and `inputs` seeds of each domain on several inputs, answered by the second implementation.
 pub fn store(root: &Path) -> bool {
     let seeds = |domain| SEEDS.flat_map(move |seed| make::script(seed, COMMANDS, domain));
     let by_hand = Written::all(root, "scripts").into_iter().flat_map(|script| script.commands);
@@ -23,12 +23,22 @@ pub fn store(root: &Path) -> bool {
     let outside: Vec<Command> = seeds(Domain::Damaged).chain(seeds(Domain::CellBound)).collect();
     store_tape(root, "domain", Side::Original, &without_named(inside))
         && store_tape(root, "damaged", Side::RULES, &outside)
+        && store_tape(root, "inputs", Side::RULES, &on_inputs(root))
         && store_examples(root)
 }
 
-/// Whether all sides agree on a script; says where they do not.
+/// The written scripts of inputs/ and a seed of each domain.
+fn on_inputs(root: &Path) -> Vec<Command> {
+    let by_hand = Written::all(root, "inputs").into_iter().flat_map(|script| script.commands);
+    let domains = [Domain::Inside, Domain::Damaged, Domain::CellBound];
+    let seeds = domains.into_iter().flat_map(|domain| make::on_inputs(SEEDS.start, COMMANDS, domain));
+    by_hand.chain(seeds).collect()
+}
+
+/// Whether all sides agree on a script, the original too where there is one input alone; says where they do not.
 fn agreed(script: &[Command]) -> bool {
-    let found = differing(script, &mut Report::default());
+    let on_inputs = script.iter().any(|command| matches!(command, Command::Input(_)));
+    let found = if on_inputs { first_difference([Side::RULES, Side::Port], script) } else { differing(script, &mut Report::default()) };
     if let Some(found) = found {
         println!("a difference at command {}; the smallest script found:\n{}", found.line + 1, smallest(found));
         return false;

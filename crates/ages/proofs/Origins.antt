@@ -20,13 +20,13 @@ pid-reads p = go (eqb p 8192) refl
 
 pub origin-reads : (w : Words) → originWords (originShown w) ≡ w
 unfolding originShown
-origin-reads w = let p = pid-reads (w .pid) in λ i. record { pid = p i }
+origin-reads w = let p = pid-reads (w .pid) in λ i. record { input = w .input; pid = p i }
 
 -- a PID shows itself, and no PID as none
-pub shown-pid : (p : ℕ) → p < 8192 → originShown (record { pid = p }) ≡ record { pid = some p }
+pub shown-pid : (input p : ℕ) → p < 8192 → originShown (record { input = input; pid = p }) ≡ record { input = input; pid = some p }
 unfolding originShown
-shown-pid p l = rw (ne-eqb p 8192 (λ (t : p ≡ 8192). absurd (omega arith)))
+shown-pid input p l = rw (ne-eqb p 8192 (λ (t : p ≡ 8192). absurd (omega arith)))
 
-pub shown-none : originShown (record { pid = 8192 }) ≡ record { pid = none }
+pub shown-none : (input : ℕ) → originShown (record { input = input; pid = 8192 }) ≡ record { input = input; pid = none }
 unfolding originShown
-shown-none = refl
+shown-none input = refl

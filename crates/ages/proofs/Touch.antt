@@ -28,11 +28,15 @@ use Rattle.ages.proofs.Ages.{length-order, Aged, ages-none, ages-touche
 
 same-origin-true : (a b : Origin) → sameOrigin a b ≡ true → a ≡ b
 unfolding sameOrigin
-same-origin-true a b h = let e = eqb-true _ _ h in λ i. record { pid = e i }
+same-origin-true a b h =
+    let p = and-true _ _ h in
+    let e = eqb-true _ _ (p .0) in
+    let f = eqb-true _ _ (p .1) in
+    λ i. record { input = e i; pid = f i }
 
 same-origin-refl : (a : Origin) → sameOrigin a a ≡ true
 unfolding sameOrigin
-same-origin-refl a = eq-eqb (a .pid) (a .pid) refl
+same-origin-refl a = rw (eq-eqb (a .input) (a .input) refl, eq-eqb (a .pid) (a .pid) refl)
 
 pub same-key-true : (a b : Key) → sameKey a b ≡ true → a ≡ b
 unfolding sameKey

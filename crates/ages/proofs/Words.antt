@@ -10,13 +10,14 @@ use lib.ListN.{length}
 use Rattle.rows.specs.declared.Key.{Key}
 use Rattle.rows.specs.declared.Entry.{Entry}
 use Rattle.rows.specs.declared.Room.{Room}
-use Rattle.rows.specs.Rows.{word, put, KeyWord, to-5, keyAt, touched, freshHead, keptHeads, markOf, withMark, ageOf}
+use Rattle.rows.specs.Rows.{word, put, KeyWord, to-5, is-10, keyAt, touched, freshHead, keptHeads, markOf, withMark, ageOf}
 use Rattle.rows.proofs.Words.{OfKey, of-key, put-same, put-not, touched-not, touched-newest, touched-other, fresh-word, kept-fresh}
 use Rattle.ages.specs.Order.{Touched}
 
 -- words that are the same are the same key
 pub key-same : (h h′ : List ℕ) (i : ℕ) → ((m : ℕ) → KeyWord m → word h′ i m ≡ word h i m) → keyAt h′ i ≡ keyAt h i
-key-same h h′ i e = rw (low 0 (omega arith), low 1 (omega arith), low 2 (omega arith), low 3 (omega arith), low 4 (omega arith), low 5 (omega arith))
+key-same h h′ i e =
+    rw (low 0 (omega arith), low 1 (omega arith), low 2 (omega arith), low 3 (omega arith), low 4 (omega arith), low 5 (omega arith), e 10 is-10)
   where
     low : (m : ℕ) → m < 6 → word h′ i m ≡ word h i m
     low m l = e m (to-5 m l)
@@ -59,6 +60,7 @@ module _ (r : Room) (e : Entry) (h : List ℕ) (l : r .row * 12 + 12 ≤ length 
         kept-fresh r e h l f 3 (omega arith),
         kept-fresh r e h l f 4 (omega arith),
         kept-fresh r e h l f 5 (omega arith),
+        kept-fresh r e h l f 10 (omega arith),
       )
 
   -- "A new section clears the mark"

@@ -9,7 +9,7 @@ use Rattle.rows.specs.declared.Origin.{Origin as Words}
 
 -- the PID word of a row without a PID is 8192
 unfoldable pub originShown : Words → Origin
-originShown w = record { pid = cond (eqb (w .pid) 8192) none (some (w .pid)) }
+originShown w = record { input = w .input; pid = cond (eqb (w .pid) 8192) none (some (w .pid)) }
 
 abbrev pub pidWords : Option ℕ → ℕ
 pidWords none = 8192
@@ -17,4 +17,4 @@ pidWords (some p) = p
 
 -- the words that an origin is written in
 abbrev pub originWords : Origin → Words
-originWords o = record { pid = pidWords (o .pid) }
+originWords o = record { input = o .input; pid = pidWords (o .pid) }

@@ -19,6 +19,7 @@ pub enum Refusal {
     NoCell,
     Conflict,
     Range,
+    BadInput,
 }
 
 // What opening, clearing or dropping answers.
@@ -53,6 +54,7 @@ impl Refusal {
             Refusal::NoCell => 21,
             Refusal::Conflict => 22,
             Refusal::Range => 23,
+            Refusal::BadInput => 37,
         }
     }
 }

@@ -63,6 +63,6 @@ module _ (bytes : List ℕ) (a : Arrival) where
   by-origin (words.Refused r) f = let z : _≡_ {A = ℕ} 0 1 = cc in absurd (omega arith)
   by-origin (words.Are from) f = by-read from (collectedOf bytes) refl f
 
-  pub arrived-kind : (pid : MaybePid) → eitArrival pid bytes ≡ eit-arrival.Arrived a → (k : Kind) × OfKind a k
+  pub arrived-kind : (input : ℕ) (pid : MaybePid) → eitArrival input pid bytes ≡ eit-arrival.Arrived a → (k : Kind) × OfKind a k
   unfolding eitArrival
-  arrived-kind pid f = by-origin (originWords pid) f
+  arrived-kind input pid f = by-origin (originWords input pid) f

@@ -42,12 +42,12 @@ module _ (s : List ℕ) (b : getD s 7 0 < 256) where
   set-judged-taken (words.Refused r) = tt
   set-judged-taken (words.Are from) = set-read-taken from (collectedOf s) refl
 
-  pub set-taken : (pid : MaybePid) → SetTaken s (setArrival pid s)
+  pub set-taken : (input : ℕ) (pid : MaybePid) → SetTaken s (setArrival input pid s)
   unfolding setArrival
-  set-taken pid = set-judged-taken (originWords pid)
+  set-taken input pid = set-judged-taken (originWords input pid)
 
-  pub set-arrived : (pid : MaybePid) (a : SetArrival) → a ≡ setArrival pid s → SetTaken s a
-  set-arrived pid a e = subst (SetTaken s) (sym e) (set-taken pid)
+  pub set-arrived : (input : ℕ) (pid : MaybePid) (a : SetArrival) → a ≡ setArrival input pid s → SetTaken s a
+  set-arrived input pid a e = subst (SetTaken s) (sym e) (set-taken input pid)
 
   eit-fields-taken : (from : Origin) (h : Header) → collectedOf s ≡ collected.Good h → (r : Reading) → EitTaken s (eitFields from h r)
   eit-fields-taken from h q reading.NotEit = tt
@@ -65,9 +65,9 @@ module _ (s : List ℕ) (b : getD s 7 0 < 256) where
   eit-judged-taken (words.Refused r) = tt
   eit-judged-taken (words.Are from) = eit-read-taken from (collectedOf s) refl
 
-  pub eit-taken : (pid : MaybePid) → EitTaken s (eitArrival pid s)
+  pub eit-taken : (input : ℕ) (pid : MaybePid) → EitTaken s (eitArrival input pid s)
   unfolding eitArrival
-  eit-taken pid = eit-judged-taken (originWords pid)
+  eit-taken input pid = eit-judged-taken (originWords input pid)
 
-  pub eit-arrived : (pid : MaybePid) (a : EitArrival) → a ≡ eitArrival pid s → EitTaken s a
-  eit-arrived pid a e = subst (EitTaken s) (sym e) (eit-taken pid)
+  pub eit-arrived : (input : ℕ) (pid : MaybePid) (a : EitArrival) → a ≡ eitArrival input pid s → EitTaken s a
+  eit-arrived input pid a e = subst (EitTaken s) (sym e) (eit-taken input pid)

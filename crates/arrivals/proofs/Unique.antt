@@ -8,8 +8,8 @@ use Rattle.arrivals.specs.declared.SetArrival.{SetArrival}
 use Rattle.arrivals.specs.declared.EitArrival.{EitArrival}
 use Rattle.arrivals.specs.Arrivals.{setArrival, eitArrival}
 
-pub unique-set : (pid : MaybePid) (bytes : List ℕ) (a b : SetArrival) → a ≡ setArrival pid bytes → b ≡ setArrival pid bytes → a ≡ b
-unique-set pid bytes a b p q = p ∙ sym q
+pub unique-set : (input : ℕ) (pid : MaybePid) (bytes : List ℕ) (a b : SetArrival) → a ≡ setArrival input pid bytes → b ≡ setArrival input pid bytes → a ≡ b
+unique-set input pid bytes a b p q = p ∙ sym q
 
-pub unique-eit : (pid : MaybePid) (bytes : List ℕ) (a b : EitArrival) → a ≡ eitArrival pid bytes → b ≡ eitArrival pid bytes → a ≡ b
-unique-eit pid bytes a b p q = p ∙ sym q
+pub unique-eit : (input : ℕ) (pid : MaybePid) (bytes : List ℕ) (a b : EitArrival) → a ≡ eitArrival input pid bytes → b ≡ eitArrival input pid bytes → a ≡ b
+unique-eit input pid bytes a b p q = p ∙ sym q

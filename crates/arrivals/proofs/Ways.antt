@@ -5,12 +5,15 @@ use mathlib.Core.List.{List}
 use Prim.Native.Nat.{ℕ, _+_}
 use Rattle.answers.specs.declared.Refusal.{Refusal}
 use Rattle.answers.specs.declared.Refusal.the-variants as refusal
-use Rattle.section.specs.Ids.{originMade}
+use Rattle.section.specs.Ids.{inputMade, originMade}
 use Rattle.section.specs.Judged.{collectedOf}
 use Rattle.section.specs.declared.header.Header.{Header}
 use Rattle.section.specs.declared.header.Collected.{Collected}
 use Rattle.section.specs.declared.header.Collected.the-variants as collected
 use Rattle.section.specs.declared.ids.Origin as made
+use Rattle.section.specs.declared.ids.Input.{Input}
+use Rattle.section.specs.declared.ids.InputMade.{InputMade}
+use Rattle.section.specs.declared.ids.InputMade.the-variants as input
 use Rattle.section.specs.declared.ids.OriginMade.{OriginMade}
 use Rattle.section.specs.declared.ids.OriginMade.the-variants as origin
 use Rattle.section.specs.declared.ids.MaybePid.{MaybePid}
@@ -29,21 +32,31 @@ use Rattle.arrivals.specs.declared.SetArrival.the-variants as set-arriva
 use Rattle.arrivals.specs.declared.Arrival.{Arrival}
 use Rattle.arrivals.specs.declared.EitArrival.{EitArrival}
 use Rattle.arrivals.specs.declared.EitArrival.the-variants as eit-arrival
-use Rattle.arrivals.specs.Arrivals.{madeWords, originWords, bitOf, setKey, eitKey, entryOf, kindNumber, arrivalOf, setRead, setArrival, eitFields, eitRead, eitArrival}
+use Rattle.arrivals.specs.Arrivals.{inputWords, madeWords, originWords, bitOf, setKey, eitKey, entryOf, kindNumber, arrivalOf, setRead, setArrival, eitFields, eitRead, eitArrival}
 
 -- ---- where it came from
 
-pub words-made : (m : OriginMade) (o : made.Origin) → m ≡ origin.One o → words.Are (record { pid = o .pid .0 }) ≡ madeWords m
+pub words-made : (m : OriginMade) (o : made.Origin) → m ≡ origin.One o → words.Are (record { input = o .input .0; pid = o .pid .0 }) ≡ madeWords m
 words-made m o e = rw e
 
 pub words-refused : (m : OriginMade) → m ≡ origin.BadPid → words.Refused refusal.BadPid ≡ madeWords m
 words-refused m e = rw e
 
-pub words-none : (pid : MaybePid) → pid ≡ maybe.None → words.Are (record { pid = 8192 }) ≡ originWords pid
-words-none pid e = rw e
+pub words-nowhere : (m : OriginMade) → m ≡ origin.BadInput → words.Refused refusal.BadInput ≡ madeWords m
+words-nowhere m e = rw e
 
-pub words-some : (pid : MaybePid) (v : ℕ) (m : OriginMade) (r : OriginWords) → pid ≡ maybe.Some v → m ≡ originMade v → r ≡ madeWords m → r ≡ originWords pid
-words-some pid v m r e f g = rw (e, ← f) g
+pub words-input : (m : InputMade) (i : Input) → m ≡ input.One i → words.Are (record { input = i .0; pid = 8192 }) ≡ inputWords m
+words-input m i e = rw e
+
+pub words-no-input : (m : InputMade) → m ≡ input.TooLarge → words.Refused refusal.BadInput ≡ inputWords m
+words-no-input m e = rw e
+
+module _ (input : ℕ) (pid : MaybePid) where
+  pub words-none : (m : InputMade) (r : OriginWords) → pid ≡ maybe.None → m ≡ inputMade input → r ≡ inputWords m → r ≡ originWords input pid
+  words-none m r e f g = rw (e, ← f) g
+
+  pub words-some : (v : ℕ) (m : OriginMade) (r : OriginWords) → pid ≡ maybe.Some v → m ≡ originMade input v → r ≡ madeWords m → r ≡ originWords input pid
+  words-some v m r e f g = rw (e, ← f) g
 
 -- ---- what arrived
 
@@ -51,22 +64,22 @@ pub arrival-made : (from : Origin) (h : Header) (f : Eit) (key : Key) (e : Entry
     → _≡_ {A = Arrival} (record { entry = e; kind = k; segment = f .«segment_last_section_number» + 1; tables = f .«last_table_id» }) (arrivalOf from h f)
 arrival-made from h f key e k p q r = rw (r, q, p)
 
--- ---- what came from nowhere (12)
+-- ---- what came from nowhere (12, 37)
 
-module _ (pid : MaybePid) (bytes : List ℕ) (v : OriginWords) (f : v ≡ originWords pid) where
-  pub set-nowhere : (r : Refusal) → v ≡ words.Refused r → set-arrival.Refused r ≡ setArrival pid bytes
+module _ (input : ℕ) (pid : MaybePid) (bytes : List ℕ) (v : OriginWords) (f : v ≡ originWords input pid) where
+  pub set-nowhere : (r : Refusal) → v ≡ words.Refused r → set-arrival.Refused r ≡ setArrival input pid bytes
   unfolding setArrival
   set-nowhere r q = rw (← f, q)
 
-  pub set-section : (p : Origin) (r : SetArrival) → v ≡ words.Are p → r ≡ setRead p (collectedOf bytes) → r ≡ setArrival pid bytes
+  pub set-section : (p : Origin) (r : SetArrival) → v ≡ words.Are p → r ≡ setRead p (collectedOf bytes) → r ≡ setArrival input pid bytes
   unfolding setArrival
   set-section p r q g = rw (← f, q) g
 
-  pub eit-nowhere : (r : Refusal) → v ≡ words.Refused r → eit-arrival.Refused r ≡ eitArrival pid bytes
+  pub eit-nowhere : (r : Refusal) → v ≡ words.Refused r → eit-arrival.Refused r ≡ eitArrival input pid bytes
   unfolding eitArrival
   eit-nowhere r q = rw (← f, q)
 
-  pub eit-section : (p : Origin) (r : EitArrival) → v ≡ words.Are p → r ≡ eitRead p bytes (collectedOf bytes) → r ≡ eitArrival pid bytes
+  pub eit-section : (p : Origin) (r : EitArrival) → v ≡ words.Are p → r ≡ eitRead p bytes (collectedOf bytes) → r ≡ eitArrival input pid bytes
   unfolding eitArrival
   eit-section p r q g = rw (← f, q) g
 

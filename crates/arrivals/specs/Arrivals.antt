@@ -1,15 +1,17 @@
--- What a section's bytes and its PID say to a collector (docs/RULES.md, "Collectors" and "Answers"): a refusal, lower number first, or what arrived.
+-- What a section's bytes and where it came from say to a collector (docs/RULES.md, "Collectors" and "Answers"): a refusal, lower number first, or what arrived.
 use Prim.Native.Nat.{ℕ, _+_, _≤_, _<_}
 use mathlib.Core.List.{List}
 use mathlib.Core.Bool.{Bool, cond}
 use lib.ListN.{length}
 use Rattle.answers.specs.declared.Refusal.{Refusal}
 use Rattle.answers.specs.declared.Refusal.the-variants as refusal
-use Rattle.section.specs.Ids.{originMade}
+use Rattle.section.specs.Ids.{inputMade, originMade}
 use Rattle.section.specs.Judged.{collectedOf}
 use Rattle.section.specs.declared.header.Header.{Header}
 use Rattle.section.specs.declared.header.Collected.{Collected}
 use Rattle.section.specs.declared.header.Collected.the-variants as collected
+use Rattle.section.specs.declared.ids.InputMade.{InputMade}
+use Rattle.section.specs.declared.ids.InputMade.the-variants as input
 use Rattle.section.specs.declared.ids.OriginMade.{OriginMade}
 use Rattle.section.specs.declared.ids.OriginMade.the-variants as origin
 use Rattle.section.specs.declared.ids.MaybePid.{MaybePid}
@@ -33,15 +35,21 @@ use Rattle.arrivals.specs.declared.EitArrival.the-variants as eit-arriva
 
 -- ---- the key
 
--- a PID of 8192 or more is none (12)
-abbrev pub madeWords : OriginMade → OriginWords
-madeWords (origin.One o) = words.Are (record { pid = o .pid .0 })
-madeWords origin.BadPid = words.Refused refusal.BadPid
+-- the PID word of a section without a PID is 8192; an input of 16 or more is none (37)
+abbrev pub inputWords : InputMade → OriginWords
+inputWords (input.One i) = words.Are (record { input = i .0; pid = 8192 })
+inputWords input.TooLarge = words.Refused refusal.BadInput
 
--- where a section came from, in the words of a key: the PID word of one without a PID is 8192
-abbrev pub originWords : MaybePid → OriginWords
-originWords maybe.None = words.Are (record { pid = 8192 })
-originWords (maybe.Some v) = madeWords (originMade v)
+-- a PID of 8192 or more is none (12), then an input of 16 or more (37)
+abbrev pub madeWords : OriginMade → OriginWords
+madeWords (origin.One o) = words.Are (record { input = o .input .0; pid = o .pid .0 })
+madeWords origin.BadPid = words.Refused refusal.BadPid
+madeWords origin.BadInput = words.Refused refusal.BadInput
+
+-- where a section came from, in the words of a key
+abbrev pub originWords : ℕ → MaybePid → OriginWords
+originWords input maybe.None = inputWords (inputMade input)
+originWords input (maybe.Some v) = madeWords (originMade input v)
 
 abbrev pub bitOf : Bool → ℕ
 bitOf b = cond b 1 0
@@ -98,13 +106,13 @@ setRead from collected.BadNumber = set-arrival.Refused refusal.BadNumber
 setRead from collected.BadCrc = set-arrival.Refused refusal.BadCrc
 setRead from (collected.Good h) = set-arrival.Arrived (entryOf (setKey from h) h)
 
--- 12
+-- 12, then 37
 abbrev pub setJudged : OriginWords → List ℕ → SetArrival
 setJudged (words.Refused r) bytes = set-arrival.Refused r
 setJudged (words.Are from) bytes = setRead from (collectedOf bytes)
 
-unfoldable pub setArrival : MaybePid → List ℕ → SetArrival
-setArrival pid bytes = setJudged (originWords pid) bytes
+unfoldable pub setArrival : (input : ℕ) → MaybePid → List ℕ → SetArrival
+setArrival input pid bytes = setJudged (originWords input pid) bytes
 
 -- ---- the EIT collector
 
@@ -122,13 +130,13 @@ eitRead from bytes collected.BadNumber = eit-arrival.Refused refusal.BadNumber
 eitRead from bytes collected.BadCrc = eit-arrival.Refused refusal.BadCrc
 eitRead from bytes (collected.Good h) = eitFields from h (eitOf bytes)
 
--- 12
+-- 12, then 37
 abbrev pub eitJudged : OriginWords → List ℕ → EitArrival
 eitJudged (words.Refused r) bytes = eit-arrival.Refused r
 eitJudged (words.Are from) bytes = eitRead from bytes (collectedOf bytes)
 
-unfoldable pub eitArrival : MaybePid → List ℕ → EitArrival
-eitArrival pid bytes = eitJudged (originWords pid) bytes
+unfoldable pub eitArrival : (input : ℕ) → MaybePid → List ℕ → EitArrival
+eitArrival input pid bytes = eitJudged (originWords input pid) bytes
 
 -- ---- what holds of a section that arrived
 

@@ -1,4 +1,4 @@
-// What a section's bytes and its PID say to a collector (docs/RULES.md, "Collectors" and "Answers"): a refusal (12, 14 to 17, for the EIT collector
+// What a section's bytes and where it came from say to a collector (docs/RULES.md, "Collectors" and "Answers"): a refusal (12, 37, 14 to 17, for the EIT collector
 // also 18 and 19), or what arrived. No store is looked at.
 use answers::Refusal;
 use eit_section::Eit;
@@ -9,12 +9,14 @@ use rows::Key;
 use rows::Origin;
 use section::header::Collected;
 use section::header::Header;
+use section::ids::Input;
+use section::ids::InputMade;
 use section::ids::MaybePid;
 use section::ids::OriginMade;
 ghost use mathlib.Core.Path.{_≡_};
 ghost use Rattle.section.specs.Judged.{collectedOf};
 ghost use Rattle.eit_section.specs.Eit.{eitOf};
-ghost use Rattle.arrivals.specs.Arrivals.{madeWords, originWords, bitOf, setKey, eitKey, entryOf, kindNumber, arrivalOf};
+ghost use Rattle.arrivals.specs.Arrivals.{inputWords, madeWords, originWords, bitOf, setKey, eitKey, entryOf, kindNumber, arrivalOf};
 ghost use Rattle.arrivals.specs.Arrivals.{setRead, setArrival, eitFields, eitRead, eitArrival, SetTaken, EitTaken};
 
 // The words of a key that say where a section came from, or why there is no such place.
@@ -43,37 +45,48 @@ pub enum EitArrival {
     Arrived(Arrival),
 }
 
-// 12, then 14 to 17.
-pub fn set_arrival(pid: MaybePid, bytes: &[u8]) -> SetArrival
-    ensures { λ r. ⌜ r ≡ setArrival pid (now (bytes .entry)) ⌝ }
+// 12, then 37, then 14 to 17.
+pub fn set_arrival(input: u8, pid: MaybePid, bytes: &[u8]) -> SetArrival
+    ensures { λ r. ⌜ r ≡ setArrival input pid (now (bytes .entry)) ⌝ }
     ensures { λ r. ⌜ SetTaken (now (bytes .entry)) r ⌝ }
 {
-    match origin_words(pid) {
+    match origin_words(input, pid) {
         OriginWords::Refused(refusal) => SetArrival::Refused(refusal),
         OriginWords::Are(from) => set_read(from, bytes),
     }
 }
 
-// 12, then 14 to 19.
-pub fn eit_arrival(pid: MaybePid, bytes: &[u8]) -> EitArrival
-    ensures { λ r. ⌜ r ≡ eitArrival pid (now (bytes .entry)) ⌝ }
+// 12, then 37, then 14 to 19.
+pub fn eit_arrival(input: u8, pid: MaybePid, bytes: &[u8]) -> EitArrival
+    ensures { λ r. ⌜ r ≡ eitArrival input pid (now (bytes .entry)) ⌝ }
     ensures { λ r. ⌜ EitTaken (now (bytes .entry)) r ⌝ }
 {
-    match origin_words(pid) {
+    match origin_words(input, pid) {
         OriginWords::Refused(refusal) => EitArrival::Refused(refusal),
         OriginWords::Are(from) => eit_read(from, bytes),
     }
 }
 
-// Where a section came from, in the words of a key: a PID of 8192 or more is refused (12).
-pub fn origin_words(pid: MaybePid) -> OriginWords
-    ensures { λ r. ⌜ r ≡ originWords pid ⌝ }
+// Where a section came from, in the words of a key: a PID of 8192 or more is refused (12), then an input of 16 or more (37).
+pub fn origin_words(input: u8, pid: MaybePid) -> OriginWords
+    ensures { λ r. ⌜ r ≡ originWords input pid ⌝ }
 {
     match pid {
-        MaybePid::None => OriginWords::Are(Origin {
+        MaybePid::None => input_words(Input::make(input)),
+        MaybePid::Some(v) => made_words(section::ids::Origin::make(input, v)),
+    }
+}
+
+// Without a PID.
+fn input_words(m: InputMade) -> OriginWords
+    ensures { λ r. ⌜ r ≡ inputWords m ⌝ }
+{
+    match m {
+        InputMade::One(i) => OriginWords::Are(Origin {
+            input: i.0 as u64,
             pid: Origin::NO_PID,
         }),
-        MaybePid::Some(v) => made_words(section::ids::Origin::make(v)),
+        InputMade::TooLarge => OriginWords::Refused(Refusal::BadInput),
     }
 }
 
@@ -82,10 +95,15 @@ fn made_words(m: OriginMade) -> OriginWords
 {
     match m {
         OriginMade::One(o) => {
+            let input = o.input;
             let pid = o.pid;
-            OriginWords::Are(Origin { pid: pid.0 as u64 })
+            OriginWords::Are(Origin {
+                input: input.0 as u64,
+                pid: pid.0 as u64,
+            })
         }
         OriginMade::BadPid => OriginWords::Refused(Refusal::BadPid),
+        OriginMade::BadInput => OriginWords::Refused(Refusal::BadInput),
     }
 }
 

@@ -68,13 +68,13 @@ dropping-may e heads slots cells schedule-heads units d x o g = is-whole-room e 
 
 -- ---- pushing
 
-module _ (e : Eit) (heads slots cells schedule-heads units : List ℕ) (pid : MaybePid) (bytes : List ℕ) (v : EitArrival) (q : v ≡ admitted (store e heads slots cells schedule-heads units) pid bytes) where
-  pub pushed-refused : (r : Refusal) → v ≡ arrival.Refused r → after (refused r) (store e heads slots cells schedule-heads units) ≡ pushedOf (store e heads slots cells schedule-heads units) pid bytes
+module _ (e : Eit) (heads slots cells schedule-heads units : List ℕ) (input : ℕ) (pid : MaybePid) (bytes : List ℕ) (v : EitArrival) (q : v ≡ admitted (store e heads slots cells schedule-heads units) input pid bytes) where
+  pub pushed-refused : (r : Refusal) → v ≡ arrival.Refused r → after (refused r) (store e heads slots cells schedule-heads units) ≡ pushedOf (store e heads slots cells schedule-heads units) input pid bytes
   unfolding pushedOf
   pushed-refused r k = rw (← q, k)
 
   pub pushed-done : (a : Arrival) (r : Pushed) (h l c t u : List ℕ) → v ≡ arrival.Arrived a → step r h l c t u ≡ pushedWhole (store e heads slots cells schedule-heads units) bytes a
-      → pushed r h l c t u ≡ pushedOf (store e heads slots cells schedule-heads units) pid bytes
+      → pushed r h l c t u ≡ pushedOf (store e heads slots cells schedule-heads units) input pid bytes
   unfolding pushedOf
   pushed-done a r h l c t u k f = ap toldStep f ∙ rw (← q, k)
 

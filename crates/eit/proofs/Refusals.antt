@@ -1,6 +1,7 @@
 -- A refusal leaves everything as it was, but 22, which makes the key the newest, and 23, which keeps the section.
 -- Assumes nothing.
-use mathlib.Core.Path.{_≡_, refl}
+use mathlib.Core.Path.{_≡_, refl, _∙_}
+use mathlib.Core.Logic.{_≢_}
 use mathlib.Core.List.{List}
 use mathlib.Core.Bool.{Bool, true, false, cond}
 use Prim.Native.Nat.{ℕ, _≤_, _<_}
@@ -41,27 +42,27 @@ entering r a i b =
     go true = omega arith
     go false = omega arith
 
-settling : (c : Becomes) (r : Rows) (a : Arrival) (i : ℕ) → 10 ≤ pushNumber ((settledAs c r a i) .answer) → 22 ≤ pushNumber ((settledAs c r a i) .answer)
+settling : (c : Becomes) (r : Rows) (a : Arrival) (i : ℕ) → 10 ≤ pushNumber ((settledAs c r a i) .answer) → pushNumber ((settledAs c r a i) .answer) ≡ 23
 unfolding entered
-settling becomes.Stays r a i h = omega arith
-settling becomes.GoesOut r a i h = omega arith
-settling becomes.OutOfRange r a i h = omega arith
+settling becomes.Stays r a i h = absurd (omega arith)
+settling becomes.GoesOut r a i h = absurd (omega arith)
+settling becomes.OutOfRange r a i h = refl
 settling becomes.Enters r a i h =
     absurd (omega (arith, entering r a i (roomOf (r .schedule-heads) (r .eit .sets .limit) (r .eit .schedules) (r .eit .«schedule_evictions») (scheduleEntry a))))
 
-settled-past : (r : Rows) (a : Arrival) (i : ℕ) → 10 ≤ pushNumber ((settled r a i) .answer) → 22 ≤ pushNumber ((settled r a i) .answer)
+settled-past : (r : Rows) (a : Arrival) (i : ℕ) → 10 ≤ pushNumber ((settled r a i) .answer) → pushNumber ((settled r a i) .answer) ≡ 23
 unfolding settled
 settled-past r a i =
     let heads : List ℕ = touched (r .eit .sets .used) i (r .heads) in
     let b : Becomes = becomesOf heads (r .slots) a i in
     settling b (rows (r .eit) (markedHeads (isMarked b) i heads) (r .slots) (r .schedule-heads) (r .units)) a i
 
-carried-keeps : (s : Store) (bytes : List ℕ) (p : Plan) → 10 ≤ pushNumber ((carried s bytes p) .answer) → pushNumber ((carried s bytes p) .answer) < 22 → (carried s bytes p) .store ≡ s
+carried-keeps : (s : Store) (bytes : List ℕ) (p : Plan) → 10 ≤ pushNumber ((carried s bytes p) .answer) → pushNumber ((carried s bytes p) .answer) ≢ 22 → pushNumber ((carried s bytes p) .answer) ≢ 23 → (carried s bytes p) .store ≡ s
 unfolding keptAndSettled
-carried-keeps s bytes (plan.Leave a) h k = refl
-carried-keeps s bytes (plan.Conflict i) h k = absurd (omega arith)
-carried-keeps s bytes (plan.Repeat x) h k = absurd (omega (arith, settled-past (rowsOf s) (x .arrival) (x .row) h))
-carried-keeps s bytes (plan.Keep n) h k = absurd (omega (arith, settled-past _ (n .arrival) (n .room .row) h))
+carried-keeps s bytes (plan.Leave a) h k l = refl
+carried-keeps s bytes (plan.Conflict i) h k l = absurd (k refl)
+carried-keeps s bytes (plan.Repeat x) h k l = absurd (l (settled-past (rowsOf s) (x .arrival) (x .row) h))
+carried-keeps s bytes (plan.Keep n) h k l = absurd (l (settled-past _ (n .arrival) (n .room .row) h))
 
 -- the number that is told is the answer's
 pub told-number : (a : PushAnswer) (s : Store) → number (answerOf a s) ≡ pushNumber a
@@ -70,20 +71,21 @@ told-number (answer.Set i) s = refl
 told-number (answer.Schedule k) s = refl
 told-number (answer.Refused r) s = refl
 
-step-keeps : (s : Store) (x : Step) → (10 ≤ pushNumber (x .answer) → pushNumber (x .answer) < 22 → x .store ≡ s) → 10 ≤ number ((toldStep x) .told) → number ((toldStep x) .told) < 22 → x .store ≡ s
-step-keeps s x f h k =
+step-keeps : (s : Store) (x : Step) → (10 ≤ pushNumber (x .answer) → pushNumber (x .answer) ≢ 22 → pushNumber (x .answer) ≢ 23 → x .store ≡ s)
+    → 10 ≤ number ((toldStep x) .told) → number ((toldStep x) .told) ≢ 22 → number ((toldStep x) .told) ≢ 23 → x .store ≡ s
+step-keeps s x f h k l =
     let e = told-number (x .answer) (x .store) in
-    f (rw e at h) (rw e at k)
+    f (rw e at h) (λ (q : pushNumber (x .answer) ≡ 22). k (e ∙ q)) (λ (q : pushNumber (x .answer) ≡ 23). l (e ∙ q))
 
-admitted-keeps : (s : Store) (bytes : List ℕ) (v : EitArrival) → 10 ≤ number ((pushedAs s bytes v) .told) → number ((pushedAs s bytes v) .told) < 22 → (pushedAs s bytes v) .store ≡ s
+admitted-keeps : (s : Store) (bytes : List ℕ) (v : EitArrival) → 10 ≤ number ((pushedAs s bytes v) .told) → number ((pushedAs s bytes v) .told) ≢ 22 → number ((pushedAs s bytes v) .told) ≢ 23 → (pushedAs s bytes v) .store ≡ s
 unfolding pushedWhole
-admitted-keeps s bytes (arrival.Refused r) h k = refl
-admitted-keeps s bytes (arrival.Arrived a) h k = step-keeps s (carried s bytes (planOf s bytes a)) (carried-keeps s bytes (planOf s bytes a)) h k
+admitted-keeps s bytes (arrival.Refused r) h k l = refl
+admitted-keeps s bytes (arrival.Arrived a) h k l = step-keeps s (carried s bytes (planOf s bytes a)) (carried-keeps s bytes (planOf s bytes a)) h k l
 
--- 10, 11, 12 and 14 to 21
-pub push-keeps : (s : Store) (pid : MaybePid) (bytes : List ℕ) → 10 ≤ number ((pushedOf s pid bytes) .told) → number ((pushedOf s pid bytes) .told) < 22 → (pushedOf s pid bytes) .store ≡ s
+-- every refusal but 22 and 23
+pub push-keeps : (s : Store) (input : ℕ) (pid : MaybePid) (bytes : List ℕ) → 10 ≤ number ((pushedOf s input pid bytes) .told) → number ((pushedOf s input pid bytes) .told) ≢ 22 → number ((pushedOf s input pid bytes) .told) ≢ 23 → (pushedOf s input pid bytes) .store ≡ s
 unfolding pushedOf
-push-keeps s pid bytes h k = admitted-keeps s bytes (admitted s pid bytes) h k
+push-keeps s input pid bytes h k l = admitted-keeps s bytes (admitted s input pid bytes) h k l
 
 carried-drop-keeps : (s : Store) (d : Drop) → 10 ≤ number ((carriedDrop s d) .told) → (carriedDrop s d) .store ≡ s
 carried-drop-keeps s (drop.Refuse r) h = refl

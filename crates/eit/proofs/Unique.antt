@@ -68,8 +68,8 @@ module _ (h l c t u h' l' c' t' u' : List ℕ) where
   pub dropping : (s : Store) (f : Filter) (r r' : Turned) → turned r h l c t u ≡ droppedOf s f → turned r' h' l' c' t' u' ≡ droppedOf s f → (r ≡ r') × Same h l c t u h' l' c' t' u'
   dropping s f = turning (droppedOf s f)
 
-  pub pushing : (s : Store) (pid : MaybePid) (bytes : List ℕ) (r r' : Pushed) → pushed r h l c t u ≡ pushedOf s pid bytes → pushed r' h' l' c' t' u' ≡ pushedOf s pid bytes → (r ≡ r') × Same h l c t u h' l' c' t' u'
-  pushing s pid bytes r r' p p' =
+  pub pushing : (s : Store) (input : ℕ) (pid : MaybePid) (bytes : List ℕ) (r r' : Pushed) → pushed r h l c t u ≡ pushedOf s input pid bytes → pushed r' h' l' c' t' u' ≡ pushedOf s input pid bytes → (r ≡ r') × Same h l c t u h' l' c' t' u'
+  pushing s input pid bytes r r' p p' =
       let q : pushed r h l c t u ≡ pushed r' h' l' c' t' u' = p ∙ sym p' in
       let e : r .eit ≡ r' .eit = ap (λ (x : After). x .store .eit) q in
       let a : r .answer ≡ r' .answer = sym (answer-back (r .answer) _) ∙ ap (λ (x : After). toldAnswer (x .told)) q ∙ answer-back (r' .answer) _ in (

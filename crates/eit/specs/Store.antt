@@ -162,8 +162,8 @@ abbrev pub pushedAs : Store → (bytes : List ℕ) → EitArrival → After
 pushedAs s bytes (arrival.Refused r) = after (refused r) s
 pushedAs s bytes (arrival.Arrived a) = toldStep (pushedWhole s bytes a)
 
-unfoldable pub pushedOf : Store → MaybePid → (bytes : List ℕ) → After
-pushedOf s pid bytes = pushedAs s bytes (admitted s pid bytes)
+unfoldable pub pushedOf : Store → (input : ℕ) → MaybePid → (bytes : List ℕ) → After
+pushedOf s input pid bytes = pushedAs s bytes (admitted s input pid bytes)
 
 -- ---- the sections of a set and of a table of a schedule, one after another
 

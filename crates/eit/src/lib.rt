@@ -51,12 +51,23 @@ pub fn push(
     cells: &mut [u8],
     schedule_heads: &mut [u64],
     units: &mut [u32],
+    input: u8,
     pid: MaybePid,
     bytes: &[u8],
 ) -> Pushed
-    ensures { λ r. ⌜ pushed r (now (heads .exit)) (now (slots .exit)) (now (cells .exit)) (now («schedule_heads» .exit)) (now (units .exit)) ≡ pushedOf (store eit (now (heads .entry)) (now (slots .entry)) (now (cells .entry)) (now («schedule_heads» .entry)) (now (units .entry))) pid (now (bytes .entry)) ⌝ }
+    ensures { λ r. ⌜ pushed r (now (heads .exit)) (now (slots .exit)) (now (cells .exit)) (now («schedule_heads» .exit)) (now (units .exit)) ≡ pushedOf (store eit (now (heads .entry)) (now (slots .entry)) (now (cells .entry)) (now («schedule_heads» .entry)) (now (units .entry))) input pid (now (bytes .entry)) ⌝ }
 {
-    match eit_admit::admit(eit, heads, slots, cells, schedule_heads, units, pid, bytes) {
+    match eit_admit::admit(
+        eit,
+        heads,
+        slots,
+        cells,
+        schedule_heads,
+        units,
+        input,
+        pid,
+        bytes,
+    ) {
         EitArrival::Refused(refusal) => Pushed {
             answer: PushAnswer::Refused(refusal),
             eit,

@@ -18,17 +18,17 @@ use Rattle.eit_drop.specs.declared.Drop.the-variants as drop
 use Rattle.eit_drop.specs.Drop.{dropWanted}
 use Rattle.eit_admit.specs.Admitting.{admitted, Admitted, dropOf, DropOk}
 
-module _ (e : Eit) (heads slots cells schedule-heads units : List ℕ) (pid : MaybePid) (bytes : List ℕ) (b : Bool) (q : b ≡ wholeOf (store e heads slots cells schedule-heads units)) where
-  pub admit-broken : b ≡ false → arrival.Refused refusal.NotWhole ≡ admitted (store e heads slots cells schedule-heads units) pid bytes
+module _ (e : Eit) (heads slots cells schedule-heads units : List ℕ) (input : ℕ) (pid : MaybePid) (bytes : List ℕ) (b : Bool) (q : b ≡ wholeOf (store e heads slots cells schedule-heads units)) where
+  pub admit-broken : b ≡ false → arrival.Refused refusal.NotWhole ≡ admitted (store e heads slots cells schedule-heads units) input pid bytes
   unfolding admitted
   admit-broken t = rw (← q, t)
 
   module _ (t : b ≡ true) (full : Bool) (g : full ≡ countersFull e) where
-    pub admit-full : full ≡ true → arrival.Refused refusal.CounterFull ≡ admitted (store e heads slots cells schedule-heads units) pid bytes
+    pub admit-full : full ≡ true → arrival.Refused refusal.CounterFull ≡ admitted (store e heads slots cells schedule-heads units) input pid bytes
     unfolding admitted
     admit-full h = rw (← q, t, ← g, h)
 
-    pub admit-read : (a : EitArrival) → full ≡ false → a ≡ eitArrival pid bytes → a ≡ admitted (store e heads slots cells schedule-heads units) pid bytes
+    pub admit-read : (a : EitArrival) → full ≡ false → a ≡ eitArrival input pid bytes → a ≡ admitted (store e heads slots cells schedule-heads units) input pid bytes
     unfolding admitted
     admit-read a h k = rw (← q, t, ← g, h) k
 

@@ -16,9 +16,9 @@ use Rattle.eit_drop.specs.declared.Drop.the-variants as drop
 use Rattle.eit_drop.specs.Drop.{dropWanted}
 
 -- 10, then 11, then what the section's bytes and its PID say (12, 14 to 19)
-unfoldable pub admitted : Store → MaybePid → (bytes : List ℕ) → EitArrival
-admitted s pid bytes =
-    cond (wholeOf s) (cond (countersFull (s .eit)) (arrival.Refused refusal.CounterFull) (eitArrival pid bytes)) (arrival.Refused refusal.NotWhole)
+unfoldable pub admitted : Store → (input : ℕ) → MaybePid → (bytes : List ℕ) → EitArrival
+admitted s input pid bytes =
+    cond (wholeOf s) (cond (countersFull (s .eit)) (arrival.Refused refusal.CounterFull) (eitArrival input pid bytes)) (arrival.Refused refusal.NotWhole)
 
 -- what holds where a section was admitted
 pub record Admission (s : Store) (a : Arrival) : Type 0 where

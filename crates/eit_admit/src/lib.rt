@@ -18,17 +18,18 @@ pub fn admit(
     cells: &[u8],
     schedule_heads: &[u64],
     units: &[u32],
+    input: u8,
     pid: MaybePid,
     bytes: &[u8],
 ) -> EitArrival
-    ensures { λ r. ⌜ r ≡ admitted (store eit (now (heads .entry)) (now (slots .entry)) (now (cells .entry)) (now («schedule_heads» .entry)) (now (units .entry))) pid (now (bytes .entry)) ⌝ }
+    ensures { λ r. ⌜ r ≡ admitted (store eit (now (heads .entry)) (now (slots .entry)) (now (cells .entry)) (now («schedule_heads» .entry)) (now (units .entry))) input pid (now (bytes .entry)) ⌝ }
     ensures { λ r. ⌜ Admitted (store eit (now (heads .entry)) (now (slots .entry)) (now (cells .entry)) (now («schedule_heads» .entry)) (now (units .entry))) r ⌝ }
 {
     if eit_state::is_whole(eit, heads, slots, cells, schedule_heads, units) {
         if eit_state::counters_full(eit) {
             return EitArrival::Refused(Refusal::CounterFull);
         }
-        return arrivals::eit_arrival(pid, bytes);
+        return arrivals::eit_arrival(input, pid, bytes);
     }
     EitArrival::Refused(Refusal::NotWhole)
 }

@@ -2,8 +2,9 @@
 -- Assumes nothing.
 use mathlib.Core.Path.{_≡_, refl, sym, ap, _∙_}
 use mathlib.Core.List.{List}
-use Prim.Native.Nat.{ℕ, _*_, _≤_}
+use Prim.Native.Nat.{ℕ, _*_, _≤_, _<_}
 use native.Mathlib.Omega.{arith}
+use borrow.Author.Tests.{lt-ltb, le-ltb}
 use lib.ListN.{length}
 use Rattle.answers.specs.declared.Refusal.{Refusal}
 use Rattle.answers.specs.declared.Refusal.the-variants as refusal
@@ -11,6 +12,7 @@ use Rattle.section.specs.Ids.{pidMade}
 use Rattle.section.specs.declared.ids.Pid.{Pid}
 use Rattle.section.specs.declared.ids.Made.{Made}
 use Rattle.section.specs.declared.ids.Made.the-variants as made
+use Rattle.filter.specs.declared.Wanted.{Wanted}
 use Rattle.filter.specs.declared.Wanted.the-variants as wanted
 use Rattle.filter.specs.declared.WantedOrigin.{WantedOrigin}
 use Rattle.filter.specs.declared.Fields.{Fields}
@@ -25,24 +27,35 @@ use Rattle.eit_drop.specs.declared.OriginWanted.{OriginWanted}
 use Rattle.eit_drop.specs.declared.OriginWanted.the-variants as origin-wanted
 use Rattle.eit_drop.specs.declared.Drop.{Drop}
 use Rattle.eit_drop.specs.declared.Drop.the-variants as drop
-use Rattle.eit_drop.specs.Drop.{madeWanted, wantedOrigin, fieldsOf, dropFrom, dropWanted, matchingGone}
+use Rattle.eit_drop.specs.Drop.{inputWanted, madeWanted, wantedOrigin, fieldsOf, dropFrom, dropWanted, matchingGone}
 
-pub wanted-one : (m : Made) (p : Pid) → m ≡ made.One p → origin-wanted.Is (record { pid = wanted.Exactly (p .0) }) ≡ madeWanted m
-wanted-one m p e = rw e
+module _ (input pid : Wanted) where
+  pub input-any : input ≡ wanted.Any → origin-wanted.Is (record { input = input; pid = pid }) ≡ inputWanted input pid
+  input-any e = rw e
 
-pub wanted-large : (m : Made) → m ≡ made.TooLarge → origin-wanted.Refused refusal.BadPid ≡ madeWanted m
-wanted-large m e = rw e
+  pub input-exact : (v : ℕ) → input ≡ wanted.Exactly v → v < 16 → origin-wanted.Is (record { input = wanted.Exactly v; pid = pid }) ≡ inputWanted input pid
+  input-exact v e h = rw (e, lt-ltb v 16 h)
 
-pub wanted-any : (pid : WantedPid) → pid ≡ wanted-pid.Any → origin-wanted.Is (record { pid = wanted.Any }) ≡ wantedOrigin pid
-wanted-any pid e = rw e
+  pub input-large : (v : ℕ) → input ≡ wanted.Exactly v → 16 ≤ v → origin-wanted.Refused refusal.BadInput ≡ inputWanted input pid
+  input-large v e h = rw (e, le-ltb v 16 h)
 
-pub wanted-without : (pid : WantedPid) → pid ≡ wanted-pid.Without → origin-wanted.Is (record { pid = wanted.Exactly 8192 }) ≡ wantedOrigin pid
-wanted-without pid e = rw e
+pub wanted-one : (input : Wanted) (m : Made) (p : Pid) (r : OriginWanted) → m ≡ made.One p → r ≡ inputWanted input (wanted.Exactly (p .0)) → r ≡ madeWanted input m
+wanted-one input m p r e g = rw e g
 
-pub wanted-exactly : (pid : WantedPid) (v : ℕ) (m : Made) (r : OriginWanted) → pid ≡ wanted-pid.Exactly v → m ≡ pidMade v → r ≡ madeWanted m → r ≡ wantedOrigin pid
-wanted-exactly pid v m r e f g = rw (e, ← f) g
+pub wanted-large : (input : Wanted) (m : Made) → m ≡ made.TooLarge → origin-wanted.Refused refusal.BadPid ≡ madeWanted input m
+wanted-large input m e = rw e
 
-module _ (f : Filter) (p : OriginWanted) (e : p ≡ wantedOrigin (f .pid)) where
+module _ (input : Wanted) (pid : WantedPid) (r : OriginWanted) where
+  pub wanted-any : pid ≡ wanted-pid.Any → r ≡ inputWanted input wanted.Any → r ≡ wantedOrigin input pid
+  wanted-any e g = rw e g
+
+  pub wanted-without : pid ≡ wanted-pid.Without → r ≡ inputWanted input (wanted.Exactly 8192) → r ≡ wantedOrigin input pid
+  wanted-without e g = rw e g
+
+  pub wanted-exactly : (v : ℕ) (m : Made) → pid ≡ wanted-pid.Exactly v → m ≡ pidMade v → r ≡ madeWanted input m → r ≡ wantedOrigin input pid
+  wanted-exactly v m e f g = rw (e, ← f) g
+
+module _ (f : Filter) (p : OriginWanted) (e : p ≡ wantedOrigin (f .input) (f .pid)) where
   pub filter-refused : (r : Refusal) → p ≡ origin-wanted.Refused r → drop.Refuse r ≡ dropWanted f
   filter-refused r k = rw (← e, k)
 

@@ -1,6 +1,8 @@
 -- A drop by filter (docs/RULES.md, "Collectors"), for every content of the lent memory.
 use Prim.Native.Nat.{ℕ, _*_, _≤_}
 use mathlib.Core.List.{List}
+use mathlib.Core.Bool.{cond}
+use lib.Dec.{ltb}
 use Rattle.answers.specs.declared.Refusal.the-variants as refusal
 use Rattle.section.specs.Ids.{pidMade}
 use Rattle.section.specs.declared.ids.Made.{Made}
@@ -20,16 +22,21 @@ use Rattle.eit_drop.specs.declared.OriginWanted.the-variants as origin-w
 use Rattle.eit_drop.specs.declared.Drop.{Drop}
 use Rattle.eit_drop.specs.declared.Drop.the-variants as drop
 
+-- an exact input of 16 or more is refused (37)
+abbrev pub inputWanted : (input pid : Wanted) → OriginWanted
+inputWanted wanted.Any pid = origin-wanted.Is (record { input = wanted.Any; pid = pid })
+inputWanted (wanted.Exactly v) pid = cond (ltb v 16) (origin-wanted.Is (record { input = wanted.Exactly v; pid = pid })) (origin-wanted.Refused refusal.BadInput)
+
 -- "an exact PID of 8192 or more" is refused (12)
-abbrev pub madeWanted : Made → OriginWanted
-madeWanted (made.One p) = origin-wanted.Is (record { pid = wanted.Exactly (p .0) })
-madeWanted made.TooLarge = origin-wanted.Refused refusal.BadPid
+abbrev pub madeWanted : (input : Wanted) → Made → OriginWanted
+madeWanted input (made.One p) = inputWanted input (wanted.Exactly (p .0))
+madeWanted input made.TooLarge = origin-wanted.Refused refusal.BadPid
 
 -- the PID is free, exactly none or exactly p
-abbrev pub wantedOrigin : WantedPid → OriginWanted
-wantedOrigin wanted-pid.Any = origin-wanted.Is (record { pid = wanted.Any })
-wantedOrigin wanted-pid.Without = origin-wanted.Is (record { pid = wanted.Exactly 8192 })
-wantedOrigin (wanted-pid.Exactly v) = madeWanted (pidMade v)
+abbrev pub wantedOrigin : (input : Wanted) → WantedPid → OriginWanted
+wantedOrigin input wanted-pid.Any = inputWanted input wanted.Any
+wantedOrigin input wanted-pid.Without = inputWanted input (wanted.Exactly 8192)
+wantedOrigin input (wanted-pid.Exactly v) = madeWanted input (pidMade v)
 
 -- the filter in the words of a head
 abbrev pub fieldsOf : WantedOrigin → Filter → Fields
@@ -42,13 +49,13 @@ fieldsOf from f = record {
   «current_next» = f .«current_next»;
 }
 
--- 12
+-- 12, then 37
 abbrev pub dropFrom : Filter → OriginWanted → Drop
 dropFrom f (origin-wanted.Refused r) = drop.Refuse r
 dropFrom f (origin-wanted.Is w) = drop.Matching (fieldsOf w f)
 
 abbrev pub dropWanted : Filter → Drop
-dropWanted f = dropFrom f (wantedOrigin (f .pid))
+dropWanted f = dropFrom f (wantedOrigin (f .input) (f .pid))
 
 -- "sets and schedules that match go"; no eviction is counted
 unfoldable pub matchingGone : Rows → Fields → Rows

@@ -6,11 +6,12 @@ use filter::Of;
 use filter::Wanted;
 use filter::WantedOrigin;
 use rows::Origin;
+use section::ids::Input;
 use section::ids::Made;
 use section::ids::Pid;
 ghost use mathlib.Core.Path.{_≡_};
 ghost use Rattle.eit_state.specs.State.{rows, RowsFit};
-ghost use Rattle.eit_drop.specs.Drop.{madeWanted, wantedOrigin, fieldsOf, dropWanted, matchingGone};
+ghost use Rattle.eit_drop.specs.Drop.{inputWanted, madeWanted, wantedOrigin, fieldsOf, dropWanted, matchingGone};
 
 // The PID that a filter wants: free, exactly none, or exactly a number.
 pub enum WantedPid {
@@ -28,6 +29,7 @@ pub struct Filter {
     pub transport_stream_id: Wanted,
     pub original_network_id: Wanted,
     pub current_next: Wanted,
+    pub input: Wanted,
 }
 
 // What a filter wants of where sections came from, in the words of a head, or why none comes from there.
@@ -42,27 +44,38 @@ pub enum Drop {
     Matching(Fields),
 }
 
-fn made_wanted(m: Made) -> OriginWanted
-    ensures { λ r. ⌜ r ≡ madeWanted m ⌝ }
+// What a filter wants of the input: an input of 16 or more is refused (37).
+fn input_wanted(input: Wanted, pid: Wanted) -> OriginWanted
+    ensures { λ r. ⌜ r ≡ inputWanted input pid ⌝ }
+{
+    match input {
+        Wanted::Any => OriginWanted::Is(WantedOrigin { input, pid }),
+        Wanted::Exactly(v) => {
+            if v < Input::COUNT as u64 {
+                return OriginWanted::Is(WantedOrigin { input, pid });
+            }
+            OriginWanted::Refused(Refusal::BadInput)
+        }
+    }
+}
+
+fn made_wanted(input: Wanted, m: Made) -> OriginWanted
+    ensures { λ r. ⌜ r ≡ madeWanted input m ⌝ }
 {
     match m {
-        Made::One(p) => OriginWanted::Is(WantedOrigin {
-            pid: Wanted::Exactly(p.0 as u64),
-        }),
+        Made::One(p) => input_wanted(input, Wanted::Exactly(p.0 as u64)),
         Made::TooLarge => OriginWanted::Refused(Refusal::BadPid),
     }
 }
 
-// What a filter wants of where sections came from: a PID of 8192 or more is refused (12).
-fn wanted_origin(pid: WantedPid) -> OriginWanted
-    ensures { λ r. ⌜ r ≡ wantedOrigin pid ⌝ }
+// What a filter wants of where sections came from: a PID of 8192 or more is refused (12), then an input of 16 or more (37).
+fn wanted_origin(input: Wanted, pid: WantedPid) -> OriginWanted
+    ensures { λ r. ⌜ r ≡ wantedOrigin input pid ⌝ }
 {
     match pid {
-        WantedPid::Any => OriginWanted::Is(WantedOrigin { pid: Wanted::Any }),
-        WantedPid::Without => OriginWanted::Is(WantedOrigin {
-            pid: Wanted::Exactly(Origin::NO_PID),
-        }),
-        WantedPid::Exactly(v) => made_wanted(Pid::make(v)),
+        WantedPid::Any => input_wanted(input, Wanted::Any),
+        WantedPid::Without => input_wanted(input, Wanted::Exactly(Origin::NO_PID)),
+        WantedPid::Exactly(v) => made_wanted(input, Pid::make(v)),
     }
 }
 
@@ -85,12 +98,13 @@ fn fields_of(from: WantedOrigin, filter: Filter) -> Fields
     }
 }
 
-// 12, then what is to leave.
+// 12, then 37, then what is to leave.
 pub fn read_filter(filter: Filter) -> Drop
     ensures { λ r. ⌜ r ≡ dropWanted filter ⌝ }
 {
+    let input = filter.input;
     let pid = filter.pid;
-    match wanted_origin(pid) {
+    match wanted_origin(input, pid) {
         OriginWanted::Refused(refusal) => Drop::Refuse(refusal),
         OriginWanted::Is(from) => Drop::Matching(fields_of(from, filter)),
     }

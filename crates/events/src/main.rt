@@ -58,6 +58,7 @@ fn offer(
         cells,
         schedule_heads,
         units,
+        0,
         MaybePid::Some(pid),
         section,
     );

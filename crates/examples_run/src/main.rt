@@ -16,7 +16,15 @@ fn collect(
     cells: &mut [u8],
     section: &[u8],
 ) -> Sets {
-    let pushed = sets::push(sets, heads, slots, cells, MaybePid::Some(0x0011), section);
+    let pushed = sets::push(
+        sets,
+        heads,
+        slots,
+        cells,
+        0,
+        MaybePid::Some(0x0011),
+        section,
+    );
     let answer = pushed.answer;
     let then = pushed.sets;
     examples_read::lines::say_line(b"sets ", answer.number() as u64);
@@ -65,6 +73,7 @@ fn collect_all(
             cells,
             schedule_heads,
             units,
+            0,
             MaybePid::Some(0x0012),
             section,
         );

@@ -16,10 +16,12 @@ use Rattle.eit_section.specs.declared.Kind.{Kind}
 use Rattle.eit_section.specs.declared.MaybeKind.{MaybeKind}
 use Rattle.eit_section.specs.declared.MaybeKind.the-variants as maybe
 use Rattle.arrivals.specs.Arrivals.{kindNumber}
+use Rattle.rows.specs.declared.Origin.{Origin}
 use Rattle.rows.specs.declared.Key.{Key}
 use Rattle.rows.specs.Rows.{keyAt, ageOf, withAge, younger}
 use Rattle.filter.specs.declared.Wanted.{Wanted}
 use Rattle.filter.specs.declared.Wanted.the-variants as wanted
+use Rattle.filter.specs.declared.WantedOrigin.{WantedOrigin}
 use Rattle.filter.specs.declared.Fields.{Fields}
 use Rattle.filter.specs.declared.Of.{Of}
 use Rattle.filter.specs.declared.Of.the-variants as of
@@ -44,6 +46,9 @@ kind-past t a =
     let c : 0x50 ≤ t = omega arith in
     let d : 0x60 ≤ t = omega arith in
     simp (ne-eqb t 0x4E (omega arith), ne-eqb t 0x4F (omega arith), le-leb 0x50 t c, lt-leb t 0x5F (omega arith), le-leb 0x60 t d, lt-leb t 0x6F (omega arith))
+
+pub origin-fits : (w : WantedOrigin) (o : Origin) (a b : Bool) → a ≡ wants (w .input) (o .input) → b ≡ wants (w .pid) (o .pid) → (a && b) ≡ wantsOrigin w o
+origin-fits w o a b p q = rw (← p, ← q)
 
 pub all-match : (o : Of) (f : Fields) (k : Key) (kind : ℕ) (p q r s t u : Bool) → p ≡ wantsOrigin (f .from) (k .from) → kind ≡ kindIn o (k .«table_id») → q ≡ wants (f .kind) kind
     → r ≡ wants (f .«service_id») (k .extension) → s ≡ wants (f .«transport_stream_id») (k .«transport_stream_id»)

@@ -28,7 +28,7 @@ wants wanted.Any v = true
 wants (wanted.Exactly x) v = eqb v x
 
 abbrev pub wantsOrigin : WantedOrigin → Origin → Bool
-wantsOrigin w o = wants (w .pid) (o .pid)
+wantsOrigin w o = wants (w .input) (o .input) && wants (w .pid) (o .pid)
 
 -- the number of what a table_id says: 4 is no kind's
 abbrev pub kindTold : MaybeKind → ℕ
@@ -44,7 +44,7 @@ abbrev pub kindIn : Of → ℕ → ℕ
 kindIn of.Sets t = kindWord t
 kindIn of.Schedules k = k
 
--- "PID or none, kind, service_id, transport_stream_id, original_network_id and current_next"
+-- input, "PID or none, kind, service_id, transport_stream_id, original_network_id and current_next"
 unfoldable pub matches : Of → Fields → Key → Bool
 matches o f k =
     wantsOrigin (f .from) (k .from) && wants (f .kind) (kindIn o (k .«table_id»)) && wants (f .«service_id») (k .extension)

@@ -21,6 +21,7 @@ pub enum Wanted {
 
 // What a filter wants of where a row's sections came from, in the words of a head: PID 8192 is "no PID".
 pub struct WantedOrigin {
+    pub input: Wanted,
     pub pid: Wanted,
 }
 
@@ -59,8 +60,9 @@ fn fits(w: Wanted, v: u64) -> bool
 fn fits_origin(w: WantedOrigin, o: Origin) -> bool
     ensures { λ r. ⌜ r ≡ wantsOrigin w o ⌝ }
 {
+    let input = w.input;
     let pid = w.pid;
-    fits(pid, o.pid)
+    fits(input, o.input) & fits(pid, o.pid)
 }
 
 // The kind by the table_id word in a set's head, by its number.

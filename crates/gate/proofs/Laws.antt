@@ -95,21 +95,21 @@ pub admitted-told :
 unfolding admittedTo
 admitted-told g c keys changes words section a seen ks ms ws o f k m w j = rw (← f, ← k, ← m, ← w, ← j)
 
-module _ (s : Store) (pid : ℕ) (section : List ℕ) (w : Bool) (e : w ≡ isWhole s) (v : Verdict) (q : v ≡ verdictOf w (s .counters) (s .gate .«change_rule») pid section) where
-  carries : carried s section v ≡ offered s pid section
+module _ (s : Store) (input pid : ℕ) (section : List ℕ) (w : Bool) (e : w ≡ isWhole s) (v : Verdict) (q : v ≡ verdictOf w (s .counters) (s .gate .«change_rule») input pid section) where
+  carries : carried s section v ≡ offered s input pid section
   unfolding offered
   carries = rw (← e, ← q)
 
   pub offered-refused :
-      (r : Refusal) (o : Offered) → v ≡ verdict.Refused r → o ≡ refused r (s .gate) (s .counters) → leftBy o (s .keys) (s .changes) (s .words) ≡ offered s pid section
+      (r : Refusal) (o : Offered) → v ≡ verdict.Refused r → o ≡ refused r (s .gate) (s .counters) → leftBy o (s .keys) (s .changes) (s .words) ≡ offered s input pid section
   unfolding carried
   offered-refused r o h j = rw (j, ← carries, h)
 
-  pub offered-failed : (f : Failure) (o : Offered) → v ≡ verdict.Failed f → o ≡ failedBy f (s .gate) (s .counters) → leftBy o (s .keys) (s .changes) (s .words) ≡ offered s pid section
+  pub offered-failed : (f : Failure) (o : Offered) → v ≡ verdict.Failed f → o ≡ failedBy f (s .gate) (s .counters) → leftBy o (s .keys) (s .changes) (s .words) ≡ offered s input pid section
   unfolding carried
   offered-failed f o h j = rw (j, ← carries, h)
 
-  pub offered-arrived : (a : Arrival) (l : Offering) → v ≡ verdict.Arrived a → l ≡ admittedTo s section a → l ≡ offered s pid section
+  pub offered-arrived : (a : Arrival) (l : Offering) → v ≡ verdict.Arrived a → l ≡ admittedTo s section a → l ≡ offered s input pid section
   unfolding carried
   offered-arrived a l h j = rw (← carries, h) j
 

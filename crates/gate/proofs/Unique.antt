@@ -23,10 +23,10 @@ open-unique s extra keys changes words o p ws xs a b =
     (λ i. record { answer = n i; gate = g i; counters = c i }, ap (λ (l : Begun). l .words) e)
 
 pub offer-unique :
-    (s : Store) (pid : ℕ) (section : List ℕ) (o p : Offered) (ks ls ms ns ws xs : List ℕ) →
-    leftBy o ks ms ws ≡ offered s pid section → leftBy p ls ns xs ≡ offered s pid section → (o ≡ p) × (ks ≡ ls) × (ms ≡ ns) × (ws ≡ xs)
-offer-unique s pid section o p ks ls ms ns ws xs a b =
-    let e : leftBy o ks ms ws ≡ leftBy p ls ns xs = one-result (offered s pid section) a b in
+    (s : Store) (input pid : ℕ) (section : List ℕ) (o p : Offered) (ks ls ms ns ws xs : List ℕ) →
+    leftBy o ks ms ws ≡ offered s input pid section → leftBy p ls ns xs ≡ offered s input pid section → (o ≡ p) × (ks ≡ ls) × (ms ≡ ns) × (ws ≡ xs)
+offer-unique s input pid section o p ks ls ms ns ws xs a b =
+    let e : leftBy o ks ms ws ≡ leftBy p ls ns xs = one-result (offered s input pid section) a b in
     let n : o .answer ≡ p .answer = answer-one (o .answer) (p .answer) (ap (λ (l : Offering). l .answer) e) in
     let g = ap (λ (l : Offering). l .store .gate) e in
     let c = ap (λ (l : Offering). l .store .counters) e in

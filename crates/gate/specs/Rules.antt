@@ -18,8 +18,9 @@ use Rattle.watched.specs.Rules.{Watch, followedBy}
 use Rattle.counters.specs.Counters.{anyFull, countedOf, failedOf}
 use Rattle.counters.specs.declared.Counters.{Counters}
 
--- a section on a PID
+-- a section on an input and a PID
 pub record Offer : Type 0 where
+  pub input : ℕ
   pub pid : ℕ
   pub section : List ℕ
 
@@ -73,7 +74,7 @@ carriedIn m h section (Arrived a) = admitted m h (rowFrom a) section
 
 -- an offer: 11, then as the section and its PID say
 unfoldable pub told : Manner → Held → Offer → Told
-told m h o = carriedIn m h (o .section) (cond (anyFull (h .counters)) (Refused CounterFull) (readOf (m .rule) (o .pid) (o .section)))
+told m h o = carriedIn m h (o .section) (cond (anyFull (h .counters)) (Refused CounterFull) (readOf (m .rule) (o .input) (o .pid) (o .section)))
 
 unfoldable pub tells : Manner → Held → Offer → Said
 tells m h o = (told m h o) .answer

@@ -117,6 +117,6 @@ carried s section (verdict.Arrived a) = admittedTo s section a
 abbrev pub isWhole : Store → Bool
 isWhole s = wholeOf (s .gate) (length (s .keys)) (length (s .changes)) (length (s .words))
 
--- every store, PID and section: 10, 11, 12, then 31 or 3, then 1 or 2
-unfoldable pub offered : Store → ℕ → List ℕ → Offering
-offered s pid section = carried s section (verdictOf (isWhole s) (s .counters) (s .gate .«change_rule») pid section)
+-- every store, input, PID and section: 10, 11, 12, 37, then 31 or 3, then 1 or 2
+unfoldable pub offered : Store → (input pid : ℕ) → List ℕ → Offering
+offered s input pid section = carried s section (verdictOf (isWhole s) (s .counters) (s .gate .«change_rule») input pid section)

@@ -30,11 +30,11 @@ pub record Opened (s : Store) : Type 0 where
   pub rule : ruleKnown (s .gate .«change_rule») ≡ true
 
 unfoldable pub storeTells : Store → Offer → Said
-storeTells s o = (offered s (o .pid) (o .section)) .answer
+storeTells s o = (offered s (o .input) (o .pid) (o .section)) .answer
 
 -- its number alone
 abbrev pub storeNo : Store → Offer → ℕ
 storeNo s o = numberOf (storeTells s o)
 
 unfoldable pub storeActs : Store → Offer → Store
-storeActs s o = (offered s (o .pid) (o .section)) .store
+storeActs s o = (offered s (o .input) (o .pid) (o .section)) .store

@@ -58,24 +58,24 @@ pub admitted-told :
 unfolding admittedBy
 admitted-told g c keys changes x words section a seen ks ms y ws o f k m d w j = rw (← f, ← k, ← m, ← d, ← w, ← j)
 
-module _ (s : Indexed) (pid : ℕ) (section : List ℕ) (w : Bool) (e : w ≡ isWholeBy s) (v : Verdict) (q : v ≡ verdictOf w (s .store .counters) (s .store .gate .«change_rule») pid section) where
-  carries : carriedBy s section v ≡ offeredBy s pid section
+module _ (s : Indexed) (input pid : ℕ) (section : List ℕ) (w : Bool) (e : w ≡ isWholeBy s) (v : Verdict) (q : v ≡ verdictOf w (s .store .counters) (s .store .gate .«change_rule») input pid section) where
+  carries : carriedBy s section v ≡ offeredBy s input pid section
   unfolding offeredBy
   carries = rw (← e, ← q)
 
   pub offered-refused :
       (r : Refusal) (o : Offered) → v ≡ verdict.Refused r → o ≡ refused r (s .store .gate) (s .store .counters) →
-      leftBy o (s .store .keys) (s .store .changes) (s .index) (s .store .words) ≡ offeredBy s pid section
+      leftBy o (s .store .keys) (s .store .changes) (s .index) (s .store .words) ≡ offeredBy s input pid section
   unfolding carriedBy
   offered-refused r o h j = rw (j, ← carries, h)
 
   pub offered-failed :
       (f : Failure) (o : Offered) → v ≡ verdict.Failed f → o ≡ failedBy f (s .store .gate) (s .store .counters) →
-      leftBy o (s .store .keys) (s .store .changes) (s .index) (s .store .words) ≡ offeredBy s pid section
+      leftBy o (s .store .keys) (s .store .changes) (s .index) (s .store .words) ≡ offeredBy s input pid section
   unfolding carriedBy
   offered-failed f o h j = rw (j, ← carries, h)
 
-  pub offered-arrived : (a : Arrival) (l : Offering) → v ≡ verdict.Arrived a → l ≡ admittedBy s section a → l ≡ offeredBy s pid section
+  pub offered-arrived : (a : Arrival) (l : Offering) → v ≡ verdict.Arrived a → l ≡ admittedBy s section a → l ≡ offeredBy s input pid section
   unfolding carriedBy
   offered-arrived a l h j = rw (← carries, h) j
 

@@ -25,11 +25,11 @@ open-unique s extra keys changes links buckets words o p bs ds ws xs a b =
     (λ i. record { answer = n i; gate = g i; counters = c i }, ap (λ (l : Begun). l .buckets) e, ap (λ (l : Begun). l .words) e)
 
 pub offer-unique :
-    (s : Indexed) (pid : ℕ) (section : List ℕ) (o p : Offered) (ks ls ms ns : List ℕ) (x y : Index) (ws xs : List ℕ) →
-    leftBy o ks ms x ws ≡ offeredBy s pid section → leftBy p ls ns y xs ≡ offeredBy s pid section →
+    (s : Indexed) (input pid : ℕ) (section : List ℕ) (o p : Offered) (ks ls ms ns : List ℕ) (x y : Index) (ws xs : List ℕ) →
+    leftBy o ks ms x ws ≡ offeredBy s input pid section → leftBy p ls ns y xs ≡ offeredBy s input pid section →
     (o ≡ p) × (ks ≡ ls) × (ms ≡ ns) × (x ≡ y) × (ws ≡ xs)
-offer-unique s pid section o p ks ls ms ns x y ws xs a b =
-    let e : leftBy o ks ms x ws ≡ leftBy p ls ns y xs = one-result (offeredBy s pid section) a b in
+offer-unique s input pid section o p ks ls ms ns x y ws xs a b =
+    let e : leftBy o ks ms x ws ≡ leftBy p ls ns y xs = one-result (offeredBy s input pid section) a b in
     let n : o .answer ≡ p .answer = answer-one (o .answer) (p .answer) (ap (λ (l : Offering). l .answer) e) in
     let g = ap (λ (l : Offering). l .left .store .gate) e in
     let c = ap (λ (l : Offering). l .left .store .counters) e in (

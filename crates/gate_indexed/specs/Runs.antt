@@ -6,7 +6,7 @@ use Rattle.gate.specs.Rules.{Offer}
 use Rattle.gate_indexed.specs.Store.{Indexed, offeredBy}
 
 unfoldable pub tellsBy : Indexed → Offer → Said
-tellsBy s o = (offeredBy s (o .pid) (o .section)) .answer
+tellsBy s o = (offeredBy s (o .input) (o .pid) (o .section)) .answer
 
 unfoldable pub actsBy : Indexed → Offer → Indexed
-actsBy s o = (offeredBy s (o .pid) (o .section)) .left
+actsBy s o = (offeredBy s (o .input) (o .pid) (o .section)) .left

@@ -112,6 +112,6 @@ carriedBy s section (Arrived a) = admittedBy s section a
 abbrev pub isWholeBy : Indexed → Bool
 isWholeBy s = wholeBy (s .store .gate) (length (s .store .keys)) (length (s .store .changes)) (length (s .index .buckets)) (length (s .index .links)) (length (s .store .words))
 
--- every store, PID and section: 10, 11, 12, then 31 or 3, then 1 or 2
-unfoldable pub offeredBy : Indexed → ℕ → List ℕ → Offering
-offeredBy s pid section = carriedBy s section (verdictOf (isWholeBy s) (s .store .counters) (s .store .gate .«change_rule») pid section)
+-- every store, input, PID and section: 10, 11, 12, 37, then 31 or 3, then 1 or 2
+unfoldable pub offeredBy : Indexed → (input pid : ℕ) → List ℕ → Offering
+offeredBy s input pid section = carriedBy s section (verdictOf (isWholeBy s) (s .store .counters) (s .store .gate .«change_rule») input pid section)

@@ -12,10 +12,10 @@ use Rattle.gate_lent.specs.Told.{toldBy}
 use Rattle.gate_lent.specs.declared.Told.{Told}
 
 pub offer-unique :
-    (s : Store) (pid : ℕ) (section : List ℕ) (t u : Told) (c d : Counters) (ks ls ms ns ws xs : List ℕ) →
-    toldBy t c ks ms ws ≡ offered s pid section → toldBy u d ls ns xs ≡ offered s pid section → (t ≡ u) × (c ≡ d) × (ks ≡ ls) × (ms ≡ ns) × (ws ≡ xs)
-offer-unique s pid section t u c d ks ls ms ns ws xs a b =
-    let e : toldBy t c ks ms ws ≡ toldBy u d ls ns xs = one-result (offered s pid section) a b in
+    (s : Store) (input pid : ℕ) (section : List ℕ) (t u : Told) (c d : Counters) (ks ls ms ns ws xs : List ℕ) →
+    toldBy t c ks ms ws ≡ offered s input pid section → toldBy u d ls ns xs ≡ offered s input pid section → (t ≡ u) × (c ≡ d) × (ks ≡ ls) × (ms ≡ ns) × (ws ≡ xs)
+offer-unique s input pid section t u c d ks ls ms ns ws xs a b =
+    let e : toldBy t c ks ms ws ≡ toldBy u d ls ns xs = one-result (offered s input pid section) a b in
     let n : t .answer ≡ u .answer = answer-one (t .answer) (u .answer) (ap (λ (l : Offering). l .answer) e) in
     let g = ap (λ (l : Offering). l .store .gate) e in (
       λ i. record { answer = n i; gate = g i },

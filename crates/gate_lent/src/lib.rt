@@ -12,19 +12,20 @@ pub struct Told {
     pub gate: Gate,
 }
 
-// `gate::offer` with the counters behind a reference. 10, 11 and 12 leave the record as it was.
+// `gate::offer` with the counters behind a reference. 10, 11, 12 and 37 leave the record as it was.
 pub fn offer(
     gate: Gate,
     counters: &mut Counters,
     keys: &mut [u64],
     changes: &mut [u64],
     words: &mut [u64],
+    input: u8,
     pid: u16,
     section: &[u8],
 ) -> Told
-    ensures { λ r. ⌜ toldBy r (now (counters .exit)) (now (keys .exit)) (now (changes .exit)) (now (words .exit)) ≡ offered (storeOf gate (now (counters .entry)) (now (keys .entry)) (now (changes .entry)) (now (words .entry))) pid (now (section .entry)) ⌝ }
+    ensures { λ r. ⌜ toldBy r (now (counters .exit)) (now (keys .exit)) (now (changes .exit)) (now (words .exit)) ≡ offered (storeOf gate (now (counters .entry)) (now (keys .entry)) (now (changes .entry)) (now (words .entry))) input pid (now (section .entry)) ⌝ }
 {
-    let r = gate::offer(gate, *counters, keys, changes, words, pid, section);
+    let r = gate::offer(gate, *counters, keys, changes, words, input, pid, section);
     *counters = r.counters;
     Told {
         answer: r.answer,

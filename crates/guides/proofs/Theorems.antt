@@ -214,6 +214,7 @@ and-swap false false = refl
 keys-swap : (j k : Key) → sameKey j k ≡ sameKey k j
 unfolding sameKey sameOrigin
 keys-swap j k = rw (
+  eqb-sym (j .from .input) (k .from .input),
   eqb-sym (j .from .pid) (k .from .pid),
   eqb-sym (j .«table_id») (k .«table_id»),
   eqb-sym (j .extension) (k .extension),

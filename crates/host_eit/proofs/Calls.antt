@@ -10,6 +10,7 @@ use Rattle.answers.specs.declared.Outcome.{Outcome}
 use Rattle.answers.specs.declared.Outcome.the-variants as outcome
 use Rattle.section.specs.declared.ids.MaybePid.{MaybePid}
 use Rattle.host_words.specs.Answers.{Words, words, Pushes, pushes}
+use Rattle.host_words.specs.Inputs.{inputNumber}
 use Rattle.host_words.specs.Pids.{maybePid}
 use Rattle.host_words.specs.Sections.{tellsNext}
 use Rattle.host_words.proofs.Refusals.{refused-not-7}
@@ -60,15 +61,15 @@ module _ (eit heads slots cells schedule-heads units : List ℕ) where
   eit-cleared s o ws r h e t = rw (← h, ← e, ap (λ (x : Words). x .answer) t, ap (λ (x : Words). x .now) t, outcome-number (o .answer))
 
   pub eit-pushed :
-      (pid : ℕ) (section row : List ℕ) (s : Eit) (p : MaybePid) (o : Pushed) (hs ss cs ts us ws rs : List ℕ) (r : ℕ) →
-      s ≡ eitOf eit → p ≡ maybePid pid →
-      pushed o hs ss cs ts us ≡ pushedOf (store s heads slots cells schedule-heads units) p section →
+      (input pid : ℕ) (section row : List ℕ) (s : Eit) (j : ℕ) (p : MaybePid) (o : Pushed) (hs ss cs ts us ws rs : List ℕ) (r : ℕ) →
+      s ≡ eitOf eit → j ≡ inputNumber input → p ≡ maybePid pid →
+      pushed o hs ss cs ts us ≡ pushedOf (store s heads slots cells schedule-heads units) j p section →
       pushes r ws rs ≡ tellsPushed o eit row →
-      eitLeft r ws hs ss cs ts us rs ≡ eitPushed eit heads slots cells schedule-heads units pid section row
+      eitLeft r ws hs ss cs ts us rs ≡ eitPushed eit heads slots cells schedule-heads units input pid section row
   unfolding eitPushed
-  eit-pushed pid section row s p o hs ss cs ts us ws rs r h q e t =
+  eit-pushed input pid section row s j p o hs ss cs ts us ws rs r h d q e t =
       let l = store (o .eit) hs ss cs ts us in
-      rw (← h, ← q, ← e, ap (λ (x : Pushes). x .answer) t, sym (told-number (o .answer) l), ap (λ (x : Pushes). x .now) t, ap (λ (x : Pushes). x .row) t, push-row (o .answer) l row)
+      rw (← h, ← d, ← q, ← e, ap (λ (x : Pushes). x .answer) t, sym (told-number (o .answer) l), ap (λ (x : Pushes). x .now) t, ap (λ (x : Pushes). x .row) t, push-row (o .answer) l row)
 
   pub eit-dropped :
       (filter : List ℕ) (s : Eit) (f : Filter) (o : Turned) (hs ss ts us ws : List ℕ) (r : ℕ) →

@@ -1,13 +1,15 @@
 -- A refusal leaves every word that is lent as it was, whatever the words hold. An array of n words is a list of length n.
 -- Assumes nothing.
-use Prim.Native.Nat.{ℕ, _≤_, _<_}
-use mathlib.Core.Path.{_≡_, refl}
+use Prim.Native.Nat.{ℕ, _≤_}
+use mathlib.Core.Path.{_≡_, refl, _∙_}
+use mathlib.Core.Logic.{_≢_}
 use mathlib.Core.List.{List}
 use mathlib.Core.Bool.{Bool, true, false, cond}
 use native.Mathlib.Omega.{arith}
 use lib.ListN.{length}
 use Rattle.answers.specs.declared.Refusal.the-variants as refusal
 use Rattle.host_words.specs.Answers as answers
+use Rattle.host_words.specs.Inputs.{inputNumber}
 use Rattle.host_words.specs.Pids.{maybePid}
 use Rattle.host_words.proofs.Refusals.{refused-open, refused-next}
 use Rattle.eit_state.specs.State.{Store, store, wholeOf}
@@ -49,18 +51,19 @@ no-row (a-set o) row h = absurd (omega arith)
 no-row (a-schedule o) row h = absurd (omega arith)
 no-row (eit.refused r) row h = refl
 
--- 10, 11, 12 and 14 to 21
+-- every refusal but 22 and 23
 pub eit-push-refused :
-    (words heads slots cells schedule-heads units : List ℕ) (pid : ℕ) (section row : List ℕ) (answer : ℕ) → length words ≡ 7 →
-    answer ≡ (eitPushed words heads slots cells schedule-heads units pid section row) .answer → 10 ≤ answer → answer < 22 →
-    eitPushed words heads slots cells schedule-heads units pid section row ≡ eitLeft answer words heads slots cells schedule-heads units row
+    (words heads slots cells schedule-heads units : List ℕ) (input pid : ℕ) (section row : List ℕ) (answer : ℕ) → length words ≡ 7 →
+    answer ≡ (eitPushed words heads slots cells schedule-heads units input pid section row) .answer → 10 ≤ answer → answer ≢ 22 → answer ≢ 23 →
+    eitPushed words heads slots cells schedule-heads units input pid section row ≡ eitLeft answer words heads slots cells schedule-heads units row
 unfolding eitPushed
-eit-push-refused words heads slots cells schedule-heads units pid section row answer n e h k =
+eit-push-refused words heads slots cells schedule-heads units input pid section row answer n e h j k =
     let s : Store = store (eitOf words) heads slots cells schedule-heads units in
-    let l : After = pushedOf s (maybePid pid) section in
+    let l : After = pushedOf s (inputNumber input) (maybePid pid) section in
     let a : 10 ≤ number (l .told) = rw (← e) h in
-    let b : number (l .told) < 22 = rw (← e) k in
-    go l (push-keeps s (maybePid pid) section a b) a e
+    let b : number (l .told) ≢ 22 = λ (q : number (l .told) ≡ 22). j (e ∙ q) in
+    let c : number (l .told) ≢ 23 = λ (q : number (l .told) ≡ 23). k (e ∙ q) in
+    go l (push-keeps s (inputNumber input) (maybePid pid) section a b c) a e
   where
     go :
         (l : After) → l .store ≡ store (eitOf words) heads slots cells schedule-heads units → 10 ≤ number (l .told) → answer ≡ number (l .told) →

@@ -21,12 +21,12 @@ pub unique-eit-clear :
 unique-eit-clear eit heads slots cells tops units = words-one (eitCleared eit heads slots cells tops units)
 
 pub unique-eit-push :
-    (eit heads slots cells tops units : List ℕ) (pid : ℕ) (section row : List ℕ) (r s : ℕ) (w x h i k l c d t u y z n m : List ℕ) →
-    eitLeft r w h k c t y n ≡ eitPushed eit heads slots cells tops units pid section row →
-    eitLeft s x i l d u z m ≡ eitPushed eit heads slots cells tops units pid section row →
+    (eit heads slots cells tops units : List ℕ) (input pid : ℕ) (section row : List ℕ) (r s : ℕ) (w x h i k l c d t u y z n m : List ℕ) →
+    eitLeft r w h k c t y n ≡ eitPushed eit heads slots cells tops units input pid section row →
+    eitLeft s x i l d u z m ≡ eitPushed eit heads slots cells tops units input pid section row →
     (r ≡ s) × (w ≡ x) × (h ≡ i) × (k ≡ l) × (c ≡ d) × (t ≡ u) × (y ≡ z) × (n ≡ m)
-unique-eit-push eit heads slots cells tops units pid section row r s w x h i k l c d t u y z n m a b =
-    let e : eitLeft r w h k c t y n ≡ eitLeft s x i l d u z m = one-result (eitPushed eit heads slots cells tops units pid section row) a b in (
+unique-eit-push eit heads slots cells tops units input pid section row r s w x h i k l c d t u y z n m a b =
+    let e : eitLeft r w h k c t y n ≡ eitLeft s x i l d u z m = one-result (eitPushed eit heads slots cells tops units input pid section row) a b in (
       ap (λ (o : EitLeft). o .answer) e,
       ap (λ (o : EitLeft). o .eit) e,
       ap (λ (o : EitLeft). o .heads) e,

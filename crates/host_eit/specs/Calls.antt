@@ -5,6 +5,7 @@ use mathlib.Core.List.{List, [], _∷_}
 use mathlib.Core.Bool.{cond}
 use lib.Dec.{eqb}
 use Rattle.host_words.specs.Answers.{Words, words}
+use Rattle.host_words.specs.Inputs.{inputNumber}
 use Rattle.host_words.specs.Pids.{maybePid}
 use Rattle.host_words.specs.Sections.{tellsNext}
 use Rattle.eit_state.specs.State.{store, asked}
@@ -59,9 +60,9 @@ pushedAs eit row l =
     (l .store .units)
     (rowAfter (l .told) row)
 
-unfoldable pub eitPushed : List ℕ → List ℕ → List ℕ → List ℕ → List ℕ → List ℕ → ℕ → List ℕ → List ℕ → EitLeft
-eitPushed eit heads slots cells schedule-heads units pid section row =
-    pushedAs eit row (pushedOf (store (eitOf eit) heads slots cells schedule-heads units) (maybePid pid) section)
+unfoldable pub eitPushed : List ℕ → List ℕ → List ℕ → List ℕ → List ℕ → List ℕ → (input pid : ℕ) → List ℕ → List ℕ → EitLeft
+eitPushed eit heads slots cells schedule-heads units input pid section row =
+    pushedAs eit row (pushedOf (store (eitOf eit) heads slots cells schedule-heads units) (inputNumber input) (maybePid pid) section)
 
 -- an answer, the collector's seven words, and the words of the four slices that a drop may write
 pub record EitDropped : Type 0 where

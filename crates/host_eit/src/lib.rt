@@ -31,7 +31,7 @@ pub fn open(
     host_eit_words::write_opened(eit, opened)
 }
 
-// Offers a section, with the PID that it came on or, for 0xFFFFFFFF, without. 5 writes the set's row into `row`, 6 the schedule's.
+// Offers a section, with the input and the PID that it came on or, for PID 0xFFFFFFFF, without a PID. 5 writes the set's row into `row`, 6 the schedule's.
 pub fn push(
     eit: &mut [u64; 7],
     heads: &mut [u64],
@@ -39,13 +39,15 @@ pub fn push(
     cells: &mut [u8],
     schedule_heads: &mut [u64],
     units: &mut [u32],
+    input: u32,
     pid: u32,
     section: &[u8],
     row: &mut [u64; 1],
 ) -> u8
-    ensures { λ r. ⌜ eitLeft r (now (eit .exit)) (now (heads .exit)) (now (slots .exit)) (now (cells .exit)) (now («schedule_heads» .exit)) (now (units .exit)) (now (row .exit)) ≡ eitPushed (now (eit .entry)) (now (heads .entry)) (now (slots .entry)) (now (cells .entry)) (now («schedule_heads» .entry)) (now (units .entry)) pid (now (section .entry)) (now (row .entry)) ⌝ }
+    ensures { λ r. ⌜ eitLeft r (now (eit .exit)) (now (heads .exit)) (now (slots .exit)) (now (cells .exit)) (now («schedule_heads» .exit)) (now (units .exit)) (now (row .exit)) ≡ eitPushed (now (eit .entry)) (now (heads .entry)) (now (slots .entry)) (now (cells .entry)) (now («schedule_heads» .entry)) (now (units .entry)) input pid (now (section .entry)) (now (row .entry)) ⌝ }
 {
     let before = host_eit_words::eit(eit);
+    let on = host_words::inputs::number(input);
     let from = host_words::pids::maybe(pid);
     let pushed = eit::push(
         before,
@@ -54,6 +56,7 @@ pub fn push(
         cells,
         schedule_heads,
         units,
+        on,
         from,
         section,
     );
@@ -76,7 +79,7 @@ pub fn clear(
     host_eit_words::write_turned(eit, cleared)
 }
 
-// Sets and schedules that match the filter go: 7, 10, or 12 for a PID of the filter that is none. A word with all 64 bits set is free, the PID 0xFFFFFFFF
+// Sets and schedules that match the filter go: 7, 10, 12 for a PID of the filter that is none, or 37 for such an input. A word with all 64 bits set is free, the PID 0xFFFFFFFF
 // is "exactly none".
 pub fn drop(
     eit: &mut [u64; 7],
@@ -85,7 +88,7 @@ pub fn drop(
     cells: &[u8],
     schedule_heads: &mut [u64],
     units: &mut [u32],
-    filter: &[u64; 6],
+    filter: &[u64; 7],
 ) -> u8
     ensures { λ r. ⌜ eitDroppedTo r (now (eit .exit)) (now (heads .exit)) (now (slots .exit)) (now («schedule_heads» .exit)) (now (units .exit)) ≡ eitDropped (now (eit .entry)) (now (heads .entry)) (now (slots .entry)) (now (cells .entry)) (now («schedule_heads» .entry)) (now (units .entry)) (now (filter .entry)) ⌝ }
 {

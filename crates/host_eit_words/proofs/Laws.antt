@@ -48,8 +48,8 @@ module _ (w : ℕ) where
   pid-exact n h k e = rw (ne-eqb w 18446744073709551615 h, ne-eqb w 0xFFFF_FFFF k, e)
 
 pub filter-read :
-    (w : List ℕ) (p : WantedPid) (k s t o c : Wanted) →
+    (w : List ℕ) (p : WantedPid) (k s t o c n : Wanted) →
     p ≡ eits.wantedPidOf (at w 0) → k ≡ eits.wantedOf (at w 1) → s ≡ eits.wantedOf (at w 2) → t ≡ eits.wantedOf (at w 3) → o ≡ eits.wantedOf (at w 4) →
-    c ≡ eits.wantedOf (at w 5) →
-    _≡_ {A = Filter} (record { pid = p; kind = k; «service_id» = s; «transport_stream_id» = t; «original_network_id» = o; «current_next» = c }) (eits.filterOf w)
-filter-read w p k s t o c e f g h i j = λ x. record { pid = e x; kind = f x; «service_id» = g x; «transport_stream_id» = h x; «original_network_id» = i x; «current_next» = j x }
+    c ≡ eits.wantedOf (at w 5) → n ≡ eits.wantedOf (at w 6) →
+    _≡_ {A = Filter} (record { pid = p; kind = k; «service_id» = s; «transport_stream_id» = t; «original_network_id» = o; «current_next» = c; input = n }) (eits.filterOf w)
+filter-read w p k s t o c n e f g h i j m = λ x. record { pid = e x; kind = f x; «service_id» = g x; «transport_stream_id» = h x; «original_network_id» = i x; «current_next» = j x; input = m x }

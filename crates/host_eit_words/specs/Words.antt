@@ -1,5 +1,5 @@
 -- The seven words of an EIT collector: 0 limit, 1 size, 2 count, 3 used, 4 evictions, 5 schedules, 6 schedule evictions; the word of a row that
--- goes out; and the six words of a filter.
+-- goes out; and the seven words of a filter.
 use Prim.Native.Nat.{ℕ}
 use mathlib.Core.List.{List, [], _∷_}
 use mathlib.Core.Bool.{cond}
@@ -62,7 +62,7 @@ tellsPushed o w row = pushes (pushNumber (o .answer)) (wordsAfter w (o .eit)) (r
 abbrev pub tellsTurned : Turned → List ℕ → Words
 tellsTurned o w = words (outcomeNo (o .answer)) (wordsAfter w (o .eit))
 
--- ---- a filter: 0 pid, 1 kind, 2 service_id, 3 transport_stream_id, 4 original_network_id, 5 current_next
+-- ---- a filter: 0 pid, 1 kind, 2 service_id, 3 transport_stream_id, 4 original_network_id, 5 current_next, 6 input
 
 -- "each exact or free": all 64 bits set is free
 abbrev pub wantedOf : ℕ → Wanted
@@ -80,4 +80,5 @@ filterOf w = record {
   «transport_stream_id» = wantedOf (at w 3);
   «original_network_id» = wantedOf (at w 4);
   «current_next» = wantedOf (at w 5);
+  input = wantedOf (at w 6);
 }

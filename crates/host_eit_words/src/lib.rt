@@ -1,5 +1,5 @@
 // The seven words of an EIT collector: 0 limit, 1 size, 2 count, 3 used, 4 evictions, 5 schedules, 6 schedule_evictions; the word of a row that
-// goes out; and the six words of a filter: 0 pid, 1 kind, 2 service_id, 3 transport_stream_id, 4 original_network_id, 5 current_next.
+// goes out; and the seven words of a filter: 0 pid, 1 kind, 2 service_id, 3 transport_stream_id, 4 original_network_id, 5 current_next, 6 input.
 use answers::Outcome;
 use eit_drop::Filter;
 use eit_drop::WantedPid;
@@ -139,7 +139,7 @@ fn wanted_pid(word: u64) -> WantedPid
     WantedPid::Exactly(pids::narrow(word))
 }
 
-pub fn filter(words: &[u64; 6]) -> Filter
+pub fn filter(words: &[u64; 7]) -> Filter
     ensures { λ r. ⌜ r ≡ filterOf (now (words .entry)) ⌝ }
 {
     Filter {
@@ -149,5 +149,6 @@ pub fn filter(words: &[u64; 6]) -> Filter
         transport_stream_id: wanted(words[3]),
         original_network_id: wanted(words[4]),
         current_next: wanted(words[5]),
+        input: wanted(words[6]),
     }
 }

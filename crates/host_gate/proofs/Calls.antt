@@ -3,7 +3,7 @@
 use Prim.Native.Nat.{ℕ, _≤_}
 use mathlib.Core.Path.{_≡_, refl, sym, ap}
 use mathlib.Core.List.{List}
-use mathlib.Core.Bool.{cond}
+use mathlib.Core.Bool.{Bool, cond}
 use native.Mathlib.Omega.{arith}
 use lib.ListN.{length}
 use lib.Dec.{eqb}
@@ -14,16 +14,18 @@ use Rattle.answers.specs.declared.Outcome.the-variants as outcome
 use Rattle.answers.specs.declared.Reply.{Reply}
 use Rattle.answers.proofs.Laws.{refused-from-10}
 use Rattle.counters.specs.declared.Counters.{Counters}
-use Rattle.watched.specs.Store.{asked}
+use Rattle.watched.specs.Store.{Opening, openingBy, asked}
+use Rattle.watched.specs.Store as watched
 use Rattle.gate.specs.Store.{begunBy, opened, leftBy, storeOf, offered}
 use Rattle.gate_state.specs.declared.Settings.{Settings}
 use Rattle.gate_state.specs.declared.Gate.{Gate}
 use Rattle.gate_state.specs.declared.Opened.{Opened}
 use Rattle.gate_state.specs.declared.Offered.{Offered}
+use Rattle.host_words.specs.Inputs.{inputNumber}
 use Rattle.host_words.specs.Pids.{pidNumber}
 use Rattle.host_words.specs.Answers.{Words, words}
-use Rattle.host_gate_words.specs.Words.{settingsOf, heldIn, wordsOf, wordsOpened, tellsOpened, Told, told, tellsOffered}
-use Rattle.host_gate.specs.Calls.{begun, gateOpened, left, gateOffered, watchAsked}
+use Rattle.host_gate_words.specs.Words.{asksForKnown, settingsOf, heldIn, wordsOf, wordsOpened, tellsOpened, Told, told, tellsOffered}
+use Rattle.host_gate.specs.Calls.{begun, gateOpened, left, gateOffered, watchOpened, watchAsked}
 use Rattle.host_gate_words.specs.declared.Held.{Held}
 
 pub opened-words : (a : Outcome) (g : Gate) (c : Counters) (w : List ℕ) → wordsOpened a g c w ≡ cond (eqb (outcomeNo a) 7) (wordsOf g c) w
@@ -43,14 +45,20 @@ gate-opened gate capacity settings rule extra keys changes watch s o ws gs r e f
     rw (← e, ← f, ap (λ (x : Words). x .answer) t, ap (λ (x : Words). x .now) t, opened-words (o .answer) (o .gate) (o .counters) gate)
 
 pub gate-offered :
-    (gate keys changes watch : List ℕ) (pid : ℕ) (section failure : List ℕ) (h : Held) (p : ℕ) (o : Offered) (ks ms ws gs fs : List ℕ) (r : ℕ) →
-    h ≡ heldIn gate → p ≡ pidNumber pid →
-    leftBy o ks ms ws ≡ offered (storeOf (h .gate) (h .counters) keys changes watch) p section →
+    (gate keys changes watch : List ℕ) (input pid : ℕ) (section failure : List ℕ) (h : Held) (q p : ℕ) (o : Offered) (ks ms ws gs fs : List ℕ) (r : ℕ) →
+    h ≡ heldIn gate → q ≡ inputNumber input → p ≡ pidNumber pid →
+    leftBy o ks ms ws ≡ offered (storeOf (h .gate) (h .counters) keys changes watch) q p section →
     told r gs fs ≡ tellsOffered o gate failure →
-    left r gs ks ms ws fs ≡ gateOffered gate keys changes watch pid section failure
+    left r gs ks ms ws fs ≡ gateOffered gate keys changes watch input pid section failure
 unfolding gateOffered
-gate-offered gate keys changes watch pid section failure h p o ks ms ws gs fs r d e f t =
-    rw (ap (λ (x : Held). x .gate) (sym d), ap (λ (x : Held). x .counters) (sym d), ← e, ← f, ap (λ (x : Told). x .answer) t, ap (λ (x : Told). x .gate) t, ap (λ (x : Told). x .failure) t)
+gate-offered gate keys changes watch input pid section failure h q p o ks ms ws gs fs r d u e f t =
+    rw (ap (λ (x : Held). x .gate) (sym d), ap (λ (x : Held). x .counters) (sym d), ← u, ← e, ← f, ap (λ (x : Told). x .answer) t, ap (λ (x : Told). x .gate) t, ap (λ (x : Told). x .failure) t)
+
+pub watch-opened :
+    (settings : ℕ) (extra watch ws : List ℕ) (known : Bool) (o : Outcome) (r : ℕ) →
+    known ≡ asksForKnown settings → openingBy o ws ≡ watched.opened watch known extra → r ≡ outcomeNo o → words r ws ≡ watchOpened settings extra watch
+unfolding watchOpened
+watch-opened settings extra watch ws known o r k f n = rw (← k, ← f, n)
 
 pub watch-asked : (watch : List ℕ) (pid p : ℕ) (a : Reply) (r : ℕ) → p ≡ pidNumber pid → replyNo a ≡ asked watch p → r ≡ replyNo a → r ≡ watchAsked watch pid
 unfolding watchAsked

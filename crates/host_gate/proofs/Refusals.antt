@@ -6,19 +6,23 @@ use mathlib.Core.List.{List}
 use mathlib.Core.Bool.{Bool, true, false, cond, true≢false}
 use native.Mathlib.Omega.{arith}
 use lib.ListN.{length}
+use lib.Dec.{leb}
 use Rattle.ring.specs.Store.{stampOf, seenOf}
 use Rattle.offers.specs.Offers.{verdictOf}
 use Rattle.offers.specs.declared.Verdict.{Verdict}
 use Rattle.offers.specs.declared.Verdict.the-variants.{Refused, Failed, Arrived}
-use Rattle.watched.specs.Store.{allPids}
+use Rattle.watched.specs.Store.{Opening, allPids, filled}
+use Rattle.watched.specs.Store as watched
 use Rattle.offers.specs.declared.Failure.{Failure}
 use Rattle.offers.specs.declared.Failure.the-variants.{TooShort, Mismatch}
 use Rattle.gate_state.specs.State.{saidOf, numberOf, isJudged, failureNo, answerOf, emitsOf, seenBy}
 use Rattle.gate.specs.Store.{canOpen, begins, opened, isWhole, Store, storeOf, Offering, admittedTo, carried, offered}
 use Rattle.gate_state.specs.declared.Settings.{Settings}
+use Rattle.host_words.specs.Inputs.{inputNumber}
 use Rattle.host_words.specs.Pids.{pidNumber}
-use Rattle.host_gate_words.specs.Words.{settingsOf, gateOf, countersOf, failureAfter}
-use Rattle.host_gate.specs.Calls.{begun, begunAs, gateOpened, left, leftAs, gateOffered}
+use Rattle.host_words.specs.Answers.{words}
+use Rattle.host_gate_words.specs.Words.{asksForKnown, settingsOf, gateOf, countersOf, failureAfter}
+use Rattle.host_gate.specs.Calls.{begun, begunAs, gateOpened, left, leftAs, gateOffered, openedAs, watchOpened}
 use Rattle.host_gate_words.proofs.Same.{gate-same}
 
 -- a section that is admitted is told 1 or 2, one that fails 31 or 3
@@ -42,21 +46,21 @@ carried-refused s section (Failed f) h = absurd (failure-judged f h)
 carried-refused s section (Arrived a) h =
     absurd (told-judged (emitsOf (s .gate) (seenOf (s .gate .ring) (s .keys) (s .changes) (a .key) (stampOf (a .version) (a .change)))) h)
 
-pub offer-refused : (s : Store) (pid : ℕ) (section : List ℕ) → isJudged (numberOf ((offered s pid section) .answer)) ≡ false → Kept (offered s pid section) s
+pub offer-refused : (s : Store) (input pid : ℕ) (section : List ℕ) → isJudged (numberOf ((offered s input pid section) .answer)) ≡ false → Kept (offered s input pid section) s
 unfolding offered
-offer-refused s pid section h = carried-refused s section (verdictOf (isWhole s) (s .counters) (s .gate .«change_rule») pid section) h
+offer-refused s input pid section h = carried-refused s section (verdictOf (isWhole s) (s .counters) (s .gate .«change_rule») input pid section) h
 
 -- every answer but 1, 2, 31 and 3
 pub gate-offer-refused :
-    (gate keys changes watch : List ℕ) (pid : ℕ) (section failure : List ℕ) (answer : ℕ) → length gate ≡ 13 →
-    answer ≡ (gateOffered gate keys changes watch pid section failure) .answer → isJudged answer ≡ false →
-    gateOffered gate keys changes watch pid section failure ≡ left answer gate keys changes watch failure
+    (gate keys changes watch : List ℕ) (input pid : ℕ) (section failure : List ℕ) (answer : ℕ) → length gate ≡ 13 →
+    answer ≡ (gateOffered gate keys changes watch input pid section failure) .answer → isJudged answer ≡ false →
+    gateOffered gate keys changes watch input pid section failure ≡ left answer gate keys changes watch failure
 unfolding gateOffered
-gate-offer-refused gate keys changes watch pid section failure answer n e h =
+gate-offer-refused gate keys changes watch input pid section failure answer n e h =
     let s : Store = storeOf (gateOf gate) (countersOf gate) keys changes watch in
-    let l : Offering = offered s (pidNumber pid) section in
+    let l : Offering = offered s (inputNumber input) (pidNumber pid) section in
     let k : isJudged (numberOf (l .answer)) ≡ false = rw (← e) h in
-    let r = offer-refused s (pidNumber pid) section k in
+    let r = offer-refused s (inputNumber input) (pidNumber pid) section k in
     go l (r .store) (r .failure failure) e
   where
     go :
@@ -80,3 +84,20 @@ gate-open-refused gate capacity settings rule extra keys changes watch answer e 
     go s ws true true e = absurd (h e)
     go s ws true false e = rw e
     go s ws false room e = rw e
+
+-- 12 and 13
+pub watch-open-refused :
+    (settings : ℕ) (extra watch : List ℕ) (answer : ℕ) → answer ≡ (watchOpened settings extra watch) .answer → (answer ≡ 7 → ⊥) →
+    watchOpened settings extra watch ≡ words answer watch
+unfolding watchOpened watched.opened
+watch-open-refused settings extra watch answer e h = go (filled watch (asksForKnown settings) extra) (allPids extra) (leb 384 (length watch)) e
+  where
+    told : ℕ → List ℕ → Opening
+    told n ws = record { answer = n; words = ws }
+
+    go :
+        (ws : List ℕ) (good room : Bool) → answer ≡ (openedAs (cond good (cond room (told 7 ws) (told 13 watch)) (told 12 watch))) .answer →
+        openedAs (cond good (cond room (told 7 ws) (told 13 watch)) (told 12 watch)) ≡ words answer watch
+    go ws true true e = absurd (h e)
+    go ws true false e = rw e
+    go ws false room e = rw e

@@ -5,7 +5,8 @@ use Prim.Native.Nat.{ℕ}
 use mathlib.Core.Path.{_≡_, ap}
 use mathlib.Core.List.{List}
 use Rattle.laws.proofs.Unique.{one-result}
-use Rattle.host_gate.specs.Calls.{GateBegun, begun, gateOpened, GateLeft, left, gateOffered, watchAsked}
+use Rattle.host_words.specs.Answers.{Words, words}
+use Rattle.host_gate.specs.Calls.{GateBegun, begun, gateOpened, GateLeft, left, gateOffered, watchOpened, watchAsked}
 
 pub unique-gate-open :
     (gate : List ℕ) (capacity settings rule : ℕ) (extra keys changes watch : List ℕ) (r s : ℕ) (g h w x : List ℕ) →
@@ -16,12 +17,19 @@ unique-gate-open gate capacity settings rule extra keys changes watch r s g h w 
     (ap (λ (l : GateBegun). l .answer) e, ap (λ (l : GateBegun). l .gate) e, ap (λ (l : GateBegun). l .watch) e)
 
 pub unique-gate-offer :
-    (gate keys changes watch : List ℕ) (pid : ℕ) (section failure : List ℕ) (r s : ℕ) (g h k l m n w x y z : List ℕ) →
-    left r g k m w y ≡ gateOffered gate keys changes watch pid section failure → left s h l n x z ≡ gateOffered gate keys changes watch pid section failure →
+    (gate keys changes watch : List ℕ) (input pid : ℕ) (section failure : List ℕ) (r s : ℕ) (g h k l m n w x y z : List ℕ) →
+    left r g k m w y ≡ gateOffered gate keys changes watch input pid section failure → left s h l n x z ≡ gateOffered gate keys changes watch input pid section failure →
     (r ≡ s) × (g ≡ h) × (k ≡ l) × (m ≡ n) × (w ≡ x) × (y ≡ z)
-unique-gate-offer gate keys changes watch pid section failure r s g h k l m n w x y z a b =
-    let e : left r g k m w y ≡ left s h l n x z = one-result (gateOffered gate keys changes watch pid section failure) a b in
+unique-gate-offer gate keys changes watch input pid section failure r s g h k l m n w x y z a b =
+    let e : left r g k m w y ≡ left s h l n x z = one-result (gateOffered gate keys changes watch input pid section failure) a b in
     (ap (λ (t : GateLeft). t .answer) e, ap (λ (t : GateLeft). t .gate) e, ap (λ (t : GateLeft). t .keys) e, ap (λ (t : GateLeft). t .changes) e, ap (λ (t : GateLeft). t .watch) e, ap (λ (t : GateLeft). t .failure) e)
+
+pub unique-watch-open :
+    (settings : ℕ) (extra watch : List ℕ) (r s : ℕ) (w x : List ℕ) →
+    words r w ≡ watchOpened settings extra watch → words s x ≡ watchOpened settings extra watch → (r ≡ s) × (w ≡ x)
+unique-watch-open settings extra watch r s w x a b =
+    let e : words r w ≡ words s x = one-result (watchOpened settings extra watch) a b in
+    (ap (λ (l : Words). l .answer) e, ap (λ (l : Words). l .now) e)
 
 pub unique-watch-ask : (watch : List ℕ) (pid r s : ℕ) → r ≡ watchAsked watch pid → s ≡ watchAsked watch pid → r ≡ s
 unique-watch-ask watch pid r s = one-result (watchAsked watch pid)

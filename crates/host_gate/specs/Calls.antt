@@ -5,10 +5,13 @@ use mathlib.Core.List.{List}
 use mathlib.Core.Bool.{cond}
 use lib.ListN.{length}
 use lib.Dec.{eqb}
+use Rattle.host_words.specs.Inputs.{inputNumber}
 use Rattle.host_words.specs.Pids.{pidNumber}
 use Rattle.gate_state.specs.State.{numberOf}
-use Rattle.host_gate_words.specs.Words.{settingsOf, gateOf, countersOf, wordsOf, wordsAfter, failureAfter}
-use Rattle.watched.specs.Store.{asked}
+use Rattle.host_words.specs.Answers.{Words, words}
+use Rattle.host_gate_words.specs.Words.{asksForKnown, settingsOf, gateOf, countersOf, wordsOf, wordsAfter, failureAfter}
+use Rattle.watched.specs.Store.{Opening, asked}
+use Rattle.watched.specs.Store as watched
 use Rattle.gate.specs.Store.{Begun, opened, Offering, storeOf, offered}
 
 -- ---- opening
@@ -49,11 +52,18 @@ abbrev pub leftAs : List ℕ → List ℕ → Offering → GateLeft
 leftAs gate failure l =
     left (numberOf (l .answer)) (wordsAfter gate (l .store .gate) (l .store .counters)) (l .store .keys) (l .store .changes) (l .store .words) (failureAfter (l .answer) failure)
 
-unfoldable pub gateOffered : List ℕ → List ℕ → List ℕ → List ℕ → ℕ → List ℕ → List ℕ → GateLeft
-gateOffered gate keys changes watch pid section failure =
-    leftAs gate failure (offered (storeOf (gateOf gate) (countersOf gate) keys changes watch) (pidNumber pid) section)
+unfoldable pub gateOffered : List ℕ → List ℕ → List ℕ → List ℕ → (input pid : ℕ) → List ℕ → List ℕ → GateLeft
+gateOffered gate keys changes watch input pid section failure =
+    leftAs gate failure (offered (storeOf (gateOf gate) (countersOf gate) keys changes watch) (inputNumber input) (pidNumber pid) section)
 
 -- ---- the watch
+
+abbrev pub openedAs : Opening → Words
+openedAs o = words (o .answer) (o .words)
+
+-- the record of one input: 12, then 13, each with its words as before, else 7. Of the settings only 4, the well-known PIDs, is looked at
+unfoldable pub watchOpened : ℕ → List ℕ → List ℕ → Words
+watchOpened settings extra words = openedAs (watched.opened words (asksForKnown settings) extra)
 
 -- a number of 8192 or more answers 12, also one of more than 16 bits
 unfoldable pub watchAsked : List ℕ → ℕ → ℕ

@@ -1,7 +1,8 @@
 // The gate and the watch for a host in another language, which keeps a gate and its counters as plain words: what the words hold is taken apart, the one
 // call is made, and what it leaves is written back. Every content of the words has one answer.
 ghost use mathlib.Core.Path.{_≡_};
-ghost use Rattle.host_gate.specs.Calls.{begun, gateOpened, left, gateOffered, watchAsked};
+ghost use Rattle.host_gate.specs.Calls.{begun, gateOpened, left, gateOffered, watchOpened, watchAsked};
+ghost use Rattle.host_words.specs.Answers.{words};
 
 // Opens a gate and its watch: 7, 12 or 13. `settings` are bits: 1 repeats, 2 follow, 4 well-known PIDs. A refusal writes nothing.
 pub fn open(
@@ -21,19 +22,21 @@ pub fn open(
     host_gate_words::write_opened(gate, opened)
 }
 
-// Offers a section that came on a PID, watched or not: 1, 2, 3, 10, 11, 12 or 31. 31 and 3 tell what the section failed by.
+// Offers a section that came on an input and a PID, watched or not: 1, 2, 3, 10, 11, 12, 31 or 37. 31 and 3 tell what the section failed by.
 pub fn offer(
     gate: &mut [u64; 13],
     keys: &mut [u64],
     changes: &mut [u64],
     watch: &mut [u64],
+    input: u32,
     pid: u32,
     section: &[u8],
     failure: &mut [u64; 3],
 ) -> u8
-    ensures { λ r. ⌜ left r (now (gate .exit)) (now (keys .exit)) (now (changes .exit)) (now (watch .exit)) (now (failure .exit)) ≡ gateOffered (now (gate .entry)) (now (keys .entry)) (now (changes .entry)) (now (watch .entry)) pid (now (section .entry)) (now (failure .entry)) ⌝ }
+    ensures { λ r. ⌜ left r (now (gate .exit)) (now (keys .exit)) (now (changes .exit)) (now (watch .exit)) (now (failure .exit)) ≡ gateOffered (now (gate .entry)) (now (keys .entry)) (now (changes .entry)) (now (watch .entry)) input pid (now (section .entry)) (now (failure .entry)) ⌝ }
 {
     let held = host_gate_words::read(gate);
+    let from = host_words::inputs::number(input);
     let number = host_words::pids::number(pid);
     let offered = gate::offer(
         held.gate,
@@ -41,10 +44,18 @@ pub fn offer(
         keys,
         changes,
         watch,
+        from,
         number,
         section,
     );
     host_gate_words::write_offered(gate, failure, offered)
+}
+
+// Opens the watch record of a further input: 7, 12 or 13. Of `settings` only 4, the well-known PIDs, is looked at. A refusal writes nothing.
+pub fn open_watch(settings: u32, extra: &[u16], watch: &mut [u64]) -> u8
+    ensures { λ r. ⌜ words r (now (watch .exit)) ≡ watchOpened settings (now (extra .entry)) (now (watch .entry)) ⌝ }
+{
+    watched::open(watch, host_gate_words::well_known(settings), extra).number()
 }
 
 // Whether a PID is watched: 8, 9, 10 or 12.

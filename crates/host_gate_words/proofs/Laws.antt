@@ -1,8 +1,10 @@
 -- One law for each way out of a function.
 -- Assumes nothing.
 use mathlib.Core.Path.{_≡_}
+use mathlib.Core.Bool.{Bool}
 use mathlib.Core.List.{List, [], _∷_}
-use Prim.Native.Nat.{ℕ}
+use Prim.Native.Nat.{ℕ, _%_, _/_}
+use lib.Dec.{eqb}
 use Rattle.answers.specs.declared.Outcome.{Outcome}
 use Rattle.answers.specs.declared.Outcome.the-variants as outcome
 use Rattle.answers.specs.declared.Outcome.the-variants.{Done}
@@ -14,8 +16,14 @@ use Rattle.gate_state.specs.declared.Answer.{Answer}
 use Rattle.gate_state.specs.declared.Answer.the-variants as answer
 use Rattle.counters.specs.declared.Counters.{Counters}
 use Rattle.gate_state.specs.declared.Gate.{Gate}
+use Rattle.gate_state.specs.declared.Settings.{Settings}
 use Rattle.host_gate_words.specs.declared.Held.{Held}
-use Rattle.host_gate_words.specs.Words.{gateOf, countersOf, heldIn, wordsOf, wordsOpened, failureAfter, told}
+use Rattle.host_gate_words.specs.Words.{asksForKnown, settingsOf, gateOf, countersOf, heldIn, wordsOf, wordsOpened, failureAfter, told}
+
+pub settings-are :
+    (capacity bits rule : ℕ) (known : Bool) → known ≡ asksForKnown bits →
+    _≡_ {A = Settings} (record { capacity = capacity; repeats = eqb (bits % 2) 1; follow = eqb (bits / 2 % 2) 1; «well_known» = known; «change_rule» = rule }) (settingsOf capacity bits rule)
+settings-are capacity bits rule known e = rw e
 
 pub held-are : (w : List ℕ) (g : Gate) (c : Counters) → g ≡ gateOf w → c ≡ countersOf w → _≡_ {A = Held} (record { gate = g; counters = c }) (heldIn w)
 held-are w g c e f = λ i. record { gate = e i; counters = f i }

@@ -17,10 +17,14 @@ use Rattle.gate_state.specs.declared.Offered.{Offered}
 use Rattle.host_words.specs.Answers.{Words, words, at}
 use Rattle.host_gate_words.specs.declared.Held.{Held}
 
+-- the one setting of a watch
+abbrev pub asksForKnown : ℕ → Bool
+asksForKnown bits = eqb (bits / 4 % 2) 1
+
 -- bit 1 repeats, 2 follow, 4 the well-known PIDs; other bits are not looked at
 abbrev pub settingsOf : ℕ → ℕ → ℕ → Settings
 settingsOf capacity bits rule =
-    record { capacity = capacity; repeats = eqb (bits % 2) 1; follow = eqb (bits / 2 % 2) 1; «well_known» = eqb (bits / 4 % 2) 1; «change_rule» = rule }
+    record { capacity = capacity; repeats = eqb (bits % 2) 1; follow = eqb (bits / 2 % 2) 1; «well_known» = asksForKnown bits; «change_rule» = rule }
 
 abbrev pub isOn : ℕ → Bool
 isOn w = not (eqb w 0)

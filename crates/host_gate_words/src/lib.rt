@@ -13,7 +13,7 @@ ghost use mathlib.Core.Path.{_≡_};
 ghost use mathlib.Core.List.{[]};
 ghost use Rattle.gate_state.specs.State.{saidOf, failureSaid};
 ghost use Rattle.host_words.specs.Answers.{words};
-ghost use Rattle.host_gate_words.specs.Words.{settingsOf, gateOf, countersOf, heldIn, bit, wordsOf, wordsAfter, wordsOpened, failureAfter, told, tellsOpened, tellsOffered};
+ghost use Rattle.host_gate_words.specs.Words.{asksForKnown, settingsOf, gateOf, countersOf, heldIn, bit, wordsOf, wordsAfter, wordsOpened, failureAfter, told, tellsOpened, tellsOffered};
 
 // What the words hold.
 pub struct Held {
@@ -29,9 +29,16 @@ pub fn settings(capacity: u64, bits: u32, change_rule: u64) -> Settings
         capacity: capacity,
         repeats: bits % 2 == 1,
         follow: bits / 2 % 2 == 1,
-        well_known: bits / 4 % 2 == 1,
+        well_known: well_known(bits),
         change_rule: change_rule,
     }
+}
+
+// Whether the bits ask for the well-known PIDs, the one setting of a watch.
+pub fn well_known(bits: u32) -> bool
+    ensures { λ r. ⌜ r ≡ asksForKnown bits ⌝ }
+{
+    bits / 4 % 2 == 1
 }
 
 fn gate(words: &[u64; 13]) -> Gate

@@ -9,6 +9,7 @@ use Rattle.gate_state.specs.declared.Opened.{Opened}
 use Rattle.gate_state.specs.declared.Offered.{Offered}
 use Rattle.ring_index.specs.Store.{indexOf}
 use Rattle.gate_indexed.specs.Store as indexed
+use Rattle.host_words.specs.Inputs.{inputNumber}
 use Rattle.host_words.specs.Pids.{pidNumber}
 use Rattle.host_words.specs.Answers.{Words, words}
 use Rattle.host_gate_words.specs.Words.{settingsOf, heldIn, tellsOpened, Told, told, tellsOffered}
@@ -27,12 +28,12 @@ gate-opened gate capacity settings rule extra keys changes buckets links watch s
     rw (← e, ← f, ap (λ (x : Words). x .answer) t, ap (λ (x : Words). x .now) t, opened-words (o .answer) (o .gate) (o .counters) gate)
 
 pub gate-offered :
-    (gate keys changes buckets links watch : List ℕ) (pid : ℕ) (section failure : List ℕ) (h : Held) (p : ℕ) (o : Offered)
+    (gate keys changes buckets links watch : List ℕ) (input pid : ℕ) (section failure : List ℕ) (h : Held) (q p : ℕ) (o : Offered)
     (ks ms bs ls ws gs fs : List ℕ) (r : ℕ) →
-    h ≡ heldIn gate → p ≡ pidNumber pid →
-    indexed.leftBy o ks ms (indexOf bs ls) ws ≡ indexed.offeredBy (indexed.indexedOf (h .gate) (h .counters) keys changes (indexOf buckets links) watch) p section →
+    h ≡ heldIn gate → q ≡ inputNumber input → p ≡ pidNumber pid →
+    indexed.leftBy o ks ms (indexOf bs ls) ws ≡ indexed.offeredBy (indexed.indexedOf (h .gate) (h .counters) keys changes (indexOf buckets links) watch) q p section →
     told r gs fs ≡ tellsOffered o gate failure →
-    left r gs ks ms bs ls ws fs ≡ gateOffered gate keys changes buckets links watch pid section failure
+    left r gs ks ms bs ls ws fs ≡ gateOffered gate keys changes buckets links watch input pid section failure
 unfolding gateOffered
-gate-offered gate keys changes buckets links watch pid section failure h p o ks ms bs ls ws gs fs r d e f t =
-    rw (ap (λ (x : Held). x .gate) (sym d), ap (λ (x : Held). x .counters) (sym d), ← e, ← f, ap (λ (x : Told). x .answer) t, ap (λ (x : Told). x .gate) t, ap (λ (x : Told). x .failure) t)
+gate-offered gate keys changes buckets links watch input pid section failure h q p o ks ms bs ls ws gs fs r d u e f t =
+    rw (ap (λ (x : Held). x .gate) (sym d), ap (λ (x : Held). x .counters) (sym d), ← u, ← e, ← f, ap (λ (x : Told). x .answer) t, ap (λ (x : Told). x .gate) t, ap (λ (x : Told). x .failure) t)

@@ -16,6 +16,7 @@ use Rattle.watched.specs.Store.{allPids}
 use Rattle.gate_state.specs.State.{numberOf, isJudged, emitsOf, seenBy}
 use Rattle.gate_state.specs.declared.Settings.{Settings}
 use Rattle.gate_indexed.specs.Store as indexed
+use Rattle.host_words.specs.Inputs.{inputNumber}
 use Rattle.host_words.specs.Pids.{pidNumber}
 use Rattle.host_gate_words.specs.Words.{settingsOf, gateOf, countersOf, failureAfter}
 use Rattle.host_gate_words.proofs.Same.{gate-same}
@@ -36,21 +37,21 @@ carried-refused s section (Arrived a) h =
     (told-judged (emitsOf (s .store .gate) (foundBy (s .store .gate .ring) (s .store .keys) (s .store .changes) (s .index) (a .key) (stampOf (a .version) (a .change)))) h)
 
 offer-refused-by :
-    (s : indexed.Indexed) (pid : ℕ) (section : List ℕ) → isJudged (numberOf ((indexed.offeredBy s pid section) .answer)) ≡ false → Kept (indexed.offeredBy s pid section) s
+    (s : indexed.Indexed) (input pid : ℕ) (section : List ℕ) → isJudged (numberOf ((indexed.offeredBy s input pid section) .answer)) ≡ false → Kept (indexed.offeredBy s input pid section) s
 unfolding indexed.offeredBy
-offer-refused-by s pid section h = carried-refused s section (verdictOf (indexed.isWholeBy s) (s .store .counters) (s .store .gate .«change_rule») pid section) h
+offer-refused-by s input pid section h = carried-refused s section (verdictOf (indexed.isWholeBy s) (s .store .counters) (s .store .gate .«change_rule») input pid section) h
 
 -- every answer but 1, 2, 31 and 3
 pub indexed-offer-refused :
-    (gate keys changes buckets links watch : List ℕ) (pid : ℕ) (section failure : List ℕ) (answer : ℕ) → length gate ≡ 13 →
-    answer ≡ (gateOffered gate keys changes buckets links watch pid section failure) .answer → isJudged answer ≡ false →
-    gateOffered gate keys changes buckets links watch pid section failure ≡ left answer gate keys changes buckets links watch failure
+    (gate keys changes buckets links watch : List ℕ) (input pid : ℕ) (section failure : List ℕ) (answer : ℕ) → length gate ≡ 13 →
+    answer ≡ (gateOffered gate keys changes buckets links watch input pid section failure) .answer → isJudged answer ≡ false →
+    gateOffered gate keys changes buckets links watch input pid section failure ≡ left answer gate keys changes buckets links watch failure
 unfolding gateOffered
-indexed-offer-refused gate keys changes buckets links watch pid section failure answer n e h =
+indexed-offer-refused gate keys changes buckets links watch input pid section failure answer n e h =
     let s : indexed.Indexed = indexed.indexedOf (gateOf gate) (countersOf gate) keys changes (indexOf buckets links) watch in
-    let l : indexed.Offering = indexed.offeredBy s (pidNumber pid) section in
+    let l : indexed.Offering = indexed.offeredBy s (inputNumber input) (pidNumber pid) section in
     let k : isJudged (numberOf (l .answer)) ≡ false = rw (← e) h in
-    let r = offer-refused-by s (pidNumber pid) section k in
+    let r = offer-refused-by s (inputNumber input) (pidNumber pid) section k in
     go l (r .left′) (r .failure failure) e
   where
     go :

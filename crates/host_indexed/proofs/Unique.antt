@@ -21,12 +21,12 @@ unique-indexed-open gate capacity settings rule extra keys changes buckets links
     )
 
 pub unique-indexed-offer :
-    (gate keys changes buckets links watch : List ℕ) (pid : ℕ) (section failure : List ℕ) (r s : ℕ) (g h k l m n b c d i w x y z : List ℕ) →
-    left r g k m b d w y ≡ gateOffered gate keys changes buckets links watch pid section failure →
-    left s h l n c i x z ≡ gateOffered gate keys changes buckets links watch pid section failure →
+    (gate keys changes buckets links watch : List ℕ) (input pid : ℕ) (section failure : List ℕ) (r s : ℕ) (g h k l m n b c d i w x y z : List ℕ) →
+    left r g k m b d w y ≡ gateOffered gate keys changes buckets links watch input pid section failure →
+    left s h l n c i x z ≡ gateOffered gate keys changes buckets links watch input pid section failure →
     (r ≡ s) × (g ≡ h) × (k ≡ l) × (m ≡ n) × (b ≡ c) × (d ≡ i) × (w ≡ x) × (y ≡ z)
-unique-indexed-offer gate keys changes buckets links watch pid section failure r s g h k l m n b c d i w x y z p q =
-    let e : left r g k m b d w y ≡ left s h l n c i x z = one-result (gateOffered gate keys changes buckets links watch pid section failure) p q in (
+unique-indexed-offer gate keys changes buckets links watch input pid section failure r s g h k l m n b c d i w x y z p q =
+    let e : left r g k m b d w y ≡ left s h l n c i x z = one-result (gateOffered gate keys changes buckets links watch input pid section failure) p q in (
       ap (λ (t : GateLeft). t .answer) e,
       ap (λ (t : GateLeft). t .gate) e,
       ap (λ (t : GateLeft). t .keys) e,

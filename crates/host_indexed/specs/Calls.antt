@@ -5,6 +5,7 @@ use mathlib.Core.List.{List}
 use mathlib.Core.Bool.{cond}
 use lib.ListN.{length}
 use lib.Dec.{eqb}
+use Rattle.host_words.specs.Inputs.{inputNumber}
 use Rattle.host_words.specs.Pids.{pidNumber}
 use Rattle.gate_state.specs.State.{numberOf}
 use Rattle.host_gate_words.specs.Words.{settingsOf, gateOf, countersOf, wordsOf, wordsAfter, failureAfter}
@@ -55,6 +56,6 @@ leftAs gate failure l =
     (l .left .store .words)
     (failureAfter (l .answer) failure)
 
-unfoldable pub gateOffered : List ℕ → List ℕ → List ℕ → List ℕ → List ℕ → List ℕ → ℕ → List ℕ → List ℕ → GateLeft
-gateOffered gate keys changes buckets links watch pid section failure =
-    leftAs gate failure (indexed.offeredBy (indexed.indexedOf (gateOf gate) (countersOf gate) keys changes (indexOf buckets links) watch) (pidNumber pid) section)
+unfoldable pub gateOffered : List ℕ → List ℕ → List ℕ → List ℕ → List ℕ → List ℕ → (input pid : ℕ) → List ℕ → List ℕ → GateLeft
+gateOffered gate keys changes buckets links watch input pid section failure =
+    leftAs gate failure (indexed.offeredBy (indexed.indexedOf (gateOf gate) (countersOf gate) keys changes (indexOf buckets links) watch) (inputNumber input) (pidNumber pid) section)

@@ -30,13 +30,15 @@ pub fn offer(
     buckets: &mut [u64],
     links: &mut [u64],
     watch: &mut [u64],
+    input: u32,
     pid: u32,
     section: &[u8],
     failure: &mut [u64; 3],
 ) -> u8
-    ensures { λ r. ⌜ left r (now (gate .exit)) (now (keys .exit)) (now (changes .exit)) (now (buckets .exit)) (now (links .exit)) (now (watch .exit)) (now (failure .exit)) ≡ gateOffered (now (gate .entry)) (now (keys .entry)) (now (changes .entry)) (now (buckets .entry)) (now (links .entry)) (now (watch .entry)) pid (now (section .entry)) (now (failure .entry)) ⌝ }
+    ensures { λ r. ⌜ left r (now (gate .exit)) (now (keys .exit)) (now (changes .exit)) (now (buckets .exit)) (now (links .exit)) (now (watch .exit)) (now (failure .exit)) ≡ gateOffered (now (gate .entry)) (now (keys .entry)) (now (changes .entry)) (now (buckets .entry)) (now (links .entry)) (now (watch .entry)) input pid (now (section .entry)) (now (failure .entry)) ⌝ }
 {
     let held = host_gate_words::read(gate);
+    let from = host_words::inputs::number(input);
     let number = host_words::pids::number(pid);
     let offered = gate_indexed::offer(
         held.gate,
@@ -46,6 +48,7 @@ pub fn offer(
         buckets,
         links,
         watch,
+        from,
         number,
         section,
     );

@@ -10,6 +10,7 @@ use Rattle.answers.specs.declared.Outcome.{Outcome}
 use Rattle.answers.specs.declared.Outcome.the-variants as outcome
 use Rattle.section.specs.declared.ids.MaybePid.{MaybePid}
 use Rattle.host_words.specs.Answers.{Words, words, Pushes, pushes}
+use Rattle.host_words.specs.Inputs.{inputNumber}
 use Rattle.host_words.specs.Pids.{maybePid}
 use Rattle.host_words.specs.Sections.{tellsNext}
 use Rattle.host_words.proofs.Refusals.{refused-not-7}
@@ -64,15 +65,15 @@ module _ (sets heads slots cells : List ℕ) where
   sets-cleared s o ws r h e t = rw (← h, ← e, ap (λ (x : Words). x .answer) t, ap (λ (x : Words). x .now) t, outcome-number (o .answer))
 
   pub sets-pushed :
-      (pid : ℕ) (section row : List ℕ) (s : Sets) (p : MaybePid) (o : Pushed) (hs ss cs ws rs : List ℕ) (r : ℕ) →
-      s ≡ setsOf sets → p ≡ maybePid pid →
-      afterPush o hs ss cs ≡ pushedOf (store s heads slots cells) p section →
+      (input pid : ℕ) (section row : List ℕ) (s : Sets) (j : ℕ) (p : MaybePid) (o : Pushed) (hs ss cs ws rs : List ℕ) (r : ℕ) →
+      s ≡ setsOf sets → j ≡ inputNumber input → p ≡ maybePid pid →
+      afterPush o hs ss cs ≡ pushedOf (store s heads slots cells) j p section →
       pushes r ws rs ≡ tellsPushed o sets row →
-      setsLeft r ws hs ss cs rs ≡ setsPushed sets heads slots cells pid section row
+      setsLeft r ws hs ss cs rs ≡ setsPushed sets heads slots cells input pid section row
   unfolding setsPushed
-  sets-pushed pid section row s p o hs ss cs ws rs r h q e t =
+  sets-pushed input pid section row s j p o hs ss cs ws rs r h d q e t =
       let l = store (o .sets) hs ss cs in
-      rw (← h, ← q, ← e, ap (λ (x : Pushes). x .answer) t, push-number (o .answer) l, ap (λ (x : Pushes). x .now) t, ap (λ (x : Pushes). x .row) t, push-row (o .answer) l row)
+      rw (← h, ← d, ← q, ← e, ap (λ (x : Pushes). x .answer) t, push-number (o .answer) l, ap (λ (x : Pushes). x .now) t, ap (λ (x : Pushes). x .row) t, push-row (o .answer) l row)
 
   pub sets-next :
       (row from : ℕ) (next : List ℕ) (s : Sets) (o : Next) (ns : List ℕ) (r : ℕ) →

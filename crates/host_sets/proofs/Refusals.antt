@@ -1,6 +1,6 @@
 -- A refusal leaves every word that is lent as it was, whatever the words hold. An array of n words is a list of length n.
 -- Assumes nothing.
-use Prim.Native.Nat.{ℕ, _≤_, _<_}
+use Prim.Native.Nat.{ℕ, _≤_}
 use mathlib.Core.Path.{_≡_, refl, sym, ap, _∙_}
 use mathlib.Core.Logic.{_≢_}
 use mathlib.Core.List.{List}
@@ -11,6 +11,7 @@ use Rattle.answers.specs.Answers.{refusalNo}
 use Rattle.answers.specs.declared.Refusal.{Refusal}
 use Rattle.answers.specs.declared.Refusal.the-variants.{NotWhole, Conflict}
 use Rattle.host_words.specs.Answers as answers
+use Rattle.host_words.specs.Inputs.{inputNumber}
 use Rattle.host_words.specs.Pids.{maybePid}
 use Rattle.host_words.proofs.Refusals.{refused-open, refused-next}
 use Rattle.store.specs.Store.{Store, store, wholeOf}
@@ -44,27 +45,27 @@ sets-clear-refused words heads slots cells answer n e h = go (wholeOf (store (se
     go true s e = absurd (h e)
     go false s e = rw (e, sets-same words n)
 
--- a refusal below 22 leaves the store and the row's word
+-- a refusal other than 22 leaves the store and the row's word
 kept-as :
     (s : Store) (l : SetsAfter) (row : List ℕ) (t : Told) → l .told ≡ t → ((r : Refusal) → l .told ≡ refused r → r ≢ Conflict → l .store ≡ s) →
-    10 ≤ toldNo t → toldNo t < 22 → (l .store ≡ s) × (rowAfter t row ≡ row)
+    10 ≤ toldNo t → toldNo t ≢ 22 → (l .store ≡ s) × (rowAfter t row ≡ row)
 kept-as s l row done e f h k = absurd (omega arith)
 kept-as s l row nothing e f h k = absurd (omega arith)
 kept-as s l row (handed o) e f h k = absurd (omega arith)
-kept-as s l row (refused r) e f h k = (f r e (λ (q : r ≡ Conflict). let z : refusalNo r ≡ 22 = ap refusalNo q in omega arith), refl)
+kept-as s l row (refused r) e f h k = (f r e (λ (q : r ≡ Conflict). k (ap refusalNo q)), refl)
 
--- 10, 11, 12, 14 to 17, 20 and 21
+-- every refusal but 22
 pub sets-push-refused :
-    (words heads slots cells : List ℕ) (pid : ℕ) (section row : List ℕ) (answer : ℕ) → length words ≡ 5 →
-    answer ≡ (setsPushed words heads slots cells pid section row) .answer → 10 ≤ answer → answer < 22 →
-    setsPushed words heads slots cells pid section row ≡ setsLeft answer words heads slots cells row
+    (words heads slots cells : List ℕ) (input pid : ℕ) (section row : List ℕ) (answer : ℕ) → length words ≡ 5 →
+    answer ≡ (setsPushed words heads slots cells input pid section row) .answer → 10 ≤ answer → answer ≢ 22 →
+    setsPushed words heads slots cells input pid section row ≡ setsLeft answer words heads slots cells row
 unfolding setsPushed
-sets-push-refused words heads slots cells pid section row answer n e h k =
+sets-push-refused words heads slots cells input pid section row answer n e h k =
     let s : Store = store (setsOf words) heads slots cells in
-    let l : SetsAfter = pushedOf s (maybePid pid) section in
+    let l : SetsAfter = pushedOf s (inputNumber input) (maybePid pid) section in
     let a : 10 ≤ toldNo (l .told) = rw (← e) h in
-    let b : toldNo (l .told) < 22 = rw (← e) k in
-    let q = kept-as s l row (l .told) refl (refusal-keeps s (maybePid pid) section) a b in
+    let b : toldNo (l .told) ≢ 22 = λ (q : toldNo (l .told) ≡ 22). k (e ∙ q) in
+    let q = kept-as s l row (l .told) refl (refusal-keeps s (inputNumber input) (maybePid pid) section) a b in
     go l (q .0) (q .1) e
   where
     go :

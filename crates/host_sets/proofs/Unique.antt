@@ -20,11 +20,11 @@ pub unique-sets-clear :
 unique-sets-clear sets heads slots cells = words-one (setsCleared sets heads slots cells)
 
 pub unique-sets-push :
-    (sets heads slots cells : List ℕ) (pid : ℕ) (section row : List ℕ) (r s : ℕ) (w x h i k l c d n m : List ℕ) →
-    setsLeft r w h k c n ≡ setsPushed sets heads slots cells pid section row → setsLeft s x i l d m ≡ setsPushed sets heads slots cells pid section row →
+    (sets heads slots cells : List ℕ) (input pid : ℕ) (section row : List ℕ) (r s : ℕ) (w x h i k l c d n m : List ℕ) →
+    setsLeft r w h k c n ≡ setsPushed sets heads slots cells input pid section row → setsLeft s x i l d m ≡ setsPushed sets heads slots cells input pid section row →
     (r ≡ s) × (w ≡ x) × (h ≡ i) × (k ≡ l) × (c ≡ d) × (n ≡ m)
-unique-sets-push sets heads slots cells pid section row r s w x h i k l c d n m a b =
-    let e : setsLeft r w h k c n ≡ setsLeft s x i l d m = one-result (setsPushed sets heads slots cells pid section row) a b in (
+unique-sets-push sets heads slots cells input pid section row r s w x h i k l c d n m a b =
+    let e : setsLeft r w h k c n ≡ setsLeft s x i l d m = one-result (setsPushed sets heads slots cells input pid section row) a b in (
       ap (λ (t : SetsLeft). t .answer) e,
       ap (λ (t : SetsLeft). t .sets) e,
       ap (λ (t : SetsLeft). t .heads) e,

@@ -5,6 +5,7 @@ use mathlib.Core.List.{List, [], _∷_}
 use mathlib.Core.Bool.{cond}
 use lib.Dec.{eqb}
 use Rattle.host_words.specs.Answers.{Words, words}
+use Rattle.host_words.specs.Inputs.{inputNumber}
 use Rattle.host_words.specs.Pids.{maybePid}
 use Rattle.host_words.specs.Sections.{tellsNext}
 use Rattle.store.specs.Store.{store, asked}
@@ -49,8 +50,8 @@ abbrev pub pushedAs : List ℕ → List ℕ → SetsAfter → SetsLeft
 pushedAs sets row l =
     setsLeft (toldNo (l .told)) (wordsAfter sets (l .store .sets)) (l .store .heads) (l .store .slots) (l .store .cells) (rowAfter (l .told) row)
 
-unfoldable pub setsPushed : List ℕ → List ℕ → List ℕ → List ℕ → ℕ → List ℕ → List ℕ → SetsLeft
-setsPushed sets heads slots cells pid section row = pushedAs sets row (pushedOf (store (setsOf sets) heads slots cells) (maybePid pid) section)
+unfoldable pub setsPushed : List ℕ → List ℕ → List ℕ → List ℕ → (input pid : ℕ) → List ℕ → List ℕ → SetsLeft
+setsPushed sets heads slots cells input pid section row = pushedAs sets row (pushedOf (store (setsOf sets) heads slots cells) (inputNumber input) (maybePid pid) section)
 
 -- 8 writes number, start and length of the section that is told of; 9 and 10 leave the three words as they were
 unfoldable pub setsNext : List ℕ → List ℕ → List ℕ → List ℕ → ℕ → ℕ → List ℕ → Words

@@ -27,21 +27,23 @@ pub fn open(
     host_sets_words::write_opened(sets, opened)
 }
 
-// Offers a section, with the PID that it came on or, for 0xFFFFFFFF, without. 5 writes the set's row into `row`.
+// Offers a section, with the input and the PID that it came on or, for PID 0xFFFFFFFF, without a PID. 5 writes the set's row into `row`.
 pub fn push(
     sets: &mut [u64; 5],
     heads: &mut [u64],
     slots: &mut [u32],
     cells: &mut [u8],
+    input: u32,
     pid: u32,
     section: &[u8],
     row: &mut [u64; 1],
 ) -> u8
-    ensures { λ r. ⌜ setsLeft r (now (sets .exit)) (now (heads .exit)) (now (slots .exit)) (now (cells .exit)) (now (row .exit)) ≡ setsPushed (now (sets .entry)) (now (heads .entry)) (now (slots .entry)) (now (cells .entry)) pid (now (section .entry)) (now (row .entry)) ⌝ }
+    ensures { λ r. ⌜ setsLeft r (now (sets .exit)) (now (heads .exit)) (now (slots .exit)) (now (cells .exit)) (now (row .exit)) ≡ setsPushed (now (sets .entry)) (now (heads .entry)) (now (slots .entry)) (now (cells .entry)) input pid (now (section .entry)) (now (row .entry)) ⌝ }
 {
     let before = host_sets_words::sets(sets);
+    let on = host_words::inputs::number(input);
     let from = host_words::pids::maybe(pid);
-    let pushed = sets::push(before, heads, slots, cells, from, section);
+    let pushed = sets::push(before, heads, slots, cells, on, from, section);
     host_sets_words::write_pushed(sets, row, pushed)
 }
 

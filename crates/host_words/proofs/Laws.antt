@@ -10,6 +10,7 @@ use Rattle.section.specs.declared.ids.MaybePid.the-variants as maybe
 use Rattle.readers.specs.declared.Next.{Next}
 use Rattle.host_words.specs.Answers.{words, pushes}
 use Rattle.host_words.specs.Pids.{pidNumber, maybePid}
+use Rattle.host_words.specs.Inputs.{inputNumber}
 use Rattle.host_words.specs.Sections.{sectionAfter}
 
 -- ---- what is handed to the host
@@ -19,6 +20,15 @@ words-are r n w v e f = λ i. record { answer = e i; now = f i }
 
 pub pushes-are : (r n : ℕ) (w v x y : List ℕ) → r ≡ n → w ≡ v → x ≡ y → pushes r w x ≡ pushes n v y
 pushes-are r n w v x y e f g = λ i. record { answer = e i; now = f i; row = g i }
+
+-- ---- inputs
+
+module _ (input : ℕ) where
+  pub input-small : input < 255 → input ≡ inputNumber input
+  input-small h = rw (lt-ltb input 255 h)
+
+  pub input-large : 255 ≤ input → 255 ≡ inputNumber input
+  input-large h = rw (le-ltb input 255 h)
 
 -- ---- PIDs
 

@@ -1,3 +1,4 @@
 pub mod Answers
 pub mod Pids
 pub mod Sections
+pub mod Inputs

@@ -49,7 +49,7 @@ word-there eit w r e h = rw h e
 module _ (s : List ℕ) (table pid : ℕ) where
   pub key-made : (e t o : ℕ) (eit : Bool) → eit ≡ isEit (tableId s) → e ≡ extensionOf s → t ≡ cond eit (word16 (byteAt s 8) (byteAt s 9)) 0
       → o ≡ cond eit (word16 (byteAt s 10) (byteAt s 11)) 0
-      → _≡_ {A = Key} (record { from = record { pid = pid }; «table_id» = table; extension = e; «current_next» = byteAt s 5 % 2; «transport_stream_id» = t; «original_network_id» = o })
+      → _≡_ {A = Key} (record { from = record { input = 0; pid = pid }; «table_id» = table; extension = e; «current_next» = byteAt s 5 % 2; «transport_stream_id» = t; «original_network_id» = o })
       (keyOf table pid s)
   key-made e t o eit h a b c = rw (a, b, c, h)
 

@@ -66,7 +66,7 @@ pidWord (maybe.Some v) = wordOf (pidMade v)
 -- the key of a section on this PID (8192: none), its table under this number: an EIT has its transport stream and its original network in it
 abbrev pub keyOf : ℕ → ℕ → List ℕ → Key
 keyOf table pid s = record {
-  from = record { pid = pid };
+  from = record { input = 0; pid = pid };
   «table_id» = table;
   extension = extensionOf s;
   «current_next» = byteAt s 5 % 2;

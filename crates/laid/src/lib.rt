@@ -68,7 +68,7 @@ fn key_of(table: u64, pid: u64, s: &[u8]) -> Key
 {
     let eit = is_eit(s[0]);
     Key {
-        from: Origin { pid },
+        from: Origin { input: 0, pid },
         table_id: table,
         extension: word(s, 3) as u64,
         current_next: (s[5] % 2) as u64,

@@ -8,7 +8,7 @@ use lib.ListN.{length}
 use lib.Dec.{ltb}
 use native.Mathlib.Omega.{arith}
 use borrow.Author.Tests.{lt-ltb, le-ltb, not-true, not-false}
-use Rattle.answers.specs.declared.Refusal.the-variants.{NotWhole, CounterFull, BadPid}
+use Rattle.answers.specs.declared.Refusal.the-variants.{NotWhole, CounterFull, BadPid, BadInput}
 use Rattle.counters.specs.Counters.{anyFull, CanCount}
 use Rattle.counters.specs.declared.Counters.{Counters}
 use Rattle.section.specs.Facts.{Bytes}
@@ -21,7 +21,7 @@ use Rattle.section.specs.declared.header.ChangeRule.{ChangeRule}
 use Rattle.section.specs.declared.header.Parts.{Parts}
 use Rattle.section.specs.declared.header.Judged.{Judged}
 use Rattle.section.specs.declared.header.Judged.the-variants.{Short, Mismatch, Sound}
-use Rattle.section.proofs.Facts.{judged-table, judged-change, origin-one, origin-none}
+use Rattle.section.proofs.Facts.{judged-table, judged-change, origin-one, origin-none, origin-outside}
 use Rattle.offers.specs.Offers.{arrivalOf, readAs, readOf, verdictOf, Taken, Admissible, VerdictOk}
 use Rattle.offers.specs.declared.Arrival.{Arrival}
 use Rattle.offers.specs.declared.Failure.{Failure}
@@ -42,30 +42,34 @@ module _ (from : Origin) (rule : ℕ) (c : ChangeRule) (section : List ℕ) (v :
   pub read-sound : (p : Parts) (a : Arrival) → v ≡ Sound p → a ≡ arrivalOf from p → Arrived a ≡ readAs from (length section) (judgedOf (ruleOf rule) section)
   read-sound p a h j = rw (← n, ← e, h, j)
 
--- ---- 12
+-- ---- 12 and 37
 
-module _ (rule pid : ℕ) (section : List ℕ) (m : OriginMade) (e : m ≡ originMade pid) where
-  pub read-pid : m ≡ origin.BadPid → Refused BadPid ≡ readOf rule pid section
+module _ (rule input pid : ℕ) (section : List ℕ) (m : OriginMade) (e : m ≡ originMade input pid) where
+  pub read-pid : m ≡ origin.BadPid → Refused BadPid ≡ readOf rule input pid section
   unfolding readOf
-  read-pid h = rw (le-ltb pid 8192 (origin-none pid m e h))
+  read-pid h = rw (le-ltb pid 8192 (origin-none input pid m e h))
 
-  pub read-section : (from : Origin) (v : Verdict) → m ≡ origin.One from → v ≡ readAs from (length section) (judgedOf (ruleOf rule) section) → v ≡ readOf rule pid section
+  pub read-nowhere : m ≡ origin.BadInput → Refused BadInput ≡ readOf rule input pid section
   unfolding readOf
-  read-section from v h k = let n = origin-one pid m e from h in rw (lt-ltb pid 8192 (n .1), ← (n .0)) k
+  read-nowhere h = let n = origin-outside input pid m e h in rw (lt-ltb pid 8192 (n .0), le-ltb input 16 (n .1))
+
+  pub read-section : (from : Origin) (v : Verdict) → m ≡ origin.One from → v ≡ readAs from (length section) (judgedOf (ruleOf rule) section) → v ≡ readOf rule input pid section
+  unfolding readOf
+  read-section from v h k = let n = origin-one input pid m e from h in rw (lt-ltb pid 8192 (n .1), lt-ltb input 16 (n .2), ← (n .0)) k
 
 -- ---- 10 and 11
 
-module _ (w : Bool) (c : Counters) (rule pid : ℕ) (section : List ℕ) where
-  pub judged-broken : not w ≡ true → Refused NotWhole ≡ verdictOf w c rule pid section
+module _ (w : Bool) (c : Counters) (rule input pid : ℕ) (section : List ℕ) where
+  pub judged-broken : not w ≡ true → Refused NotWhole ≡ verdictOf w c rule input pid section
   unfolding verdictOf
   judged-broken h = rw (not-true w h)
 
   module _ (h : not w ≡ false) (f : Bool) (d : f ≡ anyFull c) where
-    pub judged-full : f ≡ true → Refused CounterFull ≡ verdictOf w c rule pid section
+    pub judged-full : f ≡ true → Refused CounterFull ≡ verdictOf w c rule input pid section
     unfolding verdictOf
     judged-full k = rw (not-false w h, ← d, k)
 
-    pub judged-read : (v : Verdict) → f ≡ false → v ≡ readOf rule pid section → v ≡ verdictOf w c rule pid section
+    pub judged-read : (v : Verdict) → f ≡ false → v ≡ readOf rule input pid section → v ≡ verdictOf w c rule input pid section
     unfolding verdictOf
     judged-read v k j = rw (not-false w h, ← d, k) j
 
@@ -90,16 +94,17 @@ module _ (section : List ℕ) (rule : ℕ) where
   section-taken from (Mismatch a b) e = tt
   section-taken from (Sound p) e = judged-table (ruleOf rule) section p e
 
-  taken : (pid : ℕ) → Taken section (readOf rule pid section)
+  taken : (input pid : ℕ) → Taken section (readOf rule input pid section)
   unfolding readOf
-  taken pid = go (ltb pid 8192)
+  taken input pid = go (ltb pid 8192) (ltb input 16)
     where
-      go : (b : Bool) → Taken section (cond b (readAs (originOf pid) (length section) (judgedOf (ruleOf rule) section)) (Refused BadPid))
-      go true = section-taken (originOf pid) (judgedOf (ruleOf rule) section) refl
-      go false = tt
+      go : (b c : Bool) → Taken section (cond b (cond c (readAs (originOf input pid) (length section) (judgedOf (ruleOf rule) section)) (Refused BadInput)) (Refused BadPid))
+      go true true = section-taken (originOf input pid) (judgedOf (ruleOf rule) section) refl
+      go true false = tt
+      go false c = tt
 
-  pub read-taken : (pid : ℕ) (v : Verdict) → v ≡ readOf rule pid section → Taken section v
-  read-taken pid v e = subst (Taken section) (sym e) (taken pid)
+  pub read-taken : (input pid : ℕ) (v : Verdict) → v ≡ readOf rule input pid section → Taken section v
+  read-taken input pid v e = subst (Taken section) (sym e) (taken input pid)
 
   -- of bytes, its change number has 32 bits
   module _ (b : Bytes section) where
@@ -108,10 +113,11 @@ module _ (section : List ℕ) (rule : ℕ) where
     section-small from (Mismatch s w) e a h = let z : _≡_ {A = ℕ} 0 1 = cc in absurd (omega arith)
     section-small from (Sound p) e a h = let q : arrivalOf from p ≡ a = cc in subst (λ (x : Arrival). x .change < 2 ^ 32) q (judged-change (ruleOf rule) section b p e)
 
-    pub arrived-small : (pid : ℕ) (a : Arrival) → readOf rule pid section ≡ Arrived a → a .change < 2 ^ 32
+    pub arrived-small : (input pid : ℕ) (a : Arrival) → readOf rule input pid section ≡ Arrived a → a .change < 2 ^ 32
     unfolding readOf
-    arrived-small pid a h = go (ltb pid 8192) h
+    arrived-small input pid a h = go (ltb pid 8192) (ltb input 16) h
       where
-        go : (t : Bool) → cond t (readAs (originOf pid) (length section) (judgedOf (ruleOf rule) section)) (Refused BadPid) ≡ Arrived a → a .change < 2 ^ 32
-        go true k = section-small (originOf pid) (judgedOf (ruleOf rule) section) refl a k
-        go false k = let z : _≡_ {A = ℕ} 0 1 = cc in absurd (omega arith)
+        go : (t u : Bool) → cond t (cond u (readAs (originOf input pid) (length section) (judgedOf (ruleOf rule) section)) (Refused BadInput)) (Refused BadPid) ≡ Arrived a → a .change < 2 ^ 32
+        go true true k = section-small (originOf input pid) (judgedOf (ruleOf rule) section) refl a k
+        go true false k = let z : _≡_ {A = ℕ} 0 1 = cc in absurd (omega arith)
+        go false u k = let z : _≡_ {A = ℕ} 0 1 = cc in absurd (omega arith)

@@ -10,5 +10,5 @@ use Rattle.offers.specs.Offers.{verdictOf}
 use Rattle.offers.specs.declared.Verdict.{Verdict}
 
 pub judge-unique :
-    (w : Bool) (c : Counters) (rule pid : ℕ) (section : List ℕ) (a b : Verdict) → a ≡ verdictOf w c rule pid section → b ≡ verdictOf w c rule pid section → a ≡ b
-judge-unique w c rule pid section a b = one-result (verdictOf w c rule pid section)
+    (w : Bool) (c : Counters) (rule input pid : ℕ) (section : List ℕ) (a b : Verdict) → a ≡ verdictOf w c rule input pid section → b ≡ verdictOf w c rule input pid section → a ≡ b
+judge-unique w c rule input pid section a b = one-result (verdictOf w c rule input pid section)

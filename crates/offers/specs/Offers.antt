@@ -1,11 +1,11 @@
--- What an offer to the gate comes to before a row is looked at (docs/RULES.md, "Gate" and "Answers"): 10, 11, 12, then a CRC failure, else what arrived.
+-- What an offer to the gate comes to before a row is looked at (docs/RULES.md, "Gate" and "Answers"): 10, 11, 12, 37, then a CRC failure, else what arrived.
 use Prim.Native.Nat.{ℕ}
 use mathlib.Core.Path.{_≡_}
 use mathlib.Core.List.{List}
 use mathlib.Core.Bool.{Bool, true, false, cond}
 use lib.ListN.{length}
 use lib.Dec.{ltb}
-use Rattle.answers.specs.declared.Refusal.the-variants.{NotWhole, CounterFull, BadPid}
+use Rattle.answers.specs.declared.Refusal.the-variants.{NotWhole, CounterFull, BadPid, BadInput}
 use Rattle.counters.specs.Counters.{anyFull, CanCount}
 use Rattle.counters.specs.declared.Counters.{Counters}
 use Rattle.section.specs.Ids.{originOf}
@@ -38,13 +38,14 @@ readAs from n Short = Failed (TooShort n)
 readAs from n (Mismatch stored worked) = Failed (failure.Mismatch stored worked)
 readAs from n (Sound p) = Arrived (arrivalOf from p)
 
--- what a section and its PID say by the change rule of this number: 12 where the PID is none
-unfoldable pub readOf : ℕ → ℕ → List ℕ → Verdict
-readOf rule pid section = cond (ltb pid 8192) (readAs (originOf pid) (length section) (judgedOf (ruleOf rule) section)) (Refused BadPid)
+-- what a section, its input and its PID say by the change rule of this number: 12 where the PID is none, then 37 where the input is none
+unfoldable pub readOf : (rule input pid : ℕ) → List ℕ → Verdict
+readOf rule input pid section =
+    cond (ltb pid 8192) (cond (ltb input 16) (readAs (originOf input pid) (length section) (judgedOf (ruleOf rule) section)) (Refused BadInput)) (Refused BadPid)
 
 -- 10 where the store is not whole, then 11, then what the section and its PID say
-unfoldable pub verdictOf : Bool → Counters → ℕ → ℕ → List ℕ → Verdict
-verdictOf whole c rule pid section = cond whole (cond (anyFull c) (Refused CounterFull) (readOf rule pid section)) (Refused NotWhole)
+unfoldable pub verdictOf : Bool → Counters → (rule input pid : ℕ) → List ℕ → Verdict
+verdictOf whole c rule input pid section = cond whole (cond (anyFull c) (Refused CounterFull) (readOf rule input pid section)) (Refused NotWhole)
 
 -- ---- what is so of a section that arrived
 

@@ -1,4 +1,4 @@
-// What an offer to the gate comes to before a row is looked at (docs/RULES.md, "Gate" and "Answers"): 10, 11, 12, a CRC failure with
+// What an offer to the gate comes to before a row is looked at (docs/RULES.md, "Gate" and "Answers"): 10, 11, 12, 37, a CRC failure with
 // what tells it, or a section that is to be looked up. No slice of the store is lent.
 use answers::Refusal;
 use counters::Counters;
@@ -44,9 +44,16 @@ pub enum Verdict {
     Arrived(Arrival),
 }
 
-// 10 where the store is not whole, 11 where a counter is at its end, then what the section and its PID say. `rule` is the number of the change rule.
-pub fn judge(whole: bool, counters: Counters, rule: u64, pid: u16, section: &[u8]) -> Verdict
-    ensures { λ r. ⌜ r ≡ verdictOf whole counters rule pid (now (section .entry)) ⌝ }
+// 10 where the store is not whole, 11 where a counter is at its end, then what the section and where it came from say. `rule` is the number of the change rule.
+pub fn judge(
+    whole: bool,
+    counters: Counters,
+    rule: u64,
+    input: u8,
+    pid: u16,
+    section: &[u8],
+) -> Verdict
+    ensures { λ r. ⌜ r ≡ verdictOf whole counters rule input pid (now (section .entry)) ⌝ }
     ensures { λ r. ⌜ VerdictOk whole counters (now (section .entry)) r ⌝ }
 {
     if !whole {
@@ -55,17 +62,18 @@ pub fn judge(whole: bool, counters: Counters, rule: u64, pid: u16, section: &[u8
     if counters::any_full(counters) {
         return Verdict::Refused(Refusal::CounterFull);
     }
-    read(rule, pid, section)
+    read(rule, input, pid, section)
 }
 
-// 12, then 31 or 3.
-fn read(rule: u64, pid: u16, section: &[u8]) -> Verdict
-    ensures { λ r. ⌜ r ≡ readOf rule pid (now (section .entry)) ⌝ }
+// 12, 37, then 31 or 3.
+fn read(rule: u64, input: u8, pid: u16, section: &[u8]) -> Verdict
+    ensures { λ r. ⌜ r ≡ readOf rule input pid (now (section .entry)) ⌝ }
     ensures { λ r. ⌜ Taken (now (section .entry)) r ⌝ }
 {
-    match Origin::make(pid) {
+    match Origin::make(input, pid) {
         OriginMade::One(from) => read_from(from, rule, section),
         OriginMade::BadPid => Verdict::Refused(Refusal::BadPid),
+        OriginMade::BadInput => Verdict::Refused(Refusal::BadInput),
     }
 }
 

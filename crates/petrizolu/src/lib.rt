@@ -3,7 +3,7 @@
 // `include/petrizolu.h` has the words of each array as structs.
 ghost use mathlib.Core.Path.{_≡_};
 ghost use Rattle.crc.specs.Crc.{crcOf};
-ghost use Rattle.host_gate.specs.Calls.{begun, gateOpened, left, gateOffered, watchAsked};
+ghost use Rattle.host_gate.specs.Calls.{begun, gateOpened, left, gateOffered, watchOpened, watchAsked};
 ghost use Rattle.host_indexed.specs.Calls as indexed;
 ghost use Rattle.host_words.specs.Answers.{words};
 ghost use Rattle.host_sets.specs.Calls.{setsLeft, setsOpened, setsPushed, setsCleared, setsNext};
@@ -43,20 +43,29 @@ pub extern "C" fn petrizolu_gate_open(
     )
 }
 
-// Offers a section that came on a PID, watched or not: 1, 2, 3, 10, 11, 12 or 31. 31 and 3 tell what the section failed by, all others leave `failure`.
+// Offers a section that came on an input and a PID, watched or not: 1, 2, 3, 10, 11, 12, 31 or 37. 31 and 3 tell what the section failed by, all others leave `failure`.
 #[no_mangle]
 pub extern "C" fn petrizolu_gate_offer(
     gate: &mut [u64; 13],
     keys: &mut [u64],
     changes: &mut [u64],
     watch: &mut [u64],
+    input: u32,
     pid: u32,
     section: &[u8],
     failure: &mut [u64; 3],
 ) -> u8
-    ensures { λ r. ⌜ left r (now (gate .exit)) (now (keys .exit)) (now (changes .exit)) (now (watch .exit)) (now (failure .exit)) ≡ gateOffered (now (gate .entry)) (now (keys .entry)) (now (changes .entry)) (now (watch .entry)) pid (now (section .entry)) (now (failure .entry)) ⌝ }
+    ensures { λ r. ⌜ left r (now (gate .exit)) (now (keys .exit)) (now (changes .exit)) (now (watch .exit)) (now (failure .exit)) ≡ gateOffered (now (gate .entry)) (now (keys .entry)) (now (changes .entry)) (now (watch .entry)) input pid (now (section .entry)) (now (failure .entry)) ⌝ }
 {
-    host_gate::offer(gate, keys, changes, watch, pid, section, failure)
+    host_gate::offer(gate, keys, changes, watch, input, pid, section, failure)
+}
+
+// Opens the watch record of a further input: 7, 12 or 13. Of `settings` only 4, the well-known PIDs, is looked at. A refusal writes nothing.
+#[no_mangle]
+pub extern "C" fn petrizolu_watch_open(settings: u32, extra: &[u16], watch: &mut [u64]) -> u8
+    ensures { λ r. ⌜ words r (now (watch .exit)) ≡ watchOpened settings (now (extra .entry)) (now (watch .entry)) ⌝ }
+{
+    host_gate::open_watch(settings, extra, watch)
 }
 
 // Whether a PID is watched: 8, 9, 10 or 12.
@@ -106,11 +115,12 @@ pub extern "C" fn petrizolu_indexed_offer(
     buckets: &mut [u64],
     links: &mut [u64],
     watch: &mut [u64],
+    input: u32,
     pid: u32,
     section: &[u8],
     failure: &mut [u64; 3],
 ) -> u8
-    ensures { λ r. ⌜ indexed.left r (now (gate .exit)) (now (keys .exit)) (now (changes .exit)) (now (buckets .exit)) (now (links .exit)) (now (watch .exit)) (now (failure .exit)) ≡ indexed.gateOffered (now (gate .entry)) (now (keys .entry)) (now (changes .entry)) (now (buckets .entry)) (now (links .entry)) (now (watch .entry)) pid (now (section .entry)) (now (failure .entry)) ⌝ }
+    ensures { λ r. ⌜ indexed.left r (now (gate .exit)) (now (keys .exit)) (now (changes .exit)) (now (buckets .exit)) (now (links .exit)) (now (watch .exit)) (now (failure .exit)) ≡ indexed.gateOffered (now (gate .entry)) (now (keys .entry)) (now (changes .entry)) (now (buckets .entry)) (now (links .entry)) (now (watch .entry)) input pid (now (section .entry)) (now (failure .entry)) ⌝ }
 {
     host_indexed::offer(
         gate,
@@ -119,6 +129,7 @@ pub extern "C" fn petrizolu_indexed_offer(
         buckets,
         links,
         watch,
+        input,
         pid,
         section,
         failure,
@@ -141,20 +152,21 @@ pub extern "C" fn petrizolu_sets_open(
     host_sets::open(sets, limit, size, count, heads, slots, cells)
 }
 
-// Offers a section, with the PID that it came on or, for 0xFFFFFFFF, without. 5 writes the set's row into `row`.
+// Offers a section, with the input and the PID that it came on or, for PID 0xFFFFFFFF, without a PID. 5 writes the set's row into `row`.
 #[no_mangle]
 pub extern "C" fn petrizolu_sets_push(
     sets: &mut [u64; 5],
     heads: &mut [u64],
     slots: &mut [u32],
     cells: &mut [u8],
+    input: u32,
     pid: u32,
     section: &[u8],
     row: &mut [u64; 1],
 ) -> u8
-    ensures { λ r. ⌜ setsLeft r (now (sets .exit)) (now (heads .exit)) (now (slots .exit)) (now (cells .exit)) (now (row .exit)) ≡ setsPushed (now (sets .entry)) (now (heads .entry)) (now (slots .entry)) (now (cells .entry)) pid (now (section .entry)) (now (row .entry)) ⌝ }
+    ensures { λ r. ⌜ setsLeft r (now (sets .exit)) (now (heads .exit)) (now (slots .exit)) (now (cells .exit)) (now (row .exit)) ≡ setsPushed (now (sets .entry)) (now (heads .entry)) (now (slots .entry)) (now (cells .entry)) input pid (now (section .entry)) (now (row .entry)) ⌝ }
 {
-    host_sets::push(sets, heads, slots, cells, pid, section, row)
+    host_sets::push(sets, heads, slots, cells, input, pid, section, row)
 }
 
 // Empties all rows: 7, or 10.
@@ -214,7 +226,7 @@ pub extern "C" fn petrizolu_eit_open(
     )
 }
 
-// Offers a section, with the PID that it came on or, for 0xFFFFFFFF, without. 5 writes the set's row into `row`, 6 the schedule's.
+// Offers a section, with the input and the PID that it came on or, for PID 0xFFFFFFFF, without a PID. 5 writes the set's row into `row`, 6 the schedule's.
 #[no_mangle]
 pub extern "C" fn petrizolu_eit_push(
     eit: &mut [u64; 7],
@@ -223,11 +235,12 @@ pub extern "C" fn petrizolu_eit_push(
     cells: &mut [u8],
     schedule_heads: &mut [u64],
     units: &mut [u32],
+    input: u32,
     pid: u32,
     section: &[u8],
     row: &mut [u64; 1],
 ) -> u8
-    ensures { λ r. ⌜ eitLeft r (now (eit .exit)) (now (heads .exit)) (now (slots .exit)) (now (cells .exit)) (now («schedule_heads» .exit)) (now (units .exit)) (now (row .exit)) ≡ eitPushed (now (eit .entry)) (now (heads .entry)) (now (slots .entry)) (now (cells .entry)) (now («schedule_heads» .entry)) (now (units .entry)) pid (now (section .entry)) (now (row .entry)) ⌝ }
+    ensures { λ r. ⌜ eitLeft r (now (eit .exit)) (now (heads .exit)) (now (slots .exit)) (now (cells .exit)) (now («schedule_heads» .exit)) (now (units .exit)) (now (row .exit)) ≡ eitPushed (now (eit .entry)) (now (heads .entry)) (now (slots .entry)) (now (cells .entry)) (now («schedule_heads» .entry)) (now (units .entry)) input pid (now (section .entry)) (now (row .entry)) ⌝ }
 {
     host_eit::push(
         eit,
@@ -236,6 +249,7 @@ pub extern "C" fn petrizolu_eit_push(
         cells,
         schedule_heads,
         units,
+        input,
         pid,
         section,
         row,
@@ -257,7 +271,7 @@ pub extern "C" fn petrizolu_eit_clear(
     host_eit::clear(eit, heads, slots, cells, schedule_heads, units)
 }
 
-// Sets and schedules that match the filter go: 7, 10, or 12 for a PID of the filter that is none. A word with all 64 bits set is free, the PID 0xFFFFFFFF
+// Sets and schedules that match the filter go: 7, 10, 12 for a PID of the filter that is none, or 37 for such an input. A word with all 64 bits set is free, the PID 0xFFFFFFFF
 // is "exactly none".
 #[no_mangle]
 pub extern "C" fn petrizolu_eit_drop(
@@ -267,7 +281,7 @@ pub extern "C" fn petrizolu_eit_drop(
     cells: &[u8],
     schedule_heads: &mut [u64],
     units: &mut [u32],
-    filter: &[u64; 6],
+    filter: &[u64; 7],
 ) -> u8
     ensures { λ r. ⌜ eitDroppedTo r (now (eit .exit)) (now (heads .exit)) (now (slots .exit)) (now («schedule_heads» .exit)) (now (units .exit)) ≡ eitDropped (now (eit .entry)) (now (heads .entry)) (now (slots .entry)) (now (cells .entry)) (now («schedule_heads» .entry)) (now (units .entry)) (now (filter .entry)) ⌝ }
 {

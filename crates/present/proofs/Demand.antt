@@ -21,7 +21,7 @@ use Rattle.rules_shared.proofs.Row.{start-meets}
 use Rattle.rules_shared.proofs.Ahead.{ahead-marks, start-good, start-ahead}
 use Rattle.rules_shared.proofs.Trails.{Behind, Found, behind-none, behind-map, behind-find, behind-touch, behind-retain}
 use Rattle.laws.proofs.Runs.{Then, Round, anew, kept, all-given, never-told}
-use Rattle.rules_eit.specs.Keys.{Kind, kindOf, SetKey, sameSet, Filter, badPid}
+use Rattle.rules_eit.specs.Keys.{Kind, kindOf, SetKey, sameSet, Filter, badFilter}
 use Rattle.rules_eit.specs.Segments.{segmentOf, segmentEnd}
 use Rattle.rules_eit.specs.Rules.{Section, keyOf, partOf, fromBytes, Call, clear, drop, refuse, offer, SetRow, Eit, Whole, Answer, done, refused, nothing, handout, Step, gives, metRow, setAside, setNewest, judge, cleared, dropped, finish, push, admit, offered, dropping, step, tells, acts, opened}
 use Rattle.rules_eit.proofs.Keys.{sameSet-true}
@@ -133,10 +133,10 @@ module _ (size n m : ℕ) (le : n ≤ m) (P : Section → Kind → Type 0)
       offered-both none e h = still (refused refusal.NotEit) (refused-not refusal.NotEit)
       offered-both (some kind) e h = admitted kind e (leb (length (x .bytes)) size) refl h
 
-    dropped-both : (f : Filter) (isBad : Bool) → Kept P H (dropping s f isBad) (dropping l f isBad)
+    dropped-both : (f : Filter) (bad : Option Refusal) → Kept P H (dropping s f bad) (dropping l f bad)
     unfolding dropping dropped retained
-    dropped-both f true = still (refused refusal.BadPid) (refused-not refusal.BadPid)
-    dropped-both f false = record {
+    dropped-both f (some r) = still (refused r) (refused-not r)
+    dropped-both f none = record {
       same = λ w h. absurd (done-not w h);
       stand = behind-retain sameSet sameSet-true Rel (Good P (Then handout H done)) _ (s .sets .rows) (l .sets .rows) (still done done-not .stand);
     }
@@ -152,7 +152,7 @@ module _ (size n m : ℕ) (le : n ≤ m) (P : Section → Kind → Type 0)
       → Round clear handout (tells small) (acts small) (tells large) (acts large) (Stand P) H s l i
   unfolding tells acts step cleared emptied
   round H s l clear f h b = anew (λ w. done-not w) (behind-none sameSet sameSet-true Rel (Good P (λ w. ⊥)))
-  round H s l (drop g) f h b = let c = dropped-both H s l b g (badPid (g .pid)) in kept (drop-not g) (c .same) (c .stand)
+  round H s l (drop g) f h b = let c = dropped-both H s l b g (badFilter g) in kept (drop-not g) (c .same) (c .stand)
   round H s l (refuse k q) f h b = let c = still H s l b (refused k) (refused-not k) in kept (refuse-not k q) (c .same) (c .stand)
   round H s l (offer x) f h b = let c = offered-both H s l b x f (kindOf (x .tableId)) refl h in kept (offer-not x) (c .same) (c .stand)
 
@@ -160,11 +160,11 @@ module _ (size n m : ℕ) (le : n ≤ m) (P : Section → Kind → Type 0)
 tells-zero : (size : ℕ) (e : Eit) (i : Call) (w : Whole) → tells (record { limit = zero; cellSize = size }) e i ≢ handout w
 unfolding tells step dropping offered admit push
 tells-zero size e clear w = done-not w
-tells-zero size e (drop f) w = go (badPid (f .pid))
+tells-zero size e (drop f) w = go (badFilter f)
   where
-    go : (b : Bool) → (dropping e f b) .answer ≢ handout w
-    go true = refused-not refusal.BadPid w
-    go false = done-not w
+    go : (b : Option Refusal) → (dropping e f b) .answer ≢ handout w
+    go (some r) = refused-not r w
+    go none = done-not w
 tells-zero size e (refuse k b) w = refused-not k w
 tells-zero size e (offer x) w = go (kindOf (x .tableId))
   where

@@ -5,6 +5,7 @@ use mathlib.Core.Path.{_≡_, refl, sym, ap, _∙_, subst}
 use mathlib.Core.Logic.{_⊎_, inl, inr}
 use mathlib.Core.Bool.{Bool, true, false, cond}
 use mathlib.Core.Option.{Option, none, some, Option·some-injective}
+use Rattle.answers.specs.declared.Refusal.{Refusal}
 use Prim.Native.Nat.{ℕ, zero, suc}
 use native.Mathlib.Omega.{arith}
 use lib.Dec.{leb, eqb}
@@ -12,7 +13,7 @@ use lib.ListN.{length}
 use Rattle.laws.proofs.Tests.{none≢some}
 use Rattle.rules_shared.specs.Row.{put}
 use Rattle.rules_shared.specs.Cells.{Settings}
-use Rattle.rules_eit.specs.Keys.{Kind, presentActual, presentOther, scheduleActual, scheduleOther, between, kindOf, firstOf, SetKey, badPid}
+use Rattle.rules_eit.specs.Keys.{Kind, presentActual, presentOther, scheduleActual, scheduleOther, between, kindOf, firstOf, SetKey, badFilter}
 use Rattle.rules_eit.specs.Schedules.{copyOf, whole}
 use Rattle.rules_eit.specs.Rules.{Section, scheduleOf, keyOf, partOf, Call, clear, drop, refuse, offer, SetRow, Eit, Whole, handout, Step, metRow, setAside, finish, push, admit, offered, dropping, step, tells}
 use Rattle.rules_eit.proofs.Judged.{Verdict, shown, incomplete, presents, outside, enters, schedules, verdict}
@@ -73,11 +74,11 @@ module _ (x : Section) (kind : Kind) (isKind : kindOf (x .tableId) ≡ some kind
 pub five-of-rules : (o : Settings) (e : Eit) (i : Call) (w : Whole) → tells o e i ≡ handout w → OfPresentFollowing w
 unfolding tells step dropping offered
 five-of-rules o e clear w h = let z : _≡_ {A = ℕ} 0 1 = cc in absurd (omega arith)
-five-of-rules o e (drop f) w h = go (badPid (f .pid)) h
+five-of-rules o e (drop f) w h = go (badFilter f) h
   where
-    go : (b : Bool) → (dropping e f b) .answer ≡ handout w → OfPresentFollowing w
-    go true q = let z : _≡_ {A = ℕ} 0 1 = cc in absurd (omega arith)
-    go false q = let z : _≡_ {A = ℕ} 0 1 = cc in absurd (omega arith)
+    go : (b : Option Refusal) → (dropping e f b) .answer ≡ handout w → OfPresentFollowing w
+    go (some r) q = let z : _≡_ {A = ℕ} 0 1 = cc in absurd (omega arith)
+    go none q = let z : _≡_ {A = ℕ} 0 1 = cc in absurd (omega arith)
 five-of-rules o e (refuse r b) w h = let z : _≡_ {A = ℕ} 0 1 = cc in absurd (omega arith)
 five-of-rules o e (offer x) w h = go (kindOf (x .tableId)) refl h
   where

@@ -42,7 +42,7 @@ clear-none s h e = go (wholeOf s) e
 call-out : (s : Store) → WholeStore s → (i : Given) → OfBytes i → (h : Handed) → (called s i) .told ≡ handed h
     → (h ≡ setIn ((called s i) .store) (h .row)) × Reads (nextOf ((called s i) .store) (h .row)) (((called s i) .store) .cells) 0 (h .sections) No
 call-out s w clears b h e = absurd (clear-none s h e)
-call-out s w (section pid bytes) b h e = (pushed-out s pid bytes h (b 7) e .set, read-handed s w pid bytes (b 7) h e)
+call-out s w (section input pid bytes) b h e = (pushed-out s input pid bytes h (b 7) e .set, read-handed s w input pid bytes (b 7) h e)
 
 -- the set as the rules have it
 abbrev shown : Handed → Whole

@@ -16,7 +16,7 @@ use Rattle.section.specs.Key.{keyOf}
 use Rattle.watched.specs.Rules.{Watch}
 use Rattle.section.specs.Judged.{ruleOf, checkedChange, judgedOf}
 use Rattle.section.specs.declared.header.Judged.{Judged}
-use Rattle.section.proofs.Keys.{key-small, key-largest}
+use Rattle.section.proofs.Keys.{key-small, key-input, key-largest, key-largest-input}
 use Rattle.section.proofs.Examples.{cut-off, all-ones}
 use Rattle.eit_section.proofs.Segment.{as-sent, counted-within, past-last, no-wrap}
 use Rattle.pat.proofs.Laws.{example-pids}
@@ -34,31 +34,30 @@ use Rattle.promises.specs.Examples.{pat, freshGate, heldAfter, gateKeys,
 
 -- ---- the gate
 
-says : (m : Manner) (watch : Watch) (pid : ℕ) (section : List ℕ) (j : Judged) → pid < 8192 → judgedOf (ruleOf (m .rule)) section ≡ j
-    → told m (freshGate watch) (record { pid = pid; section = section }) ≡ carriedIn m (freshGate watch) section (readAs (originOf pid) (length section) j)
+says : (m : Manner) (watch : Watch) (input pid : ℕ) (section : List ℕ) (j : Judged) → input < 16 → pid < 8192 → judgedOf (ruleOf (m .rule)) section ≡ j
+    → told m (freshGate watch) (record { input = input; pid = pid; section = section }) ≡ carriedIn m (freshGate watch) section (readAs (originOf input pid) (length section) j)
 unfolding told readOf
-says m watch pid section j h e =
-    ap (λ (b : Bool). carriedIn m (freshGate watch) section (cond b (readAs (originOf pid) (length section) (judgedOf (ruleOf (m .rule)) section)) (Refused BadPid))) (lt-ltb pid 8192 h)
-    ∙ ap (λ (x : Judged). carriedIn m (freshGate watch) section (readAs (originOf pid) (length section) x)) e
+says m watch input pid section j i h e = rw (lt-ltb pid 8192 h, lt-ltb input 16 i, e)
 
 abbrev ones : List ℕ
 ones = 0xFF ∷ 0xFF ∷ 0xFF ∷ 0xFF ∷ []
 
-emitted : (m : Manner) (watch : Watch) (pid : ℕ) → pid < 8192 → tells m (freshGate watch) (record { pid = pid; section = ones }) ≡ plain 1
+emitted : (m : Manner) (watch : Watch) (input pid : ℕ) → input < 16 → pid < 8192 → tells m (freshGate watch) (record { input = input; pid = pid; section = ones }) ≡ plain 1
 unfolding tells carriedIn admitted
-emitted m watch pid h = ap (λ (t : Told). t .answer) (says m watch pid ones _ h (all-ones (ruleOf (m .rule))))
+emitted m watch input pid i h = ap (λ (t : Told). t .answer) (says m watch input pid ones _ i h (all-ones (ruleOf (m .rule))))
 
-held : (m : Manner) (watch : Watch) (pid : ℕ) → pid < 8192 → map (λ (r : Row). r .key) ((acts m (freshGate watch) (record { pid = pid; section = ones })) .rows) ≡ keyOf (originOf pid) 0xFF 0 0 ∷ []
+held : (m : Manner) (watch : Watch) (input pid : ℕ) → input < 16 → pid < 8192
+    → map (λ (r : Row). r .key) ((acts m (freshGate watch) (record { input = input; pid = pid; section = ones })) .rows) ≡ keyOf (originOf input pid) 0xFF 0 0 ∷ []
 unfolding acts carriedIn admitted offeredTo
-held m watch pid h = ap (λ (t : Told). map (λ (r : Row). r .key) (t .held .rows)) (says m watch pid ones _ h (all-ones (ruleOf (m .rule)))) ∙ go (checkedChange (ruleOf (m .rule)) ones) (atCapacity (m .capacity) [])
+held m watch input pid i h = ap (λ (t : Told). map (λ (r : Row). r .key) (t .held .rows)) (says m watch input pid ones _ i h (all-ones (ruleOf (m .rule)))) ∙ go (checkedChange (ruleOf (m .rule)) ones) (atCapacity (m .capacity) [])
   where
-    go : (k : ℕ) (b : Bool) → map (λ (r : Row). r .key) (cond b (later []) [] ++ (record { key = keyOf (originOf pid) 0xFF 0 0; version = 0; change = k } ∷ [])) ≡ keyOf (originOf pid) 0xFF 0 0 ∷ []
+    go : (k : ℕ) (b : Bool) → map (λ (r : Row). r .key) (cond b (later []) [] ++ (record { key = keyOf (originOf input pid) 0xFF 0 0; version = 0; change = k } ∷ [])) ≡ keyOf (originOf input pid) 0xFF 0 0 ∷ []
     go k true = refl
     go k false = refl
 
-fails : (m : Manner) (watch : Watch) (pid : ℕ) → pid < 8192 → tells m (freshGate watch) (record { pid = pid; section = 0x02 ∷ 0xB0 ∷ 0x00 ∷ [] }) ≡ short 3
+fails : (m : Manner) (watch : Watch) (input pid : ℕ) → input < 16 → pid < 8192 → tells m (freshGate watch) (record { input = input; pid = pid; section = 0x02 ∷ 0xB0 ∷ 0x00 ∷ [] }) ≡ short 3
 unfolding tells carriedIn
-fails m watch pid h = ap (λ (t : Told). t .answer) (says m watch pid (0x02 ∷ 0xB0 ∷ 0x00 ∷ []) _ h (cut-off (ruleOf (m .rule))))
+fails m watch input pid i h = ap (λ (t : Told). t .answer) (says m watch input pid (0x02 ∷ 0xB0 ∷ 0x00 ∷ []) _ i h (cut-off (ruleOf (m .rule))))
 
 loses-A : gateKeys 2 (10 ∷ 11 ∷ 10 ∷ 12 ∷ []) ≡ 11 ∷ 12 ∷ []
 unfolding gateKeys heldAfter offeredTo
@@ -79,7 +78,9 @@ reads-as-pat = refl
 pub checked-examples : CheckedExamples
 checked-examples = record {
   key-small = key-small;
+  key-input = key-input;
   key-largest = key-largest;
+  key-largest-input = key-largest-input;
   segment-as-sent = as-sent;
   segment-counted-within = counted-within;
   segment-past-last = past-last;

@@ -32,10 +32,10 @@ use Rattle.promises.proofs.Demand3.{as-rules}
 -- ---- sections: on PID 0x10, extension 1, version 0, current
 
 abbrev pub on : Bytes → Given
-on bytes = section (maybe.Some 0x10) bytes
+on bytes = section 0 (maybe.Some 0x10) bytes
 
 abbrev pub key : ℕ → Key
-key table = record { from = record { pid = some 0x10 }; tableId = table; extension = 1; currentNext = true }
+key table = record { from = record { input = 0; pid = some 0x10 }; tableId = table; extension = 1; currentNext = true }
 
 -- what such a section says
 abbrev pub said : (table number last : ℕ) → Bytes → Call

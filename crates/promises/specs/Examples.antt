@@ -40,7 +40,7 @@ gateKeys capacity keys = map (λ (r : Row). r .key) (heldAfter capacity keys [])
 -- the keys that a set collector of this limit holds in the end, the least recently touched first, given a section of each of these tables one after
 -- another: section 0 of 0 and 1, so that no set is complete
 abbrev pub tableKey : ℕ → Key
-tableKey table = record { from = record { pid = some 0x12 }; tableId = table; extension = 1; currentNext = true }
+tableKey table = record { from = record { input = 0; pid = some 0x12 }; tableId = table; extension = 1; currentNext = true }
 
 abbrev pub sectionOf : ℕ → Call
 sectionOf table = offer (record { key = tableKey table; version = 0; number = 0; last = 1; bytes = replicate 12 0 })
@@ -58,20 +58,24 @@ pat =
 
 pub record CheckedExamples : Type 0 where
   -- "PID 0x12, table 0x4E, extension 1, section 0: key 2,736,146"
-  pub key-small : keyOf (originOf 0x12) 0x4E 1 0 ≡ 2736146
+  pub key-small : keyOf (originOf 0 0x12) 0x4E 1 0 ≡ 2736146
+  -- "the same on input 3: 105,553,119,002,642"
+  pub key-input : keyOf (originOf 3 0x12) 0x4E 1 0 ≡ 105553119002642
   -- "all fields largest: 2^45 − 1"
-  pub key-largest : keyOf (originOf 8191) 255 65535 255 ≡ 2 ^ 45 - 1
+  pub key-largest : keyOf (originOf 0 8191) 255 65535 255 ≡ 2 ^ 45 - 1
+  -- "with input 15: 2^49 − 1"
+  pub key-largest-input : keyOf (originOf 15 8191) 255 65535 255 ≡ 2 ^ 49 - 1
   -- "segment end (start, number, last): (8, 11, 20) 11; (8, 3, 20) 11; (16, 23, 17) 17; (248, 255, 255) 255"
   pub segment-as-sent : segmentEnd 8 11 20 ≡ 11
   pub segment-counted-within : segmentEnd 8 3 20 ≡ 11
   pub segment-past-last : segmentEnd 16 23 17 ≡ 17
   pub segment-at-248 : segmentEnd 248 255 255 ≡ 255
-  -- "offering FF FF FF FF first: emitted, key with extension 0 and section 0", on any PID and with any settings
-  pub all-ones-emitted : (m : Manner) (watch : Watch) (pid : ℕ) → pid < 8192 → tells m (freshGate watch) (record { pid = pid; section = 0xFF ∷ 0xFF ∷ 0xFF ∷ 0xFF ∷ [] }) ≡ plain 1
-  pub all-ones-key : (m : Manner) (watch : Watch) (pid : ℕ) → pid < 8192
-      → map (λ (r : Row). r .key) ((acts m (freshGate watch) (record { pid = pid; section = 0xFF ∷ 0xFF ∷ 0xFF ∷ 0xFF ∷ [] })) .rows) ≡ keyOf (originOf pid) 0xFF 0 0 ∷ []
+  -- "offering FF FF FF FF first: emitted, key with extension 0 and section 0", on any input and PID and with any settings
+  pub all-ones-emitted : (m : Manner) (watch : Watch) (input pid : ℕ) → input < 16 → pid < 8192 → tells m (freshGate watch) (record { input = input; pid = pid; section = 0xFF ∷ 0xFF ∷ 0xFF ∷ 0xFF ∷ [] }) ≡ plain 1
+  pub all-ones-key : (m : Manner) (watch : Watch) (input pid : ℕ) → input < 16 → pid < 8192
+      → map (λ (r : Row). r .key) ((acts m (freshGate watch) (record { input = input; pid = pid; section = 0xFF ∷ 0xFF ∷ 0xFF ∷ 0xFF ∷ [] })) .rows) ≡ keyOf (originOf input pid) 0xFF 0 0 ∷ []
   -- "02 B0 00: CRC failure": too short, 3 bytes
-  pub cut-off-fails : (m : Manner) (watch : Watch) (pid : ℕ) → pid < 8192 → tells m (freshGate watch) (record { pid = pid; section = 0x02 ∷ 0xB0 ∷ 0x00 ∷ [] }) ≡ short 3
+  pub cut-off-fails : (m : Manner) (watch : Watch) (input pid : ℕ) → input < 16 → pid < 8192 → tells m (freshGate watch) (record { input = input; pid = pid; section = 0x02 ∷ 0xB0 ∷ 0x00 ∷ [] }) ≡ short 3
   -- "capacity 2, keys A, B, A, C: the gate loses A"; 10, 11 and 12 stand for A, B and C
   pub gate-loses-A : gateKeys 2 (10 ∷ 11 ∷ 10 ∷ 12 ∷ []) ≡ 11 ∷ 12 ∷ []
   -- "the collector with limit 2 loses B"

@@ -54,16 +54,16 @@ in-kind t kind.ScheduleOther e h = let r = schedule-other-range t e in (r .0, om
 of-kind-in : (a : Arrival) (k : Kind) → OfKind a k → 2 ≤ a .kind → (firstTable (a .kind) ≤ a .entry .key .«table_id») × (a .entry .key .«table_id» ≤ firstTable (a .kind) + 15)
 of-kind-in a k o h = rw (o .number) (in-kind (a .entry .key .«table_id») k (o .table) (subst (λ (n : ℕ). 2 ≤ n) (o .number) h))
 
-reaches-in : (s : Store) (pid : MaybePid) (bytes : List ℕ) (a : Arrival) → Reaches s pid bytes a → 2 ≤ a .kind
+reaches-in : (s : Store) (input : ℕ) (pid : MaybePid) (bytes : List ℕ) (a : Arrival) → Reaches s input pid bytes a → 2 ≤ a .kind
     → (firstTable (a .kind) ≤ a .entry .key .«table_id») × (a .entry .key .«table_id» ≤ firstTable (a .kind) + 15)
-reaches-in s pid bytes a r h = let k = arrived-kind bytes a pid (r .says) in of-kind-in a (k .0) (k .1) h
+reaches-in s input pid bytes a r h = let k = arrived-kind bytes a input pid (r .says) in of-kind-in a (k .0) (k .1) h
 
 -- the store need not be whole for it
-pub never-below : (s : Store) (pid : MaybePid) (bytes : List ℕ) (a : Arrival) → Reaches s pid bytes a → BelowItsKind a → ⊥
-never-below s pid bytes a r b = let n = reaches-in s pid bytes a r (b .0) in let l = b .1 in omega arith
+pub never-below : (s : Store) (input : ℕ) (pid : MaybePid) (bytes : List ℕ) (a : Arrival) → Reaches s input pid bytes a → BelowItsKind a → ⊥
+never-below s input pid bytes a r b = let n = reaches-in s input pid bytes a r (b .0) in let l = b .1 in omega arith
 
-pub never-above : (s : Store) (pid : MaybePid) (bytes : List ℕ) (a : Arrival) → Reaches s pid bytes a → 2 ≤ a .kind → a .entry .key .«table_id» ≤ firstTable (a .kind) + 15
-never-above s pid bytes a r h = reaches-in s pid bytes a r h .1
+pub never-above : (s : Store) (input : ℕ) (pid : MaybePid) (bytes : List ℕ) (a : Arrival) → Reaches s input pid bytes a → 2 ≤ a .kind → a .entry .key .«table_id» ≤ firstTable (a .kind) + 15
+never-above s input pid bytes a r h = reaches-in s input pid bytes a r h .1
 
 -- ---- the second
 
@@ -79,12 +79,12 @@ limit-0 s bytes a z = go (ltb (s .eit .sets .size) (length bytes)) (eqb (s .eit 
     go false false e g = let n : _≡_ {A = ℕ} 0 1 = cc in omega arith
 
 -- whatever the store holds
-pub never-empty-anywhere : (s : Store) (pid : MaybePid) (bytes : List ℕ) (a : Arrival) → Reaches s pid bytes a → FullAndEmpty s → ⊥
-never-empty-anywhere s pid bytes a r f = let l = f .0 in let n = f .1 in limit-0 s bytes a (omega arith) (r .goes-on)
+pub never-empty-anywhere : (s : Store) (input : ℕ) (pid : MaybePid) (bytes : List ℕ) (a : Arrival) → Reaches s input pid bytes a → FullAndEmpty s → ⊥
+never-empty-anywhere s input pid bytes a r f = let l = f .0 in let n = f .1 in limit-0 s bytes a (omega arith) (r .goes-on)
 
 -- so in a store that passes check 10
-pub never-empty : (s : Store) (pid : MaybePid) (bytes : List ℕ) (a : Arrival) → wholeOf s ≡ true → Reaches s pid bytes a → FullAndEmpty s → ⊥
-never-empty s pid bytes a w r f = never-empty-anywhere s pid bytes a r f
+pub never-empty : (s : Store) (input : ℕ) (pid : MaybePid) (bytes : List ℕ) (a : Arrival) → wholeOf s ≡ true → Reaches s input pid bytes a → FullAndEmpty s → ⊥
+never-empty s input pid bytes a w r f = never-empty-anywhere s input pid bytes a r f
 
 -- ---- the key limit is fixed at opening: no call changes it
 
@@ -116,9 +116,9 @@ unfolding matchingGone
 dropped-limit s (drop.Refuse r) = refl
 dropped-limit s (drop.Matching f) = refl
 
-pub limit-stays-push : (s : Store) (pid : MaybePid) (bytes : List ℕ) → pushedOf s pid bytes .store .eit .sets .limit ≡ s .eit .sets .limit
+pub limit-stays-push : (s : Store) (input : ℕ) (pid : MaybePid) (bytes : List ℕ) → pushedOf s input pid bytes .store .eit .sets .limit ≡ s .eit .sets .limit
 unfolding pushedOf
-limit-stays-push s pid bytes = pushed-limit s bytes (admitted s pid bytes)
+limit-stays-push s input pid bytes = pushed-limit s bytes (admitted s input pid bytes)
 
 pub limit-stays-drop : (s : Store) (f : Filter) → droppedOf s f .store .eit .sets .limit ≡ s .eit .sets .limit
 unfolding droppedOf

@@ -20,8 +20,8 @@ GoesOnWith a (plan.Repeat x) = x .arrival ≡ a
 GoesOnWith a (plan.Keep k) = k .arrival ≡ a
 
 -- the section is not refused, and a is what it says
-pub record Reaches (s : Store) (pid : MaybePid) (bytes : List ℕ) (a : Arrival) : Type 0 where
-  pub says : eitArrival pid bytes ≡ arrival.Arrived a
+pub record Reaches (s : Store) (input : ℕ) (pid : MaybePid) (bytes : List ℕ) (a : Arrival) : Type 0 where
+  pub says : eitArrival input pid bytes ≡ arrival.Arrived a
   pub goes-on : GoesOnWith a (planOf s bytes a)
 
 -- the first branch: a table_id of a schedule below the first of its kind

@@ -54,7 +54,7 @@ call-out : (s : Store) → Reached s → wholeOf s ≡ true → (i : Given) → 
     → (h ≡ setOut ((called s i) .store) (h .row)) × Reads (nextOf ((called s i) .store) (h .row)) (((called s i) .store) .cells) 0 (h .sections) No
 call-out s z w clears b h e = absurd (clear-none s h e)
 call-out s z w (drops f) b h e = absurd (drop-none s f h e)
-call-out s z w (section pid bytes) b h e = (told-set s w pid bytes h e .set, read-handed s z w pid bytes b h e)
+call-out s z w (section input pid bytes) b h e = (told-set s w input pid bytes h e .set, read-handed s z w input pid bytes b h e)
 
 -- the set as the rules have it
 abbrev shown : SetOut → Whole

@@ -66,11 +66,11 @@ abbrev z0 : Bytes
 z0 = 0x4E ∷ 0xB0 ∷ 0x0F ∷ 0x00 ∷ 0x01 ∷ 0xC1 ∷ 0x00 ∷ 0x01 ∷ 0x00 ∷ 0x01 ∷ 0x00 ∷ 0x01 ∷ 0x01 ∷ 0x4E ∷ 0x51 ∷ 0xC1 ∷ 0x2E ∷ 0x43 ∷ []
 
 abbrev on : Bytes → Given
-on bytes = section (maybe.Some 0x12) bytes
+on bytes = section 0 (maybe.Some 0x12) bytes
 
 abbrev says : (service number last segmentLast lastTable : ℕ) → Bytes → Section
 says service number last segmentLast lastTable bytes = record {
-  from = record { pid = some 0x12 };
+  from = record { input = 0; pid = some 0x12 };
   tableId = 0x4E;
   serviceId = service;
   transportStreamId = 1;
@@ -89,7 +89,7 @@ said service number last segmentLast lastTable bytes = offer (says service numbe
 
 abbrev set-of : (service last : ℕ) → List Bytes → Whole
 set-of service last sections = record {
-  key = record { schedule = record { from = record { pid = some 0x12 }; kind = presentActual; serviceId = service; transportStreamId = 1; originalNetworkId = 1; currentNext = true }; tableId = 0x4E };
+  key = record { schedule = record { from = record { input = 0; pid = some 0x12 }; kind = presentActual; serviceId = service; transportStreamId = 1; originalNetworkId = 1; currentNext = true }; tableId = 0x4E };
   version = 0;
   last = last;
   sections = sections;

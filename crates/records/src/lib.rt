@@ -1,4 +1,4 @@
-// The records that programs read from standard input: a PID (two bytes, high byte first) and a section. One is held at a time, so an input may be of any length.
+// The records that programs read from standard input: a PID (two bytes, high byte first) and a section, with or without an input (one byte) before them. One is held at a time, so an input may be of any length.
 use libc::STDIN_FILENO;
 use section::bytes::wide;
 ghost use mathlib.Core.Path.{_≡_};
@@ -33,4 +33,19 @@ pub fn read_record(buf: &mut [u8]) -> Next
         return Next::Cut;
     }
     Next::Record(5 + n)
+}
+
+// What reading an input found: the number that stands there, or the end of standard input.
+pub enum InputRead {
+    One(u8),
+    End,
+}
+
+// Reads the byte that records with an input begin with.
+pub fn read_input() -> InputRead {
+    let mut byte = [0u8; 1];
+    if io::read_full(STDIN_FILENO, &mut byte) == 0 {
+        return InputRead::End;
+    }
+    InputRead::One(byte[0])
 }

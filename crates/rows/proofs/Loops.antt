@@ -24,8 +24,8 @@ before n h = omega arith
 
 -- ---- find
 
-pub origin-words : (heads : List ℕ) (i a : ℕ) → a ≡ word heads i 0 → _≡_ {A = Origin} (record { pid = a }) (originAt heads i)
-origin-words heads i a p = rw p
+pub origin-words : (heads : List ℕ) (i a b : ℕ) → a ≡ word heads i 10 → b ≡ word heads i 0 → _≡_ {A = Origin} (record { input = a; pid = b }) (originAt heads i)
+origin-words heads i a b p q = rw (p, q)
 
 pub key-words : (heads : List ℕ) (i : ℕ) (a : Origin) (b c d e f : ℕ) → a ≡ originAt heads i → b ≡ word heads i 1 → c ≡ word heads i 2 → d ≡ word heads i 3 → e ≡ word heads i 4 → f ≡ word heads i 5
     → _≡_ {A = Key} (record { from = a; «table_id» = b; extension = c; «current_next» = d; «transport_stream_id» = e; «original_network_id» = f }) (keyAt heads i)

@@ -13,7 +13,7 @@ use lib.Seq.{getD-set-same, getD-set-other, paste, length-paste, getD-take, getD
 use Rattle.laws.proofs.Lists.{paste-past, paste-before, paste-in, getD-none}
 use Rattle.rows.specs.declared.Entry.{Entry}
 use Rattle.rows.specs.declared.Room.{Room}
-use Rattle.rows.specs.Rows.{word, put, KeyWord, to-5, older, aged, touched, headOf, freshHead, keptHeads, slotsAt, slotCount, rowSlots, emptied, keptSlots, ageOf, lastOf, withAge, withMark}
+use Rattle.rows.specs.Rows.{word, put, KeyWord, to-5, is-10, older, aged, touched, headOf, freshHead, keptHeads, slotsAt, slotCount, rowSlots, emptied, keptSlots, ageOf, lastOf, withAge, withMark}
 
 -- ---- one word
 
@@ -92,6 +92,7 @@ pub record OfKey (m : ℕ) : Type 0 where
 
 pub of-key : (m : ℕ) → KeyWord m → OfKey m
 of-key m (to-5 n h) = record { below = omega arith; no-mark = omega arith; no-age = omega arith }
+of-key m is-10 = record { below = omega arith; no-mark = omega arith; no-age = omega arith }
 
 -- ---- a row that begins anew
 

@@ -14,7 +14,7 @@ use Rattle.rows.specs.declared.Entry.{Entry}
 use Rattle.rows.specs.declared.Room.{Room}
 
 -- ---- heads, 12 words a row: 0 PID (8192 is none), 1 table_id, 2 extension, 3 current_next, 4 transport_stream_id, 5 original_network_id,
--- 6 version, 7 last_section_number, 8 mark (not 0: handed out), 9 age, 10 and 11 spare
+-- 6 version, 7 last_section_number, 8 mark (not 0: handed out), 9 age, 10 input, 11 spare
 
 -- word k of row i's head
 abbrev pub word : List ℕ → ℕ → ℕ → ℕ
@@ -48,9 +48,10 @@ withAge i age heads = put i 9 age heads
 -- the words of a head that make its key
 pub data KeyWord : ℕ → Type 0 where
   to-5 : (m : ℕ) → m < 6 → KeyWord m
+  is-10 : KeyWord 10
 
 abbrev pub originAt : List ℕ → ℕ → Origin
-originAt heads i = record { pid = word heads i 0 }
+originAt heads i = record { input = word heads i 10; pid = word heads i 0 }
 
 abbrev pub keyAt : List ℕ → ℕ → Key
 keyAt heads i = record {
@@ -63,7 +64,7 @@ keyAt heads i = record {
 }
 
 unfoldable pub sameOrigin : Origin → Origin → Bool
-sameOrigin a b = eqb (a .pid) (b .pid)
+sameOrigin a b = eqb (a .input) (b .input) && eqb (a .pid) (b .pid)
 
 unfoldable pub sameKey : Key → Key → Bool
 sameKey a b =
@@ -108,7 +109,7 @@ touched used i heads = withAge i 0 (aged (ageOf heads i) used heads)
 abbrev pub headOf : Entry → ℕ → List ℕ
 headOf e age =
     e .key .from .pid ∷ e .key .«table_id» ∷ e .key .extension ∷ e .key .«current_next» ∷ e .key .«transport_stream_id» ∷ e .key .«original_network_id»
-    ∷ e .version ∷ e .last ∷ 0 ∷ age ∷ 0 ∷ 0 ∷ []
+    ∷ e .version ∷ e .last ∷ 0 ∷ age ∷ e .key .from .input ∷ 0 ∷ []
 
 unfoldable pub freshHead : ℕ → Entry → ℕ → List ℕ → List ℕ
 freshHead i e age heads = paste heads (i * 12) (headOf e age) 12

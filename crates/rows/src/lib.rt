@@ -12,6 +12,7 @@ ghost use Rattle.rows.specs.Rows.{word, put, originAt, sameOrigin, keyAt
 
 // Where a row's sections came from, in the words of a head.
 pub struct Origin {
+    pub input: u64,
     pub pid: u64,
 }
 
@@ -62,6 +63,8 @@ const LAST: usize = 7;
 const MARK: usize = 8;
 
 const AGE: usize = 9;
+
+const INPUT: usize = 10;
 
 // ---- heads
 
@@ -119,6 +122,7 @@ fn origin_at(heads: &[u64], i: usize) -> Origin
     ensures { λ r. ⌜ r ≡ originAt (now (heads .entry)) i ⌝ }
 {
     Origin {
+        input: get(heads, i, INPUT),
         pid: get(heads, i, 0),
     }
 }
@@ -140,7 +144,7 @@ pub fn key_at(heads: &[u64], i: usize) -> Key
 fn same_origin(a: Origin, b: Origin) -> bool
     ensures { λ r. ⌜ r ≡ sameOrigin a b ⌝ }
 {
-    a.pid == b.pid
+    (a.input == b.input) & (a.pid == b.pid)
 }
 
 pub fn same_key(a: Key, b: Key) -> bool
@@ -268,7 +272,7 @@ pub fn fresh_head(heads: &mut [u64], i: usize, e: Entry, age: u64)
         e.last,
         0,
         age,
-        0,
+        from.input,
         0,
     ];
     put_words(heads, i * HEAD_WORDS, &words);

@@ -69,7 +69,7 @@ module _ (s : Store) where
   well (stopped i w e) = out refl
   well (clears w) = fits refl refl
   well (drops f w h) = rw h (fits refl (sym (dropped-on read f (s .eit))))
-  well (keepsAll f w h) = rw h (fits refl refl)
+  well (keepsAll f r b w h) = rw h (fits refl refl)
   well (refuses r b w) = fits refl refl
   well (foreign x w h) = shown (s .cells) (gives (refused refusal.NotEit) (s .eit)) (step (s .settings) (view s) (offer x)) (ap (offered (s .settings) (view s) x) h)
   well (long x kind w h l) =
@@ -102,7 +102,7 @@ module _ (s : Store) where
   settings-of (stopped i w e) = refl
   settings-of (clears w) = refl
   settings-of (drops f w h) = refl
-  settings-of (keepsAll f w h) = refl
+  settings-of (keepsAll f r b w h) = refl
   settings-of (refuses r b w) = refl
   settings-of (foreign x w h) = refl
   settings-of (long x kind w h l) = refl

@@ -57,6 +57,7 @@ range-changes refusal.TooLong p q = true≢false (sym p)
 range-changes refusal.NoCell p q = true≢false (sym p)
 range-changes refusal.Conflict p q = true≢false (sym p)
 range-changes refusal.Range p q = true≢false (sym q)
+range-changes refusal.BadInput p q = true≢false (sym p)
 
 -- what judging a row answers changes something
 accepts-changes : (a : Answer) → accepting a ≡ true → asBefore a ≡ true → ⊥
@@ -96,7 +97,7 @@ only-then-21 s i e = go (outcome s i) e
     go (stopped j w q) e = let z : _≡_ {A = ℕ} 0 1 = cc in absurd (omega arith)
     go (clears w) e = let z : _≡_ {A = ℕ} 0 1 = cc in absurd (omega arith)
     go (drops f w h) e = let z : _≡_ {A = ℕ} 0 1 = cc in absurd (omega arith)
-    go (keepsAll f w h) e = let z : _≡_ {A = ℕ} 0 1 = cc in absurd (omega arith)
+    go (keepsAll f r b w h) e = absurd (bytes-not r refusal.NoCell b refl e)
     go (refuses r b w) e = absurd (bytes-not r refusal.NoCell b refl e)
     go (foreign x w h) e = let z : _≡_ {A = ℕ} 0 1 = cc in absurd (omega arith)
     go (long x kind w h l) e = let z : _≡_ {A = ℕ} 0 1 = cc in absurd (omega arith)
@@ -133,7 +134,7 @@ then-21 s x kind n = go (outcome s (offer x)) refl
     go (stopped j w q) e = absurd (true≢false (sym q ∙ ap (ended s) e ∙ n .running))
     go (clears w) e = let z : _≡_ {A = ℕ} 0 1 = cc in absurd (omega arith)
     go (drops f w h) e = let z : _≡_ {A = ℕ} 0 1 = cc in absurd (omega arith)
-    go (keepsAll f w h) e = let z : _≡_ {A = ℕ} 0 1 = cc in absurd (omega arith)
+    go (keepsAll f r b w h) e = let z : _≡_ {A = ℕ} 0 1 = cc in absurd (omega arith)
     go (refuses r b w) e = let z : _≡_ {A = ℕ} 0 1 = cc in absurd (omega arith)
     go (foreign y w h) e = let z : y ≡ x = cc in absurd (none≢some (ap (λ (v : Section). kindOf (v .tableId)) (sym z) ∙ h) (n .isKind))
     go (long y j w h l) e = let z : y ≡ x = cc in absurd (omega (arith, p .short, subst (λ (v : Section). s .settings .cellSize < length (v .bytes)) z l))
@@ -159,7 +160,7 @@ as-before s i e = go (outcome s i) e
     go (stopped j w q) e = refl
     go (clears w) e = absurd (true≢false (sym e))
     go (drops f w h) e = absurd (true≢false (sym e))
-    go (keepsAll f w h) e = refl
+    go (keepsAll f r b w h) e = refl
     go (refuses r b w) e = refl
     go (foreign x w h) e = refl
     go (long x kind w h l) e = refl
@@ -198,7 +199,7 @@ conflict-touches s i e = go (outcome s i) e
     go (stopped j w q) e = let z : _≡_ {A = ℕ} 0 1 = cc in absurd (omega arith)
     go (clears w) e = let z : _≡_ {A = ℕ} 0 1 = cc in absurd (omega arith)
     go (drops f w h) e = let z : _≡_ {A = ℕ} 0 1 = cc in absurd (omega arith)
-    go (keepsAll f w h) e = let z : _≡_ {A = ℕ} 0 1 = cc in absurd (omega arith)
+    go (keepsAll f r b w h) e = absurd (bytes-not r refusal.Conflict b refl e)
     go (refuses r b w) e = absurd (bytes-not r refusal.Conflict b refl e)
     go (foreign x w h) e = let z : _≡_ {A = ℕ} 0 1 = cc in absurd (omega arith)
     go (long x kind w h l) e = let z : _≡_ {A = ℕ} 0 1 = cc in absurd (omega arith)

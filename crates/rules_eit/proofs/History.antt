@@ -4,6 +4,7 @@
 use mathlib.Core.Path.{_≡_, refl, sym, ap, _∙_}
 use mathlib.Core.Bool.{Bool, true, false, cond, true≢false}
 use mathlib.Core.Option.{Option, none, some}
+use Rattle.answers.specs.declared.Refusal.{Refusal}
 use mathlib.Core.List.{List, []}
 use Prim.Native.Nat.{ℕ, zero, suc, _-_, _≤_}
 use native.Mathlib.Nat.{le-trans}
@@ -19,7 +20,7 @@ use Rattle.rules_shared.proofs.Distinct.{Distinct, distinct-aside, distinct-new
 use Rattle.rules_shared.proofs.Row.{start-has, put-has}
 use Rattle.laws.proofs.Runs.{after-all}
 use Rattle.rules_shared.specs.Same.{Bytes}
-use Rattle.rules_eit.specs.Keys.{Kind, kindOf, firstOf, ScheduleKey, SetKey, sameSchedule, sameSet, Filter, badPid}
+use Rattle.rules_eit.specs.Keys.{Kind, kindOf, firstOf, ScheduleKey, SetKey, sameSchedule, sameSet, Filter, badFilter}
 use Rattle.rules_eit.specs.Segments.{complete}
 use Rattle.rules_eit.specs.Schedules.{CopyOf, ScheduleOf, copyOf, refill, begin, enter}
 use Rattle.rules_eit.specs.Rules.{SetRow, Eit, Section, keyOf, partOf, Call, clear, drop, refuse, offer, metRow, setAside, setNewest, scheduleTouched, ranged, ready, judged, judge, cleared, dropped, finish, push, admit, offered, dropping, step, acts, opened}
@@ -173,11 +174,11 @@ none-lived n m a b = record { sets = tt; fewSets = omega arith; marks = tt; sche
 pub step-lived : (o : Settings) (e : Eit) (i : Call) → Unit {0} → Lived (o .limit) (o .limit) e → Lived (o .limit) (o .limit) (acts o e i)
 unfolding acts step cleared emptied dropping offered admit
 step-lived o e clear u h = none-lived (o .limit) (o .limit) (e .sets .evicted) (e .schedules .evicted)
-step-lived o e (drop f) u h = go (badPid (f .pid))
+step-lived o e (drop f) u h = go (badFilter f)
   where
-    go : (b : Bool) → Lived (o .limit) (o .limit) ((dropping e f b) .eit)
-    go true = h
-    go false = dropped-lived (o .limit) (o .limit) f e h
+    go : (b : Option Refusal) → Lived (o .limit) (o .limit) ((dropping e f b) .eit)
+    go (some r) = h
+    go none = dropped-lived (o .limit) (o .limit) f e h
 step-lived o e (refuse r b) u h = h
 step-lived o e (offer x) u h = go (kindOf (x .tableId))
   where

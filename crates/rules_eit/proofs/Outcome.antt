@@ -3,23 +3,34 @@
 use borrow.Author.Tests.{leb-false, leb-true}
 use mathlib.Core.Path.{_≡_, refl, sym, ap, _∙_}
 use mathlib.Core.Logic.{_≢_}
-use mathlib.Core.Bool.{Bool, true, false, true≢false}
-use mathlib.Core.Option.{Option, none, some}
+use mathlib.Core.Bool.{Bool, true, false, cond, true≢false}
+use mathlib.Core.Option.{Option, none, some, Option·some-injective}
 use Prim.Native.Nat.{ℕ, zero, suc, _≤_, _<_}
 use native.Mathlib.Omega.{arith}
 use lib.Dec.{leb}
 use lib.ListN.{length}
 use Rattle.answers.specs.declared.Refusal.{Refusal}
 use Rattle.answers.specs.declared.Refusal.the-variants as refusal
+use Rattle.laws.proofs.Tests.{none≢some}
 use Rattle.rules_shared.specs.Same.{Bytes}
 use Rattle.rules_shared.specs.Row.{slotOf, keep}
 use Rattle.rules_shared.specs.Cells.{Held, bytesOf, write, Place, heldIn}
 use Rattle.rules_shared.proofs.Cells.{LowestFree, AllTaken, Placed, laid, lacking, alike, unlike, placed}
-use Rattle.rules_eit.specs.Keys.{Kind, kindOf, firstOf, SetKey, Filter, badPid}
+use Rattle.rules_eit.specs.Keys.{Kind, kindOf, firstOf, SetKey, Filter, badPid, badInput, badFilter}
 use Rattle.rules_eit.specs.Segments.{SetOf, complete}
 use Rattle.rules_eit.specs.Schedules.{ScheduleOf, allTables}
 use Rattle.rules_eit.specs.Rules.{fromBytes, EitOf, Section, keyOf, partOf, Call, clear, drop, refuse, offer, done, refused, nothing, handout, schedule, metRow, told, ranged, ready, judged, judge, cleared, dropped, Answer}
 use Rattle.rules_eit.specs.Cells.{Store, Turn, onAnswer, taken, storeWhole, ended, shows, rest, roomFor, placeOf, carry, pushIn, admitIn, offerIn, dropIn, good, guarded, call}
+
+-- a filter is refused by what it is given alone
+bad-given : (f : Filter) (r : Refusal) → badFilter f ≡ some r → fromBytes r ≡ true
+unfolding badFilter
+bad-given f r = go (badPid (f .pid)) (badInput (f .input))
+  where
+    go : (p i : Bool) → cond p (some refusal.BadPid) (cond i (some refusal.BadInput) none) ≡ some r → fromBytes r ≡ true
+    go true i e = ap fromBytes (sym (Option·some-injective refusal.BadPid r e))
+    go false true e = ap fromBytes (sym (Option·some-injective refusal.BadInput r e))
+    go false false e = absurd (none≢some refl e)
 
 -- the row that a section meets
 abbrev pub row : Store → Section → SetKey → SetOf Held
@@ -43,8 +54,8 @@ pub data Outcome (s : Store) : Call → Turn → Type 0 where
   broken : (i : Call) → storeWhole s ≡ false → Outcome s i (record { answer = (refused refusal.NotWhole); store = s })
   stopped : (i : Call) → storeWhole s ≡ true → ended s i ≡ true → Outcome s i (record { answer = (refused refusal.CounterFull); store = s })
   clears : storeWhole s ≡ true → Outcome s clear (record { answer = done; store = record { settings = s .settings; eit = cleared (s .eit); cells = s .cells } })
-  drops : (f : Filter) → storeWhole s ≡ true → badPid (f .pid) ≡ false → Outcome s (drop f) (record { answer = done; store = record { settings = s .settings; eit = dropped f (s .eit); cells = s .cells } })
-  keepsAll : (f : Filter) → storeWhole s ≡ true → badPid (f .pid) ≡ true → Outcome s (drop f) (record { answer = refused refusal.BadPid; store = s })
+  drops : (f : Filter) → storeWhole s ≡ true → badFilter f ≡ none → Outcome s (drop f) (record { answer = done; store = record { settings = s .settings; eit = dropped f (s .eit); cells = s .cells } })
+  keepsAll : (f : Filter) (r : Refusal) → fromBytes r ≡ true → storeWhole s ≡ true → badFilter f ≡ some r → Outcome s (drop f) (record { answer = refused r; store = s })
   refuses : (r : Refusal) (b : fromBytes r ≡ true) → storeWhole s ≡ true → Outcome s (refuse r b) (record { answer = refused r; store = s })
   foreign : (x : Section) → storeWhole s ≡ true → kindOf (x .tableId) ≡ none → Outcome s (offer x) (record { answer = refused refusal.NotEit; store = s })
   long : (x : Section) (kind : Kind) → storeWhole s ≡ true → kindOf (x .tableId) ≡ some kind → s .settings .cellSize < length (x .bytes)
@@ -85,15 +96,15 @@ module _ (s : Store) where
   offered x w e none h = foreign x w h
   offered x w e (some kind) h = admitted x w e kind h (leb (length (x .bytes)) (s .settings .cellSize)) refl
 
-  filtered : (f : Filter) → storeWhole s ≡ true → (b : Bool) → badPid (f .pid) ≡ b → Outcome s (drop f) (dropIn s f b)
+  filtered : (f : Filter) → storeWhole s ≡ true → (b : Option Refusal) → badFilter f ≡ b → Outcome s (drop f) (dropIn s f b)
   unfolding dropIn shows onAnswer
-  filtered f w true h = keepsAll f w h
-  filtered f w false h = drops f w h
+  filtered f w (some r) h = keepsAll f r (bad-given f r h) w h
+  filtered f w none h = drops f w h
 
   well : (i : Call) → storeWhole s ≡ true → ended s i ≡ false → Outcome s i (good s i)
   unfolding good shows onAnswer
   well clear w e = clears w
-  well (drop f) w e = filtered f w (badPid (f .pid)) refl
+  well (drop f) w e = filtered f w (badFilter f) refl
   well (refuse r b) w e = refuses r b w
   well (offer x) w e = offered x w e (kindOf (x .tableId)) refl
 
@@ -121,6 +132,7 @@ isRange refusal.TooLong = false
 isRange refusal.NoCell = false
 isRange refusal.Conflict = false
 isRange refusal.Range = true
+isRange refusal.BadInput = false
 
 -- 4, 5, 6 or 23: what judging a row answers
 unfoldable pub accepting : Answer → Bool

@@ -97,7 +97,7 @@ module _ (s : Store) (w : Sound s) where
   outcome-sound f (stopped i e h) = w
   outcome-sound f (clears e) = record { room = w .room; eit = record { fewSets = omega arith; fewSchedules = omega arith; sets = tt; schedules = tt } }
   outcome-sound f (drops g e h) = record { room = w .room; eit = dropped-ok ok (s .settings .limit) (s .settings .limit) g (s .eit) (w .eit) }
-  outcome-sound f (keepsAll g e h) = w
+  outcome-sound f (keepsAll g r b e h) = w
   outcome-sound f (refuses r b e) = w
   outcome-sound f (foreign x e h) = w
   outcome-sound f (long x kind e h l) = w
@@ -134,7 +134,7 @@ whole-tells s i h e = go (outcome s i) e
     go (stopped j w q) e = let z : _≡_ {A = ℕ} 0 1 = cc in omega arith
     go (clears w) e = let z : _≡_ {A = ℕ} 0 1 = cc in omega arith
     go (drops f w q) e = let z : _≡_ {A = ℕ} 0 1 = cc in omega arith
-    go (keepsAll f w q) e = let z : _≡_ {A = ℕ} 0 1 = cc in omega arith
+    go (keepsAll f r b w q) e = bytes-not r refusal.NotWhole b refl e
     go (refuses r b w) e = bytes-not r refusal.NotWhole b refl e
     go (foreign x w q) e = let z : _≡_ {A = ℕ} 0 1 = cc in omega arith
     go (long x kind w q l) e = let z : _≡_ {A = ℕ} 0 1 = cc in omega arith

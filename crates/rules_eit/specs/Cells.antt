@@ -7,12 +7,13 @@ use mathlib.Core.List.{map}
 use Prim.Native.Nat.{ℕ, zero, suc}
 use lib.Dec.{leb}
 use lib.ListN.{length}
+use Rattle.answers.specs.declared.Refusal.{Refusal}
 use Rattle.answers.specs.declared.Refusal.the-variants as refusal
 use Rattle.rules_shared.specs.Slots.{someHeld, everyHeld, onSlots}
 use Rattle.rules_shared.specs.Touch.{someRow, everyRow, onOrder}
 use Rattle.rules_shared.specs.Row.{slotOf, keep, onRow}
 use Rattle.rules_shared.specs.Cells.{Settings, Held, Cells, bytesOf, names, write, Place, into, noneFree, ignored, conflicting, place, heldIn, roomWhole, heldWhole, atEnd}
-use Rattle.rules_eit.specs.Keys.{Kind, kindOf, SetKey, Filter, badPid}
+use Rattle.rules_eit.specs.Keys.{Kind, kindOf, SetKey, Filter, badFilter}
 use Rattle.rules_eit.specs.Segments.{SetOf}
 use Rattle.rules_eit.specs.Schedules.{CopyOf, ScheduleOf, WholeOf, GuideOf}
 use Rattle.rules_eit.specs.Rules.{EitOf, Section, keyOf, partOf, Call, clear, drop, refuse, offer, AnswerOf, done, refused, nothing, handout, schedule, StepOf, gives, metRow, setAside, setNewest, judge, cleared, dropped, Eit, Answer}
@@ -129,14 +130,14 @@ unfoldable pub offerIn : Store → Section → Option Kind → Turn
 offerIn s x none = shows s (s .cells) (gives (refused refusal.NotEit) (s .eit))
 offerIn s x (some kind) = admitIn s x (keyOf x kind) (leb (length (x .bytes)) (s .settings .cellSize))
 
-unfoldable pub dropIn : Store → Filter → (isBad : Bool) → Turn
-dropIn s f true = shows s (s .cells) (gives (refused refusal.BadPid) (s .eit))
-dropIn s f false = shows s (s .cells) (gives done (dropped f (s .eit)))
+unfoldable pub dropIn : Store → Filter → (bad : Option Refusal) → Turn
+dropIn s f (some r) = shows s (s .cells) (gives (refused r) (s .eit))
+dropIn s f none = shows s (s .cells) (gives done (dropped f (s .eit)))
 
 -- a call on a store that is whole, no counter at its end
 unfoldable pub good : Store → Call → Turn
 good s clear = shows s (s .cells) (gives done (cleared (s .eit)))
-good s (drop f) = dropIn s f (badPid (f .pid))
+good s (drop f) = dropIn s f (badFilter f)
 good s (refuse r b) = shows s (s .cells) (gives (refused r) (s .eit))
 good s (offer x) = offerIn s x (kindOf (x .tableId))
 

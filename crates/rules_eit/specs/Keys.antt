@@ -4,6 +4,8 @@ use mathlib.Core.Bool.{Bool, true, false, cond, _&&_, Bool·beq}
 use mathlib.Core.Option.{Option, none, some}
 use Prim.Native.Nat.{ℕ}
 use lib.Dec.{leb, eqb}
+use Rattle.answers.specs.declared.Refusal.{Refusal}
+use Rattle.answers.specs.declared.Refusal.the-variants as refusal
 use Rattle.rules_shared.specs.Same.{Origin, samePid, sameOrigin}
 
 -- ---- kinds
@@ -68,7 +70,7 @@ pub data PidTest : Type 0 where
   anyPid : PidTest
   exactly : Option ℕ → PidTest
 
--- "PID or none, kind, service_id, transport_stream_id, original_network_id and current_next, each exact or free"; none is free
+-- "PID or none, kind, service_id, transport_stream_id, original_network_id and current_next, each exact or free", and the input; none is free
 pub record Filter : Type 0 where
   pub pid : PidTest
   pub kind : Option Kind
@@ -76,12 +78,22 @@ pub record Filter : Type 0 where
   pub transportStreamId : Option ℕ
   pub originalNetworkId : Option ℕ
   pub currentNext : Option Bool
+  pub input : Option ℕ
 
 -- 12: an exact PID of 8192 or more
 unfoldable pub badPid : PidTest → Bool
 badPid anyPid = false
 badPid (exactly none) = false
 badPid (exactly (some p)) = leb 8192 p
+
+-- 37: an exact input of 16 or more
+unfoldable pub badInput : Option ℕ → Bool
+badInput none = false
+badInput (some i) = leb 16 i
+
+-- why a filter is refused: "37 .. directly after 12"
+unfoldable pub badFilter : Filter → Option Refusal
+badFilter f = cond (badPid (f .pid)) (some refusal.BadPid) (cond (badInput (f .input)) (some refusal.BadInput) none)
 
 unfoldable pub pidPasses : PidTest → Option ℕ → Bool
 pidPasses anyPid p = true
@@ -91,7 +103,10 @@ unfoldable pub passes : {A : Type 0} → (A → A → Bool) → Option A → A �
 passes same none a = true
 passes same (some b) a = same b a
 
+unfoldable pub fromPasses : Filter → Origin → Bool
+fromPasses f o = passes eqb (f .input) (o .input) && pidPasses (f .pid) (o .pid)
+
 unfoldable pub matches : Filter → ScheduleKey → Bool
 matches f k =
-    pidPasses (f .pid) (k .from .pid) && (passes sameKind (f .kind) (k .kind) && (passes eqb (f .serviceId) (k .serviceId) && (passes eqb (f .transportStreamId) (k .transportStreamId)
+    fromPasses f (k .from) && (passes sameKind (f .kind) (k .kind) && (passes eqb (f .serviceId) (k .serviceId) && (passes eqb (f .transportStreamId) (k .transportStreamId)
     && (passes eqb (f .originalNetworkId) (k .originalNetworkId) && passes Bool·beq (f .currentNext) (k .currentNext)))))

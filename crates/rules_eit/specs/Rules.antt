@@ -15,7 +15,7 @@ use Rattle.rules_shared.specs.Same.{Bytes, Origin}
 use Rattle.rules_shared.specs.Touch.{TouchOrder, find, untouched, aside, newest, touch, emptied, retained}
 use Rattle.rules_shared.specs.Row.{Part, start, slotOf, marked, put}
 use Rattle.rules_shared.specs.Cells.{Settings, wouldKeep}
-use Rattle.rules_eit.specs.Keys.{Kind, kindOf, firstOf, ScheduleKey, SetKey, sameSchedule, sameSet, Filter, badPid, matches}
+use Rattle.rules_eit.specs.Keys.{Kind, kindOf, firstOf, ScheduleKey, SetKey, sameSchedule, sameSet, Filter, badFilter, matches}
 use Rattle.rules_eit.specs.Segments.{segmentOf, SegmentLasts, noLasts, SetOf, complete}
 use Rattle.rules_eit.specs.Schedules.{ScheduleOf, WholeOf, GuideOf, copyOf, whole, begin, enter, allTables, guide}
 
@@ -62,7 +62,7 @@ partOf x = record {
   noted = λ lasts. set lasts (segmentOf (x .number)) (some (x .segmentLast));
 }
 
--- the refusals that a section's PID and bytes give, whatever the collector holds: 12, 14 to 17 and 19. Whether its table_id is one of an EIT (18)
+-- the refusals that where a section came from and its bytes give, whatever the collector holds: 12, 37, 14 to 17 and 19. Whether its table_id is one of an EIT (18)
 -- is for the rules to say
 abbrev pub fromBytes : Refusal → Bool
 fromBytes refusal.NotWhole = false
@@ -79,6 +79,7 @@ fromBytes refusal.TooLong = false
 fromBytes refusal.NoCell = false
 fromBytes refusal.Conflict = false
 fromBytes refusal.Range = false
+fromBytes refusal.BadInput = true
 
 -- a call: a clear; a drop by filter; a section that its PID or its bytes refuse; any other section
 pub data Call : Type 0 where
@@ -220,14 +221,14 @@ unfoldable pub offered : Settings → Eit → Section → Option Kind → Step
 offered o e x none = gives (refused refusal.NotEit) e
 offered o e x (some kind) = admit (o .limit) e x (keyOf x kind) (leb (length (x .bytes)) (o .cellSize))
 
--- 12: the filter asks for a PID that there is none of
-unfoldable pub dropping : Eit → Filter → (isBad : Bool) → Step
-dropping e f true = gives (refused refusal.BadPid) e
-dropping e f false = gives done (dropped f e)
+-- 12, 37: the filter asks for a PID or an input that there is none of
+unfoldable pub dropping : Eit → Filter → (bad : Option Refusal) → Step
+dropping e f (some r) = gives (refused r) e
+dropping e f none = gives done (dropped f e)
 
 unfoldable pub step : Settings → Eit → Call → Step
 step o e clear = gives done (cleared e)
-step o e (drop f) = dropping e f (badPid (f .pid))
+step o e (drop f) = dropping e f (badFilter f)
 step o e (refuse r b) = gives (refused r) e
 step o e (offer x) = offered o e x (kindOf (x .tableId))
 

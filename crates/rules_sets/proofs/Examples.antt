@@ -24,7 +24,7 @@ unfoldable pub twelve : ℕ → Bytes
 twelve b = replicate 12 b
 
 unfoldable pub key : ℕ → Key
-key t = record { from = record { pid = some 18 }; tableId = t; extension = 1; currentNext = true }
+key t = record { from = record { input = 0; pid = some 18 }; tableId = t; extension = 1; currentNext = true }
 
 -- section n of last of table t, version v
 unfoldable pub sect : (table version last number byte : ℕ) → Call
@@ -87,6 +87,19 @@ order = refl
 again : by-rules 1 (sect 1 0 0 0 7 ∷ sect 2 0 0 0 9 ∷ sect 1 0 0 0 7 ∷ []) ≡ handout (set-of 1 0 0 (7 ∷ [])) ∷ handout (set-of 2 0 0 (9 ∷ [])) ∷ handout (set-of 1 0 0 (7 ∷ [])) ∷ []
 unfolding by-rules
 again = refl
+
+-- the inputs of a card share the rows: at limit 1 a set on input 1 drives the one on input 0 out, which goes out anew when it comes again
+unfoldable pub sect-on : (input : ℕ) → Call
+unfolding twelve
+sect-on i = offer (record { key = record { from = record { input = i; pid = some 18 }; tableId = 1; extension = 1; currentNext = true }; version = 0; number = 0; last = 0; bytes = twelve 7 })
+
+pub neighbour-evicts : map numberOf (by-rules 1 (sect-on 0 ∷ sect-on 1 ∷ sect-on 0 ∷ [])) ≡ 5 ∷ 5 ∷ 5 ∷ []
+unfolding by-rules numberOf sect-on
+neighbour-evicts = refl
+
+pub neighbour-counted : (after-rules 1 (sect-on 0 ∷ sect-on 1 ∷ sect-on 0 ∷ [])) .evicted ≡ 2
+unfolding after-rules sect-on
+neighbour-counted = refl
 
 -- ---- demand 3 is not empty: A of two sections and B of one. At limit 1 B drives A out, so A goes out one call later than at limit 2
 

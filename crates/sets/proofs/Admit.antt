@@ -19,11 +19,11 @@ use Rattle.sets.specs.Store.{pushedOf}
 pub admitted-arrived : (s : Store) (bytes : List ℕ) (a : SetArrival) (e : Entry) → a ≡ arrival.Arrived e → AdmittedOk s bytes a → Ready s × Taken bytes e
 admitted-arrived s bytes a e q o = subst (AdmittedOk s bytes) q o
 
-module _ (s : Store) (pid : MaybePid) (bytes : List ℕ) (a : SetArrival) (e : a ≡ admitted s pid bytes) where
-  pub pushed-refused : (r : Refusal) → a ≡ arrival.Refused r → afterPush (record { answer = Refused r; sets = s .sets }) (s .heads) (s .slots) (s .cells) ≡ pushedOf s pid bytes
+module _ (s : Store) (input : ℕ) (pid : MaybePid) (bytes : List ℕ) (a : SetArrival) (e : a ≡ admitted s input pid bytes) where
+  pub pushed-refused : (r : Refusal) → a ≡ arrival.Refused r → afterPush (record { answer = Refused r; sets = s .sets }) (s .heads) (s .slots) (s .cells) ≡ pushedOf s input pid bytes
   unfolding pushedOf
   pushed-refused r q = rw (← e, q)
 
-  pub pushed-arrived : (x : Entry) (k : SetsAfter) → a ≡ arrival.Arrived x → k ≡ wholePushed s x bytes → k ≡ pushedOf s pid bytes
+  pub pushed-arrived : (x : Entry) (k : SetsAfter) → a ≡ arrival.Arrived x → k ≡ wholePushed s x bytes → k ≡ pushedOf s input pid bytes
   unfolding pushedOf
   pushed-arrived x k q f = rw (← e, q) f

@@ -70,11 +70,11 @@ module _ (s : Store) (bytes : List ℕ) where
   pushed-conflicts (arrival.Arrived x) e = carried-conflicts (planOf s x bytes) e
 
 -- every refusal but 22: the store is as before
-pub refusal-keeps : (s : Store) (pid : MaybePid) (bytes : List ℕ) (r : Refusal) → (pushedOf s pid bytes) .told ≡ refused r → r ≢ Conflict → (pushedOf s pid bytes) .store ≡ s
+pub refusal-keeps : (s : Store) (input : ℕ) (pid : MaybePid) (bytes : List ℕ) (r : Refusal) → (pushedOf s input pid bytes) .told ≡ refused r → r ≢ Conflict → (pushedOf s input pid bytes) .store ≡ s
 unfolding pushedOf
-refusal-keeps s pid bytes r e k = pushed-keeps s bytes (admitted s pid bytes) r e k
+refusal-keeps s input pid bytes r e k = pushed-keeps s bytes (admitted s input pid bytes) r e k
 
 -- 22
-pub conflict-keeps : (s : Store) (pid : MaybePid) (bytes : List ℕ) → (pushedOf s pid bytes) .told ≡ refused Conflict → AsBefore s bytes ((pushedOf s pid bytes) .store)
+pub conflict-keeps : (s : Store) (input : ℕ) (pid : MaybePid) (bytes : List ℕ) → (pushedOf s input pid bytes) .told ≡ refused Conflict → AsBefore s bytes ((pushedOf s input pid bytes) .store)
 unfolding pushedOf
-conflict-keeps s pid bytes e = pushed-conflicts s bytes (admitted s pid bytes) e
+conflict-keeps s input pid bytes e = pushed-conflicts s bytes (admitted s input pid bytes) e

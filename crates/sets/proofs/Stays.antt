@@ -183,9 +183,9 @@ unfolding wholePushed
 pushed-whole s bytes w (arrival.Refused r) o = w
 pushed-whole s bytes w (arrival.Arrived e) o = carried-whole s bytes w (planOf s e bytes) (plan-ok s w e bytes (o .1))
 
-pub push-stays : (s : Store) (pid : MaybePid) (bytes : List ℕ) → getD bytes 7 0 < 256 → WholeStore s → WholeStore ((pushedOf s pid bytes) .store)
+pub push-stays : (s : Store) (input : ℕ) (pid : MaybePid) (bytes : List ℕ) → getD bytes 7 0 < 256 → WholeStore s → WholeStore ((pushedOf s input pid bytes) .store)
 unfolding pushedOf
-push-stays s pid bytes b w = pushed-whole s bytes w (admitted s pid bytes) (admitted-ok s bytes pid b)
+push-stays s input pid bytes b w = pushed-whole s bytes w (admitted s input pid bytes) (admitted-ok s bytes input pid b)
 
 pub clear-stays : (s : Store) → WholeStore s → WholeStore ((clearedOf s) .store)
 unfolding clearedOf
@@ -204,7 +204,7 @@ clear-stays s w = rw (means-whole s w) (record {
     none heads slots count size = slot-all heads slots count size 0 (omega arith) (λ i k h l. absurd (omega arith))
 
 pub call-stays : (s : Store) (c : Call) → Bytes c → WholeStore s → WholeStore ((called s c) .store)
-call-stays s (offer pid bytes) b w = push-stays s pid bytes (b 7) w
+call-stays s (offer input pid bytes) b w = push-stays s input pid bytes (b 7) w
 call-stays s empty b w = clear-stays s w
 
 -- in every history
@@ -277,20 +277,20 @@ ten-planned s e bytes = plan-by s e bytes (λ p. ten ((carried s bytes p) .told)
         go : (c : ℕ) → ten ((carried s bytes (cond (ltb c (s .sets .count)) (plan.Keep (record { entry = e; room = r; cell = c })) (plan.Refuse NoCell))) .told) ≡ false
         go c = at (ltb c (s .sets .count)) c
 
-ten-pushed : (s : Store) (pid : MaybePid) (bytes : List ℕ) → wholeOf s ≡ true → ten ((pushedOf s pid bytes) .told) ≡ false
+ten-pushed : (s : Store) (input : ℕ) (pid : MaybePid) (bytes : List ℕ) → wholeOf s ≡ true → ten ((pushedOf s input pid bytes) .told) ≡ false
 unfolding pushedOf admitted ten
-ten-pushed s pid bytes w = rw w (go (eqb (s .sets .evictions) 18446744073709551615))
+ten-pushed s input pid bytes w = rw w (go (eqb (s .sets .evictions) 18446744073709551615))
   where
-    arrived : (a : SetArrival) → setArrival pid bytes ≡ a → ten ((pushedAs s bytes a) .told) ≡ false
-    arrived (arrival.Refused r) q = set-not-ten pid bytes r q
+    arrived : (a : SetArrival) → setArrival input pid bytes ≡ a → ten ((pushedAs s bytes a) .told) ≡ false
+    arrived (arrival.Refused r) q = set-not-ten input pid bytes r q
     arrived (arrival.Arrived e) q = ten-planned s e bytes
 
-    go : (b : Bool) → ten ((pushedAs s bytes (cond b (arrival.Refused CounterFull) (setArrival pid bytes))) .told) ≡ false
+    go : (b : Bool) → ten ((pushedAs s bytes (cond b (arrival.Refused CounterFull) (setArrival input pid bytes))) .told) ≡ false
     go true = refl
-    go false = arrived (setArrival pid bytes) refl
+    go false = arrived (setArrival input pid bytes) refl
 
-pub push-not-ten : (s : Store) (pid : MaybePid) (bytes : List ℕ) → WholeStore s → (pushedOf s pid bytes) .told ≢ refused NotWhole
-push-not-ten s pid bytes w = not-ten ((pushedOf s pid bytes) .told) (ten-pushed s pid bytes (means-whole s w))
+pub push-not-ten : (s : Store) (input : ℕ) (pid : MaybePid) (bytes : List ℕ) → WholeStore s → (pushedOf s input pid bytes) .told ≢ refused NotWhole
+push-not-ten s input pid bytes w = not-ten ((pushedOf s input pid bytes) .told) (ten-pushed s input pid bytes (means-whole s w))
 
 pub clear-not-ten : (s : Store) → WholeStore s → (clearedOf s) .told ≢ refused NotWhole
 unfolding clearedOf
@@ -304,5 +304,5 @@ never-ten s o cs b c = go c
     w = stays s cs b (opened-whole s o)
 
     go : (c : Call) → (called (afterAll s cs) c) .told ≢ refused NotWhole
-    go (offer pid bytes) = push-not-ten (afterAll s cs) pid bytes w
+    go (offer input pid bytes) = push-not-ten (afterAll s cs) input pid bytes w
     go empty = clear-not-ten (afterAll s cs) w

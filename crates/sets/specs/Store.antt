@@ -51,8 +51,8 @@ abbrev pub pushedAs : Store → List ℕ → SetArrival → SetsAfter
 pushedAs s bytes (arrival.Refused r) = answered (push-answer.Refused r) s
 pushedAs s bytes (arrival.Arrived e) = wholePushed s e bytes
 
-unfoldable pub pushedOf : Store → MaybePid → List ℕ → SetsAfter
-pushedOf s pid bytes = pushedAs s bytes (admitted s pid bytes)
+unfoldable pub pushedOf : Store → (input : ℕ) → MaybePid → List ℕ → SetsAfter
+pushedOf s input pid bytes = pushedAs s bytes (admitted s input pid bytes)
 
 -- ---- the sections of a set, one after another
 

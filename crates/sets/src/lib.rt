@@ -62,12 +62,13 @@ pub fn push(
     heads: &mut [u64],
     slots: &mut [u32],
     cells: &mut [u8],
+    input: u8,
     pid: MaybePid,
     bytes: &[u8],
 ) -> Pushed
-    ensures { λ r. ⌜ afterPush r (now (heads .exit)) (now (slots .exit)) (now (cells .exit)) ≡ pushedOf (store sets (now (heads .entry)) (now (slots .entry)) (now (cells .entry))) pid (now (bytes .entry)) ⌝ }
+    ensures { λ r. ⌜ afterPush r (now (heads .exit)) (now (slots .exit)) (now (cells .exit)) ≡ pushedOf (store sets (now (heads .entry)) (now (slots .entry)) (now (cells .entry))) input pid (now (bytes .entry)) ⌝ }
 {
-    match sets_push::admit(sets, heads, slots, cells, pid, bytes) {
+    match sets_push::admit(sets, heads, slots, cells, input, pid, bytes) {
         SetArrival::Refused(refusal) => Pushed {
             answer: PushAnswer::Refused(refusal),
             sets,

@@ -24,16 +24,16 @@ use Rattle.sets_push.specs.Pushing.{wholePushed, admitted, AdmittedOk}
 
 -- ---- 10, 11, and what the section says
 
-module _ (s : Store) (pid : MaybePid) (bytes : List ℕ) (w : Bool) (e : w ≡ wholeOf s) where
-  pub admit-broken : w ≡ false → arrival.Refused NotWhole ≡ admitted s pid bytes
+module _ (s : Store) (input : ℕ) (pid : MaybePid) (bytes : List ℕ) (w : Bool) (e : w ≡ wholeOf s) where
+  pub admit-broken : w ≡ false → arrival.Refused NotWhole ≡ admitted s input pid bytes
   unfolding admitted
   admit-broken t = rw (← e, t)
 
-  pub admit-full : w ≡ true → s .sets .evictions ≡ 18446744073709551615 → arrival.Refused CounterFull ≡ admitted s pid bytes
+  pub admit-full : w ≡ true → s .sets .evictions ≡ 18446744073709551615 → arrival.Refused CounterFull ≡ admitted s input pid bytes
   unfolding admitted
   admit-full t h = rw (← e, t, eq-eqb (s .sets .evictions) 18446744073709551615 h)
 
-  pub admit-section : (a : SetArrival) → w ≡ true → (s .sets .evictions ≡ 18446744073709551615 → ⊥) → a ≡ setArrival pid bytes → a ≡ admitted s pid bytes
+  pub admit-section : (a : SetArrival) → w ≡ true → (s .sets .evictions ≡ 18446744073709551615 → ⊥) → a ≡ setArrival input pid bytes → a ≡ admitted s input pid bytes
   unfolding admitted
   admit-section a t h q = rw (← e, t, ne-eqb (s .sets .evictions) 18446744073709551615 h) q
 
@@ -46,15 +46,15 @@ module _ (s : Store) (bytes : List ℕ) where
   pub admitted-may : (w : Bool) (a : SetArrival) → w ≡ wholeOf s → w ≡ true → (s .sets .evictions ≡ 18446744073709551615 → ⊥) → SetTaken bytes a → AdmittedOk s bytes a
   admitted-may w a e t ne x = arrived-ok (record { whole = whole-means s (sym e ∙ t); counts = ne }) a x
 
-  pub admitted-ok : (pid : MaybePid) → getD bytes 7 0 < 256 → AdmittedOk s bytes (admitted s pid bytes)
+  pub admitted-ok : (input : ℕ) (pid : MaybePid) → getD bytes 7 0 < 256 → AdmittedOk s bytes (admitted s input pid bytes)
   unfolding admitted
-  admitted-ok pid b = go (wholeOf s) (eqb (s .sets .evictions) 18446744073709551615) refl refl
+  admitted-ok input pid b = go (wholeOf s) (eqb (s .sets .evictions) 18446744073709551615) refl refl
     where
       go : (w t : Bool) → wholeOf s ≡ w → eqb (s .sets .evictions) 18446744073709551615 ≡ t
-          → AdmittedOk s bytes (cond w (cond t (arrival.Refused CounterFull) (setArrival pid bytes)) (arrival.Refused NotWhole))
+          → AdmittedOk s bytes (cond w (cond t (arrival.Refused CounterFull) (setArrival input pid bytes)) (arrival.Refused NotWhole))
       go false t p q = tt
       go true true p q = tt
-      go true false p q = admitted-may true (setArrival pid bytes) (sym p) refl (eqb-false (s .sets .evictions) 18446744073709551615 q) (set-taken bytes b pid)
+      go true false p q = admitted-may true (setArrival input pid bytes) (sym p) refl (eqb-false (s .sets .evictions) 18446744073709551615 q) (set-taken bytes b input pid)
 
 pub pushed-whole : (s : Store) (e : Entry) (bytes : List ℕ) (p : Plan) (k : SetsAfter) → p ≡ planOf s e bytes → k ≡ carried s bytes p → k ≡ wholePushed s e bytes
 unfolding wholePushed

@@ -19,9 +19,9 @@ unfoldable pub wholePushed : Store → Entry → List ℕ → SetsAfter
 wholePushed s e bytes = carried s bytes (planOf s e bytes)
 
 -- 10, 11, then what the section's bytes and its PID say
-unfoldable pub admitted : Store → MaybePid → List ℕ → SetArrival
-admitted s pid bytes =
-    cond (wholeOf s) (cond (eqb (s .sets .evictions) 18446744073709551615) (arrival.Refused CounterFull) (setArrival pid bytes)) (arrival.Refused NotWhole)
+unfoldable pub admitted : Store → (input : ℕ) → MaybePid → List ℕ → SetArrival
+admitted s input pid bytes =
+    cond (wholeOf s) (cond (eqb (s .sets .evictions) 18446744073709551615) (arrival.Refused CounterFull) (setArrival input pid bytes)) (arrival.Refused NotWhole)
 
 -- what holds of the store and of the section where it was admitted
 abbrev pub AdmittedOk : Store → List ℕ → SetArrival → Type 0

@@ -18,17 +18,18 @@ pub fn admit(
     heads: &[u64],
     slots: &[u32],
     cells: &[u8],
+    input: u8,
     pid: MaybePid,
     bytes: &[u8],
 ) -> SetArrival
-    ensures { λ r. ⌜ r ≡ admitted (store sets (now (heads .entry)) (now (slots .entry)) (now (cells .entry))) pid (now (bytes .entry)) ⌝ }
+    ensures { λ r. ⌜ r ≡ admitted (store sets (now (heads .entry)) (now (slots .entry)) (now (cells .entry))) input pid (now (bytes .entry)) ⌝ }
     ensures { λ r. ⌜ AdmittedOk (store sets (now (heads .entry)) (now (slots .entry)) (now (cells .entry))) (now (bytes .entry)) r ⌝ }
 {
     if store::is_whole(sets, heads, slots, cells) {
         if sets.evictions == u64::MAX {
             return SetArrival::Refused(Refusal::CounterFull);
         }
-        return arrivals::set_arrival(pid, bytes);
+        return arrivals::set_arrival(input, pid, bytes);
     }
     SetArrival::Refused(Refusal::NotWhole)
 }

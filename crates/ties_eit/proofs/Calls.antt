@@ -34,6 +34,7 @@ use Rattle.eit_section.specs.declared.Reading.{Reading}
 use Rattle.eit_section.specs.declared.Reading.the-variants as reading
 use Rattle.section.specs.declared.ids.MaybePid.{MaybePid}
 use Rattle.section.specs.declared.ids.MaybePid.the-variants as maybe
+use Rattle.section.specs.declared.ids.InputMade.the-variants as input-made
 use Rattle.section.specs.declared.ids.OriginMade.the-variants as made
 use Rattle.cells.specs.Cells.{allWhole}
 use Rattle.rows.specs.declared.Origin.{Origin as Words}
@@ -48,7 +49,7 @@ use Rattle.ages.proofs.Origins.{shown-pid}
 use Rattle.ages.proofs.Slots.{held-whole, rows-whole}
 use Rattle.ages.proofs.Cells.{cells-length}
 use Rattle.store.specs.Store as sets
-use Rattle.arrivals.specs.Arrivals.{madeWords, eitFields, eitRead, eitJudged, eitArrival}
+use Rattle.arrivals.specs.Arrivals.{inputWords, madeWords, eitFields, eitRead, eitJudged, eitArrival}
 use Rattle.store.proofs.Whole.{long}
 use Rattle.placing.specs.Places.{placeOf as placeIn}
 use Rattle.schedules.specs.Schedules.{schedulesWhole}
@@ -71,7 +72,7 @@ use Rattle.eit_admit.specs.Admitting.{dropOf, admitted}
 use Rattle.eit_carry.specs.Carried.{pushedWhole}
 use Rattle.eit_state.proofs.Whole.{whole-store, units-whole, can-count}
 use Rattle.eit_state.proofs.Whole.{long as schedules-long}
-use Rattle.ties_eit.specs.View.{keyShown, scheduleShown, keyWords, scheduleWords, rowSeen, scheduleSeen, seen, sectionOf, readsEit, readsAs, readSection, reads, answerTold, Given, clears, drops, section, FilterFits, filterShown, Fitting, called, Reached}
+use Rattle.ties_eit.specs.View.{keyShown, scheduleShown, keyWords, scheduleWords, rowSeen, scheduleSeen, seen, sectionOf, readsEit, readsAs, readOn, readSection, reads, answerTold, Given, clears, drops, section, FilterFits, filterShown, Fitting, called, Reached}
 use Rattle.ties_eit.proofs.Keys.{set-self, schedule-self}
 use Rattle.ties_eit.proofs.Places.{copyWhole, schedules-whole}
 use Rattle.ties_eit.proofs.Entered.{Tied, fits-schedules}
@@ -244,17 +245,21 @@ module _ (s : Store) (z : Reached s) where
     judged-tied o from (collected.Good h) q = read-tied o from h q (eitOf bytes) (read-as bytes)
 
     -- 12
-    pid-tied : AllBytes bytes → (pid : MaybePid) → Tied (pushedAs s bytes (eitArrival pid bytes)) (good (seen s) (readSection pid bytes))
+    pid-tied : AllBytes bytes → (input : ℕ) (pid : MaybePid) → Tied (pushedAs s bytes (eitArrival input pid bytes)) (good (seen s) (readSection input pid bytes))
     unfolding eitArrival readSection good shows onAnswer answerTold seen originShown
-    pid-tied o maybe.None = judged-tied o (record { pid = 8192 }) (collectedOf bytes) refl
-    pid-tied o (maybe.Some v) = go (ltb v 8192) refl
+    pid-tied o input maybe.None = go (ltb input 16)
       where
-        go : (b : Bool) → ltb v 8192 ≡ b
-            → Tied (pushedAs s bytes (eitJudged (madeWords (cond b (made.One (originOf v)) made.BadPid)) bytes)) (good (seen s) (cond b (readsAs (record { pid = some v }) bytes (collectedOf bytes)) (refuse refusal.BadPid refl)))
-        go true q =
-            let l = ltb-true v 8192 q in
-            rw (← (shown-pid v l)) (judged-tied o (record { pid = v }) (collectedOf bytes) refl)
-        go false q = record { told = refl; shown = refl; reached = z }
+        go : (b : Bool) → Tied (pushedAs s bytes (eitJudged (inputWords (cond b (input-made.One (record { 0 = input })) input-made.TooLarge)) bytes))
+            (good (seen s) (cond b (readsAs (record { input = input; pid = none }) bytes (collectedOf bytes)) (refuse refusal.BadInput refl)))
+        go true = judged-tied o (record { input = input; pid = 8192 }) (collectedOf bytes) refl
+        go false = record { told = refl; shown = refl; reached = z }
+    pid-tied o input (maybe.Some v) = go (ltb v 8192) (ltb input 16) refl
+      where
+        go : (b c : Bool) → ltb v 8192 ≡ b → Tied (pushedAs s bytes (eitJudged (madeWords (cond b (cond c (made.One (originOf input v)) made.BadInput) made.BadPid)) bytes))
+            (good (seen s) (cond b (cond c (readsAs (record { input = input; pid = some v }) bytes (collectedOf bytes)) (refuse refusal.BadInput refl)) (refuse refusal.BadPid refl)))
+        go true true q = rw (← (shown-pid input v (ltb-true v 8192 q))) (judged-tied o (record { input = input; pid = v }) (collectedOf bytes) refl)
+        go true false q = record { told = refl; shown = refl; reached = z }
+        go false c q = record { told = refl; shown = refl; reached = z }
 
   -- 11 comes before what the section is read as
   ended-eit : (bytes : Bytes) (from : Origin) (h : Header) (r : Reading) → ended (seen s) (readsEit from bytes h r) ≡ anyAtEnd (seen s)
@@ -271,30 +276,38 @@ module _ (s : Store) (z : Reached s) where
   ended-as bytes from collected.BadCrc = refl
   ended-as bytes from (collected.Good h) = ended-eit bytes from h (eitOf bytes)
 
-  ended-read : (pid : MaybePid) (bytes : Bytes) → ended (seen s) (readSection pid bytes) ≡ anyAtEnd (seen s)
-  unfolding readSection ended
-  ended-read maybe.None bytes = ended-as bytes (record { pid = none }) (collectedOf bytes)
-  ended-read (maybe.Some v) bytes = go (ltb v 8192)
+  ended-on : (bytes : Bytes) (from : Origin) → ended (seen s) (readOn from bytes) ≡ anyAtEnd (seen s)
+  unfolding ended
+  ended-on bytes from = go (ltb (from .input) 16)
     where
-      go : (b : Bool) → ended (seen s) (cond b (readsAs (record { pid = some v }) bytes (collectedOf bytes)) (refuse refusal.BadPid refl)) ≡ anyAtEnd (seen s)
-      go true = ended-as bytes (record { pid = some v }) (collectedOf bytes)
+      go : (b : Bool) → ended (seen s) (cond b (readsAs from bytes (collectedOf bytes)) (refuse refusal.BadInput refl)) ≡ anyAtEnd (seen s)
+      go true = ended-as bytes from (collectedOf bytes)
+      go false = refl
+
+  ended-read : (input : ℕ) (pid : MaybePid) (bytes : Bytes) → ended (seen s) (readSection input pid bytes) ≡ anyAtEnd (seen s)
+  unfolding readSection ended
+  ended-read input maybe.None bytes = ended-on bytes (record { input = input; pid = none })
+  ended-read input (maybe.Some v) bytes = go (ltb v 8192)
+    where
+      go : (b : Bool) → ended (seen s) (cond b (readOn (record { input = input; pid = some v }) bytes) (refuse refusal.BadPid refl)) ≡ anyAtEnd (seen s)
+      go true = ended-on bytes (record { input = input; pid = some v })
       go false = refl
 
   -- 10, then 11
-  pub push-tied : (pid : MaybePid) (bytes : Bytes) → AllBytes bytes → Tied (pushedOf s pid bytes) (call (seen s) (readSection pid bytes))
+  pub push-tied : (input : ℕ) (pid : MaybePid) (bytes : Bytes) → AllBytes bytes → Tied (pushedOf s input pid bytes) (call (seen s) (readSection input pid bytes))
   unfolding pushedOf admitted call guarded answerTold
-  push-tied pid bytes o =
-      rw (whole-seen s z, ended-read pid bytes, ended-seen s z) (go (wholeOf s) (countersFull (s .eit)) refl refl)
+  push-tied input pid bytes o =
+      rw (whole-seen s z, ended-read input pid bytes, ended-seen s z) (go (wholeOf s) (countersFull (s .eit)) refl refl)
     where
       go : (w t : Bool) → wholeOf s ≡ w → countersFull (s .eit) ≡ t
-          → Tied (pushedAs s bytes (cond w (cond t (arrival.Refused refusal.CounterFull) (eitArrival pid bytes)) (arrival.Refused refusal.NotWhole))) (guarded w t (seen s) (readSection pid bytes))
+          → Tied (pushedAs s bytes (cond w (cond t (arrival.Refused refusal.CounterFull) (eitArrival input pid bytes)) (arrival.Refused refusal.NotWhole))) (guarded w t (seen s) (readSection input pid bytes))
       go false t p q = record { told = refl; shown = refl; reached = z }
       go true true p q = record { told = refl; shown = refl; reached = z }
       go true false p q =
           let c = z .counts in
           let c′ = z .schedule-counts in
           let d = can-count (s .eit) false (sym q) refl (omega arith) (omega arith) in
-          pid-tied (whole-store s p) (units-whole s p) (d .sets) (d .schedules) bytes o pid
+          pid-tied (whole-store s p) (units-whole s p) (d .sets) (d .schedules) bytes o input pid
 
   -- 10, then a drop's 12 and 7; a drop asks for no count
   dropped-tied : (f : Filter) → FilterFits f → Tied (droppedOf s f) (call (seen s) (drop (filterShown f)))
@@ -312,4 +325,4 @@ module _ (s : Store) (z : Reached s) where
   unfolding reads
   tied clears o = clear-tied s z
   tied (drops f) o = dropped-tied f o
-  tied (section pid bytes) o = push-tied pid bytes o
+  tied (section input pid bytes) o = push-tied input pid bytes o

@@ -3,6 +3,7 @@
 use mathlib.Core.Path.{_≡_, refl, sym, ap, _∙_}
 use mathlib.Core.Bool.{Bool, true, false, cond, not}
 use mathlib.Core.List.{List}
+use mathlib.Core.Option.{none, some}
 use Prim.Native.Nat.{ℕ, _+_, _-_, _*_, _≤_, _<_}
 use native.Mathlib.Nat.{le-refl}
 use native.Mathlib.Omega.{arith}
@@ -10,7 +11,8 @@ use borrow.Author.Tests.{lt-leb, le-leb, ltb-true, ltb-false}
 use lib.Dec.{ltb, leb}
 use lib.ListN.{length, take, drop, getD}
 use Rattle.rules_shared.specs.Touch.{retained}
-use Rattle.rules_eit.specs.Keys.{kindNumber, ScheduleKey, SetKey, badPid, pidPasses, matches as keyMatches}
+use Rattle.answers.specs.declared.Refusal.the-variants as refusal
+use Rattle.rules_eit.specs.Keys.{kindNumber, ScheduleKey, SetKey, badPid, badInput, badFilter, pidPasses, fromPasses, matches as keyMatches}
 use Rattle.rules_eit.specs.Rules.{done, gives, dropped}
 use Rattle.rules_eit.specs.Cells.{onAnswer, shows, dropIn}
 use Rattle.section.specs.declared.ids.Made.the-variants as made
@@ -23,25 +25,27 @@ use Rattle.ages.proofs.Cells.{up-cong}
 use Rattle.segments.specs.Segments.{wordOf}
 use Rattle.schedules.specs.Schedules.{tablesOf}
 use Rattle.filter.specs.declared.Of.the-variants as of
+use Rattle.filter.specs.declared.Wanted.{Wanted}
 use Rattle.filter.specs.declared.WantedOrigin.{WantedOrigin}
 use Rattle.filter.specs.declared.Wanted.the-variants as wanted
-use Rattle.filter.specs.Drops.{wantsOrigin, matches, removedHeads, removedWords, Rest, rest, droppedRows}
+use Rattle.filter.specs.Drops.{wants, wantsOrigin, matches, removedHeads, removedWords, Rest, rest, droppedRows}
 use Rattle.ties_eit.proofs.Removed.{removed-word, removed-words, removed-part, removed-slots}
 use Rattle.eit_drop.specs.declared.Filter.{Filter}
 use Rattle.eit_drop.specs.declared.WantedPid.{WantedPid}
 use Rattle.eit_drop.specs.declared.WantedPid.the-variants as wanted-pid
+use Rattle.eit_drop.specs.declared.OriginWanted.the-variants as origin-wanted
 use Rattle.eit_drop.specs.declared.Drop.{Drop}
 use Rattle.eit_drop.specs.declared.Drop.the-variants as drop
 use Rattle.eit_state.specs.State.{Store, store, Whole, withSets, withSchedules}
-use Rattle.eit_drop.specs.Drop.{madeWanted, wantedOrigin, fieldsOf, dropFrom, matchingGone}
+use Rattle.eit_drop.specs.Drop.{inputWanted, madeWanted, wantedOrigin, fieldsOf, dropFrom, matchingGone}
 use Rattle.eit.specs.Store.{After, carriedDrop}
-use Rattle.ties_eit.specs.View.{kindBy, keyShown, scheduleShown, keyWords, scheduleWords, rowSeen, copySeen, placeSeen, scheduleSeen, seen, pidTest, filterShown, answerTold, FilterFits, HeadFits, Reached}
+use Rattle.ties_eit.specs.View.{kindBy, keyShown, scheduleShown, keyWords, scheduleWords, rowSeen, copySeen, placeSeen, scheduleSeen, seen, wantedAs, pidTest, filterShown, answerTold, FilterFits, HeadFits, Reached}
 use Rattle.ties_eit.proofs.Keys.{Bit}
 use Rattle.ties_eit.proofs.Rows.{row-as}
 use Rattle.ties_eit.proofs.Units.{copy-as}
 use Rattle.ties_eit.proofs.Entered.{Tied, fits-schedules}
 use Rattle.ties_eit.proofs.Retained.{Stays, stays}
-use Rattle.ties_eit.proofs.Filters.{pid-any, pid-without, pid-exactly, sets-match, schedules-match, kind-word}
+use Rattle.ties_eit.proofs.Filters.{pid-any, pid-without, pid-exactly, from-wanted, sets-match, schedules-match, kind-word}
 
 -- ---- what the row shows that takes another's place
 
@@ -113,7 +117,7 @@ pub schedule-bit : (k : Key) → scheduleWords (scheduleShown k) ≡ k → Bit (
 unfolding scheduleWords scheduleShown
 schedule-bit k e = (ap (λ (q : Key). q .«current_next») e, sym (ap (λ (q : Key). q .«table_id») e))
 
-module _ (f : Filter) (fit : FilterFits f) (w : WantedOrigin) (from : (o : Words) → wantsOrigin w o ≡ pidPasses (pidTest (f .pid)) ((originShown o) .pid)) where
+module _ (f : Filter) (fit : FilterFits f) (w : WantedOrigin) (from : (o : Words) → wantsOrigin w o ≡ fromPasses (filterShown f) (originShown o)) where
   -- the keys that stay
   abbrev setStays : SetKey → Bool
   setStays k = not (keyMatches (filterShown f) (k .schedule))
@@ -200,25 +204,38 @@ module _ (f : Filter) (fit : FilterFits f) (w : WantedOrigin) (from : (o : Words
     unfolding matchingGone shows onAnswer answerTold
     matching-tied = record { told = refl; shown = shown-after; reached = reached-after }
 
--- ---- 12, then 7
+-- ---- 12, then 37, then 7
 
 module _ (s : Store) (z : Reached s) (g : Whole s) (f : Filter) (fit : FilterFits f) where
   abbrev leaves : Drop → After
   leaves d = carriedDrop s d
 
-  pub drop-tied : Tied (leaves (dropFrom f (wantedOrigin (f .pid)))) (dropIn (seen s) (filterShown f) (badPid ((filterShown f) .pid)))
-  unfolding filterShown badPid dropIn shows onAnswer answerTold seen
+  pub drop-tied : Tied (leaves (dropFrom f (wantedOrigin (f .input) (f .pid)))) (dropIn (seen s) (filterShown f) (badFilter (filterShown f)))
+  unfolding filterShown badFilter badPid badInput dropIn shows onAnswer answerTold seen
   drop-tied = go (f .pid) refl
     where
+      -- 37, once the PID is one that there is
+      input-tied : (w : Wanted) → ((o : Words) → wants w (o .pid) ≡ pidPasses (pidTest (f .pid)) ((originShown o) .pid)) → (i : Wanted) → f .input ≡ i
+          → Tied (leaves (dropFrom f (inputWanted i w))) (dropIn (seen s) (filterShown f) (cond (badInput (wantedAs (λ (x : ℕ). x) i)) (some refusal.BadInput) none))
+      input-tied w p wanted.Any e = matching-tied f fit (record { input = wanted.Any; pid = w }) (λ o. from-wanted f wanted.Any w e o (p o)) s z g
+      input-tied w p (wanted.Exactly v) e = test (ltb v 16) refl
+        where
+          test : (b : Bool) → ltb v 16 ≡ b → Tied (leaves (dropFrom f (cond b (origin-wanted.Is (record { input = wanted.Exactly v; pid = w })) (origin-wanted.Refused refusal.BadInput))))
+              (dropIn (seen s) (filterShown f) (cond (leb 16 v) (some refusal.BadInput) none))
+          test true q = rw (lt-leb 16 v (ltb-true v 16 q)) (matching-tied f fit (record { input = wanted.Exactly v; pid = w }) (λ o. from-wanted f (wanted.Exactly v) w e o (p o)) s z g)
+          test false q = rw (le-leb 16 v (ltb-false v 16 q)) (record { told = refl; shown = refl; reached = z })
+
       exactly-tied : (v : ℕ) → f .pid ≡ wanted-pid.Exactly v → (b : Bool) → ltb v 8192 ≡ b
-          → Tied (leaves (dropFrom f (madeWanted (cond b (made.One (record { 0 = v })) made.TooLarge)))) (dropIn (seen s) (filterShown f) (leb 8192 v))
+          → Tied (leaves (dropFrom f (madeWanted (f .input) (cond b (made.One (record { 0 = v })) made.TooLarge))))
+          (dropIn (seen s) (filterShown f) (cond (leb 8192 v) (some refusal.BadPid) (cond (badInput (wantedAs (λ (x : ℕ). x) (f .input))) (some refusal.BadInput) none)))
       exactly-tied v e true q =
           let l = ltb-true v 8192 q in
           rw (lt-leb 8192 v l)
-          (matching-tied f fit (record { pid = wanted.Exactly v }) (λ o. pid-exactly v l o ∙ ap (λ (t : WantedPid). pidPasses (pidTest t) ((originShown o) .pid)) (sym e)) s z g)
+          (input-tied (wanted.Exactly v) (λ o. pid-exactly v l o ∙ ap (λ (t : WantedPid). pidPasses (pidTest t) ((originShown o) .pid)) (sym e)) (f .input) refl)
       exactly-tied v e false q = rw (le-leb 8192 v (ltb-false v 8192 q)) (record { told = refl; shown = refl; reached = z })
 
-      go : (p : WantedPid) → f .pid ≡ p → Tied (leaves (dropFrom f (wantedOrigin p))) (dropIn (seen s) (filterShown f) (badPid (pidTest p)))
-      go wanted-pid.Any e = matching-tied f fit (record { pid = wanted.Any }) (λ o. pid-any o ∙ ap (λ (t : WantedPid). pidPasses (pidTest t) ((originShown o) .pid)) (sym e)) s z g
-      go wanted-pid.Without e = matching-tied f fit (record { pid = wanted.Exactly 8192 }) (λ o. pid-without o ∙ ap (λ (t : WantedPid). pidPasses (pidTest t) ((originShown o) .pid)) (sym e)) s z g
+      go : (p : WantedPid) → f .pid ≡ p → Tied (leaves (dropFrom f (wantedOrigin (f .input) p)))
+          (dropIn (seen s) (filterShown f) (cond (badPid (pidTest p)) (some refusal.BadPid) (cond (badInput (wantedAs (λ (x : ℕ). x) (f .input))) (some refusal.BadInput) none)))
+      go wanted-pid.Any e = input-tied wanted.Any (λ o. pid-any o ∙ ap (λ (t : WantedPid). pidPasses (pidTest t) ((originShown o) .pid)) (sym e)) (f .input) refl
+      go wanted-pid.Without e = input-tied (wanted.Exactly 8192) (λ o. pid-without o ∙ ap (λ (t : WantedPid). pidPasses (pidTest t) ((originShown o) .pid)) (sym e)) (f .input) refl
       go (wanted-pid.Exactly v) e = exactly-tied v e (ltb v 8192) refl

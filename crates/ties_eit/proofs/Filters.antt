@@ -9,7 +9,7 @@ use borrow.Author.Tests.{eqb-true, ne-eqb}
 use lib.Dec.{eqb}
 use Rattle.laws.proofs.Tests.{eqb-sym}
 use Rattle.rules_shared.specs.Same.{samePid}
-use Rattle.rules_eit.specs.Keys.{Kind, presentActual, presentOther, scheduleActual, scheduleOther, between, kindOf, kindNumber, sameKind, anyPid, exactly, pidPasses, passes, matches as keyMatches}
+use Rattle.rules_eit.specs.Keys.{Kind, presentActual, presentOther, scheduleActual, scheduleOther, between, kindOf, kindNumber, sameKind, anyPid, exactly, pidPasses, passes, fromPasses, matches as keyMatches}
 use Rattle.eit_section.specs.Eit.{within}
 use Rattle.rows.specs.declared.Origin.{Origin as Words}
 use Rattle.rows.specs.declared.Key.{Key}
@@ -80,6 +80,14 @@ pid-exactly v h o = go (eqb (o .pid) 8192) refl
     go true e = let q = eqb-true (o .pid) 8192 e in ne-eqb (o .pid) v (λ (t : o .pid ≡ v). absurd (omega arith))
     go false e = eqb-sym (o .pid) v
 
+-- what is wanted of where sections came from
+pub from-wanted : (f : Filter) (i w : Wanted) → f .input ≡ i → (o : Words) → wants w (o .pid) ≡ pidPasses (pidTest (f .pid)) ((originShown o) .pid)
+    → wantsOrigin (record { input = i; pid = w }) o ≡ fromPasses (filterShown f) (originShown o)
+unfolding fromPasses filterShown originShown
+from-wanted f i w e o p =
+    let q = wants-exact i (o .input) ∙ ap (λ (x : Wanted). passes eqb (wantedAs (λ (y : ℕ). y) x) (o .input)) (sym e) in
+    λ t. q t && p t
+
 -- ---- a key
 
 turn : (a b c d e g : Bool) → (((((a && b) && c) && d) && e) && g) ≡ (a && (b && (c && (d && (e && g)))))
@@ -95,7 +103,7 @@ six : {a b c d e g a′ b′ c′ d′ e′ g′ : Bool} → a ≡ a′ → b �
     → (((((a && b) && c) && d) && e) && g) ≡ (a′ && (b′ && (c′ && (d′ && (e′ && g′)))))
 six {a′ = a′} {b′ = b′} {c′ = c′} {d′ = d′} {e′ = e′} {g′ = g′} p q r s t u = (λ i. (((((p i && q i) && r i) && s i) && t i) && u i)) ∙ turn a′ b′ c′ d′ e′ g′
 
-module _ (f : Filter) (fit : FilterFits f) (w : WantedOrigin) (from : (o : Words) → wantsOrigin w o ≡ pidPasses (pidTest (f .pid)) ((originShown o) .pid)) (k : Key) (bit : Bit (k .«current_next»)) where
+module _ (f : Filter) (fit : FilterFits f) (w : WantedOrigin) (from : (o : Words) → wantsOrigin w o ≡ fromPasses (filterShown f) (originShown o)) (k : Key) (bit : Bit (k .«current_next»)) where
   -- of a set, whose kind follows from table_id
   pub sets-match : kindWord (k .«table_id») ≡ kindNumber (theKind (kindOf (k .«table_id»))) → matches of.Sets (fieldsOf w f) k ≡ keyMatches (filterShown f) ((keyShown k) .schedule)
   unfolding matches keyMatches filterShown keyShown

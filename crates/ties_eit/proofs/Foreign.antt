@@ -101,22 +101,22 @@ module _ (s : Store) (z : Reached s) (f : Filter) (g : Foreign f) (w : WantedOri
 -- nothing is dropped
 pub foreign-drop : (s : Store) → Reached s → (f : Filter) → Foreign f → acts s (drops f) ≡ s
 unfolding acts droppedOf dropOf
-foreign-drop s z f g = go (wholeOf s) (wantedOrigin (f .pid))
+foreign-drop s z f g = go (wholeOf s) (wantedOrigin (f .input) (f .pid))
   where
     go : (b : Bool) (p : OriginWanted) → (carriedDrop s (cond b (dropFrom f p) (drop.Refuse refusal.NotWhole))) .store ≡ s
     go true (origin-wanted.Refused r) = refl
     go true (origin-wanted.Is w) = gone-stays s z f g w
     go false p = refl
 
--- 12 for a PID of 8192 or more, else 7, whatever the other fields of the filter are
+-- 12 for a PID of 8192 or more, 37 for an input of 16 or more, else 7, whatever the other fields of the filter are
 abbrev pub dropAnswer : OriginWanted → Answer
 dropAnswer (origin-wanted.Refused r) = refused r
 dropAnswer (origin-wanted.Is w) = done
 
--- a filter that names no kind and no current_next is answered as any other: by its PID alone
-pub drop-answered : (s : Store) → wholeOf s ≡ true → (f : Filter) → tells s (drops f) ≡ dropAnswer (wantedOrigin (f .pid))
+-- a filter that names no kind and no current_next is answered as any other: by its PID and its input alone
+pub drop-answered : (s : Store) → wholeOf s ≡ true → (f : Filter) → tells s (drops f) ≡ dropAnswer (wantedOrigin (f .input) (f .pid))
 unfolding tells droppedOf dropOf answerTold
-drop-answered s w f = rw w (go (wantedOrigin (f .pid)))
+drop-answered s w f = rw w (go (wantedOrigin (f .input) (f .pid)))
   where
     go : (p : OriginWanted) → answerTold ((carriedDrop s (dropFrom f p)) .told) ≡ dropAnswer p
     go (origin-wanted.Refused r) = refl

@@ -55,7 +55,7 @@ use Rattle.eit_carry.specs.Carried.{keptAndSettled, carried, pushedWhole}
 use Rattle.eit.specs.Store as eit
 use Rattle.eit.specs.Store.{After, after, toldStep, answerOf, openedOf, clearedOf, carriedDrop, droppedOf, pushedAs, pushedOf}
 use Rattle.eit_admit.specs.Admitting.{dropOf, admitted}
-use Rattle.ties_eit.specs.View.{keyShown, scheduleShown, keyWords, scheduleWords, seen, settingsOf, sectionOf, readsEit, readsAs, readSection, reads, answerTold, tells, acts, Given, clears, drops, section, Fitting, Opened, Reached}
+use Rattle.ties_eit.specs.View.{keyShown, scheduleShown, keyWords, scheduleWords, seen, settingsOf, sectionOf, readsEit, readsAs, readOn, readSection, reads, answerTold, tells, acts, Given, clears, drops, section, Fitting, Opened, Reached}
 use Rattle.ties_eit.proofs.Keys.{set-self, schedule-self}
 use Rattle.ties_eit.proofs.Calls.{tied, room-there, whole-seen}
 use Rattle.ties_eit.proofs.Arrivals.{good-length}
@@ -179,7 +179,7 @@ as-before s clears h = go (wholeOf s) h
     go true h = absurd (true≢false (sym h))
     go false h = refl
 as-before s (drops f) h = drop-keeps s (dropOf s f) h
-as-before s (section pid bytes) h = push-keeps s bytes (admitted s pid bytes) h
+as-before s (section input pid bytes) h = push-keeps s bytes (admitted s input pid bytes) h
 
 -- ---- many calls
 
@@ -217,15 +217,22 @@ read-long from bytes collected.BadNumber e = tt
 read-long from bytes collected.BadCrc e = tt
 read-long from bytes (collected.Good h) e = eit-long from bytes h e (eitOf bytes)
 
+on-long : (from : Origin) (bytes : Bytes) → LongEnough (readOn from bytes)
+on-long from bytes = pick (ltb (from .input) 16)
+  where
+    pick : (b : Bool) → LongEnough (cond b (readsAs from bytes (collectedOf bytes)) (refuse refusal.BadInput refl))
+    pick true = read-long from bytes (collectedOf bytes) refl
+    pick false = tt
+
 reads-long : (i : Given) → LongEnough (reads i)
 unfolding reads readSection
 reads-long clears = tt
 reads-long (drops f) = tt
-reads-long (section maybe.None bytes) = read-long (record { pid = none }) bytes (collectedOf bytes) refl
-reads-long (section (maybe.Some p) bytes) = pick (ltb p 8192)
+reads-long (section input maybe.None bytes) = on-long (record { input = input; pid = none }) bytes
+reads-long (section input (maybe.Some p) bytes) = pick (ltb p 8192)
   where
-    pick : (b : Bool) → LongEnough (cond b (readsAs (record { pid = some p }) bytes (collectedOf bytes)) (refuse refusal.BadPid refl))
-    pick true = read-long (record { pid = some p }) bytes (collectedOf bytes) refl
+    pick : (b : Bool) → LongEnough (cond b (readOn (record { input = input; pid = some p }) bytes) (refuse refusal.BadPid refl))
+    pick true = on-long (record { input = input; pid = some p }) bytes
     pick false = tt
 
 -- in no history 10 occurs
@@ -273,6 +280,7 @@ unbarred as′ w f n t (refused refusal.TooLong) e = refl
 unbarred as′ w f n t (refused refusal.NoCell) e = absurd (n t e)
 unbarred as′ w f n t (refused refusal.Conflict) e = refl
 unbarred as′ w f n t (refused refusal.Range) e = refl
+unbarred as′ w f n t (refused refusal.BadInput) e = refl
 
 -- from an opened store the answers are those of the rules without memory, as long as no count is at its end (11) and no cell is wanting (21)
 pub history : (s : Store) → Opened s → (calls : List Given) → EachFitting calls → Never (refused refusal.CounterFull) (answers tells acts s calls) → Never (refused refusal.NoCell) (answers tells acts s calls)

@@ -106,9 +106,9 @@ unfolding pushedWhole
 push-ages s bytes (arrival.Refused r) h = record { eit = refl; heads = λ j m n l. refl; slots = refl; cells = refl; schedule-heads = refl; units = refl }
 push-ages s bytes (arrival.Arrived a) h = plan-ages s bytes (planOf s bytes a) h
 
-pub conflict-memory : (s : Store) (pid : MaybePid) (bytes : Bytes) → tells s (section pid bytes) ≡ (refused refusal.Conflict) → AgesAlone s (acts s (section pid bytes))
+pub conflict-memory : (s : Store) (input : ℕ) (pid : MaybePid) (bytes : Bytes) → tells s (section input pid bytes) ≡ (refused refusal.Conflict) → AgesAlone s (acts s (section input pid bytes))
 unfolding tells acts pushedOf numberOf
-conflict-memory s pid bytes h = push-ages s bytes (admitted s pid bytes) (ap numberOf h)
+conflict-memory s input pid bytes h = push-ages s bytes (admitted s input pid bytes) (ap numberOf h)
 
 -- ---- "A cell is free exactly when no slot or schedule copy of a row in use names it"
 

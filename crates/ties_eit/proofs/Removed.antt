@@ -148,7 +148,15 @@ module _ (used i : ℕ) (h : List ℕ) (hi : i < used) (l : used * 12 ≤ length
 
   pub removed-key : (j : ℕ) → keyAt (removedHeads used i h) j ≡ keyAt h (movedFrom used i j)
   removed-key j =
-      rw (removed-word j 0 (omega arith) (omega arith), removed-word j 1 (omega arith) (omega arith), removed-word j 2 (omega arith) (omega arith), removed-word j 3 (omega arith) (omega arith), removed-word j 4 (omega arith) (omega arith), removed-word j 5 (omega arith) (omega arith))
+      rw (
+        removed-word j 0 (omega arith) (omega arith),
+        removed-word j 1 (omega arith) (omega arith),
+        removed-word j 2 (omega arith) (omega arith),
+        removed-word j 3 (omega arith) (omega arith),
+        removed-word j 4 (omega arith) (omega arith),
+        removed-word j 5 (omega arith) (omega arith),
+        removed-word j 10 (omega arith) (omega arith),
+      )
 
   -- row i is dropped, as the order of the rows has it
   pub removed-dropped : Dropped h (removedHeads used i h) i used

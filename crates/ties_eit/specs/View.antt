@@ -138,13 +138,13 @@ seen s = record {
 pub data Given : Type 0 where
   clears : Given
   drops : Filter → Given
-  section : MaybePid → Bytes → Given
+  section : (input : ℕ) → MaybePid → Bytes → Given
 
 -- what the calls are proved to tell and to leave
 abbrev pub called : Store → Given → After
 called s clears = clearedOf s
 called s (drops f) = droppedOf s f
-called s (section pid bytes) = pushedOf s pid bytes
+called s (section input pid bytes) = pushedOf s input pid bytes
 
 -- a field of a filter is free, or exactly one of the numbers below n
 abbrev pub Below : ℕ → Wanted → Type 0
@@ -160,7 +160,7 @@ pub record FilterFits (f : Filter) : Type 0 where
 abbrev pub Fitting : Given → Type 0
 Fitting clears = Unit {0}
 Fitting (drops f) = FilterFits f
-Fitting (section pid bytes) = (i : ℕ) → getD bytes i 0 < 256
+Fitting (section input pid bytes) = (i : ℕ) → getD bytes i 0 < 256
 
 -- "PID or none, kind, service_id, transport_stream_id, original_network_id and current_next, each exact or free"
 abbrev pub wantedAs : {A : Type 0} → (ℕ → A) → Wanted → Option A
@@ -180,6 +180,7 @@ filterShown f = record {
   transportStreamId = wantedAs (λ (w : ℕ). w) (f .«transport_stream_id»);
   originalNetworkId = wantedAs (λ (w : ℕ). w) (f .«original_network_id»);
   currentNext = wantedAs (λ (w : ℕ). not (eqb w 0)) (f .«current_next»);
+  input = wantedAs (λ (w : ℕ). w) (f .input);
 }
 
 -- what a section says
@@ -213,15 +214,19 @@ readsAs from bytes collected.BadNumber = refuse refusal.BadNumber refl
 readsAs from bytes collected.BadCrc = refuse refusal.BadCrc refl
 readsAs from bytes (collected.Good h) = readsEit from bytes h (eitOf bytes)
 
+-- 37: an input of 16 or more
+abbrev pub readOn : Origin → Bytes → Call
+readOn from bytes = cond (ltb (from .input) 16) (readsAs from bytes (collectedOf bytes)) (refuse refusal.BadInput refl)
+
 -- 12 first: a PID of 8192 or more
-unfoldable pub readSection : MaybePid → Bytes → Call
-readSection maybe.None bytes = readsAs (record { pid = none }) bytes (collectedOf bytes)
-readSection (maybe.Some p) bytes = cond (ltb p 8192) (readsAs (record { pid = some p }) bytes (collectedOf bytes)) (refuse refusal.BadPid refl)
+unfoldable pub readSection : (input : ℕ) → MaybePid → Bytes → Call
+readSection input maybe.None bytes = readOn (record { input = input; pid = none }) bytes
+readSection input (maybe.Some p) bytes = cond (ltb p 8192) (readOn (record { input = input; pid = some p }) bytes) (refuse refusal.BadPid refl)
 
 unfoldable pub reads : Given → Call
 reads clears = clear
 reads (drops f) = drop (filterShown f)
-reads (section pid bytes) = readSection pid bytes
+reads (section input pid bytes) = readSection input pid bytes
 
 -- the tables of a schedule that goes out, from table_id t on
 unfoldable pub tablesShown : ScheduleKey → ℕ → List TableOut → List (WholeOf Bytes)

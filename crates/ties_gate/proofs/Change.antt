@@ -32,20 +32,21 @@ use Rattle.gate_state.specs.State.{plain}
 use Rattle.gate.specs.Rules.{Offer, Manner, Held, Told, rowFrom, admitted, carriedIn, told, tells, acts}
 
 -- the row of a section without a header: its key has extension 0 and section_number 0, its version is 0
-abbrev pub bareRow : (pid table change : ℕ) → Row
-bareRow pid table change = record { key = keyOf (originOf pid) table 0 0; version = 0; change = change }
+abbrev pub bareRow : (input pid table change : ℕ) → Row
+bareRow input pid table change = record { key = keyOf (originOf input pid) table 0 0; version = 0; change = change }
 
 -- an offer that is not refused, of a sound section with a CRC and no header, and its change number
 pub record Sounds (m : Manner) (h : Held) (o : Offer) (change : ℕ) : Type 0 where
   pub counts : anyFull (h .counters) ≡ false
   pub pid : o .pid < 8192
+  pub input : o .input < 16
   pub form : formOf (o .section) ≡ Checked
   pub parts : Parts
   pub sound : judgedOf (ruleOf (m .rule)) (o .section) ≡ Sound parts
   pub number : parts .change ≡ change
 
 module _ (m : Manner) (h : Held) (o : Offer) (change : ℕ) (k : Sounds m h o change) where
-  bare : rowFrom (arrivalOf (originOf (o .pid)) (k .parts)) ≡ bareRow (o .pid) (tableId (o .section)) change
+  bare : rowFrom (arrivalOf (originOf (o .input) (o .pid)) (k .parts)) ≡ bareRow (o .input) (o .pid) (tableId (o .section)) change
   unfolding partsOf
   bare =
       let p : k .parts ≡ partsOf (ruleOf (m .rule)) (o .section) Checked = judged-parts (ruleOf (m .rule)) (o .section) (k .parts) (k .sound) ∙ ap (partsOf (ruleOf (m .rule)) (o .section)) (k .form) in
@@ -56,18 +57,18 @@ module _ (m : Manner) (h : Held) (o : Offer) (change : ℕ) (k : Sounds m h o ch
       rw (t, x, n, v, k .number)
 
   -- it is admitted with that row
-  pub says : told m h o ≡ admitted m h (bareRow (o .pid) (tableId (o .section)) change) (o .section)
+  pub says : told m h o ≡ admitted m h (bareRow (o .input) (o .pid) (tableId (o .section)) change) (o .section)
   unfolding told readOf carriedIn
-  says = rw (k .counts, lt-ltb (o .pid) 8192 (k .pid), k .sound, bare)
+  says = rw (k .counts, lt-ltb (o .pid) 8192 (k .pid), lt-ltb (o .input) 16 (k .input), k .sound, bare)
 
 -- rule 1: where the key is held with version 0 and change number 0, as every sound section with a CRC and no header leaves it, another one of that key is
 -- suppressed, whatever it says
-pub never-again : (m : Manner) (h : Held) (o : Offer) (p : Parts) → ruleOf (m .rule) ≡ AllBytes → m .repeats ≡ false → anyFull (h .counters) ≡ false → o .pid < 8192
+pub never-again : (m : Manner) (h : Held) (o : Offer) (p : Parts) → ruleOf (m .rule) ≡ AllBytes → m .repeats ≡ false → anyFull (h .counters) ≡ false → o .pid < 8192 → o .input < 16
     → Bytes (o .section) → formOf (o .section) ≡ Checked → judgedOf AllBytes (o .section) ≡ Sound p
-    → has (bareRow (o .pid) (tableId (o .section)) 0) (h .rows) ≡ true → tells m h o ≡ plain 2
+    → has (bareRow (o .input) (o .pid) (tableId (o .section)) 0) (h .rows) ≡ true → tells m h o ≡ plain 2
 unfolding tells admitted
-never-again m h o p r off c i b f s held =
-    let k : Sounds m h o 0 = record { counts = c; pid = i; form = f; parts = p; sound = rw r s; number = stuck (o .section) b p s f } in
+never-again m h o p r off c i j b f s held =
+    let k : Sounds m h o 0 = record { counts = c; pid = i; input = j; form = f; parts = p; sound = rw r s; number = stuck (o .section) b p s f } in
     ap (λ (t : Told). t .answer) (says m h o 0 k) ∙ simp (held, off)
 
 -- a row that differs in its change number from one just offered, under the same key, is changed
@@ -113,21 +114,21 @@ module _ (capacity : ℕ) (n k : Row) (same : k .key ≡ n .key) (other : k .cha
       go false true e = behind (later rows) (less rows e)
       go false false e = behind rows e
 
--- rule 2: of two sound sections with a CRC and no header, of one PID and table_id, offered one after the other, the second is emitted where it carries another CRC
-pub moves : (m : Manner) (h : Held) (o x : Offer) (p q : Parts) → ruleOf (m .rule) ≡ StoredCrc → o .pid ≡ x .pid → tableId (o .section) ≡ tableId (x .section)
-    → anyFull (h .counters) ≡ false → anyFull (acts m h o .counters) ≡ false → x .pid < 8192
+-- rule 2: of two sound sections with a CRC and no header, of one input, PID and table_id, offered one after the other, the second is emitted where it carries another CRC
+pub moves : (m : Manner) (h : Held) (o x : Offer) (p q : Parts) → ruleOf (m .rule) ≡ StoredCrc → o .input ≡ x .input → o .pid ≡ x .pid → tableId (o .section) ≡ tableId (x .section)
+    → anyFull (h .counters) ≡ false → anyFull (acts m h o .counters) ≡ false → x .pid < 8192 → x .input < 16
     → formOf (o .section) ≡ Checked → judgedOf StoredCrc (o .section) ≡ Sound p
     → formOf (x .section) ≡ Checked → judgedOf StoredCrc (x .section) ≡ Sound q
     → (storedCrc (x .section) ≡ storedCrc (o .section) → ⊥) → tells m (acts m h o) x ≡ plain 1
 unfolding tells acts admitted
-moves m h o x p q r same table c d i f s g t other =
+moves m h o x p q r from same table c d i v f s g t other =
     let j : Sounds m h o (storedCrc (o .section)) =
-    record { counts = c; pid = rw same i; form = f; parts = p; sound = rw r s; number = stored (o .section) p s (inr f) } in
+    record { counts = c; pid = rw same i; input = rw from v; form = f; parts = p; sound = rw r s; number = stored (o .section) p s (inr f) } in
     let k : Sounds m (acts m h o) x (storedCrc (x .section)) =
-    record { counts = d; pid = i; form = g; parts = q; sound = rw r t; number = stored (x .section) q t (inr g) } in
-    let rows : acts m h o .rows ≡ offeredTo (m .capacity) (bareRow (o .pid) (tableId (o .section)) (storedCrc (o .section))) (h .rows) =
+    record { counts = d; pid = i; input = v; form = g; parts = q; sound = rw r t; number = stored (x .section) q t (inr g) } in
+    let rows : acts m h o .rows ≡ offeredTo (m .capacity) (bareRow (o .input) (o .pid) (tableId (o .section)) (storedCrc (o .section))) (h .rows) =
     ap (λ (y : Told). y .held .rows) (says m h o (storedCrc (o .section)) j) in
-    let e : bareRow (x .pid) (tableId (x .section)) (storedCrc (x .section)) .key ≡ bareRow (o .pid) (tableId (o .section)) (storedCrc (o .section)) .key = rw (same, table) in
-    let z : has (bareRow (x .pid) (tableId (x .section)) (storedCrc (x .section))) (acts m h o .rows) ≡ false =
-    rw rows (changed-after (m .capacity) (bareRow (o .pid) (tableId (o .section)) (storedCrc (o .section))) (bareRow (x .pid) (tableId (x .section)) (storedCrc (x .section))) e other (h .rows)) in
+    let e : bareRow (x .input) (x .pid) (tableId (x .section)) (storedCrc (x .section)) .key ≡ bareRow (o .input) (o .pid) (tableId (o .section)) (storedCrc (o .section)) .key = rw (from, same, table) in
+    let z : has (bareRow (x .input) (x .pid) (tableId (x .section)) (storedCrc (x .section))) (acts m h o .rows) ≡ false =
+    rw rows (changed-after (m .capacity) (bareRow (o .input) (o .pid) (tableId (o .section)) (storedCrc (o .section))) (bareRow (x .input) (x .pid) (tableId (x .section)) (storedCrc (x .section))) e other (h .rows)) in
     ap (λ (y : Told). y .answer) (says m (acts m h o) x (storedCrc (x .section)) k) ∙ simp z

@@ -41,7 +41,7 @@ module _ (m : Manner) where
   unfolding storeAfter evictionsIn acts told isEvicting
   evictions-run h [] = omega arith
   evictions-run h (o ∷ os) =
-      let v : Verdict = cond (anyFull (h .counters)) (Refused CounterFull) (readOf (m .rule) (o .pid) (o .section)) in
+      let v : Verdict = cond (anyFull (h .counters)) (Refused CounterFull) (readOf (m .rule) (o .input) (o .pid) (o .section)) in
       let x : Held = carriedIn m h (o .section) v .held in
       evictions-run x os
       ∙ ap (λ (n : ℕ). n + evictionsIn m x os) (carried-evictions h (o .section) v)

@@ -40,7 +40,7 @@ refused-not-short r = rw (ne-eqb (refusalNo r) 31 (λ e. refused-not-31 r e))
 -- every call on every store
 pub counts : (s : Store) (o : Offer) → Counts (storeNo s o) (s .counters) (storeActs s o .counters)
 unfolding storeTells storeActs offered carried admittedTo seenBy
-counts s o = go (verdictOf (isWhole s) (s .counters) (s .gate .«change_rule») (o .pid) (o .section))
+counts s o = go (verdictOf (isWhole s) (s .counters) (s .gate .«change_rule») (o .input) (o .pid) (o .section))
   where
     go : (v : Verdict) → Counts (numberOf (carried s (o .section) v .answer)) (s .counters) (carried s (o .section) v .store .counters)
     go (Refused r) = kept (s .counters) (refusalNo r) (refused-none r 1 (omega arith)) (refused-none r 2 (omega arith)) (refused-none r 3 (omega arith)) (refused-not-short r)

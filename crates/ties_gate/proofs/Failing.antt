@@ -10,7 +10,7 @@ use lib.ListN.{length}
 use lib.Dec.{ltb, leb, eqb}
 use native.Mathlib.Omega.{arith}
 use borrow.Author.Tests.{lt-ltb, ltb-true, eqb-false, ne-eqb}
-use Rattle.answers.specs.declared.Refusal.the-variants.{NotWhole, CounterFull, BadPid}
+use Rattle.answers.specs.declared.Refusal.the-variants.{NotWhole, CounterFull, BadPid, BadInput}
 use Rattle.counters.specs.Counters.{anyFull, failedOf}
 use Rattle.section.specs.Header.{tableId, longForm, storedCrc, workedCrc}
 use Rattle.section.specs.Ids.{originOf}
@@ -113,7 +113,7 @@ kind (plain n) = 0
 kind (short n) = 1
 kind (mismatch stored worked) = 2
 
-module _ (s : Store) (pid : ℕ) (section : List ℕ) where
+module _ (s : Store) (input pid : ℕ) (section : List ℕ) where
   -- a failure is said of a verdict that is one, and of no other
   said-failed : (v : Verdict) (f : Failure) → carried s section v .answer ≡ failureSaid f → v ≡ Failed f
   unfolding carried admittedTo seenBy kind
@@ -135,56 +135,57 @@ module _ (s : Store) (pid : ℕ) (section : List ℕ) where
   rule = ruleOf (s .gate .«change_rule»)
 
   -- a verdict that is a failure: nothing is refused, and the section says so
-  verdict-failed : (f : Failure) → verdictOf (isWhole s) (s .counters) (s .gate .«change_rule») pid section ≡ Failed f
-      → Judges s pid × (readAs (originOf pid) (length section) (judgedOf rule section) ≡ Failed f)
+  verdict-failed : (f : Failure) → verdictOf (isWhole s) (s .counters) (s .gate .«change_rule») input pid section ≡ Failed f
+      → Judges s input pid × (readAs (originOf input pid) (length section) (judgedOf rule section) ≡ Failed f)
   unfolding verdictOf readOf rule
-  verdict-failed f e = go (isWhole s) (anyFull (s .counters)) (ltb pid 8192) refl refl refl e
+  verdict-failed f e = go (isWhole s) (anyFull (s .counters)) (ltb pid 8192) (ltb input 16) refl refl refl refl e
     where
-      go : (w c p : Bool) → isWhole s ≡ w → anyFull (s .counters) ≡ c → ltb pid 8192 ≡ p
-          → cond w (cond c (Refused CounterFull) (cond p (readAs (originOf pid) (length section) (judgedOf (ruleOf (s .gate .«change_rule»)) section)) (Refused BadPid))) (Refused NotWhole) ≡ Failed f
-          → Judges s pid × (readAs (originOf pid) (length section) (judgedOf (ruleOf (s .gate .«change_rule»)) section) ≡ Failed f)
-      go true true p x y z h = let q : _≡_ {A = ℕ} 0 1 = cc in absurd (omega arith)
-      go true false true x y z h = (record { whole = x; counts = y; known = ltb-true _ _ z }, h)
-      go true false false x y z h = let q : _≡_ {A = ℕ} 0 1 = cc in absurd (omega arith)
-      go false c p x y z h = let q : _≡_ {A = ℕ} 0 1 = cc in absurd (omega arith)
+      go : (w c p i : Bool) → isWhole s ≡ w → anyFull (s .counters) ≡ c → ltb pid 8192 ≡ p → ltb input 16 ≡ i
+          → cond w (cond c (Refused CounterFull) (cond p (cond i (readAs (originOf input pid) (length section) (judgedOf (ruleOf (s .gate .«change_rule»)) section)) (Refused BadInput)) (Refused BadPid))) (Refused NotWhole) ≡ Failed f
+          → Judges s input pid × (readAs (originOf input pid) (length section) (judgedOf (ruleOf (s .gate .«change_rule»)) section) ≡ Failed f)
+      go true true p i x y z u h = let q : _≡_ {A = ℕ} 0 1 = cc in absurd (omega arith)
+      go true false true true x y z u h = (record { whole = x; counts = y; known = ltb-true _ _ z; placed = ltb-true _ _ u }, h)
+      go true false true false x y z u h = let q : _≡_ {A = ℕ} 0 1 = cc in absurd (omega arith)
+      go true false false i x y z u h = let q : _≡_ {A = ℕ} 0 1 = cc in absurd (omega arith)
+      go false c p i x y z u h = let q : _≡_ {A = ℕ} 0 1 = cc in absurd (omega arith)
 
   -- and back
-  failed-said : (f : Failure) → Judges s pid → readAs (originOf pid) (length section) (judgedOf rule section) ≡ Failed f → offered s pid section .answer ≡ failureSaid f
+  failed-said : (f : Failure) → Judges s input pid → readAs (originOf input pid) (length section) (judgedOf rule section) ≡ Failed f → offered s input pid section .answer ≡ failureSaid f
   unfolding offered verdictOf readOf carried rule
-  failed-said f k e = rw (k .whole, k .counts, lt-ltb pid 8192 (k .known), e)
+  failed-said f k e = rw (k .whole, k .counts, lt-ltb pid 8192 (k .known), lt-ltb input 16 (k .placed), e)
 
-  read-short : (j : Judged) (n : ℕ) → readAs (originOf pid) (length section) j ≡ Failed (TooShort n) → (j ≡ judged.Short) × (n ≡ length section)
+  read-short : (j : Judged) (n : ℕ) → readAs (originOf input pid) (length section) j ≡ Failed (TooShort n) → (j ≡ judged.Short) × (n ≡ length section)
   read-short judged.Short n e = (refl, cc)
   read-short (judged.Mismatch a b) n e = let q : _≡_ {A = ℕ} 0 1 = cc in absurd (omega arith)
   read-short (judged.Sound p) n e = let q : _≡_ {A = ℕ} 0 1 = cc in absurd (omega arith)
 
-  read-mismatch : (j : Judged) (a b : ℕ) → readAs (originOf pid) (length section) j ≡ Failed (Mismatch a b) → j ≡ judged.Mismatch a b
+  read-mismatch : (j : Judged) (a b : ℕ) → readAs (originOf input pid) (length section) j ≡ Failed (Mismatch a b) → j ≡ judged.Mismatch a b
   read-mismatch judged.Short a b e = let q : _≡_ {A = ℕ} 0 1 = cc in absurd (omega arith)
   read-mismatch (judged.Mismatch c d) a b e = let p : c ≡ a = cc in let q : d ≡ b = cc in rw (p, q)
   read-mismatch (judged.Sound p) a b e = let q : _≡_ {A = ℕ} 0 1 = cc in absurd (omega arith)
 
   -- THE THEOREMS
-  pub short-exactly : (n : ℕ) → (offered s pid section .answer ≡ short n) ↔ (Judges s pid × (isTooShort section ≡ true) × (n ≡ length section))
+  pub short-exactly : (n : ℕ) → (offered s input pid section .answer ≡ short n) ↔ (Judges s input pid × (isTooShort section ≡ true) × (n ≡ length section))
   unfolding offered
   short-exactly n = (
     λ e.
-        let v = verdict-failed (TooShort n) (said-failed (verdictOf (isWhole s) (s .counters) (s .gate .«change_rule») pid section) (TooShort n) e) in
+        let v = verdict-failed (TooShort n) (said-failed (verdictOf (isWhole s) (s .counters) (s .gate .«change_rule») input pid section) (TooShort n) e) in
         let r = read-short (judgedOf rule section) n (v .1) in
         (v .0, judged-short rule section (r .0), r .1),
     λ k. failed-said (TooShort n) (k .0) (rw (short-judged rule section (k .1), k .2)),
   )
 
-  pub mismatch-exactly : (stored worked : ℕ) → (offered s pid section .answer ≡ mismatch stored worked) ↔ (Judges s pid × Mismatches section stored worked)
+  pub mismatch-exactly : (stored worked : ℕ) → (offered s input pid section .answer ≡ mismatch stored worked) ↔ (Judges s input pid × Mismatches section stored worked)
   unfolding offered
   mismatch-exactly stored worked = (
     λ e.
-        let v = verdict-failed (Mismatch stored worked) (said-failed (verdictOf (isWhole s) (s .counters) (s .gate .«change_rule») pid section) (Mismatch stored worked) e) in
+        let v = verdict-failed (Mismatch stored worked) (said-failed (verdictOf (isWhole s) (s .counters) (s .gate .«change_rule») input pid section) (Mismatch stored worked) e) in
         (v .0, judged-mismatch rule section stored worked (read-mismatch (judgedOf rule section) stored worked (v .1))),
     λ k. failed-said (Mismatch stored worked) (k .0) (rw (mismatch-judged rule section stored worked (k .1))),
   )
 
   -- a failure leaves gate, rows and watch, and of the counters all but completed, CRC failures and the one of its kind
-  pub failure-touches : (f : Failure) → offered s pid section .answer ≡ failureSaid f
-      → offered s pid section .store ≡ storeOf (s .gate) (failedOf (s .counters) (isShort f)) (s .keys) (s .changes) (s .words)
+  pub failure-touches : (f : Failure) → offered s input pid section .answer ≡ failureSaid f
+      → offered s input pid section .store ≡ storeOf (s .gate) (failedOf (s .counters) (isShort f)) (s .keys) (s .changes) (s .words)
   unfolding offered carried
-  failure-touches f e = rw (said-failed (verdictOf (isWhole s) (s .counters) (s .gate .«change_rule») pid section) f e)
+  failure-touches f e = rw (said-failed (verdictOf (isWhole s) (s .counters) (s .gate .«change_rule») input pid section) f e)

@@ -77,13 +77,13 @@ module _ (s : Indexed) (r : OpenedBy s) (section : List ℕ) where
   carried-same (Failed f) k = record { answer = refl; store = refl; kept = record { covers = r .kept .covers; holds = r .kept .holds } }
   carried-same (Arrived a) k = admitted-same a (k a refl)
 
-module _ (s : Indexed) (r : OpenedBy s) (pid : ℕ) (section : List ℕ) where
+module _ (s : Indexed) (r : OpenedBy s) (input pid : ℕ) (section : List ℕ) where
   -- every offer
-  pub offer-same : Bytes section → Same (offeredBy s pid section) (offered (s .store) pid section)
+  pub offer-same : Bytes section → Same (offeredBy s input pid section) (offered (s .store) input pid section)
   unfolding offeredBy offered verdictOf
   offer-same b =
       rw (whole-by, whole)
-      (carried-same s r section (cond (anyFull (s .store .counters)) (Refused CounterFull) (readOf (s .store .gate .«change_rule») pid section)) (verdict-small (s .store .gate .«change_rule») (record { pid = pid; section = section }) b (anyFull (s .store .counters))))
+      (carried-same s r section (cond (anyFull (s .store .counters)) (Refused CounterFull) (readOf (s .store .gate .«change_rule») input pid section)) (verdict-small (s .store .gate .«change_rule») (record { input = input; pid = pid; section = section }) b (anyFull (s .store .counters))))
     where
       whole : isWhole (s .store) ≡ true
       whole =
@@ -101,10 +101,10 @@ module _ (s : Indexed) (r : OpenedBy s) (pid : ℕ) (section : List ℕ) where
 next : (s : Indexed) (o : Offer) → OpenedBy s → Bytes (o .section) → OpenedBy (actsBy s o)
 unfolding actsBy
 next s o r b =
-    let e = offer-same s r (o .pid) (o .section) b in
+    let e = offer-same s r (o .input) (o .pid) (o .section) b in
     record {
       opened = subst (λ (t : Store). Opened t) (sym (e .store)) (follows (s .store) o (r .opened) b .opened);
-      kept = subst (λ (t : Store). Kept (memoryOf t) (offeredBy s (o .pid) (o .section) .left .index)) (sym (e .store)) (e .kept);
+      kept = subst (λ (t : Store). Kept (memoryOf t) (offeredBy s (o .input) (o .pid) (o .section) .left .index)) (sym (e .store)) (e .kept);
     }
 
 -- THE THEOREM: the answers, and the gate, counters, rows and watch that are left
@@ -113,16 +113,16 @@ pub same-answers :
 unfolding answers tellsBy storeTells actsBy storeActs
 same-answers s [] r b = refl
 same-answers s (o ∷ os) r b =
-    let e = offer-same s r (o .pid) (o .section) (b .0) in
-    let ih = same-answers (offeredBy s (o .pid) (o .section) .left) os (next s o r (b .0)) (b .1) in
+    let e = offer-same s r (o .input) (o .pid) (o .section) (b .0) in
+    let ih = same-answers (offeredBy s (o .input) (o .pid) (o .section) .left) os (next s o r (b .0)) (b .1) in
     rw (e .answer, ih, e .store)
 
 pub same-store : (s : Indexed) (os : List Offer) → OpenedBy s → OfBytes os → storeAfter actsBy s os .store ≡ storeAfter storeActs (s .store) os
 unfolding storeAfter actsBy storeActs
 same-store s [] r b = refl
 same-store s (o ∷ os) r b =
-    let e = offer-same s r (o .pid) (o .section) (b .0) in
-    let ih = same-store (offeredBy s (o .pid) (o .section) .left) os (next s o r (b .0)) (b .1) in
+    let e = offer-same s r (o .input) (o .pid) (o .section) (b .0) in
+    let ih = same-store (offeredBy s (o .input) (o .pid) (o .section) .left) os (next s o r (b .0)) (b .1) in
     ih ∙ ap (λ (t : Store). storeAfter storeActs t os) (e .store)
 
 -- what opening leaves, whatever the slices held

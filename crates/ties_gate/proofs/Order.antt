@@ -104,9 +104,9 @@ failed-follows : (s : Store) (short : Bool) → Opened s → Opened (record { ga
 failed-follows s short r = record { reached = r .reached; watch = r .watch; rule = r .rule }
 
 -- of bytes, what arrives has a change number of 32 bits
-pub verdict-small : (rule : ℕ) (o : Offer) → Bytes (o .section) → (f : Bool) (a : Arrival) → cond f (Refused CounterFull) (readOf rule (o .pid) (o .section)) ≡ Arrived a → a .change < 2 ^ 32
+pub verdict-small : (rule : ℕ) (o : Offer) → Bytes (o .section) → (f : Bool) (a : Arrival) → cond f (Refused CounterFull) (readOf rule (o .input) (o .pid) (o .section)) ≡ Arrived a → a .change < 2 ^ 32
 verdict-small rule o b true a e = let z : _≡_ {A = ℕ} 0 1 = cc in absurd (omega arith)
-verdict-small rule o b false a e = arrived-small (o .section) rule b (o .pid) a e
+verdict-small rule o b false a e = arrived-small (o .section) rule b (o .input) (o .pid) a e
 
 module _ (s : Store) (o : Offer) (r : Opened s) (b : Bytes (o .section)) where
   -- a verdict carried out
@@ -121,11 +121,11 @@ module _ (s : Store) (o : Offer) (r : Opened s) (b : Bytes (o .section)) where
       record { same = admitted-same s r (o .section) b a small; opened = admitted-opened s r (o .section) b a small; manner = admitted-manner s r (o .section) b a small }
 
   -- every offer to an opened store: 10 does not occur, and the rest is the rule's
-  pub follows : Follows s o (offered s (o .pid) (o .section))
+  pub follows : Follows s o (offered s (o .input) (o .pid) (o .section))
   unfolding offered told verdictOf
   follows =
       rw whole
-      (carried-follows (cond (anyFull (s .counters)) (Refused CounterFull) (readOf (s .gate .«change_rule») (o .pid) (o .section))) (verdict-small (s .gate .«change_rule») o b (anyFull (s .counters))))
+      (carried-follows (cond (anyFull (s .counters)) (Refused CounterFull) (readOf (s .gate .«change_rule») (o .input) (o .pid) (o .section))) (verdict-small (s .gate .«change_rule») o b (anyFull (s .counters))))
     where
       whole : isWhole s ≡ true
       whole = true-and (true-and (whole-test (s .gate .ring) (length (s .keys)) (length (s .changes)) (r .reached .whole)) (le-leb 384 (length (s .words)) (r .watch))) (r .rule)
@@ -138,7 +138,7 @@ unfolding answers storeTells storeActs tells acts
 same-answers s [] r b = refl
 same-answers s (o ∷ os) r b =
     let f = follows s o r (b .0) in
-    let l : Offering = offered s (o .pid) (o .section) in
+    let l : Offering = offered s (o .input) (o .pid) (o .section) in
     let t : Told = told (mannerOf (s .gate)) (heldBy s) o in
     let e : l .answer ≡ t .answer = ap (λ (x : Told). x .answer) (f .same) in
     let h : heldBy (l .store) ≡ t .held = ap (λ (x : Told). x .held) (f .same) in
@@ -151,7 +151,7 @@ unfolding storeAfter storeActs acts
 same-view s [] r b = refl
 same-view s (o ∷ os) r b =
     let f = follows s o r (b .0) in
-    let l : Offering = offered s (o .pid) (o .section) in
+    let l : Offering = offered s (o .input) (o .pid) (o .section) in
     let t : Told = told (mannerOf (s .gate)) (heldBy s) o in
     let h : heldBy (l .store) ≡ t .held = ap (λ (x : Told). x .held) (f .same) in
     let ih = same-view (l .store) os (f .opened) (b .1) in

@@ -70,11 +70,11 @@ module _ (s : Store) (o : Offer) (r : Passes s) (b : Bytes (o .section)) where
   carried-says (Arrived a) k = admitted-says s r (o .section) b a (k a refl)
 
   -- every offer
-  pub says : Says (mannerOf (s .gate)) (offered s (o .pid) (o .section)) (said (mannerOf (s .gate)) (placedBy s) o)
+  pub says : Says (mannerOf (s .gate)) (offered s (o .input) (o .pid) (o .section)) (said (mannerOf (s .gate)) (placedBy s) o)
   unfolding offered said verdictOf
   says =
       rw whole
-      (carried-says (cond (anyFull (s .counters)) (Refused CounterFull) (readOf (s .gate .«change_rule») (o .pid) (o .section))) (verdict-small (s .gate .«change_rule») o b (anyFull (s .counters))))
+      (carried-says (cond (anyFull (s .counters)) (Refused CounterFull) (readOf (s .gate .«change_rule») (o .input) (o .pid) (o .section))) (verdict-small (s .gate .«change_rule») o b (anyFull (s .counters))))
     where
       whole : isWhole s ≡ true
       whole = true-and (true-and (whole-test (s .gate .ring) (length (s .keys)) (length (s .changes)) (r .rows)) (le-leb 384 (length (s .words)) (r .watch))) (r .rule)
@@ -86,7 +86,7 @@ unfolding answers storeTells storeActs saysAt actsAt
 all-answers s [] r b = refl
 all-answers s (o ∷ os) r b =
     let f = says s o r (b .0) in
-    let l : Offering = offered s (o .pid) (o .section) in
+    let l : Offering = offered s (o .input) (o .pid) (o .section) in
     let t : SaidAt = said (mannerOf (s .gate)) (placedBy s) o in
     let e : l .answer ≡ t .answer = ap (λ (x : SaidAt). x .answer) (f .same) in
     let h : placedBy (l .store) ≡ t .held = ap (λ (x : SaidAt). x .held) (f .same) in
@@ -98,7 +98,7 @@ unfolding storeAfter storeActs actsAt
 all-views s [] r b = refl
 all-views s (o ∷ os) r b =
     let f = says s o r (b .0) in
-    let l : Offering = offered s (o .pid) (o .section) in
+    let l : Offering = offered s (o .input) (o .pid) (o .section) in
     let t : SaidAt = said (mannerOf (s .gate)) (placedBy s) o in
     let h : placedBy (l .store) ≡ t .held = ap (λ (x : SaidAt). x .held) (f .same) in
     let ih = all-views (l .store) os (f .passes) (b .1) in

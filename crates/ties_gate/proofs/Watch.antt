@@ -58,7 +58,7 @@ carried-kept s section (Arrived a) k = watch-kept (changedBy s a && s .gate .fol
 -- every offer to every store
 pub offer-kept : (s : Store) (o : Offer) → Kept (s .words) → Kept (storeActs s o .words)
 unfolding storeActs offered
-offer-kept s o k = carried-kept s (o .section) (verdictOf (isWhole s) (s .counters) (s .gate .«change_rule») (o .pid) (o .section)) k
+offer-kept s o k = carried-kept s (o .section) (verdictOf (isWhole s) (s .counters) (s .gate .«change_rule») (o .input) (o .pid) (o .section)) k
 
 -- every history
 pub always-kept : (s : Store) (os : List Offer) → Kept (s .words) → Kept (storeAfter storeActs s os .words)

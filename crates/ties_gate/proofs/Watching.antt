@@ -68,13 +68,13 @@ module _ (m : Manner) (p : ℕ → Bool) where
   watches h n [] k = k
   watches h n (o ∷ os) k =
       watches (acts m h o) (cond (isFollowed m h o) (setN (o .section)) n) os
-      (carried-watches h n (o .section) k (cond (anyFull (h .counters)) (Refused CounterFull) (readOf (m .rule) (o .pid) (o .section))))
+      (carried-watches h n (o .section) k (cond (anyFull (h .counters)) (Refused CounterFull) (readOf (m .rule) (o .input) (o .pid) (o .section))))
 
 -- an opened store stays one
 always-opened : (s : Store) (os : List Offer) → Opened s → OfBytes os → Opened (storeAfter storeActs s os)
 unfolding storeAfter storeActs
 always-opened s [] r b = r
-always-opened s (o ∷ os) r b = always-opened (offered s (o .pid) (o .section) .store) os (follows s o r (b .0) .opened) (b .1)
+always-opened s (o ∷ os) r b = always-opened (offered s (o .input) (o .pid) (o .section) .store) os (follows s o r (b .0) .opened) (b .1)
 
 module _
     (st : Settings) (extra keys changes words : List ℕ)

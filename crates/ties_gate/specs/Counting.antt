@@ -17,7 +17,7 @@ leavesFor m h (Failed f) = false
 leavesFor m h (Arrived a) = evicts (m .capacity) (rowFrom a) (h .rows)
 
 unfoldable pub isEvicting : Manner → Held → Offer → Bool
-isEvicting m h o = leavesFor m h (cond (anyFull (h .counters)) (Refused CounterFull) (readOf (m .rule) (o .pid) (o .section)))
+isEvicting m h o = leavesFor m h (cond (anyFull (h .counters)) (Refused CounterFull) (readOf (m .rule) (o .input) (o .pid) (o .section)))
 
 -- for how many offers of a history a key leaves
 unfoldable pub evictionsIn : Manner → Held → List Offer → ℕ

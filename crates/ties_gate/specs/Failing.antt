@@ -17,8 +17,9 @@ announces s = longForm s || eqb (tableId s) 0x73
 abbrev pub isTooShort : List ℕ → Bool
 isTooShort s = ltb (length s) 3 || (ltb (length s) 4 && announces s)
 
--- neither 10 nor 11 nor 12: the section is judged
-pub record Judges (s : Store) (pid : ℕ) : Type 0 where
+-- neither 10 nor 11 nor 12 nor 37: the section is judged
+pub record Judges (s : Store) (input pid : ℕ) : Type 0 where
   pub whole : isWhole s ≡ true
   pub counts : anyFull (s .counters) ≡ false
   pub known : pid < 8192
+  pub placed : input < 16

@@ -43,7 +43,7 @@ carriedAt m x section (Arrived a) =
     record { answer = t .answer; held = record { laid = laidAfter (m .capacity) (rowFrom a) (x .laid); counters = t .held .counters; watch = t .held .watch } }
 
 unfoldable pub said : Manner → Placed → Offer → SaidAt
-said m x o = carriedAt m x (o .section) (cond (anyFull (x .counters)) (Refused CounterFull) (readOf (m .rule) (o .pid) (o .section)))
+said m x o = carriedAt m x (o .section) (cond (anyFull (x .counters)) (Refused CounterFull) (readOf (m .rule) (o .input) (o .pid) (o .section)))
 
 unfoldable pub saysAt : Manner → Placed → Offer → Said
 saysAt m x o = (said m x o) .answer

@@ -33,7 +33,7 @@ isChanged h (Arrived a) = changed (rowFrom a) (h .rows)
 
 -- an offer is followed where it is a changed section, following is on, and the section is a readable PAT
 unfoldable pub isFollowed : Manner → Held → Offer → Bool
-isFollowed m h o = isChanged h (cond (anyFull (h .counters)) (Refused CounterFull) (readOf (m .rule) (o .pid) (o .section))) && m .follow && readable (o .section)
+isFollowed m h o = isChanged h (cond (anyFull (h .counters)) (Refused CounterFull) (readOf (m .rule) (o .input) (o .pid) (o .section))) && m .follow && readable (o .section)
 
 -- N after a history of offers: the PIDs of the programs, but program 0, of the last PAT that was followed in it; n where none was
 unfoldable pub nAfter : Manner → Held → (ℕ → Bool) → List Offer → ℕ → Bool

@@ -35,6 +35,7 @@ use Rattle.promises.specs.Demand3 as demand
 use Rattle.promises.specs.Demand3Read as read
 use Rattle.promises.proofs.Demand3Read.{demand-3-read}
 use Rattle.host_words.specs.Answers.{Words, at}
+use Rattle.host_words.specs.Inputs.{inputNumber}
 use Rattle.host_words.specs.Pids.{maybePid}
 use Rattle.host_words.specs.Sections.{sectionAfter}
 use Rattle.host_sets.specs.Calls.{rowAfter, setsPushed, setsCleared, setsNext}
@@ -116,16 +117,16 @@ clear-not-5 s e = go (wholeOf s) e
 call-told : (l : Lent) (c : Call) → tells l c ≡ 5 → (h : Handed) × ((called (storeIn l) (callOf c)) .told ≡ handed h) × (at ((acts l c) .row) 0 ≡ h .row)
 unfolding tells acts setsPushed setsCleared
 call-told l clear e = absurd (clear-not-5 (storeIn l) e)
-call-told l (push pid section) e = go ((pushedOf (storeIn l) (maybePid pid) section) .told) refl e
+call-told l (push input pid section) e = go ((pushedOf (storeIn l) (inputNumber input) (maybePid pid) section) .told) refl e
   where
-    go : (t : Told) → (pushedOf (storeIn l) (maybePid pid) section) .told ≡ t → toldNo t ≡ 5 → (h : Handed) × ((pushedOf (storeIn l) (maybePid pid) section) .told ≡ handed h)
-        × (at (rowAfter ((pushedOf (storeIn l) (maybePid pid) section) .told) (l .row)) 0 ≡ h .row)
+    go : (t : Told) → (pushedOf (storeIn l) (inputNumber input) (maybePid pid) section) .told ≡ t → toldNo t ≡ 5 → (h : Handed) × ((pushedOf (storeIn l) (inputNumber input) (maybePid pid) section) .told ≡ handed h)
+        × (at (rowAfter ((pushedOf (storeIn l) (inputNumber input) (maybePid pid) section) .told) (l .row)) 0 ≡ h .row)
     go t e k = let q = told-5 t k in (q .0, e ∙ q .1, ap (λ (x : Told). at (rowAfter x (l .row)) 0) (e ∙ q .1))
 
 tells-told : (l : Lent) (c : Call) → tells l c ≡ toldNo ((called (storeIn l) (callOf c)) .told)
 unfolding tells setsPushed setsCleared
 tells-told l clear = refl
-tells-told l (push pid section) = refl
+tells-told l (push input pid section) = refl
 
 -- the row of a set
 abbrev rowIn : Told → ℕ

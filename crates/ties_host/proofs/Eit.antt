@@ -41,6 +41,7 @@ use Rattle.ties_eit.specs.View.{seen, settingsOf, reads, answerTold}
 use Rattle.ties_eit.specs.View as ties
 use Rattle.ties_eit.proofs.History.{EachFitting, opened-reached}
 use Rattle.ties_eit.proofs.History as histories
+use Rattle.host_words.specs.Inputs.{inputNumber}
 use Rattle.host_words.specs.Pids.{maybePid}
 use Rattle.host_eit_words.specs.Words.{eitOf, filterOf, wordsOf, wordsAfter}
 use Rattle.host_eit.specs.Calls.{eitOpened, eitPushed, eitCleared, eitDropped}
@@ -86,18 +87,18 @@ unfolding pushedWhole
 arrived-counts s bytes (arrival.Refused r) = refl
 arrived-counts s bytes (arrival.Arrived a) = carried-counts s bytes (planOf s bytes a)
 
-pushed-counts : (s : Store) (pid : MaybePid) (bytes : List ℕ) → (pushedOf s pid bytes) .store .eit ≡ counted (s .eit) ((pushedOf s pid bytes) .store .eit)
+pushed-counts : (s : Store) (input : ℕ) (pid : MaybePid) (bytes : List ℕ) → (pushedOf s input pid bytes) .store .eit ≡ counted (s .eit) ((pushedOf s input pid bytes) .store .eit)
 unfolding pushedOf
-pushed-counts s pid bytes = arrived-counts s bytes (admitted s pid bytes)
+pushed-counts s input pid bytes = arrived-counts s bytes (admitted s input pid bytes)
 
 -- ---- one call
 
 -- what is written is what is read: after the call the words stand for the collector that the call of the crate left
 pub reads-back : (l : Lent) (c : Call) → storeIn (acts l c) ≡ (ties.called (storeIn l) (callOf c)) .store
 unfolding acts eitPushed eitCleared eitDropped clearedOf droppedOf matchingGone
-reads-back l (push pid section) =
-    let a = (pushedOf (storeIn l) (maybePid pid) section) .store in
-    ap (λ (e : Eit). store e (a .heads) (a .slots) (a .cells) (a .schedule-heads) (a .units)) (sym (pushed-counts (storeIn l) (maybePid pid) section))
+reads-back l (push input pid section) =
+    let a = (pushedOf (storeIn l) (inputNumber input) (maybePid pid) section) .store in
+    ap (λ (e : Eit). store e (a .heads) (a .slots) (a .cells) (a .schedule-heads) (a .units)) (sym (pushed-counts (storeIn l) (inputNumber input) (maybePid pid) section))
 reads-back l clear = go (wholeOf (storeIn l))
   where
     s : Store
@@ -128,7 +129,7 @@ told-number (eit.refused r) = refl
 
 pub tells-as : (l : Lent) (c : Call) → tells l c ≡ answerNo (ties.tells (storeIn l) (callOf c))
 unfolding tells ties.tells eitPushed eitCleared eitDropped
-tells-as l (push pid section) = told-number ((pushedOf (storeIn l) (maybePid pid) section) .told)
+tells-as l (push input pid section) = told-number ((pushedOf (storeIn l) (inputNumber input) (maybePid pid) section) .told)
 tells-as l clear = told-number ((clearedOf (storeIn l)) .told)
 tells-as l (drop filter) = told-number ((droppedOf (storeIn l) (filterOf filter)) .told)
 

@@ -29,6 +29,7 @@ use Rattle.gate.specs.View.{mannerOf, heldBy, Opened, storeTells, storeActs}
 use Rattle.gate_state.specs.declared.Gate.{Gate}
 use Rattle.gate_state.specs.declared.Settings.{Settings}
 use Rattle.ties_gate.proofs.Order as order
+use Rattle.host_words.specs.Inputs.{inputNumber}
 use Rattle.host_words.specs.Pids.{pidNumber}
 use Rattle.host_gate_words.specs.Words.{settingsOf, gateOf, countersOf, bit, isOn, wordsOf, failureAfter}
 use Rattle.host_gate.specs.Calls.{begunAs, gateOpened, gateOffered}
@@ -70,9 +71,9 @@ carried-counts s section (Refused r) = refl
 carried-counts s section (Failed f) = refl
 carried-counts s section (Arrived a) = ap (λ (r : Ring). gateWith (s .gate) r) (seen-counts (s .gate .ring) (s .keys) (s .changes) (a .key) (stampOf (a .version) (a .change)))
 
-offered-counts : (s : Store) (pid : ℕ) (section : List ℕ) → (offered s pid section) .store .gate ≡ counted (s .gate) ((offered s pid section) .store .gate)
+offered-counts : (s : Store) (input pid : ℕ) (section : List ℕ) → (offered s input pid section) .store .gate ≡ counted (s .gate) ((offered s input pid section) .store .gate)
 unfolding offered
-offered-counts s pid section = carried-counts s section (verdictOf (isWhole s) (s .counters) (s .gate .«change_rule») pid section)
+offered-counts s input pid section = carried-counts s section (verdictOf (isWhole s) (s .counters) (s .gate .«change_rule») input pid section)
 
 -- ---- one call
 
@@ -80,8 +81,8 @@ offered-counts s pid section = carried-counts s section (verdictOf (isWhole s) (
 pub reads-back : (l : Lent) (o : Offer) → storeIn (acts l o) ≡ storeActs (storeIn l) (offerOf o)
 unfolding acts storeActs gateOffered
 reads-back l o =
-    let a = (offered (storeIn l) (pidNumber (o .pid)) (o .section)) .store in
-    ap (λ (g : Gate). storeOf g (a .counters) (a .keys) (a .changes) (a .words)) (sym (offered-counts (storeIn l) (pidNumber (o .pid)) (o .section)))
+    let a = (offered (storeIn l) (inputNumber (o .input)) (pidNumber (o .pid)) (o .section)) .store in
+    ap (λ (g : Gate). storeOf g (a .counters) (a .keys) (a .changes) (a .words)) (sym (offered-counts (storeIn l) (inputNumber (o .input)) (pidNumber (o .pid)) (o .section)))
 
 pub tells-as : (l : Lent) (o : Offer) → tells l o ≡ numberOf (storeTells (storeIn l) (offerOf o))
 unfolding tells storeTells gateOffered

@@ -26,6 +26,7 @@ use Rattle.gate_indexed.specs.Store.{canOpenBy, Begun, begins, openedBy, Indexe
 use Rattle.gate_indexed.specs.Runs.{tellsBy, actsBy}
 use Rattle.ties_gate.proofs.Indexed as same
 use Rattle.ties_gate.proofs.Indexed.{leftOpen, opening-opens}
+use Rattle.host_words.specs.Inputs.{inputNumber}
 use Rattle.host_words.specs.Pids.{pidNumber}
 use Rattle.host_gate_words.specs.Words.{settingsOf, gateOf, countersOf, wordsOf, failureAfter}
 use Rattle.host_indexed.specs.Calls.{begunAs, gateOpened, gateOffered}
@@ -47,18 +48,18 @@ carried-counts s section (Failed f) = refl
 carried-counts s section (Arrived a) =
     ap (λ (r : Ring). gateWith (s .store .gate) r) (seen-counts (s .store .gate .ring) (s .store .keys) (s .store .changes) (s .index) (a .key) (stampOf (a .version) (a .change)))
 
-offered-counts : (s : Indexed) (pid : ℕ) (section : List ℕ) → (offeredBy s pid section) .left .store .gate ≡ counted (s .store .gate) ((offeredBy s pid section) .left .store .gate)
+offered-counts : (s : Indexed) (input pid : ℕ) (section : List ℕ) → (offeredBy s input pid section) .left .store .gate ≡ counted (s .store .gate) ((offeredBy s input pid section) .left .store .gate)
 unfolding offeredBy
-offered-counts s pid section = carried-counts s section (verdictOf (isWholeBy s) (s .store .counters) (s .store .gate .«change_rule») pid section)
+offered-counts s input pid section = carried-counts s section (verdictOf (isWholeBy s) (s .store .counters) (s .store .gate .«change_rule») input pid section)
 
 -- ---- one call
 
 pub reads-back : (l : Lent) (o : Offer) → storeIn (acts l o) ≡ actsBy (storeIn l) (offerOf o)
 unfolding acts actsBy gateOffered
 reads-back l o =
-    let a = (offeredBy (storeIn l) (pidNumber (o .pid)) (o .section)) .left in
+    let a = (offeredBy (storeIn l) (inputNumber (o .input)) (pidNumber (o .pid)) (o .section)) .left in
     ap (λ (g : Gate). indexedOf g (a .store .counters) (a .store .keys) (a .store .changes) (indexOf (a .index .buckets) (a .index .links)) (a .store .words))
-    (sym (offered-counts (storeIn l) (pidNumber (o .pid)) (o .section)))
+    (sym (offered-counts (storeIn l) (inputNumber (o .input)) (pidNumber (o .pid)) (o .section)))
 
 pub tells-as : (l : Lent) (o : Offer) → tells l o ≡ numberOf (tellsBy (storeIn l) (offerOf o))
 unfolding tells tellsBy gateOffered

@@ -29,6 +29,7 @@ use Rattle.ties_sets.specs.View as ties
 use Rattle.ties_sets.proofs.History.{EachOfBytes, opened-reached}
 use Rattle.ties_sets.proofs.History as histories
 use Rattle.host_words.specs.Answers as words
+use Rattle.host_words.specs.Inputs.{inputNumber}
 use Rattle.host_words.specs.Pids.{maybePid}
 use Rattle.host_sets_words.specs.Words.{setsOf, wordsOf, wordsAfter}
 use Rattle.host_sets.specs.Calls.{setsOpened, setsPushed, setsCleared}
@@ -54,18 +55,18 @@ unfolding wholePushed
 arrived-counts s bytes (arrival.Refused r) = refl
 arrived-counts s bytes (arrival.Arrived e) = carried-counts s bytes (planOf s e bytes)
 
-pushed-counts : (s : Store) (pid : MaybePid) (bytes : List ℕ) → (pushedOf s pid bytes) .store .sets ≡ counted (s .sets) ((pushedOf s pid bytes) .store .sets)
+pushed-counts : (s : Store) (input : ℕ) (pid : MaybePid) (bytes : List ℕ) → (pushedOf s input pid bytes) .store .sets ≡ counted (s .sets) ((pushedOf s input pid bytes) .store .sets)
 unfolding pushedOf
-pushed-counts s pid bytes = arrived-counts s bytes (admitted s pid bytes)
+pushed-counts s input pid bytes = arrived-counts s bytes (admitted s input pid bytes)
 
 -- ---- one call
 
 -- what is written is what is read: after the call the words stand for the collector that the call of the crate left
 pub reads-back : (l : Lent) (c : Call) → storeIn (acts l c) ≡ (called (storeIn l) (callOf c)) .store
 unfolding acts setsPushed setsCleared clearedOf
-reads-back l (push pid section) =
-    let a = (pushedOf (storeIn l) (maybePid pid) section) .store in
-    ap (λ (s : Sets). store s (a .heads) (a .slots) (a .cells)) (sym (pushed-counts (storeIn l) (maybePid pid) section))
+reads-back l (push input pid section) =
+    let a = (pushedOf (storeIn l) (inputNumber input) (maybePid pid) section) .store in
+    ap (λ (s : Sets). store s (a .heads) (a .slots) (a .cells)) (sym (pushed-counts (storeIn l) (inputNumber input) (maybePid pid) section))
 reads-back l clear = go (wholeOf (storeIn l))
   where
     s : Store
@@ -85,7 +86,7 @@ told-number (refused r) = refl
 
 pub tells-as : (l : Lent) (c : Call) → tells l c ≡ answerNo (ties.tells (storeIn l) (callOf c))
 unfolding tells ties.tells setsPushed setsCleared
-tells-as l (push pid section) = told-number ((pushedOf (storeIn l) (maybePid pid) section) .told)
+tells-as l (push input pid section) = told-number ((pushedOf (storeIn l) (inputNumber input) (maybePid pid) section) .told)
 tells-as l clear = told-number ((clearedOf (storeIn l)) .told)
 
 pub acts-as : (l : Lent) (c : Call) → storeIn (acts l c) ≡ ties.acts (storeIn l) (callOf c)

@@ -6,6 +6,7 @@ use Rattle.answers.specs.Answers.{refusalNo}
 use Rattle.rules_eit.specs.Rules.{Answer, done, nothing, handout, schedule, refused}
 use Rattle.eit_state.specs.State.{Store, store}
 use Rattle.ties_eit.specs.View as ties
+use Rattle.host_words.specs.Inputs.{inputNumber}
 use Rattle.host_words.specs.Pids.{maybePid}
 use Rattle.host_eit_words.specs.Words.{eitOf, filterOf}
 use Rattle.host_eit.specs.Calls.{eitOpened, eitPushed, eitCleared, eitDropped}
@@ -24,22 +25,22 @@ abbrev pub lent : (words heads slots cells schedule-heads units row : List ℕ) 
 lent words heads slots cells schedule-heads units row =
     record { words = words; heads = heads; slots = slots; cells = cells; schedule-heads = schedule-heads; units = units; row = row }
 
--- `petrizolu_eit_push`, `petrizolu_eit_clear` and `petrizolu_eit_drop` with the six words of a filter. Questions leave all as it was
+-- `petrizolu_eit_push`, `petrizolu_eit_clear` and `petrizolu_eit_drop` with the seven words of a filter. Questions leave all as it was
 pub data Call : Type 0 where
-  push : (pid : ℕ) (section : List ℕ) → Call
+  push : (input pid : ℕ) (section : List ℕ) → Call
   clear : Call
   drop : (filter : List ℕ) → Call
 
 -- the number that is answered
 unfoldable pub tells : Lent → Call → ℕ
-tells l (push pid section) = (eitPushed (l .words) (l .heads) (l .slots) (l .cells) (l .schedule-heads) (l .units) pid section (l .row)) .answer
+tells l (push input pid section) = (eitPushed (l .words) (l .heads) (l .slots) (l .cells) (l .schedule-heads) (l .units) input pid section (l .row)) .answer
 tells l clear = (eitCleared (l .words) (l .heads) (l .slots) (l .cells) (l .schedule-heads) (l .units)) .answer
 tells l (drop filter) = (eitDropped (l .words) (l .heads) (l .slots) (l .cells) (l .schedule-heads) (l .units) filter) .answer
 
 -- what stands in the words and slices then
 unfoldable pub acts : Lent → Call → Lent
-acts l (push pid section) =
-    let r = eitPushed (l .words) (l .heads) (l .slots) (l .cells) (l .schedule-heads) (l .units) pid section (l .row) in
+acts l (push input pid section) =
+    let r = eitPushed (l .words) (l .heads) (l .slots) (l .cells) (l .schedule-heads) (l .units) input pid section (l .row) in
     lent (r .eit) (r .heads) (r .slots) (r .cells) (r .schedule-heads) (r .units) (r .row)
 acts l clear =
     lent ((eitCleared (l .words) (l .heads) (l .slots) (l .cells) (l .schedule-heads) (l .units)) .now) (l .heads) (l .slots) (l .cells) (l .schedule-heads) (l .units) (l .row)
@@ -53,7 +54,7 @@ storeIn l = store (eitOf (l .words)) (l .heads) (l .slots) (l .cells) (l .schedu
 
 -- the call of the crate eit that is made of it; 0xFFFFFFFF is "no PID"
 abbrev pub callOf : Call → ties.Given
-callOf (push pid section) = ties.section (maybePid pid) section
+callOf (push input pid section) = ties.section (inputNumber input) (maybePid pid) section
 callOf clear = ties.clears
 callOf (drop filter) = ties.drops (filterOf filter)
 

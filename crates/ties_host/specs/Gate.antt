@@ -4,6 +4,7 @@ use mathlib.Core.Path.{_≡_}
 use mathlib.Core.List.{List}
 use Rattle.gate.specs.Rules.{Offer}
 use Rattle.gate.specs.Store.{Store, storeOf}
+use Rattle.host_words.specs.Inputs.{inputNumber}
 use Rattle.host_words.specs.Pids.{pidNumber}
 use Rattle.host_gate_words.specs.Words.{gateOf, countersOf}
 use Rattle.host_gate.specs.Calls.{gateOpened, gateOffered}
@@ -18,21 +19,21 @@ pub record Lent : Type 0 where
 
 -- `petrizolu_gate_offer`: a PID of 32 bits and a section. The number that is answered
 unfoldable pub tells : Lent → Offer → ℕ
-tells l o = (gateOffered (l .words) (l .keys) (l .changes) (l .watch) (o .pid) (o .section) (l .failure)) .answer
+tells l o = (gateOffered (l .words) (l .keys) (l .changes) (l .watch) (o .input) (o .pid) (o .section) (l .failure)) .answer
 
 -- what stands in the words and slices then
 unfoldable pub acts : Lent → Offer → Lent
 acts l o =
-    let r = gateOffered (l .words) (l .keys) (l .changes) (l .watch) (o .pid) (o .section) (l .failure) in
+    let r = gateOffered (l .words) (l .keys) (l .changes) (l .watch) (o .input) (o .pid) (o .section) (l .failure) in
     record { words = r .gate; keys = r .keys; changes = r .changes; watch = r .watch; failure = r .failure }
 
 -- the gate and the counters that the words stand for
 abbrev pub storeIn : Lent → Store
 storeIn l = storeOf (gateOf (l .words)) (countersOf (l .words)) (l .keys) (l .changes) (l .watch)
 
--- the offer to the crate gate that is made of it: a number of more than 16 bits stays no PID
+-- the offer to the crate gate that is made of it: a number of more than 16 bits stays no PID, one of more than 8 no input
 abbrev pub offerOf : Offer → Offer
-offerOf o = record { pid = pidNumber (o .pid); section = o .section }
+offerOf o = record { input = inputNumber (o .input); pid = pidNumber (o .pid); section = o .section }
 
 -- as `petrizolu_gate_open` leaves the words and the watch where it answers 7, whatever stood in them
 pub record OpenedBy (l : Lent) : Type 0 where

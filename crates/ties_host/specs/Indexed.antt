@@ -20,12 +20,12 @@ pub record Lent : Type 0 where
 
 -- `petrizolu_indexed_offer`: the number that is answered
 unfoldable pub tells : Lent → Offer → ℕ
-tells l o = (gateOffered (l .words) (l .keys) (l .changes) (l .buckets) (l .links) (l .watch) (o .pid) (o .section) (l .failure)) .answer
+tells l o = (gateOffered (l .words) (l .keys) (l .changes) (l .buckets) (l .links) (l .watch) (o .input) (o .pid) (o .section) (l .failure)) .answer
 
 -- what stands in the words and slices then
 unfoldable pub acts : Lent → Offer → Lent
 acts l o =
-    let r = gateOffered (l .words) (l .keys) (l .changes) (l .buckets) (l .links) (l .watch) (o .pid) (o .section) (l .failure) in
+    let r = gateOffered (l .words) (l .keys) (l .changes) (l .buckets) (l .links) (l .watch) (o .input) (o .pid) (o .section) (l .failure) in
     record { words = r .gate; keys = r .keys; changes = r .changes; buckets = r .buckets; links = r .links; watch = r .watch; failure = r .failure }
 
 -- the gate, the counters and the index that the words and slices stand for

@@ -7,6 +7,7 @@ use Rattle.rules_sets.specs.Rules.{Answer, cleared, nothing, handout, refused}
 use Rattle.store.specs.Store.{Store, store}
 use Rattle.sets.specs.History.{offer, empty}
 use Rattle.sets.specs.History.{Call as Given}
+use Rattle.host_words.specs.Inputs.{inputNumber}
 use Rattle.host_words.specs.Pids.{maybePid}
 use Rattle.host_sets_words.specs.Words.{setsOf}
 use Rattle.host_sets.specs.Calls.{setsOpened, setsPushed, setsCleared}
@@ -24,18 +25,18 @@ lent words heads slots cells row = record { words = words; heads = heads; slots 
 
 -- `petrizolu_sets_push` and `petrizolu_sets_clear`. Questions leave all as it was
 pub data Call : Type 0 where
-  push : (pid : ℕ) (section : List ℕ) → Call
+  push : (input pid : ℕ) (section : List ℕ) → Call
   clear : Call
 
 -- the number that is answered
 unfoldable pub tells : Lent → Call → ℕ
-tells l (push pid section) = (setsPushed (l .words) (l .heads) (l .slots) (l .cells) pid section (l .row)) .answer
+tells l (push input pid section) = (setsPushed (l .words) (l .heads) (l .slots) (l .cells) input pid section (l .row)) .answer
 tells l clear = (setsCleared (l .words) (l .heads) (l .slots) (l .cells)) .answer
 
 -- what stands in the words and slices then
 unfoldable pub acts : Lent → Call → Lent
-acts l (push pid section) =
-    let r = setsPushed (l .words) (l .heads) (l .slots) (l .cells) pid section (l .row) in lent (r .sets) (r .heads) (r .slots) (r .cells) (r .row)
+acts l (push input pid section) =
+    let r = setsPushed (l .words) (l .heads) (l .slots) (l .cells) input pid section (l .row) in lent (r .sets) (r .heads) (r .slots) (r .cells) (r .row)
 acts l clear = lent ((setsCleared (l .words) (l .heads) (l .slots) (l .cells)) .now) (l .heads) (l .slots) (l .cells) (l .row)
 
 -- the collector that the words stand for
@@ -44,7 +45,7 @@ storeIn l = store (setsOf (l .words)) (l .heads) (l .slots) (l .cells)
 
 -- the call of the crate sets that is made of it; 0xFFFFFFFF is "no PID"
 abbrev pub callOf : Call → Given
-callOf (push pid section) = offer (maybePid pid) section
+callOf (push input pid section) = offer (inputNumber input) (maybePid pid) section
 callOf clear = empty
 
 -- the number of an answer of the rules

@@ -97,9 +97,9 @@ step-set (answer.Set i) t h o e =
 step-set (answer.Schedule k) t h o e = absurd (apart (a-schedule (scheduleOut t k)) (a-set h) refl refl (λ z. absurd (omega (arith, z))) e)
 step-set (answer.Refused r) t h o e = absurd (apart (refused r) (a-set h) refl refl (λ z. absurd (omega (arith, z))) e)
 
-pub told-set : (s : Store) → wholeOf s ≡ true → (pid : MaybePid) (bytes : Bytes) (h : SetOut) → (pushedOf s pid bytes) .told ≡ a-set h → SetTold h ((pushedOf s pid bytes) .store)
+pub told-set : (s : Store) → wholeOf s ≡ true → (input : ℕ) (pid : MaybePid) (bytes : Bytes) (h : SetOut) → (pushedOf s input pid bytes) .told ≡ a-set h → SetTold h ((pushedOf s input pid bytes) .store)
 unfolding pushedOf kind-of
-told-set s w pid bytes h e = go (admitted s pid bytes) e
+told-set s w input pid bytes h e = go (admitted s input pid bytes) e
   where
     go : (v : EitArrival) → (pushedAs s bytes v) .told ≡ a-set h → SetTold h ((pushedAs s bytes v) .store)
     go (arrival.Refused r) e = absurd (apart (refused r) (a-set h) refl refl (λ z. absurd (omega (arith, z))) e)
@@ -108,25 +108,25 @@ told-set s w pid bytes h e = go (admitted s pid bytes) e
 -- ---- after an answer 5
 
 -- the store that a push leaves is whole
-pub push-whole : (s : Store) → Reached s → wholeOf s ≡ true → (pid : MaybePid) (bytes : Bytes) → ((i : ℕ) → getD bytes i 0 < 256) → wholeOf ((pushedOf s pid bytes) .store) ≡ true
+pub push-whole : (s : Store) → Reached s → wholeOf s ≡ true → (input : ℕ) (pid : MaybePid) (bytes : Bytes) → ((i : ℕ) → getD bytes i 0 < 256) → wholeOf ((pushedOf s input pid bytes) .store) ≡ true
 unfolding acts
-push-whole s z w pid bytes o = stays-whole s z w (section pid bytes) o
+push-whole s z w input pid bytes o = stays-whole s z w (section input pid bytes) o
 
 -- What a host reads out of the row that it was told of, asking from 0 on, are the sections that were handed out, byte for byte; then the answer is no
-pub read-handed : (s : Store) → Reached s → wholeOf s ≡ true → (pid : MaybePid) (bytes : Bytes) → ((i : ℕ) → getD bytes i 0 < 256) → (h : SetOut) → (pushedOf s pid bytes) .told ≡ a-set h
-    → Reads (nextOf ((pushedOf s pid bytes) .store) (h .row)) (((pushedOf s pid bytes) .store) .cells) 0 (h .sections) No
+pub read-handed : (s : Store) → Reached s → wholeOf s ≡ true → (input : ℕ) (pid : MaybePid) (bytes : Bytes) → ((i : ℕ) → getD bytes i 0 < 256) → (h : SetOut) → (pushedOf s input pid bytes) .told ≡ a-set h
+    → Reads (nextOf ((pushedOf s input pid bytes) .store) (h .row)) (((pushedOf s input pid bytes) .store) .cells) 0 (h .sections) No
 unfolding setOut
-read-handed s z w pid bytes o h e =
-    let t : Store = (pushedOf s pid bytes) .store in
-    let x = told-set s w pid bytes h e in
+read-handed s z w input pid bytes o h e =
+    let t : Store = (pushedOf s input pid bytes) .store in
+    let x = told-set s w input pid bytes h e in
     let d : h .sections ≡ map (kept (t .cells) (t .eit .sets .size)) (filledSlots (rowSlots (t .heads) (t .slots) (h .row))) = ap (λ (y : SetOut). y .sections) (x .set) in
     subst (λ (l : List Bytes). Reads (nextOf t (h .row)) (t .cells) 0 l No) (sym d)
-    (reads-row t (push-whole s z w pid bytes o) (h .row) (x .used))
+    (reads-row t (push-whole s z w input pid bytes o) (h .row) (x .used))
 
 -- .. in every history from an opening on
-pub read-in-every-history : (s : Store) → Opened s → (calls : List Given) → EachFitting calls → (pid : MaybePid) (bytes : Bytes) → ((i : ℕ) → getD bytes i 0 < 256) → (h : SetOut)
-    → (pushedOf (storeAfter acts s calls) pid bytes) .told ≡ a-set h
-    → Reads (nextOf ((pushedOf (storeAfter acts s calls) pid bytes) .store) (h .row)) (((pushedOf (storeAfter acts s calls) pid bytes) .store) .cells) 0 (h .sections) No
+pub read-in-every-history : (s : Store) → Opened s → (calls : List Given) → EachFitting calls → (input : ℕ) (pid : MaybePid) (bytes : Bytes) → ((i : ℕ) → getD bytes i 0 < 256) → (h : SetOut)
+    → (pushedOf (storeAfter acts s calls) input pid bytes) .told ≡ a-set h
+    → Reads (nextOf ((pushedOf (storeAfter acts s calls) input pid bytes) .store) (h .row)) (((pushedOf (storeAfter acts s calls) input pid bytes) .store) .cells) 0 (h .sections) No
 read-in-every-history s o calls f =
     let w = always-whole calls f s (opened-reached s o) (opened-whole s o) in
     read-handed (storeAfter acts s calls) (w .0) (w .1)
@@ -141,25 +141,25 @@ sectionsIn (rules.schedule g) l = l
 sectionsIn (rules.refused r) l = l
 
 -- where the rules hand out a set, a set is told, and what a host reads out of its row are the rules' sections
-pub read-as-ruled : (s : Store) → Opened s → (calls : List Given) → EachFitting calls → (pid : MaybePid) (bytes : Bytes) → ((i : ℕ) → getD bytes i 0 < 256) → (w : WholeOf Bytes)
-    → callTells (seen (storeAfter acts s calls)) (reads (section pid bytes)) ≡ handout w
-    → (h : SetOut) × ((pushedOf (storeAfter acts s calls) pid bytes) .told ≡ a-set h)
-    × Reads (nextOf ((pushedOf (storeAfter acts s calls) pid bytes) .store) (h .row)) (((pushedOf (storeAfter acts s calls) pid bytes) .store) .cells) 0 (w .sections) No
+pub read-as-ruled : (s : Store) → Opened s → (calls : List Given) → EachFitting calls → (input : ℕ) (pid : MaybePid) (bytes : Bytes) → ((i : ℕ) → getD bytes i 0 < 256) → (w : WholeOf Bytes)
+    → callTells (seen (storeAfter acts s calls)) (reads (section input pid bytes)) ≡ handout w
+    → (h : SetOut) × ((pushedOf (storeAfter acts s calls) input pid bytes) .told ≡ a-set h)
+    × Reads (nextOf ((pushedOf (storeAfter acts s calls) input pid bytes) .store) (h .row)) (((pushedOf (storeAfter acts s calls) input pid bytes) .store) .cells) 0 (w .sections) No
 unfolding tells answerTold
-read-as-ruled s o calls f pid bytes b w e =
+read-as-ruled s o calls f input pid bytes b w e =
     let q = always-whole calls f s (opened-reached s o) (opened-whole s o) in
     let t : Store = storeAfter acts s calls in
-    go ((pushedOf t pid bytes) .told) refl (tells-seen t (q .0) (section pid bytes) b ∙ e)
+    go ((pushedOf t input pid bytes) .told) refl (tells-seen t (q .0) (section input pid bytes) b ∙ e)
   where
     then : Store
-    then = (pushedOf (storeAfter acts s calls) pid bytes) .store
+    then = (pushedOf (storeAfter acts s calls) input pid bytes) .store
 
-    go : (x : Told) → (pushedOf (storeAfter acts s calls) pid bytes) .told ≡ x → answerTold x ≡ handout w
-        → (h : SetOut) × ((pushedOf (storeAfter acts s calls) pid bytes) .told ≡ a-set h) × Reads (nextOf then (h .row)) (then .cells) 0 (w .sections) No
+    go : (x : Told) → (pushedOf (storeAfter acts s calls) input pid bytes) .told ≡ x → answerTold x ≡ handout w
+        → (h : SetOut) × ((pushedOf (storeAfter acts s calls) input pid bytes) .told ≡ a-set h) × Reads (nextOf then (h .row)) (then .cells) 0 (w .sections) No
     go done p k = let z : _≡_ {A = ℕ} 0 1 = cc in absurd (omega arith)
     go nothing p k = let z : _≡_ {A = ℕ} 0 1 = cc in absurd (omega arith)
     go (a-set h) p k =
         let d : h .sections ≡ w .sections = ap (λ (a : Answer). sectionsIn a (w .sections)) k in
-        (h, p, subst (λ (l : List Bytes). Reads (nextOf then (h .row)) (then .cells) 0 l No) d (read-in-every-history s o calls f pid bytes b h p))
+        (h, p, subst (λ (l : List Bytes). Reads (nextOf then (h .row)) (then .cells) 0 l No) d (read-in-every-history s o calls f input pid bytes b h p))
     go (a-schedule g) p k = let z : _≡_ {A = ℕ} 0 1 = cc in absurd (omega arith)
     go (refused r) p k = let z : _≡_ {A = ℕ} 0 1 = cc in absurd (omega arith)

@@ -79,11 +79,11 @@ set-reader s row {parts = parts} {last = last} r = go (sets-store.wholeOf s) ref
         subst (λ (l : List ℕ). HandsOut (s .sets .size) l (begun (s .cells)) parts) (sym (rw e refl)) (none-read (sets.nextOf s row) (s .cells) (s .sets .size) (Refused refusal.NotWhole) (rw e refl) refused≢yes r)
 
 -- after an answer 5, in every history from an opening on
-pub set-handed : (s : sets-store.Store) → set-history.OpenedStore s → (calls : List set-history.Call) → set-history.AllBytes calls → (pid : MaybePid) (bytes : List ℕ) → getD bytes 7 0 < 256 → (h : settle.Handed)
-    → (sets.pushedOf (set-history.afterAll s calls) pid bytes) .told ≡ settle.handed h
-    → HandsOut (((sets.pushedOf (set-history.afterAll s calls) pid bytes) .store) .sets .size) (setSlots ((sets.pushedOf (set-history.afterAll s calls) pid bytes) .store) (h .row))
-    (begun (((sets.pushedOf (set-history.afterAll s calls) pid bytes) .store) .cells)) (h .sections)
-set-handed s o calls a pid bytes b h e = set-reader ((sets.pushedOf (set-history.afterAll s calls) pid bytes) .store) (h .row) (of-sets.read-in-every-history s o calls a pid bytes b h e)
+pub set-handed : (s : sets-store.Store) → set-history.OpenedStore s → (calls : List set-history.Call) → set-history.AllBytes calls → (input : ℕ) (pid : MaybePid) (bytes : List ℕ) → getD bytes 7 0 < 256 → (h : settle.Handed)
+    → (sets.pushedOf (set-history.afterAll s calls) input pid bytes) .told ≡ settle.handed h
+    → HandsOut (((sets.pushedOf (set-history.afterAll s calls) input pid bytes) .store) .sets .size) (setSlots ((sets.pushedOf (set-history.afterAll s calls) input pid bytes) .store) (h .row))
+    (begun (((sets.pushedOf (set-history.afterAll s calls) input pid bytes) .store) .cells)) (h .sections)
+set-handed s o calls a input pid bytes b h e = set-reader ((sets.pushedOf (set-history.afterAll s calls) input pid bytes) .store) (h .row) (of-sets.read-in-every-history s o calls a input pid bytes b h e)
 
 -- ---- an EIT set
 
@@ -105,11 +105,11 @@ eit-reader s row {parts = parts} {last = last} r = go (eit-store.wholeOf s) refl
         subst (λ (l : List ℕ). HandsOut (s .eit .sets .size) l (begun (s .cells)) parts) (sym (rw e refl)) (none-read (eit.nextOf s row) (s .cells) (s .eit .sets .size) (Refused refusal.NotWhole) (rw e refl) refused≢yes r)
 
 -- after an answer 5, in every history from an opening on
-pub eit-handed : (s : eit-store.Store) → Opened s → (calls : List Given) → EachFitting calls → (pid : MaybePid) (bytes : List ℕ) → ((i : ℕ) → getD bytes i 0 < 256) → (h : eit.SetOut)
-    → (eit.pushedOf (storeAfter acts s calls) pid bytes) .told ≡ eit.a-set h
-    → HandsOut (((eit.pushedOf (storeAfter acts s calls) pid bytes) .store) .eit .sets .size) (eitSlots ((eit.pushedOf (storeAfter acts s calls) pid bytes) .store) (h .row))
-    (begun (((eit.pushedOf (storeAfter acts s calls) pid bytes) .store) .cells)) (h .sections)
-eit-handed s o calls f pid bytes b h e = eit-reader ((eit.pushedOf (storeAfter acts s calls) pid bytes) .store) (h .row) (of-eit.read-in-every-history s o calls f pid bytes b h e)
+pub eit-handed : (s : eit-store.Store) → Opened s → (calls : List Given) → EachFitting calls → (input : ℕ) (pid : MaybePid) (bytes : List ℕ) → ((i : ℕ) → getD bytes i 0 < 256) → (h : eit.SetOut)
+    → (eit.pushedOf (storeAfter acts s calls) input pid bytes) .told ≡ eit.a-set h
+    → HandsOut (((eit.pushedOf (storeAfter acts s calls) input pid bytes) .store) .eit .sets .size) (eitSlots ((eit.pushedOf (storeAfter acts s calls) input pid bytes) .store) (h .row))
+    (begun (((eit.pushedOf (storeAfter acts s calls) input pid bytes) .store) .cells)) (h .sections)
+eit-handed s o calls f input pid bytes b h e = eit-reader ((eit.pushedOf (storeAfter acts s calls) input pid bytes) .store) (h .row) (of-eit.read-in-every-history s o calls f input pid bytes b h e)
 
 -- ---- a table of a schedule
 
@@ -143,9 +143,9 @@ pub record HandsSchedule (t : eit-store.Store) (g : eit.ScheduleOut) : Type 0 wh
   pub tables : (j : ℕ) (x : eit.TableOut) → At (g .tables) j x → HandsOut (t .eit .sets .size) (tableSlots t (g .row) j) (begun (t .cells)) (x .sections)
   pub past : (j : ℕ) → length (g .tables) ≤ j → HandsOut (t .eit .sets .size) (tableSlots t (g .row) j) (begun (t .cells)) []
 
-pub schedule-handed : (s : eit-store.Store) → Opened s → (calls : List Given) → EachFitting calls → (pid : MaybePid) (bytes : List ℕ) → ((i : ℕ) → getD bytes i 0 < 256) → (g : eit.ScheduleOut)
-    → (eit.pushedOf (storeAfter acts s calls) pid bytes) .told ≡ eit.a-schedule g → HandsSchedule ((eit.pushedOf (storeAfter acts s calls) pid bytes) .store) g
-schedule-handed s o calls f pid bytes b g e =
-    let t : eit-store.Store = (eit.pushedOf (storeAfter acts s calls) pid bytes) .store in
-    let r = of-schedules.read-in-every-history s o calls f pid bytes b g e in
+pub schedule-handed : (s : eit-store.Store) → Opened s → (calls : List Given) → EachFitting calls → (input : ℕ) (pid : MaybePid) (bytes : List ℕ) → ((i : ℕ) → getD bytes i 0 < 256) → (g : eit.ScheduleOut)
+    → (eit.pushedOf (storeAfter acts s calls) input pid bytes) .told ≡ eit.a-schedule g → HandsSchedule ((eit.pushedOf (storeAfter acts s calls) input pid bytes) .store) g
+schedule-handed s o calls f input pid bytes b g e =
+    let t : eit-store.Store = (eit.pushedOf (storeAfter acts s calls) input pid bytes) .store in
+    let r = of-schedules.read-in-every-history s o calls f input pid bytes b g e in
     record { tables = λ j x a. table-reader t (g .row) j (r .tables j x a); past = λ j l. table-reader t (g .row) j (r .past j l) }

@@ -94,9 +94,9 @@ step-schedule (answer.Schedule k) t g o e =
     }
 step-schedule (answer.Refused r) t g o e = absurd (apart (refused r) (a-schedule g) refl refl (λ z. absurd (omega (arith, z))) e)
 
-pub told-schedule : (s : Store) → wholeOf s ≡ true → (pid : MaybePid) (bytes : Bytes) (g : ScheduleOut) → (pushedOf s pid bytes) .told ≡ a-schedule g → ScheduleTold g ((pushedOf s pid bytes) .store)
+pub told-schedule : (s : Store) → wholeOf s ≡ true → (input : ℕ) (pid : MaybePid) (bytes : Bytes) (g : ScheduleOut) → (pushedOf s input pid bytes) .told ≡ a-schedule g → ScheduleTold g ((pushedOf s input pid bytes) .store)
 unfolding pushedOf kind-of
-told-schedule s w pid bytes g e = go (admitted s pid bytes) e
+told-schedule s w input pid bytes g e = go (admitted s input pid bytes) e
   where
     go : (v : EitArrival) → (pushedAs s bytes v) .told ≡ a-schedule g → ScheduleTold g ((pushedAs s bytes v) .store)
     go (arrival.Refused r) e = absurd (apart (refused r) (a-schedule g) refl refl (λ z. absurd (omega (arith, z))) e)
@@ -125,24 +125,24 @@ pub record ReadsSchedule (t : Store) (g : ScheduleOut) : Type 0 where
   pub tables : (j : ℕ) (x : TableOut) → At (g .tables) j x → Reads (nextInOf t (g .row) j) (t .cells) 0 (x .sections) No
   pub past : (j : ℕ) → length (g .tables) ≤ j → Reads (nextInOf t (g .row) j) (t .cells) 0 [] No
 
-pub read-handed : (s : Store) → Reached s → wholeOf s ≡ true → (pid : MaybePid) (bytes : Bytes) → ((i : ℕ) → getD bytes i 0 < 256) → (g : ScheduleOut) → (pushedOf s pid bytes) .told ≡ a-schedule g
-    → ReadsSchedule ((pushedOf s pid bytes) .store) g
+pub read-handed : (s : Store) → Reached s → wholeOf s ≡ true → (input : ℕ) (pid : MaybePid) (bytes : Bytes) → ((i : ℕ) → getD bytes i 0 < 256) → (g : ScheduleOut) → (pushedOf s input pid bytes) .told ≡ a-schedule g
+    → ReadsSchedule ((pushedOf s input pid bytes) .store) g
 unfolding scheduleOut tableOut
-read-handed s z w pid bytes o g e = record { tables = one; past = none }
+read-handed s z w input pid bytes o g e = record { tables = one; past = none }
   where
     t : Store
-    t = (pushedOf s pid bytes) .store
+    t = (pushedOf s input pid bytes) .store
 
-    told : ScheduleTold g ((pushedOf s pid bytes) .store)
-    told = told-schedule s w pid bytes g e
+    told : ScheduleTold g ((pushedOf s input pid bytes) .store)
+    told = told-schedule s w input pid bytes g e
 
-    whole : wholeOf ((pushedOf s pid bytes) .store) ≡ true
-    whole = push-whole s z w pid bytes o
+    whole : wholeOf ((pushedOf s input pid bytes) .store) ≡ true
+    whole = push-whole s z w input pid bytes o
 
     n : ℕ
-    n = tablesOf (((pushedOf s pid bytes) .store) .schedule-heads) (g .row)
+    n = tablesOf (((pushedOf s input pid bytes) .store) .schedule-heads) (g .row)
 
-    are : g .tables ≡ tablesOut ((pushedOf s pid bytes) .store) (g .row * 16) n
+    are : g .tables ≡ tablesOut ((pushedOf s input pid bytes) .store) (g .row * 16) n
     are = ap (λ (x : ScheduleOut). x .tables) (told .schedule)
 
     one : (j : ℕ) (x : TableOut) → At (g .tables) j x → Reads (nextInOf t (g .row) j) (t .cells) 0 (x .sections) No
@@ -158,8 +158,8 @@ read-handed s z w pid bytes o g e = record { tables = one; past = none }
         reads-past t whole (g .row) j (told .used) (omega (arith, c, h))
 
 -- .. in every history from an opening on
-pub read-in-every-history : (s : Store) → Opened s → (calls : List Given) → EachFitting calls → (pid : MaybePid) (bytes : Bytes) → ((i : ℕ) → getD bytes i 0 < 256) → (g : ScheduleOut)
-    → (pushedOf (storeAfter acts s calls) pid bytes) .told ≡ a-schedule g → ReadsSchedule ((pushedOf (storeAfter acts s calls) pid bytes) .store) g
+pub read-in-every-history : (s : Store) → Opened s → (calls : List Given) → EachFitting calls → (input : ℕ) (pid : MaybePid) (bytes : Bytes) → ((i : ℕ) → getD bytes i 0 < 256) → (g : ScheduleOut)
+    → (pushedOf (storeAfter acts s calls) input pid bytes) .told ≡ a-schedule g → ReadsSchedule ((pushedOf (storeAfter acts s calls) input pid bytes) .store) g
 read-in-every-history s o calls f =
     let w = always-whole calls f s (opened-reached s o) (opened-whole s o) in
     read-handed (storeAfter acts s calls) (w .0) (w .1)
@@ -192,20 +192,20 @@ pub record ReadsGuide (t : Store) (row : ℕ) (w : GuideOf Bytes) : Type 0 where
   pub past : (j : ℕ) → length (w .tables) ≤ j → Reads (nextInOf t row j) (t .cells) 0 [] No
 
 -- where the rules hand out a schedule, a schedule is told, and what a host reads out of its row are the sections of the rules' tables
-pub read-as-ruled : (s : Store) → Opened s → (calls : List Given) → EachFitting calls → (pid : MaybePid) (bytes : Bytes) → ((i : ℕ) → getD bytes i 0 < 256) → (w : GuideOf Bytes)
-    → callTells (seen (storeAfter acts s calls)) (reads (section pid bytes)) ≡ schedule w
-    → (g : ScheduleOut) × ((pushedOf (storeAfter acts s calls) pid bytes) .told ≡ a-schedule g) × ReadsGuide ((pushedOf (storeAfter acts s calls) pid bytes) .store) (g .row) w
+pub read-as-ruled : (s : Store) → Opened s → (calls : List Given) → EachFitting calls → (input : ℕ) (pid : MaybePid) (bytes : Bytes) → ((i : ℕ) → getD bytes i 0 < 256) → (w : GuideOf Bytes)
+    → callTells (seen (storeAfter acts s calls)) (reads (section input pid bytes)) ≡ schedule w
+    → (g : ScheduleOut) × ((pushedOf (storeAfter acts s calls) input pid bytes) .told ≡ a-schedule g) × ReadsGuide ((pushedOf (storeAfter acts s calls) input pid bytes) .store) (g .row) w
 unfolding tells answerTold
-read-as-ruled s o calls f pid bytes b w e =
+read-as-ruled s o calls f input pid bytes b w e =
     let q = always-whole calls f s (opened-reached s o) (opened-whole s o) in
     let t : Store = storeAfter acts s calls in
-    go ((pushedOf t pid bytes) .told) refl (tells-seen t (q .0) (section pid bytes) b ∙ e)
+    go ((pushedOf t input pid bytes) .told) refl (tells-seen t (q .0) (section input pid bytes) b ∙ e)
   where
     then : Store
-    then = (pushedOf (storeAfter acts s calls) pid bytes) .store
+    then = (pushedOf (storeAfter acts s calls) input pid bytes) .store
 
-    go : (x : Told) → (pushedOf (storeAfter acts s calls) pid bytes) .told ≡ x → answerTold x ≡ schedule w
-        → (g : ScheduleOut) × ((pushedOf (storeAfter acts s calls) pid bytes) .told ≡ a-schedule g) × ReadsGuide then (g .row) w
+    go : (x : Told) → (pushedOf (storeAfter acts s calls) input pid bytes) .told ≡ x → answerTold x ≡ schedule w
+        → (g : ScheduleOut) × ((pushedOf (storeAfter acts s calls) input pid bytes) .told ≡ a-schedule g) × ReadsGuide then (g .row) w
     go done p k = let z : _≡_ {A = ℕ} 0 1 = cc in absurd (omega arith)
     go nothing p k = let z : _≡_ {A = ℕ} 0 1 = cc in absurd (omega arith)
     go (a-set h) p k = let z : _≡_ {A = ℕ} 0 1 = cc in absurd (omega arith)
@@ -221,7 +221,7 @@ read-as-ruled s o calls f pid bytes b w e =
         are = ap (λ (a : Answer). tablesIn a (w .tables)) k
 
         r : ReadsSchedule then g
-        r = read-in-every-history s o calls f pid bytes b g p
+        r = read-in-every-history s o calls f input pid bytes b g p
 
         one : (j : ℕ) (y : WholeOf Bytes) → At (w .tables) j y → Reads (nextInOf then (g .row) j) (then .cells) 0 (y .sections) No
         one j y h =

@@ -108,9 +108,9 @@ carried-out s bytes (plan.Conflict i) h o e = absurd (not-handed ((carried s byt
 carried-out s bytes (plan.Repeat i) h o e = settled-out s i h (o .row) e
 carried-out s bytes (plan.Keep k) h o e = settled-out (keptIn s bytes k) (k .room .row) h (o .room .row) e
 
-pub pushed-out : (s : Store) (pid : MaybePid) (bytes : List ℕ) (h : Handed) → getD bytes 7 0 < 256 → (pushedOf s pid bytes) .told ≡ handed h → HandedOut h ((pushedOf s pid bytes) .store)
+pub pushed-out : (s : Store) (input : ℕ) (pid : MaybePid) (bytes : List ℕ) (h : Handed) → getD bytes 7 0 < 256 → (pushedOf s input pid bytes) .told ≡ handed h → HandedOut h ((pushedOf s input pid bytes) .store)
 unfolding pushedOf wholePushed no-number
-pushed-out s pid bytes h b e = go (admitted s pid bytes) (admitted-ok s bytes pid b) e
+pushed-out s input pid bytes h b e = go (admitted s input pid bytes) (admitted-ok s bytes input pid b) e
   where
     go : (a : SetArrival) → AdmittedOk s bytes a → (pushedAs s bytes a) .told ≡ handed h → HandedOut h ((pushedAs s bytes a) .store)
     go (arrival.Refused r) o e = absurd (not-handed (refused r) h refl e)
@@ -119,19 +119,19 @@ pushed-out s pid bytes h b e = go (admitted s pid bytes) (admitted-ok s bytes pi
 -- ---- after an answer 5
 
 -- What a host reads out of the row that it was told of, asking from 0 on, are the sections that were handed out, byte for byte; then the answer is no
-pub read-handed : (s : Store) → WholeStore s → (pid : MaybePid) (bytes : List ℕ) → getD bytes 7 0 < 256 → (h : Handed) → (pushedOf s pid bytes) .told ≡ handed h
-    → Reads (nextOf ((pushedOf s pid bytes) .store) (h .row)) (((pushedOf s pid bytes) .store) .cells) 0 (h .sections) No
+pub read-handed : (s : Store) → WholeStore s → (input : ℕ) (pid : MaybePid) (bytes : List ℕ) → getD bytes 7 0 < 256 → (h : Handed) → (pushedOf s input pid bytes) .told ≡ handed h
+    → Reads (nextOf ((pushedOf s input pid bytes) .store) (h .row)) (((pushedOf s input pid bytes) .store) .cells) 0 (h .sections) No
 unfolding setIn
-read-handed s w pid bytes b h e =
-    let t : Store = (pushedOf s pid bytes) .store in
-    let o = pushed-out s pid bytes h b e in
+read-handed s w input pid bytes b h e =
+    let t : Store = (pushedOf s input pid bytes) .store in
+    let o = pushed-out s input pid bytes h b e in
     let d : h .sections ≡ map (kept (t .cells) (t .sets .size)) (rowSlots (t .heads) (t .slots) (h .row)) = ap (λ (x : Handed). x .sections) (o .set) in
     let f = all-filled (rowSlots (t .heads) (t .slots) (h .row)) (o .full) in
     subst (λ (l : List (List ℕ)). Reads (nextOf t (h .row)) (t .cells) 0 l No) (ap (map (kept (t .cells) (t .sets .size))) f ∙ sym d)
-    (reads-row t (push-stays s pid bytes b w) (h .row) (o .used))
+    (reads-row t (push-stays s input pid bytes b w) (h .row) (o .used))
 
 -- .. in every history from an opening on
-pub read-in-every-history : (s : Store) → OpenedStore s → (calls : List Call) → AllBytes calls → (pid : MaybePid) (bytes : List ℕ) → getD bytes 7 0 < 256 → (h : Handed)
-    → (pushedOf (afterAll s calls) pid bytes) .told ≡ handed h
-    → Reads (nextOf ((pushedOf (afterAll s calls) pid bytes) .store) (h .row)) (((pushedOf (afterAll s calls) pid bytes) .store) .cells) 0 (h .sections) No
+pub read-in-every-history : (s : Store) → OpenedStore s → (calls : List Call) → AllBytes calls → (input : ℕ) (pid : MaybePid) (bytes : List ℕ) → getD bytes 7 0 < 256 → (h : Handed)
+    → (pushedOf (afterAll s calls) input pid bytes) .told ≡ handed h
+    → Reads (nextOf ((pushedOf (afterAll s calls) input pid bytes) .store) (h .row)) (((pushedOf (afterAll s calls) input pid bytes) .store) .cells) 0 (h .sections) No
 read-in-every-history s o calls a = read-handed (afterAll s calls) (stays s calls a (opened-whole s o))

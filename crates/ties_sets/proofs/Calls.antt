@@ -29,6 +29,7 @@ use Rattle.section.specs.declared.header.Collected.{Collected}
 use Rattle.section.specs.declared.header.Collected.the-variants.{Malformed, ShortForm, BadNumber, BadCrc, Good}
 use Rattle.section.specs.declared.ids.MaybePid.{MaybePid}
 use Rattle.section.specs.declared.ids.MaybePid.the-variants as maybe
+use Rattle.section.specs.declared.ids.InputMade.the-variants as input-made
 use Rattle.section.specs.declared.ids.OriginMade.the-variants as made
 use Rattle.section.specs.Facts.{Bytes as AllBytes}
 use Rattle.cells.specs.Cells.{keptLength, filled, slotWhole, allWhole, kept}
@@ -48,7 +49,7 @@ use Rattle.rows.proofs.Words.{slot-at, length-slots}
 use Rattle.rows.proofs.Whole.{rows-get}
 use Rattle.ages.proofs.Cells.{cells-length, bytes-kept, same-bytes}
 use Rattle.answers.specs.declared.Refusal.the-variants as refusal
-use Rattle.arrivals.specs.Arrivals.{Numbered, Taken, madeWords, setKey, entryOf, setRead, setJudged, setArrival}
+use Rattle.arrivals.specs.Arrivals.{Numbered, Taken, inputWords, madeWords, setKey, entryOf, setRead, setJudged, setArrival}
 use Rattle.arrivals.specs.declared.SetArrival.the-variants as arrival
 use Rattle.sets.proofs.Arrived.{entry-taken}
 use Rattle.store.specs.Store.{Store, store, wholeOf, Whole, emptySets}
@@ -63,7 +64,7 @@ use Rattle.sets_settle.specs.Settle.{after, done, refused, carried}
 use Rattle.sets.specs.Store.{clearedOf, pushedAs, pushedOf}
 use Rattle.sets_push.specs.Pushing.{wholePushed, admitted}
 use Rattle.sets.specs.History.{Call as Given, empty as clears, offer as section, Bytes as OfBytes, called}
-use Rattle.ties_sets.specs.View.{keyShown, keyWords, rowSeen, seen, readsAs, readSection, reads, answerTold, Reached}
+use Rattle.ties_sets.specs.View.{keyShown, keyWords, rowSeen, seen, readsAs, readOn, readSection, reads, answerTold, Reached}
 use Rattle.ties_sets.proofs.Rows.{same-self, written-shown, written-reads}
 use Rattle.ties_sets.proofs.Settle.{Tied, Ready, settle-tied, conflict-tied}
 use Rattle.ties_sets.proofs.Keep.{sectionFor, anew, goesOn, keep-tied}
@@ -311,17 +312,21 @@ module _ (s : Store) (z : Reached s) where
         (plan-tied (entryOf (setKey p h) h) (entry-taken bytes h (setKey p h) q (o 7)) (written-reads p (h .«table_id») (h .extension) (h .«current_next»)))
 
     -- 12
-    pid-tied : AllBytes bytes → (pid : MaybePid) → Tied (pushedAs s bytes (setArrival pid bytes)) (good (seen s) (readSection pid bytes))
+    pid-tied : AllBytes bytes → (input : ℕ) (pid : MaybePid) → Tied (pushedAs s bytes (setArrival input pid bytes)) (good (seen s) (readSection input pid bytes))
     unfolding setArrival readSection good shows onAnswer answerTold seen originShown
-    pid-tied o maybe.None = judged-tied o (record { pid = 8192 }) (collectedOf bytes) refl
-    pid-tied o (maybe.Some v) = go (ltb v 8192) refl
+    pid-tied o input maybe.None = go (ltb input 16)
       where
-        go : (b : Bool) → ltb v 8192 ≡ b
-            → Tied (pushedAs s bytes (setJudged (madeWords (cond b (made.One (originOf v)) made.BadPid)) bytes)) (good (seen s) (cond b (readsAs (record { pid = some v }) bytes (collectedOf bytes)) (refuse refusal.BadPid)))
-        go true q =
-            let l = ltb-true v 8192 q in
-            rw (← (shown-pid v l)) (judged-tied o (record { pid = v }) (collectedOf bytes) refl)
-        go false q = record { told = refl; shown = refl; reached = z }
+        go : (b : Bool) → Tied (pushedAs s bytes (setJudged (inputWords (cond b (input-made.One (record { 0 = input })) input-made.TooLarge)) bytes))
+            (good (seen s) (cond b (readsAs (record { input = input; pid = none }) bytes (collectedOf bytes)) (refuse refusal.BadInput)))
+        go true = judged-tied o (record { input = input; pid = 8192 }) (collectedOf bytes) refl
+        go false = record { told = refl; shown = refl; reached = z }
+    pid-tied o input (maybe.Some v) = go (ltb v 8192) (ltb input 16) refl
+      where
+        go : (b c : Bool) → ltb v 8192 ≡ b → Tied (pushedAs s bytes (setJudged (madeWords (cond b (cond c (made.One (originOf input v)) made.BadInput) made.BadPid)) bytes))
+            (good (seen s) (cond b (cond c (readsAs (record { input = input; pid = some v }) bytes (collectedOf bytes)) (refuse refusal.BadInput)) (refuse refusal.BadPid)))
+        go true true q = rw (← (shown-pid input v (ltb-true v 8192 q))) (judged-tied o (record { input = input; pid = v }) (collectedOf bytes) refl)
+        go true false q = record { told = refl; shown = refl; reached = z }
+        go false c q = record { told = refl; shown = refl; reached = z }
 
   -- 11 comes before what the section is read as
   ended-as : (bytes : Bytes) (from : Origin) (c : Collected) → ended (seen s) (readsAs from bytes c) ≡ atEnd (s .sets .evictions)
@@ -332,32 +337,40 @@ module _ (s : Store) (z : Reached s) where
   ended-as bytes from BadCrc = refl
   ended-as bytes from (Good h) = refl
 
-  ended-read : (pid : MaybePid) (bytes : Bytes) → ended (seen s) (readSection pid bytes) ≡ atEnd (s .sets .evictions)
-  unfolding readSection ended seen
-  ended-read maybe.None bytes = ended-as bytes (record { pid = none }) (collectedOf bytes)
-  ended-read (maybe.Some v) bytes = go (ltb v 8192)
+  ended-on : (bytes : Bytes) (from : Origin) → ended (seen s) (readOn from bytes) ≡ atEnd (s .sets .evictions)
+  unfolding ended seen
+  ended-on bytes from = go (ltb (from .input) 16)
     where
-      go : (b : Bool) → ended (seen s) (cond b (readsAs (record { pid = some v }) bytes (collectedOf bytes)) (refuse refusal.BadPid)) ≡ atEnd (s .sets .evictions)
-      go true = ended-as bytes (record { pid = some v }) (collectedOf bytes)
+      go : (b : Bool) → ended (seen s) (cond b (readsAs from bytes (collectedOf bytes)) (refuse refusal.BadInput)) ≡ atEnd (s .sets .evictions)
+      go true = ended-as bytes from (collectedOf bytes)
+      go false = refl
+
+  ended-read : (input : ℕ) (pid : MaybePid) (bytes : Bytes) → ended (seen s) (readSection input pid bytes) ≡ atEnd (s .sets .evictions)
+  unfolding readSection ended seen
+  ended-read input maybe.None bytes = ended-on bytes (record { input = input; pid = none })
+  ended-read input (maybe.Some v) bytes = go (ltb v 8192)
+    where
+      go : (b : Bool) → ended (seen s) (cond b (readOn (record { input = input; pid = some v }) bytes) (refuse refusal.BadPid)) ≡ atEnd (s .sets .evictions)
+      go true = ended-on bytes (record { input = input; pid = some v })
       go false = refl
 
   -- 10, then 11
-  push-tied : (pid : MaybePid) (bytes : Bytes) → AllBytes bytes → Tied (pushedOf s pid bytes) (call (seen s) (readSection pid bytes))
+  push-tied : (input : ℕ) (pid : MaybePid) (bytes : Bytes) → AllBytes bytes → Tied (pushedOf s input pid bytes) (call (seen s) (readSection input pid bytes))
   unfolding pushedOf admitted call guarded answerTold
-  push-tied pid bytes o =
-      rw (whole-seen s z, ended-read pid bytes, ended-seen s z) (go (wholeOf s) (eqb (s .sets .evictions) 18446744073709551615) refl refl)
+  push-tied input pid bytes o =
+      rw (whole-seen s z, ended-read input pid bytes, ended-seen s z) (go (wholeOf s) (eqb (s .sets .evictions) 18446744073709551615) refl refl)
     where
       go : (w t : Bool) → wholeOf s ≡ w → eqb (s .sets .evictions) 18446744073709551615 ≡ t
-          → Tied (pushedAs s bytes (cond w (cond t (arrival.Refused refusal.CounterFull) (setArrival pid bytes)) (arrival.Refused refusal.NotWhole))) (guarded w t (seen s) (readSection pid bytes))
+          → Tied (pushedAs s bytes (cond w (cond t (arrival.Refused refusal.CounterFull) (setArrival input pid bytes)) (arrival.Refused refusal.NotWhole))) (guarded w t (seen s) (readSection input pid bytes))
       go false t p q = record { told = refl; shown = refl; reached = z }
       go true true p q = record { told = refl; shown = refl; reached = z }
       go true false p q =
           let d : s .sets .evictions ≢ 18446744073709551615 = eqb-false (s .sets .evictions) 18446744073709551615 q in
           let c = z .counts in
-          pid-tied (whole-means s p) (omega arith) bytes o pid
+          pid-tied (whole-means s p) (omega arith) bytes o input pid
 
   -- every call
   pub tied : (i : Given) → OfBytes i → Tied (called s i) (call (seen s) (reads i))
   unfolding reads
   tied clears o = clear-tied s z
-  tied (section pid bytes) o = push-tied pid bytes o
+  tied (section input pid bytes) o = push-tied input pid bytes o

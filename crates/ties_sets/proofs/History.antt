@@ -31,7 +31,7 @@ use Rattle.ages.proofs.Touch.{stands-none}
 use Rattle.ages.proofs.Cells.{cells-length}
 use Rattle.rules_sets.proofs.Keys.{sameKey-true}
 use Rattle.answers.specs.declared.Refusal.{Refusal}
-use Rattle.answers.specs.declared.Refusal.the-variants.{NotWhole, TooLittle, BadPid, Conflict}
+use Rattle.answers.specs.declared.Refusal.the-variants.{NotWhole, TooLittle, BadPid, Conflict, BadInput}
 use Rattle.rules_shared.specs.Refusals as refusals
 use Rattle.section.proofs.Facts.{takes}
 use Rattle.store.specs.Store.{Store, store, asked, emptySets, settingsFit, wholeOf}
@@ -40,7 +40,7 @@ use Rattle.sets_settle.specs.Settle.{Told, done, nothing, handed, refused, afte
 use Rattle.sets.specs.Store.{openedOf, clearedOf, pushedOf}
 use Rattle.sets.proofs.Refusals.{refusal-keeps}
 use Rattle.sets.specs.History.{Call as Given, empty as clears, offer as section, Bytes as OfBytes}
-use Rattle.ties_sets.specs.View.{keyShown, keyWords, seen, settingsOf, readsAs, readSection, reads, answerTold, tells, acts, Opened, Reached}
+use Rattle.ties_sets.specs.View.{keyShown, keyWords, seen, settingsOf, readsAs, readOn, readSection, reads, answerTold, tells, acts, Opened, Reached}
 use Rattle.ties_sets.proofs.Rows.{same-self}
 use Rattle.ties_sets.proofs.Calls.{tied}
 
@@ -78,14 +78,22 @@ come-as from bytes BadNumber e = refl
 come-as from bytes BadCrc e = refl
 come-as from bytes (Good h) e = takes bytes h (collectedOf bytes) refl e .room
 
+come-on : (from : Origin) (bytes : Bytes) → CanCome (readOn from bytes)
+unfolding refusals.ofSection
+come-on from bytes = pick (ltb (from .input) 16)
+  where
+    pick : (b : Bool) → CanCome (cond b (readsAs from bytes (collectedOf bytes)) (refuse BadInput))
+    pick true = come-as from bytes (collectedOf bytes) refl
+    pick false = refl
+
 pub can-come : (i : Given) → CanCome (reads i)
 unfolding reads readSection refusals.ofSection
 can-come clears = tt
-can-come (section maybe.None bytes) = come-as (record { pid = none }) bytes (collectedOf bytes) refl
-can-come (section (maybe.Some p) bytes) = pick (ltb p 8192)
+can-come (section input maybe.None bytes) = come-on (record { input = input; pid = none }) bytes
+can-come (section input (maybe.Some p) bytes) = pick (ltb p 8192)
   where
-    pick : (b : Bool) → CanCome (cond b (readsAs (record { pid = some p }) bytes (collectedOf bytes)) (refuse BadPid))
-    pick true = come-as (record { pid = some p }) bytes (collectedOf bytes) refl
+    pick : (b : Bool) → CanCome (cond b (readOn (record { input = input; pid = some p }) bytes) (refuse BadPid))
+    pick true = come-on (record { input = input; pid = some p }) bytes
     pick false = refl
 
 -- ---- one call
@@ -137,7 +145,7 @@ as-before s clears h = go (wholeOf s) h
         → (cond b (after done (store (emptySets (s .sets)) (s .heads) (s .slots) (s .cells))) (after (refused NotWhole) s)) .store ≡ s
     go true h = absurd (true≢false (sym h))
     go false h = refl
-as-before s (section pid bytes) h = kept-told s ((pushedOf s pid bytes) .store) ((pushedOf s pid bytes) .told) (refusal-keeps s pid bytes) h
+as-before s (section input pid bytes) h = kept-told s ((pushedOf s input pid bytes) .store) ((pushedOf s input pid bytes) .told) (refusal-keeps s input pid bytes) h
 
 -- ---- many calls
 

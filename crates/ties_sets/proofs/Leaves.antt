@@ -47,9 +47,9 @@ conflict-told nothing e = let z : _≡_ {A = ℕ} 0 1 = cc in absurd (omega arit
 conflict-told (handed w) e = let z : _≡_ {A = ℕ} 0 1 = cc in absurd (omega arith)
 conflict-told (refused r) e = let z : r ≡ Conflict = cc in ap refused z
 
-pub conflict-memory : (s : Store) (pid : MaybePid) (bytes : Bytes) → tells s (section pid bytes) ≡ conflict → AsBefore s bytes (acts s (section pid bytes))
+pub conflict-memory : (s : Store) (input : ℕ) (pid : MaybePid) (bytes : Bytes) → tells s (section input pid bytes) ≡ conflict → AsBefore s bytes (acts s (section input pid bytes))
 unfolding tells acts
-conflict-memory s pid bytes h = conflict-keeps s pid bytes (conflict-told ((pushedOf s pid bytes) .told) h)
+conflict-memory s input pid bytes h = conflict-keeps s input pid bytes (conflict-told ((pushedOf s input pid bytes) .told) h)
 
 -- ---- "A cell is free exactly when no slot .. of a row in use names it"
 

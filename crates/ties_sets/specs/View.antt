@@ -83,14 +83,18 @@ readsAs from bytes (Good h) = offer (record {
   bytes = bytes;
 })
 
+-- 37: an input of 16 or more
+abbrev pub readOn : Origin → Bytes → Call
+readOn from bytes = cond (ltb (from .input) 16) (readsAs from bytes (collectedOf bytes)) (refuse refusal.BadInput)
+
 -- 12 first: a PID of 8192 or more
-unfoldable pub readSection : MaybePid → Bytes → Call
-readSection maybe.None bytes = readsAs (record { pid = none }) bytes (collectedOf bytes)
-readSection (maybe.Some p) bytes = cond (ltb p 8192) (readsAs (record { pid = some p }) bytes (collectedOf bytes)) (refuse refusal.BadPid)
+unfoldable pub readSection : (input : ℕ) → MaybePid → Bytes → Call
+readSection input maybe.None bytes = readOn (record { input = input; pid = none }) bytes
+readSection input (maybe.Some p) bytes = cond (ltb p 8192) (readOn (record { input = input; pid = some p }) bytes) (refuse refusal.BadPid)
 
 unfoldable pub reads : Given → Call
 reads clears = clear
-reads (section pid bytes) = readSection pid bytes
+reads (section input pid bytes) = readSection input pid bytes
 
 -- what is told, as the rules have it
 unfoldable pub answerTold : Told → Answer

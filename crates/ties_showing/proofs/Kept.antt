@@ -121,7 +121,7 @@ module _ (good : Bytes → Bool) where
     outcome-sound f (stopped i e h) = w
     outcome-sound f (clears e) = record { eit = record { fewSets = omega arith; fewSchedules = omega arith; sets = tt; schedules = tt } }
     outcome-sound f (drops g e h) = record { eit = dropped-ok ok (s .settings .limit) (s .settings .limit) g (s .eit) (w .eit) }
-    outcome-sound f (keepsAll g e h) = w
+    outcome-sound f (keepsAll g r b e h) = w
     outcome-sound f (refuses r b e) = w
     outcome-sound f (foreign x e h) = w
     outcome-sound f (long x kind e h l) = w

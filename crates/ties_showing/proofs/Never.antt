@@ -52,7 +52,7 @@ use Rattle.ages.proofs.Slots.{place, held-filled}
 use Rattle.ages.proofs.Cells.{up-get, bytes-kept}
 use Rattle.eit_state.specs.State.{Store, wholeOf}
 use Rattle.eit_state.proofs.Whole.{whole-store}
-use Rattle.ties_eit.specs.View.{keyShown, scheduleShown, rowSeen, copySeen, placeSeen, scheduleSeen, seen, Given, clears, drops, section, reads, readsEit, readsAs, readSection, sectionOf, acts, Opened, Reached}
+use Rattle.ties_eit.specs.View.{keyShown, scheduleShown, rowSeen, copySeen, placeSeen, scheduleSeen, seen, Given, clears, drops, section, reads, readsEit, readsAs, readOn, readSection, sectionOf, acts, Opened, Reached}
 use Rattle.ties_eit.proofs.Arrivals.{Read-as, not-eit, broken, good, read-as, not-kind}
 use Rattle.ties_eit.proofs.History.{opened-reached, opened-seen, EachFitting, same-store, opened-whole, always-whole}
 use Rattle.listing.specs.Store as walks
@@ -103,15 +103,22 @@ read-good from bytes collected.BadNumber e = tt
 read-good from bytes collected.BadCrc e = tt
 read-good from bytes (collected.Good h) e = eit-good from bytes h e (eitOf bytes) refl
 
+on-good : (from : Origin) (bytes : Bytes) → GoodCall readsGood (readOn from bytes)
+on-good from bytes = pick (ltb (from .input) 16)
+  where
+    pick : (b : Bool) → GoodCall readsGood (cond b (readsAs from bytes (collectedOf bytes)) (refuse refusal.BadInput refl))
+    pick true = read-good from bytes (collectedOf bytes) refl
+    pick false = tt
+
 reads-good : (i : Given) → GoodCall readsGood (reads i)
 unfolding reads readSection
 reads-good clears = tt
 reads-good (drops f) = tt
-reads-good (section maybe-pid.None bytes) = read-good (record { pid = none }) bytes (collectedOf bytes) refl
-reads-good (section (maybe-pid.Some p) bytes) = pick (ltb p 8192)
+reads-good (section input maybe-pid.None bytes) = on-good (record { input = input; pid = none }) bytes
+reads-good (section input (maybe-pid.Some p) bytes) = pick (ltb p 8192)
   where
-    pick : (b : Bool) → GoodCall readsGood (cond b (readsAs (record { pid = some p }) bytes (collectedOf bytes)) (refuse refusal.BadPid refl))
-    pick true = read-good (record { pid = some p }) bytes (collectedOf bytes) refl
+    pick : (b : Bool) → GoodCall readsGood (cond b (readOn (record { input = input; pid = some p }) bytes) (refuse refusal.BadPid refl))
+    pick true = on-good (record { input = input; pid = some p }) bytes
     pick false = tt
 
 -- ---- what a history leaves

@@ -6,6 +6,9 @@ use std::io::{self, BufReader, Read};
 
 const SCHEDULE_ACTUAL: u8 = 2;
 
+/// All records come on one input.
+const INPUT: u8 = 0;
+
 struct Monitor {
     gate: Gate,
     sets: Sets,
@@ -40,19 +43,21 @@ impl Monitor {
     }
 
     fn take(&mut self, pid: u16, section: &[u8]) {
-        if !self.gate.watches(pid) {
+        if !self.gate.watches(INPUT, pid) {
             self.unwatched += 1;
             return;
         }
         // A repeat goes on too: it completes a set that was evicted between two of its sections, or found no cell.
-        let table_id = match self.gate.offer(pid, section) {
+        let table_id = match self.gate.offer(INPUT, pid, section) {
             Ok(Offered::Emitted) => {
                 println!("new pid {pid:04X} table {:02X}, {} bytes", section[0], section.len());
                 section[0]
             }
             Ok(Offered::Suppressed) => section[0],
             Ok(Offered::TooShort(length)) => return println!("short pid {pid:04X}, {length} bytes"),
-            Ok(Offered::Mismatch { stored, worked }) => return println!("mismatch pid {pid:04X}, stored {stored:08X}, worked {worked:08X}"),
+            Ok(Offered::Mismatch { stored, worked }) => {
+                return println!("mismatch pid {pid:04X}, stored {stored:08X}, worked {worked:08X}");
+            }
             Err(_) => return,
         };
         if (0x4E..=0x6F).contains(&table_id) {
@@ -63,7 +68,7 @@ impl Monitor {
     }
 
     fn collect_set(&mut self, pid: u16, section: &[u8]) {
-        match self.sets.push(Some(pid), section) {
+        match self.sets.push(INPUT, Some(pid), section) {
             // A TDT or TOT: there is no set of it.
             Ok(None) | Err(Refused(Answer::SHORT_FORM)) => {}
             Ok(Some(row)) => {
@@ -77,7 +82,7 @@ impl Monitor {
     }
 
     fn collect_events(&mut self, pid: u16, section: &[u8]) {
-        match self.eit.push(Some(pid), section) {
+        match self.eit.push(INPUT, Some(pid), section) {
             Ok(None) => {}
             Ok(Some(Complete::Set(row))) => {
                 self.complete_sets += 1;

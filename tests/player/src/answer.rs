@@ -5,6 +5,8 @@ use std::fmt::{self, Display, Write as _};
 /// A set as it is handed out.
 #[derive(Debug, PartialEq, Eq)]
 pub struct Set {
+    /// Compared, but not told: a set goes out with a section of its own input.
+    pub input: u8,
     pub pid: Option<u16>,
     pub table_id: u8,
     pub extension: u16,
@@ -52,6 +54,8 @@ impl Judgement {
 
 #[derive(Debug, PartialEq, Eq)]
 pub enum Answer {
+    /// The input that is current from now on.
+    Input(u8),
     /// A number alone.
     Number(Part, u8),
     /// The gate's answer to a section, with completed, emitted, suppressed, CRC failures and evictions.
@@ -75,7 +79,7 @@ impl Answer {
             Answer::Judged(judgement, _) => Some((Part::Gate, judgement.number())),
             Answer::Collected(n, Held::Sets { .. }, _) => Some((Part::Sets, *n)),
             Answer::Collected(n, Held::Eit { .. }, _) => Some((Part::Eit, *n)),
-            Answer::Unwatched | Answer::Undeliverable | Answer::Watched(_) | Answer::Counters(_) => None,
+            Answer::Input(_) | Answer::Unwatched | Answer::Undeliverable | Answer::Watched(_) | Answer::Counters(_) => None,
         }
     }
 }
@@ -113,6 +117,7 @@ impl Display for Out {
 impl Display for Answer {
     fn fmt(&self, f: &mut fmt::Formatter<'_>) -> fmt::Result {
         match self {
+            Answer::Input(input) => write!(f, "input {input}"),
             Answer::Number(part, n) => write!(f, "{part} {n}"),
             Answer::Judged(judgement, [completed, emitted, suppressed, crc, evicted]) => {
                 write!(f, "gate {} {completed} {emitted} {suppressed} {crc} {evicted}", judgement.number())?;

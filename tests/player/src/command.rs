@@ -27,6 +27,8 @@ pub struct Filter {
     pub transport_stream_id: Option<u16>,
     pub original_network_id: Option<u16>,
     pub current_next: Option<u8>,
+    /// Exactly the input that is current.
+    pub this_input: bool,
 }
 
 /// How a section comes to the gate: in packets, so only on a watched PID, or straight to it.
@@ -36,8 +38,10 @@ pub enum By {
     Offer,
 }
 
+/// The commands after `Input` are on this input, until the next one; those before the first are on input 0.
 #[derive(Clone, Debug)]
 pub enum Command {
+    Input(u8),
     GateOpen { capacity: u32, repeats: bool, follow: bool, well_known: bool, rule: u64, extra: Vec<u16> },
     Gate { by: By, pid: u16, section: Vec<u8> },
     Ask { pid: u16 },
@@ -50,17 +54,22 @@ pub enum Command {
 }
 
 impl Command {
-    pub fn part(&self) -> Part {
+    /// Whose command it is; a change of the input is for all.
+    pub fn part(&self) -> Option<Part> {
         match self {
-            Command::GateOpen { .. } | Command::Gate { .. } | Command::Ask { .. } | Command::Watched | Command::Counters => Part::Gate,
-            Command::Open { part, .. } | Command::Push { part, .. } | Command::Clear { part } => *part,
-            Command::Drop(_) => Part::Eit,
+            Command::Input(_) => None,
+            Command::GateOpen { .. } | Command::Gate { .. } | Command::Ask { .. } | Command::Watched | Command::Counters => {
+                Some(Part::Gate)
+            }
+            Command::Open { part, .. } | Command::Push { part, .. } | Command::Clear { part } => Some(*part),
+            Command::Drop(_) => Some(Part::Eit),
         }
     }
 
     /// The words a command begins with in a script.
     pub fn kind(&self) -> &'static str {
         match self {
+            Command::Input(_) => "input",
             Command::GateOpen { .. } => "gate open",
             Command::Gate { by: By::Packets, .. } => "gate section",
             Command::Gate { by: By::Offer, .. } => "gate offer",

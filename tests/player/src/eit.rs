@@ -33,7 +33,7 @@ impl Eit {
     }
 
     /// The answer, and the row where it is 5 or 6.
-    pub fn push(&mut self, pid: u32, section: &[u8]) -> (Number, u64) {
+    pub fn push(&mut self, input: u32, pid: u32, section: &[u8]) -> (Number, u64) {
         let mut row = 0;
         let number = calls::eit_push(
             &mut self.state,
@@ -42,6 +42,7 @@ impl Eit {
             &mut self.cells,
             &mut self.schedule_heads,
             &mut self.units,
+            input,
             pid,
             section,
             &mut row,
@@ -76,14 +77,14 @@ impl Eit {
         )
     }
 
-    /// Carries out a command of the EIT collector.
-    pub fn answer(&mut self, command: &Command) -> Answer {
+    /// Carries out a command of the EIT collector on an input.
+    pub fn answer(&mut self, input: u8, command: &Command) -> Answer {
         match command {
             Command::Open { limit, cells, size, .. } => {
                 Answer::Number(Part::Eit, self.open((*limit).into(), (*size).into(), (*cells).into()).0)
             }
             Command::Push { pid, section, .. } => {
-                let (number, row) = self.push(pid_word(*pid), section);
+                let (number, row) = self.push(input.into(), pid_word(*pid), section);
                 let out = match number {
                     Number::SET => Out::Set(self.set(row)),
                     Number::SCHEDULE => self.schedule(row),
@@ -93,7 +94,7 @@ impl Eit {
             }
             Command::Clear { .. } => Answer::Number(Part::Eit, self.clear().0),
             Command::Drop(filter) => {
-                let number = self.drop_matching(&filter_words(filter));
+                let number = self.drop_matching(&filter_words(input, filter));
                 Answer::Collected(number.0, self.held(), Out::Nothing)
             }
             other => panic!("no command of the EIT collector: {other}"),
@@ -126,7 +127,7 @@ impl Eit {
     }
 }
 
-fn filter_words(filter: &Filter) -> petrizolu::Filter {
+fn filter_words(input: u8, filter: &Filter) -> petrizolu::Filter {
     let exact = |field: Option<u16>| field.map_or(ANY, u64::from);
     petrizolu::Filter {
         pid: filter.pid.map_or(ANY, |pid| pid_word(pid).into()),
@@ -135,5 +136,6 @@ fn filter_words(filter: &Filter) -> petrizolu::Filter {
         transport_stream_id: exact(filter.transport_stream_id),
         original_network_id: exact(filter.original_network_id),
         current_next: exact(filter.current_next.map(u16::from)),
+        input: if filter.this_input { input.into() } else { ANY },
     }
 }

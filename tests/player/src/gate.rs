@@ -2,11 +2,26 @@
 use crate::answer::{Answer, Judgement};
 use crate::command::{By, Command, Part};
 use crate::lent::{Lent, words};
-use petrizolu::{Answer as Number, CHANGE_AS_THE_RUST, DEFAULT_CAPACITY, DEFAULT_SETTINGS, FOLLOW, Failure, GateState, REPEATS, WATCH_WORDS, WELL_KNOWN, calls};
+use petrizolu::{
+    Answer as Number, CHANGE_AS_THE_RUST, DEFAULT_CAPACITY, DEFAULT_SETTINGS, FOLLOW, Failure, GateState, INPUTS, REPEATS, WATCH_WORDS,
+    WELL_KNOWN, calls,
+};
 
 /// Where the two forms differ, in words.
 #[derive(Debug)]
 pub struct Differs(pub String);
+
+/// A watch record for each input.
+pub type Watches = [Lent<u64>; INPUTS];
+
+fn lend_watches(byte: u8) -> Watches {
+    std::array::from_fn(|_| words(byte, WATCH_WORDS))
+}
+
+/// The place of the record that a call on an input is lent: its own, or that of input 0 where there is no such input, so that a call can answer it.
+pub fn record(input: u32) -> usize {
+    usize::try_from(input).ok().filter(|&input| input < INPUTS).unwrap_or(0)
+}
 
 /// The gate that looks through its rows in order.
 #[derive(Clone, PartialEq)]
@@ -14,25 +29,32 @@ pub struct Plain {
     pub state: GateState,
     pub keys: Lent<u64>,
     pub changes: Lent<u64>,
-    pub watch: Lent<u64>,
+    pub watch: Watches,
 }
 
 impl Plain {
     /// Memory for so many rows, every byte of it `byte`; no gate is open.
     pub fn lend(rows: usize, byte: u8) -> Self {
-        Self { state: GateState::default(), keys: words(byte, rows), changes: words(byte, rows), watch: words(byte, WATCH_WORDS) }
+        Self { state: GateState::default(), keys: words(byte, rows), changes: words(byte, rows), watch: lend_watches(byte) }
     }
 
-    pub fn open(&mut self, capacity: u64, settings: u32, rule: u64, extra: &[u16]) -> Number {
-        calls::gate_open(&mut self.state, capacity, settings, rule, extra, &self.keys, &self.changes, &mut self.watch)
+    /// Opens the gate and the watch record of an input.
+    pub fn open(&mut self, input: u32, capacity: u64, settings: u32, rule: u64, extra: &[u16]) -> Number {
+        calls::gate_open(&mut self.state, capacity, settings, rule, extra, &self.keys, &self.changes, &mut self.watch[record(input)])
     }
 
-    pub fn offer(&mut self, pid: u32, section: &[u8], failure: &mut Failure) -> Number {
-        calls::gate_offer(&mut self.state, &mut self.keys, &mut self.changes, &mut self.watch, pid, section, failure)
+    pub fn offer(&mut self, input: u32, pid: u32, section: &[u8], failure: &mut Failure) -> Number {
+        let watch = &mut self.watch[record(input)];
+        calls::gate_offer(&mut self.state, &mut self.keys, &mut self.changes, watch, input, pid, section, failure)
     }
 
-    pub fn ask(&self, pid: u32) -> Number {
-        calls::watch_ask(&self.watch, pid)
+    /// Opens the watch record of an input alone.
+    pub fn open_watch(&mut self, input: u32, settings: u32, extra: &[u16]) -> Number {
+        calls::watch_open(settings, extra, &mut self.watch[record(input)])
+    }
+
+    pub fn ask(&self, input: u32, pid: u32) -> Number {
+        calls::watch_ask(&self.watch[record(input)], pid)
     }
 }
 
@@ -44,7 +66,7 @@ pub struct Indexed {
     pub changes: Lent<u64>,
     pub buckets: Lent<u64>,
     pub links: Lent<u64>,
-    pub watch: Lent<u64>,
+    pub watch: Watches,
 }
 
 impl Indexed {
@@ -56,11 +78,12 @@ impl Indexed {
             changes: words(byte, rows),
             buckets: words(byte, rows),
             links: words(byte, rows),
-            watch: words(byte, WATCH_WORDS),
+            watch: lend_watches(byte),
         }
     }
 
-    pub fn open(&mut self, capacity: u64, settings: u32, rule: u64, extra: &[u16]) -> Number {
+    /// Opens the gate and the watch record of an input.
+    pub fn open(&mut self, input: u32, capacity: u64, settings: u32, rule: u64, extra: &[u16]) -> Number {
         calls::indexed_open(
             &mut self.state,
             capacity,
@@ -71,26 +94,32 @@ impl Indexed {
             &self.changes,
             &mut self.buckets,
             &self.links,
-            &mut self.watch,
+            &mut self.watch[record(input)],
         )
     }
 
-    pub fn offer(&mut self, pid: u32, section: &[u8], failure: &mut Failure) -> Number {
+    pub fn offer(&mut self, input: u32, pid: u32, section: &[u8], failure: &mut Failure) -> Number {
         calls::indexed_offer(
             &mut self.state,
             &mut self.keys,
             &mut self.changes,
             &mut self.buckets,
             &mut self.links,
-            &mut self.watch,
+            &mut self.watch[record(input)],
+            input,
             pid,
             section,
             failure,
         )
     }
 
-    pub fn ask(&self, pid: u32) -> Number {
-        calls::watch_ask(&self.watch, pid)
+    /// Opens the watch record of an input alone.
+    pub fn open_watch(&mut self, input: u32, settings: u32, extra: &[u16]) -> Number {
+        calls::watch_open(settings, extra, &mut self.watch[record(input)])
+    }
+
+    pub fn ask(&self, input: u32, pid: u32) -> Number {
+        calls::watch_ask(&self.watch[record(input)], pid)
     }
 }
 
@@ -118,45 +147,51 @@ pub struct Gates {
 }
 
 impl Gates {
-    /// Gates with the default settings but the original's change rule, on memory whose bytes were all `byte`.
+    /// Gates with the default settings but the original's change rule, and all watch records with the default settings, on memory whose bytes were all
+    /// `byte`.
     pub fn begin(byte: u8) -> Self {
         let rows = DEFAULT_CAPACITY as usize;
         let mut gates = Self { plain: Plain::lend(rows, byte), indexed: Indexed::lend(rows, byte) };
-        gates.plain.open(DEFAULT_CAPACITY, DEFAULT_SETTINGS, CHANGE_AS_THE_RUST, &[]);
-        gates.indexed.open(DEFAULT_CAPACITY, DEFAULT_SETTINGS, CHANGE_AS_THE_RUST, &[]);
+        gates.plain.open(0, DEFAULT_CAPACITY, DEFAULT_SETTINGS, CHANGE_AS_THE_RUST, &[]);
+        gates.indexed.open(0, DEFAULT_CAPACITY, DEFAULT_SETTINGS, CHANGE_AS_THE_RUST, &[]);
+        for input in 1..INPUTS as u32 {
+            gates.plain.open_watch(input, DEFAULT_SETTINGS, &[]);
+            gates.indexed.open_watch(input, DEFAULT_SETTINGS, &[]);
+        }
         gates
     }
 
-    /// Carries out a command of the gate.
-    pub fn answer(&mut self, command: &Command) -> Result<Answer, Differs> {
+    /// Carries out a command of the gate on an input.
+    pub fn answer(&mut self, input: u8, command: &Command) -> Result<Answer, Differs> {
+        let input = u32::from(input);
         match command {
             Command::GateOpen { capacity, repeats, follow, well_known, rule, extra } => {
                 let flags = [(*repeats, REPEATS), (*follow, FOLLOW), (*well_known, WELL_KNOWN)];
                 let settings = flags.iter().filter(|(on, _)| *on).map(|(_, flag)| flag).sum();
-                self.open((*capacity).into(), settings, *rule, extra)
+                self.open(input, (*capacity).into(), settings, *rule, extra)
             }
-            Command::Gate { by: By::Packets, pid, section } => self.deliver(*pid, section),
-            Command::Gate { by: By::Offer, pid, section } => self.offer(*pid, section),
-            Command::Ask { pid } => Ok(Answer::Number(Part::Gate, self.ask(*pid)?.0)),
-            Command::Watched => self.watched(),
-            Command::Counters => self.counters(),
+            Command::Gate { by: By::Packets, pid, section } => self.deliver(input, *pid, section),
+            Command::Gate { by: By::Offer, pid, section } => self.offer(input, *pid, section),
+            Command::Ask { pid } => Ok(Answer::Number(Part::Gate, self.ask(input, *pid)?.0)),
+            Command::Watched => self.watched(input),
+            Command::Counters => self.counters(input),
             other => panic!("no command of the gate: {other}"),
         }
     }
 
-    fn open(&mut self, capacity: u64, settings: u32, rule: u64, extra: &[u16]) -> Result<Answer, Differs> {
-        let plain = self.plain.open(capacity, settings, rule, extra);
-        let indexed = self.indexed.open(capacity, settings, rule, extra);
-        let number = self.same(plain, indexed)?;
+    fn open(&mut self, input: u32, capacity: u64, settings: u32, rule: u64, extra: &[u16]) -> Result<Answer, Differs> {
+        let plain = self.plain.open(input, capacity, settings, rule, extra);
+        let indexed = self.indexed.open(input, capacity, settings, rule, extra);
+        let number = self.same(input, plain, indexed)?;
         self.same_rows()?;
         Ok(Answer::Number(Part::Gate, number.0))
     }
 
-    fn offer(&mut self, pid: u16, section: &[u8]) -> Result<Answer, Differs> {
+    fn offer(&mut self, input: u32, pid: u16, section: &[u8]) -> Result<Answer, Differs> {
         let mut failures = [UNTOLD; 2];
-        let plain = self.plain.offer(pid.into(), section, &mut failures[0]);
-        let indexed = self.indexed.offer(pid.into(), section, &mut failures[1]);
-        let number = self.same(plain, indexed)?;
+        let plain = self.plain.offer(input, pid.into(), section, &mut failures[0]);
+        let indexed = self.indexed.offer(input, pid.into(), section, &mut failures[1]);
+        let number = self.same(input, plain, indexed)?;
         let [failure, other] = failures;
         if failure != other {
             return Err(Differs(format!("plain {failure:?}, indexed {other:?}")));
@@ -178,48 +213,49 @@ impl Gates {
         [completed, emitted, suppressed, crc_failures, short_sections, crc_mismatches, evictions]
     }
 
-    fn counters(&self) -> Result<Answer, Differs> {
-        self.same_state()?;
+    fn counters(&self, input: u32) -> Result<Answer, Differs> {
+        self.same_state(input)?;
         Ok(Answer::Counters(self.all_counters()))
     }
 
-    fn ask(&self, pid: u16) -> Result<Number, Differs> {
-        self.same(self.plain.ask(pid.into()), self.indexed.ask(pid.into()))
+    fn ask(&self, input: u32, pid: u16) -> Result<Number, Differs> {
+        self.same(input, self.plain.ask(input, pid.into()), self.indexed.ask(input, pid.into()))
     }
 
-    fn deliver(&mut self, pid: u16, section: &[u8]) -> Result<Answer, Differs> {
-        match self.ask(pid)? {
-            Number::YES if deliverable(section) => self.offer(pid, section),
+    fn deliver(&mut self, input: u32, pid: u16, section: &[u8]) -> Result<Answer, Differs> {
+        match self.ask(input, pid)? {
+            Number::YES if deliverable(section) => self.offer(input, pid, section),
             Number::YES => Ok(Answer::Undeliverable),
             Number::NO => Ok(Answer::Unwatched),
             refused => Ok(Answer::Number(Part::Gate, refused.0)),
         }
     }
 
-    /// The watched PIDs, each of the 8,192 asked for.
-    fn watched(&self) -> Result<Answer, Differs> {
-        self.same_state()?;
-        Ok(Answer::Watched((0..8192).filter(|&pid| self.plain.ask(pid.into()) == Number::YES).collect()))
+    /// The watched PIDs of an input, each of the 8,192 asked for.
+    fn watched(&self, input: u32) -> Result<Answer, Differs> {
+        self.same_state(input)?;
+        Ok(Answer::Watched((0..8192).filter(|&pid| self.plain.ask(input, pid.into()) == Number::YES).collect()))
     }
 
     /// What both forms answered.
-    fn same(&self, plain: Number, indexed: Number) -> Result<Number, Differs> {
-        self.same_state()?;
+    fn same(&self, input: u32, plain: Number, indexed: Number) -> Result<Number, Differs> {
+        self.same_state(input)?;
         if plain == indexed { Ok(plain) } else { Err(Differs(format!("plain {plain}, indexed {indexed}"))) }
     }
 
-    /// That settings, counters, the rows in use and the watch are the same.
-    fn same_state(&self) -> Result<(), Differs> {
+    /// That settings, counters, the rows in use and the watch of an input are the same.
+    fn same_state(&self, input: u32) -> Result<(), Differs> {
         if self.plain.state != self.indexed.state {
             return Err(Differs(format!("plain {:?}, indexed {:?}", self.plain.state, self.indexed.state)));
         }
-        same_words("watch", &self.plain.watch, &self.indexed.watch)
+        same_words("watch", &self.plain.watch[record(input)], &self.indexed.watch[record(input)])
     }
 
-    /// Keys and changes are many: they are compared at each opening and at the end.
+    /// Keys and changes are many, and so are the watches of all inputs: they are compared at each opening and at the end.
     pub fn same_rows(&self) -> Result<(), Differs> {
         same_words("keys", &self.plain.keys, &self.indexed.keys)?;
-        same_words("changes", &self.plain.changes, &self.indexed.changes)
+        same_words("changes", &self.plain.changes, &self.indexed.changes)?;
+        self.plain.watch.iter().zip(&self.indexed.watch).try_for_each(|(plain, indexed)| same_words("watch", plain, indexed))
     }
 }
 

@@ -10,27 +10,34 @@ const ROWS: usize = 64;
 const CELLS: usize = 1 << 20;
 
 pub struct Port {
+    /// The input that is current.
+    input: u8,
     pub gates: Gates,
     pub sets: Sets,
     pub eit: Eit,
 }
 
 impl Port {
-    /// A gate with the default settings is open, the collectors are not, and answer 10 until they are.
+    /// A gate with the default settings is open, and the watch record of each input; the collectors are not, and answer 10 until they are. Input 0 is
+    /// current.
     pub fn begin() -> Self {
         Self::on_bytes(0)
     }
 
     /// The same on memory whose bytes were all `byte` before: what it held is not to matter.
     pub fn on_bytes(byte: u8) -> Self {
-        Self { gates: Gates::begin(byte), sets: Sets::lend(ROWS, CELLS, byte), eit: Eit::lend(ROWS, CELLS, byte) }
+        Self { input: 0, gates: Gates::begin(byte), sets: Sets::lend(ROWS, CELLS, byte), eit: Eit::lend(ROWS, CELLS, byte) }
     }
 
     pub fn answer(&mut self, command: &Command) -> Result<Answer, Differs> {
+        if let Command::Input(input) = command {
+            self.input = *input;
+        }
         match command.part() {
-            Part::Gate => self.gates.answer(command),
-            Part::Sets => Ok(self.sets.answer(command)),
-            Part::Eit => Ok(self.eit.answer(command)),
+            None => Ok(Answer::Input(self.input)),
+            Some(Part::Gate) => self.gates.answer(self.input, command),
+            Some(Part::Sets) => Ok(self.sets.answer(self.input, command)),
+            Some(Part::Eit) => Ok(self.eit.answer(self.input, command)),
         }
     }
 

@@ -8,6 +8,7 @@ impl Display for Command {
     fn fmt(&self, f: &mut fmt::Formatter<'_>) -> fmt::Result {
         write!(f, "{}", self.kind())?;
         match self {
+            Command::Input(input) => write!(f, " {input}"),
             Command::GateOpen { capacity, repeats, follow, well_known, rule, extra } => {
                 let extra: Vec<String> = extra.iter().map(|pid| format!("{pid:04X}")).collect();
                 write!(f, " cap={capacity} repeats={} follow={}", u8::from(*repeats), u8::from(*follow))?;
@@ -31,7 +32,10 @@ impl Display for Command {
                         write!(f, " {name}={number:04X}")?;
                     }
                 }
-                filter.current_next.map_or(Ok(()), |cn| write!(f, " cn={cn}"))
+                if let Some(cn) = filter.current_next {
+                    write!(f, " cn={cn}")?;
+                }
+                if filter.this_input { write!(f, " input=this") } else { Ok(()) }
             }
         }
     }
@@ -51,6 +55,7 @@ pub fn parse(line: &str) -> Option<Command> {
         Some(text) => hex16(text).map(Some),
     };
     let part = match *words.first()? {
+        "input" => return words.get(1)?.parse().ok().map(Command::Input),
         "gate" => Part::Gate,
         "sets" => Part::Sets,
         "eit" => Part::Eit,
@@ -94,6 +99,11 @@ pub fn parse(line: &str) -> Option<Command> {
             transport_stream_id: exact("tsid")?,
             original_network_id: exact("onid")?,
             current_next: field("cn").map(|text| u8::from(text == "1")),
+            this_input: match field("input") {
+                None => false,
+                Some("this") => true,
+                Some(_) => return None,
+            },
         }),
         _ => return None,
     })

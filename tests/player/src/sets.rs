@@ -29,9 +29,9 @@ impl Sets {
     }
 
     /// The answer, and the row where it is 5.
-    pub fn push(&mut self, pid: u32, section: &[u8]) -> (Number, u64) {
+    pub fn push(&mut self, input: u32, pid: u32, section: &[u8]) -> (Number, u64) {
         let mut row = 0;
-        let number = calls::sets_push(&mut self.state, &mut self.heads, &mut self.slots, &mut self.cells, pid, section, &mut row);
+        let number = calls::sets_push(&mut self.state, &mut self.heads, &mut self.slots, &mut self.cells, input, pid, section, &mut row);
         (number, row)
     }
 
@@ -43,14 +43,14 @@ impl Sets {
         calls::sets_next(&self.state, &self.heads, &self.slots, &self.cells, row, from, next)
     }
 
-    /// Carries out a command of the set collector.
-    pub fn answer(&mut self, command: &Command) -> Answer {
+    /// Carries out a command of the set collector on an input.
+    pub fn answer(&mut self, input: u8, command: &Command) -> Answer {
         match command {
             Command::Open { limit, cells, size, .. } => {
                 Answer::Number(Part::Sets, self.open((*limit).into(), (*size).into(), (*cells).into()).0)
             }
             Command::Push { pid, section, .. } => {
-                let (number, row) = self.push(pid_word(*pid), section);
+                let (number, row) = self.push(input.into(), pid_word(*pid), section);
                 let out = if number == Number::SET { Out::Set(self.set(row)) } else { Out::Nothing };
                 Answer::Collected(number.0, Held::Sets { evicted: self.state.evictions, rows: self.state.used as usize }, out)
             }
@@ -81,6 +81,7 @@ pub(crate) fn head(heads: &[u64], row: u64) -> &[u64] {
 pub(crate) fn set_of(heads: &[u64], row: u64, sections: Vec<Vec<u8>>) -> Set {
     let head = head(heads, row);
     Set {
+        input: byte(head[10]),
         pid: pid_of(head[0]),
         table_id: byte(head[1]),
         extension: u16::try_from(head[2]).expect("an extension in a head"),

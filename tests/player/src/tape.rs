@@ -12,9 +12,10 @@
 //! 21 sets push     PID u16 (FFFF none), length u16, the bytes
 //! 22 sets clear
 //! 30 31 32         the same of the EIT collector
-//! 33 eit drop      mask u8 (1 PID, 2 kind, 4 service_id, 8 transport_stream_id, 10 original_network_id, 20 current_next), PID u16 (FFFF
-//!                  none), kind u8 (0 and 1 present/following actual and other, 2 and 3 schedule actual and other), service_id u16,
-//!                  transport_stream_id u16, original_network_id u16, current_next u8
+//! 33 eit drop      mask u8 (1 PID, 2 kind, 4 service_id, 8 transport_stream_id, 10 original_network_id, 20 current_next, 40 the input that is
+//!                  current), PID u16 (FFFF none), kind u8 (0 and 1 present/following actual and other, 2 and 3 schedule actual and other),
+//!                  service_id u16, transport_stream_id u16, original_network_id u16, current_next u8
+//! 50 input         u8: the commands after it are on this input, until the next one; a tape begins on input 0
 //! ```
 use crate::command::{By, Command, Filter, Part};
 use std::io::{self, ErrorKind, Read};
@@ -78,6 +79,7 @@ impl<R: Read> Tape<R> {
             0x21 | 0x31 => Command::Push { part, pid: self.maybe_pid()?, section: self.section()? },
             0x22 | 0x32 => Command::Clear { part },
             0x33 => self.filter()?,
+            0x50 => Command::Input(self.byte()?),
             _ => return Err(Stop::Bad),
         })
     }
@@ -126,6 +128,7 @@ impl<R: Read> Tape<R> {
             transport_stream_id: Some(self.short()?).filter(|_| exact(0x08)),
             original_network_id: Some(self.short()?).filter(|_| exact(0x10)),
             current_next: Some(self.byte()?).filter(|_| exact(0x20)),
+            this_input: exact(0x40),
         }))
     }
 }
@@ -141,6 +144,7 @@ pub fn tape_of(script: &[Command]) -> Vec<u8> {
 fn write_command(command: &Command, tape: &mut Vec<u8>) {
     let collector = |part: &Part, command: u8| if *part == Part::Eit { 0x30 + command } else { 0x20 + command };
     match command {
+        Command::Input(input) => tape.extend([0x50, *input]),
         Command::GateOpen { capacity, repeats, follow, well_known, rule, extra } => {
             tape.push(0x10);
             tape.extend(capacity.to_be_bytes());
@@ -189,6 +193,7 @@ fn write_filter(tape: &mut Vec<u8>, filter: &Filter) {
         filter.transport_stream_id.is_some(),
         filter.original_network_id.is_some(),
         filter.current_next.is_some(),
+        filter.this_input,
     ];
     tape.push(exact.iter().rev().fold(0, |mask, &bit| mask << 1 | u8::from(bit)));
     tape.extend(filter.pid.flatten().unwrap_or(NO_PID).to_be_bytes());

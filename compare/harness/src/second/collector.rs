@@ -8,6 +8,7 @@ use player::command::Filter;
 /// What a row or a schedule is found by. Of a schedule, table_id is that of the kind's first table.
 #[derive(Clone, Copy, Debug, PartialEq, Eq)]
 struct Key {
+    input: u8,
     pid: Option<u16>,
     table_id: u8,
     extension: u16,
@@ -85,26 +86,29 @@ impl Collector {
         }
     }
 
-    pub fn drop(&mut self, reading: &Reading, filter: &Filter) {
+    /// Where the filter asks for the input that is current, it is `input`.
+    pub fn drop(&mut self, reading: &Reading, input: u8, filter: &Filter) {
+        let asked = (filter.this_input && !reading.has(Fault::InputNotInFilter)).then_some(input);
+        let matches = |key: &Key| asked.is_none_or(|input| input == key.input) && matches(filter, key);
         let before = self.rows.held.len();
-        self.rows.held.retain(|row| !matches(filter, &row.key));
+        self.rows.held.retain(|row| !matches(&row.key));
         if reading.has(Fault::DropCountsEvictions) {
             self.rows.evictions += (before - self.rows.held.len()) as u64;
         }
         if !reading.has(Fault::DropKeepsSchedules) {
-            self.schedules.held.retain(|schedule| !matches(filter, &schedule.key));
+            self.schedules.held.retain(|schedule| !matches(&schedule.key));
         }
     }
 
-    pub fn push(&mut self, reading: &mut Reading, pid: Option<u16>, section: &[u8]) -> (u8, Out) {
-        match self.collect(reading, pid, section) {
+    pub fn push(&mut self, reading: &mut Reading, input: u8, pid: Option<u16>, section: &[u8]) -> (u8, Out) {
+        match self.collect(reading, input, pid, section) {
             Ok(answer) => answer,
             Err(number) => (number, Out::Nothing),
         }
     }
 
     /// `Err` where nothing is handed out.
-    fn collect(&mut self, reading: &mut Reading, pid: Option<u16>, section: &[u8]) -> Result<(u8, Out), u8> {
+    fn collect(&mut self, reading: &mut Reading, input: u8, pid: Option<u16>, section: &[u8]) -> Result<(u8, Out), u8> {
         if let Some(number) = refused_by_a_collector(reading, section) {
             return Err(number);
         }
@@ -123,12 +127,14 @@ impl Collector {
         if limit == 0 {
             return Err(4);
         }
-        let at = self.keep(reading, limit, self.key(reading, pid, section), section)?;
-        self.hand_out(reading, at, section)
+        let at = self.keep(reading, limit, self.key(reading, input, pid, section), section)?;
+        self.hand_out(reading, input, at, section)
     }
 
-    fn key(&self, reading: &Reading, pid: Option<u16>, section: &[u8]) -> Key {
+    fn key(&self, reading: &Reading, input: u8, pid: Option<u16>, section: &[u8]) -> Key {
+        let left_out = reading.has(if self.eit { Fault::InputNotInEitKey } else { Fault::InputNotInSetKey });
         Key {
+            input: if left_out { 0 } else { input },
             pid: if reading.has(Fault::NoPidIsPidZero) { Some(pid.unwrap_or(0)) } else { pid },
             table_id: section[0],
             extension: word(section, 3),
@@ -240,17 +246,20 @@ impl Collector {
         })
     }
 
-    /// Hands out the set of the row `at`, or the schedule that it completes.
-    fn hand_out(&mut self, reading: &Reading, at: usize, section: &[u8]) -> Result<(u8, Out), u8> {
+    /// Hands out the set of the row `at`, or the schedule that it completes, to the input that the section came on: it is that of the key.
+    fn hand_out(&mut self, reading: &Reading, input: u8, at: usize, section: &[u8]) -> Result<(u8, Out), u8> {
         let row = &self.rows.held[at];
         if row.marked || !self.complete(reading, row) {
             return Err(4);
         }
         let Some(mut key) = schedule_key(row.key).filter(|_| self.eit) else {
-            let set = self.set(row.key, row.version, row.last, &cells(row));
+            let set = self.set(Key { input, ..row.key }, row.version, row.last, &cells(row));
             self.rows.held[at].marked = true;
             return Ok((5, Out::Set(set)));
         };
+        if reading.has(Fault::InputNotInScheduleKey) {
+            key.input = 0;
+        }
         if reading.has(Fault::ScheduleWithoutNetwork) {
             key.network = key.network.map(|(stream, _)| (stream, 0));
         }
@@ -268,7 +277,7 @@ impl Collector {
         schedule.copies.sort_by_key(|copy| copy.table_id);
         let all = (key.table_id..=last_table_id).eq(schedule.copies.iter().map(|copy| copy.table_id));
         let sets = schedule.copies.iter().map(|copy| {
-            let of = Key { table_id: copy.table_id, network: self.rows.held[at].key.network, ..key };
+            let of = Key { input, table_id: copy.table_id, network: self.rows.held[at].key.network, ..key };
             self.set(of, copy.version, copy.last, &copy.cells)
         });
         let out = all.then(|| Out::Schedule { first: key.table_id, last: last_table_id, sets: sets.collect() });
@@ -310,6 +319,7 @@ impl Collector {
 
     fn set(&self, key: Key, version: u8, last: u8, cells: &[usize]) -> Set {
         Set {
+            input: key.input,
             pid: key.pid,
             table_id: key.table_id,
             extension: key.extension,

@@ -22,6 +22,11 @@ pub struct Gate {
     keys: Vec<Kept>,
     /// Completed, emitted, suppressed, CRC failures, short sections, CRC mismatches, evictions.
     pub counters: [u64; 7],
+}
+
+/// The watched PIDs of one input.
+#[derive(Clone)]
+pub struct Watch {
     pub watched: BTreeSet<u16>,
     protected: BTreeSet<u16>,
     followed: BTreeSet<u16>,
@@ -37,30 +42,45 @@ const EVICTIONS: usize = 6;
 
 const WELL_KNOWN: [u16; 8] = [0x0000, 0x0001, 0x0010, 0x0011, 0x0012, 0x0013, 0x0014, 0x001B];
 
-impl Gate {
-    pub fn open(capacity: usize, repeats: bool, follow: bool, well_known: bool, rule: u64, extra: &[u16]) -> Gate {
+impl Watch {
+    pub fn open(well_known: bool, extra: &[u16]) -> Watch {
         let mut protected = BTreeSet::from_iter(extra.iter().copied());
         if well_known {
             protected.extend(WELL_KNOWN);
         }
-        Gate {
-            capacity,
-            repeats,
-            follow,
-            rule,
-            keys: Vec::new(),
-            counters: [0; 7],
-            watched: protected.clone(),
-            protected,
-            followed: BTreeSet::new(),
-        }
+        Watch { watched: protected.clone(), protected, followed: BTreeSet::new() }
     }
 
     pub fn watches(&self, pid: u16) -> bool {
         self.watched.contains(&pid)
     }
 
-    pub fn offer(&mut self, reading: &mut Reading, pid: u16, section: &[u8]) -> Judgement {
+    fn follow_pat(&mut self, reading: &Reading, programs: BTreeSet<u16>) {
+        self.watched.extend(&programs);
+        for pid in self.followed.difference(&programs) {
+            let stays = self.protected.contains(pid) && !reading.has(Fault::ProtectedDropped);
+            if !stays && !reading.has(Fault::FormerKept) {
+                self.watched.remove(pid);
+            }
+        }
+        self.followed = programs;
+    }
+}
+
+/// Where a section came from.
+#[derive(Clone, Copy)]
+pub struct Origin {
+    pub input: u8,
+    pub pid: u16,
+}
+
+impl Gate {
+    pub fn open(capacity: usize, repeats: bool, follow: bool, rule: u64) -> Gate {
+        Gate { capacity, repeats, follow, rule, keys: Vec::new(), counters: [0; 7] }
+    }
+
+    /// A changed PAT changes the watch of its own input.
+    pub fn offer(&mut self, reading: &mut Reading, watches: &mut [Watch], from: Origin, section: &[u8]) -> Judgement {
         self.counters[COMPLETED] += 1;
         if section.len() < 3 || (has_crc(reading, section) && !crc_fits(section)) {
             self.counters[CRC_FAILURES] += 1;
@@ -68,18 +88,19 @@ impl Gate {
             let own = if matches!(failure, Judgement::Short(_)) { SHORT_SECTIONS } else { CRC_MISMATCHES };
             self.counters[own] += u64::from(!reading.has(Fault::FailureUncounted));
             if reading.has(Fault::FailureHeld) && section.len() >= 12 {
-                self.admit(reading, kept(reading, self.rule, pid, section));
+                self.admit(reading, kept(reading, self.rule, from, section));
             }
             return failure;
         }
-        let changed = self.admit(reading, kept(reading, self.rule, pid, section));
+        let changed = self.admit(reading, kept(reading, self.rule, from, section));
         let emitted = changed || self.repeats;
         let follows = if reading.has(Fault::RepeatFollowed) { emitted } else { changed };
         if follows
             && self.follow
             && let Some(programs) = programs(reading, section)
         {
-            self.follow_pat(reading, BTreeSet::from_iter(programs));
+            let input = if reading.has(Fault::PatOfAnotherInput) { 0 } else { from.input };
+            watches[usize::from(input)].follow_pat(reading, BTreeSet::from_iter(programs));
         }
         self.counters[if emitted { EMITTED } else { SUPPRESSED }] += 1;
         if emitted { Judgement::Emitted } else { Judgement::Suppressed }
@@ -108,17 +129,6 @@ impl Gate {
             self.keys.push(new);
         }
         true
-    }
-
-    fn follow_pat(&mut self, reading: &Reading, programs: BTreeSet<u16>) {
-        self.watched.extend(&programs);
-        for pid in self.followed.difference(&programs) {
-            let stays = self.protected.contains(pid) && !reading.has(Fault::ProtectedDropped);
-            if !stays && !reading.has(Fault::FormerKept) {
-                self.watched.remove(pid);
-            }
-        }
-        self.followed = programs;
     }
 }
 
@@ -149,7 +159,7 @@ fn by_stored_crc(reading: &Reading, rule: u64, section: &[u8]) -> bool {
 }
 
 /// The key of a section, its version and its change number: by rule 2 the stored CRC of every section whose CRC was checked.
-fn kept(reading: &Reading, rule: u64, pid: u16, section: &[u8]) -> Kept {
+fn kept(reading: &Reading, rule: u64, from: Origin, section: &[u8]) -> Kept {
     let least = if reading.has(Fault::HeaderAtEleven) { 11 } else { 12 };
     let headed = long_form(section) && section.len() >= least;
     let (extension, number, version, change) = if headed {
@@ -160,6 +170,7 @@ fn kept(reading: &Reading, rule: u64, pid: u16, section: &[u8]) -> Kept {
         (0, 0, 0, crc(section))
     };
     let number = if reading.has(Fault::NumberNotInKey) { 0 } else { number };
-    let key = u64::from(pid) + (u64::from(section[0]) << 13) + (u64::from(extension) << 21) + (u64::from(number) << 37);
-    Kept { key, version, change }
+    let key = u64::from(from.pid) + (u64::from(section[0]) << 13) + (u64::from(extension) << 21) + (u64::from(number) << 37);
+    let input = if reading.has(Fault::InputNotInKey) { 0 } else { u64::from(from.input) << 45 };
+    Kept { key: key + input, version, change }
 }

@@ -7,7 +7,7 @@ mod section;
 use crate::faults::Fault;
 use crate::lent;
 use collector::Collector;
-use gate::Gate;
+use gate::{Gate, Origin, Watch};
 use player::answer::{Answer, Held, Out};
 use player::command::{By, Command, Filter, Part};
 pub use section::crc;
@@ -60,14 +60,19 @@ impl Reading {
 
 pub struct Second {
     pub reading: Reading,
+    /// The input that is current.
+    input: u8,
     gate: Gate,
+    /// Of each input.
+    watches: Vec<Watch>,
     sets: Option<Collector>,
     eit: Option<Collector>,
 }
 
 impl Second {
     pub fn new(reading: Reading) -> Second {
-        Second { reading, gate: Gate::open(65_536, false, true, true, 1, &[]), sets: None, eit: None }
+        let watches = vec![Watch::open(true, &[]); lent::INPUTS];
+        Second { reading, input: 0, gate: Gate::open(65_536, false, true, 1), watches, sets: None, eit: None }
     }
 
     /// How many sets went on into a schedule since the EIT collector was opened.
@@ -76,24 +81,35 @@ impl Second {
     }
 
     pub fn answer(&mut self, command: &Command) -> Answer {
+        let input = self.input;
         match command {
+            Command::Input(input) => {
+                self.input = *input;
+                Answer::Input(*input)
+            }
             Command::GateOpen { capacity, repeats, follow, well_known, rule, extra } => {
                 let answer = lent::gate_opening(*capacity, *rule, extra);
                 if answer == 7 {
-                    self.gate = Gate::open(*capacity as usize, *repeats, *follow, *well_known, *rule, extra);
+                    self.gate = Gate::open(*capacity as usize, *repeats, *follow, *rule);
+                    let at = self.record();
+                    self.watches[at] = Watch::open(*well_known, extra);
                 }
                 Answer::Number(Part::Gate, answer)
             }
+            Command::Gate { by: By::Offer, .. } if !lent::is_input(input) && self.reading.has(Fault::InputBeforePid) => {
+                Answer::Number(Part::Gate, 37)
+            }
             Command::Gate { pid, .. } | Command::Ask { pid } if !lent::is_pid(*pid) => Answer::Number(Part::Gate, 12),
-            Command::Gate { by: By::Packets, pid, .. } if !self.gate.watches(*pid) => Answer::Unwatched,
+            Command::Gate { by: By::Packets, pid, .. } if !self.watch().watches(*pid) => Answer::Unwatched,
             Command::Gate { by: By::Packets, section, .. } if !lent::deliverable(section) => Answer::Undeliverable,
+            Command::Gate { .. } if !lent::is_input(input) => Answer::Number(Part::Gate, 37),
             Command::Gate { pid, section, .. } => {
-                let judgement = self.gate.offer(&mut self.reading, *pid, section);
+                let judgement = self.gate.offer(&mut self.reading, &mut self.watches, Origin { input, pid: *pid }, section);
                 let [completed, emitted, suppressed, crc, _, _, evicted] = self.gate.counters;
                 Answer::Judged(judgement, [completed, emitted, suppressed, crc, evicted])
             }
-            Command::Ask { pid } => Answer::Number(Part::Gate, if self.gate.watches(*pid) { 8 } else { 9 }),
-            Command::Watched => Answer::Watched(self.gate.watched.iter().copied().collect()),
+            Command::Ask { pid } => Answer::Number(Part::Gate, if self.watch().watches(*pid) { 8 } else { 9 }),
+            Command::Watched => Answer::Watched(self.watch().watched.iter().copied().collect()),
             Command::Counters => Answer::Counters(self.gate.counters),
             Command::Open { part, limit, cells, size } => {
                 let answer = lent::collector_opening(*limit, *cells, *size);
@@ -108,7 +124,8 @@ impl Second {
                 let (number, out) = match self.collector(*part) {
                     None => (10, Out::Nothing),
                     Some(_) if pid.is_some_and(|pid| !lent::is_pid(pid)) => (12, Out::Nothing),
-                    Some(collector) => collector.push(&mut reading, *pid, section),
+                    Some(_) if !lent::is_input(input) => (37, Out::Nothing),
+                    Some(collector) => collector.push(&mut reading, input, *pid, section),
                 };
                 self.reading = reading;
                 Answer::Collected(number, self.held(*part), out)
@@ -129,11 +146,21 @@ impl Second {
         match &mut self.eit {
             None => 10,
             Some(_) if filter.pid.flatten().is_some_and(|pid| !lent::is_pid(pid)) => 12,
+            Some(_) if filter.this_input && !lent::is_input(self.input) => 37,
             Some(eit) => {
-                eit.drop(&self.reading, filter);
+                eit.drop(&self.reading, self.input, filter);
                 7
             }
         }
+    }
+
+    /// The place of the watch that is looked at: of an input that there is not, that of input 0.
+    fn record(&self) -> usize {
+        if lent::is_input(self.input) { self.input.into() } else { 0 }
+    }
+
+    fn watch(&self) -> &Watch {
+        &self.watches[self.record()]
     }
 
     fn collector(&mut self, part: Part) -> &mut Option<Collector> {

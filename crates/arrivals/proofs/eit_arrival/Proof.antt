@@ -21,7 +21,7 @@ returns : tie.Need-returns
 returns c = (search eit-nowhere, tt)
 
 returns-2 : tie.Need-returns-2
-returns-2 c = let a = c .before .before .before .before .before .before .args in (search eit-section, eit-arrived (a .bytes .now) (omega (arith, c .before .before .before .before .before .shared-slice-known .given 7)) (a .pid) (c .eit-read .result) (search eit-section))
+returns-2 c = let a = c .before .before .before .before .before .before .args in (search eit-section, eit-arrived (a .bytes .now) (omega (arith, c .before .before .before .before .before .shared-slice-known .given 7)) (a .input) (a .pid) (c .eit-read .result) (search eit-section))
 
 pub eit-arrival-spec : {M : Type 1} → statement M
 eit-arrival-spec =

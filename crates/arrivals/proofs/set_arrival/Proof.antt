@@ -21,7 +21,7 @@ returns : tie.Need-returns
 returns c = (search set-nowhere, tt)
 
 returns-2 : tie.Need-returns-2
-returns-2 c = let a = c .before .before .before .before .before .before .args in (search set-section, set-arrived (a .bytes .now) (omega (arith, c .before .before .before .before .before .shared-slice-known .given 7)) (a .pid) (c .set-read .result) (search set-section))
+returns-2 c = let a = c .before .before .before .before .before .before .args in (search set-section, set-arrived (a .bytes .now) (omega (arith, c .before .before .before .before .before .shared-slice-known .given 7)) (a .input) (a .pid) (c .set-read .result) (search set-section))
 
 pub set-arrival-spec : {M : Type 1} → statement M
 set-arrival-spec =

@@ -50,7 +50,7 @@ same-length-5 c = search needs
 
 -- src/lib.rt:73:1
 returns : tie.Need-returns
-returns c = let a = c .before .before .before .before .before .before .before .before .before .before .before .before .before .before .before .args in pushed-refused (a .eit) (a .heads .now) (a .slots .now) (a .cells .now) (a .schedule-heads .now) (a .units .now) (a .pid) (a .bytes .now) (c .before .before .before .admit .result) (c .before .before .before .admit .ensures .0) (c .before .refusal .given .0 .0) (c .before .refusal .given .1)
+returns c = let a = c .before .before .before .before .before .before .before .before .before .before .before .before .before .before .before .args in pushed-refused (a .eit) (a .heads .now) (a .slots .now) (a .cells .now) (a .schedule-heads .now) (a .units .now) (a .input) (a .pid) (a .bytes .now) (c .before .before .before .admit .result) (c .before .before .before .admit .ensures .0) (c .before .refusal .given .0 .0) (c .before .refusal .given .1)
 
 -- src/lib.rt:73:1
 same-length-6 : tie.Need-same-length-6

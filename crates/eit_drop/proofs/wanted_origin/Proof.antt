@@ -6,8 +6,14 @@ use Rattle.eit_drop.proofs.wanted_origin.Tie as tie
 enum-told : tie.Need-enum-told
 enum-told c = search needs
 
+input-wanted-requires : tie.Need-input-wanted-requires
+input-wanted-requires c κs = search needs
+
 enum-told-2 : tie.Need-enum-told-2
 enum-told-2 c = search needs
+
+input-wanted-requires-2 : tie.Need-input-wanted-requires-2
+input-wanted-requires-2 c κs = search needs
 
 enum-known-pid : tie.Need-enum-known-pid
 enum-known-pid c = search needs
@@ -32,7 +38,9 @@ wanted-origin-spec =
     tie.close
     (tie.spec
     enum-told
+    input-wanted-requires
     enum-told-2
+    input-wanted-requires-2
     enum-known-pid
     make-requires
     made-wanted-requires

@@ -46,7 +46,7 @@ returns c =
     let w = c .before .before .before .before .before .is-whole in
     let j = c .before .before .before .before .judge in
     let x = c .before .before .refusal .given in
-    offered-refused (storeOf (a .gate) (a .counters) (a .keys .now) (a .changes .now) (a .words .now)) (a .pid) (a .section .now) (w .result) (w .ensures) (j .result) (j .ensures .0) (x .0 .0) (c .refuse .result) (x .1) (c .refuse .ensures)
+    offered-refused (storeOf (a .gate) (a .counters) (a .keys .now) (a .changes .now) (a .words .now)) (a .input) (a .pid) (a .section .now) (w .result) (w .ensures) (j .result) (j .ensures .0) (x .0 .0) (c .refuse .result) (x .1) (c .refuse .ensures)
 
 returns-2 : tie.Need-returns-2
 returns-2 c =
@@ -54,7 +54,7 @@ returns-2 c =
     let w = c .before .before .before .before .before .is-whole in
     let j = c .before .before .before .before .judge in
     let x = c .before .before .failure .given in
-    offered-failed (storeOf (a .gate) (a .counters) (a .keys .now) (a .changes .now) (a .words .now)) (a .pid) (a .section .now) (w .result) (w .ensures) (j .result) (j .ensures .0) (x .0 .0) (c .fail .result) (x .1) (c .fail .ensures)
+    offered-failed (storeOf (a .gate) (a .counters) (a .keys .now) (a .changes .now) (a .words .now)) (a .input) (a .pid) (a .section .now) (w .result) (w .ensures) (j .result) (j .ensures .0) (x .0 .0) (c .fail .result) (x .1) (c .fail .ensures)
 
 same-length : tie.Need-same-length
 same-length c = search needs
@@ -72,7 +72,7 @@ returns-3 c =
     let j = c .before .before .before .before .before .before .before .before .before .before .before .before .before .judge in
     let x = c .before .before .before .before .before .before .before .before .before .before .before .arrival .given in
     let d = c .before .before .before .before .before .before .admit in
-    offered-arrived (storeOf (a .gate) (a .counters) (a .keys .now) (a .changes .now) (a .words .now)) (a .pid) (a .section .now) (w .result) (w .ensures) (j .result) (j .ensures .0) (x .0 .0)
+    offered-arrived (storeOf (a .gate) (a .counters) (a .keys .now) (a .changes .now) (a .words .now)) (a .input) (a .pid) (a .section .now) (w .result) (w .ensures) (j .result) (j .ensures .0) (x .0 .0)
     (leftBy (d .result) (d .last .1 .1 .0) (d .last .1 .1 .1 .0) (d .last .1 .1 .1 .1 .0)) (x .1) (d .ensures)
 
 pub offer-spec : {M : Type 1} → statement M

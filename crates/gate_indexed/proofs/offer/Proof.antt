@@ -47,7 +47,7 @@ returns c =
     let w = c .before .before .before .before .before .is-whole in
     let j = c .before .before .before .before .judge in
     let x = c .before .before .refusal .given in
-    offered-refused (indexedOf (a .gate) (a .counters) (a .keys .now) (a .changes .now) (indexOf (a .buckets .now) (a .links .now)) (a .words .now)) (a .pid) (a .section .now) (w .result) (w .ensures) (j .result) (j .ensures .0) (x .0 .0) (c .refuse .result) (x .1) (c .refuse .ensures)
+    offered-refused (indexedOf (a .gate) (a .counters) (a .keys .now) (a .changes .now) (indexOf (a .buckets .now) (a .links .now)) (a .words .now)) (a .input) (a .pid) (a .section .now) (w .result) (w .ensures) (j .result) (j .ensures .0) (x .0 .0) (c .refuse .result) (x .1) (c .refuse .ensures)
 
 returns-2 : tie.Need-returns-2
 returns-2 c =
@@ -55,7 +55,7 @@ returns-2 c =
     let w = c .before .before .before .before .before .is-whole in
     let j = c .before .before .before .before .judge in
     let x = c .before .before .failure .given in
-    offered-failed (indexedOf (a .gate) (a .counters) (a .keys .now) (a .changes .now) (indexOf (a .buckets .now) (a .links .now)) (a .words .now)) (a .pid) (a .section .now) (w .result) (w .ensures) (j .result) (j .ensures .0) (x .0 .0) (c .fail .result) (x .1) (c .fail .ensures)
+    offered-failed (indexedOf (a .gate) (a .counters) (a .keys .now) (a .changes .now) (indexOf (a .buckets .now) (a .links .now)) (a .words .now)) (a .input) (a .pid) (a .section .now) (w .result) (w .ensures) (j .result) (j .ensures .0) (x .0 .0) (c .fail .result) (x .1) (c .fail .ensures)
 
 same-length : tie.Need-same-length
 same-length c = search needs
@@ -79,7 +79,7 @@ returns-3 c =
     let j = c .before .before .before .before .before .before .before .before .before .before .before .before .before .before .before .before .before .before .before .judge in
     let x = c .before .before .before .before .before .before .before .before .before .before .before .before .before .before .before .before .before .arrival .given in
     let d = c .before .before .before .before .before .before .before .before .before .before .admit in
-    offered-arrived (indexedOf (a .gate) (a .counters) (a .keys .now) (a .changes .now) (indexOf (a .buckets .now) (a .links .now)) (a .words .now)) (a .pid) (a .section .now) (w .result) (w .ensures) (j .result) (j .ensures .0) (x .0 .0)
+    offered-arrived (indexedOf (a .gate) (a .counters) (a .keys .now) (a .changes .now) (indexOf (a .buckets .now) (a .links .now)) (a .words .now)) (a .input) (a .pid) (a .section .now) (w .result) (w .ensures) (j .result) (j .ensures .0) (x .0 .0)
     (leftBy (d .result) (d .last .1 .1 .0) (d .last .1 .1 .1 .0) (indexOf (d .last .1 .1 .1 .1 .0) (d .last .1 .1 .1 .1 .1 .0)) (d .last .1 .1 .1 .1 .1 .1 .0)) (x .1) (d .ensures)
 
 pub offer-spec : {M : Type 1} → statement M

@@ -6,6 +6,9 @@ use Rattle.host_eit.proofs.push.Tie as tie
 eit-requires : tie.Need-eit-requires
 eit-requires c κs = search needs
 
+number-requires : tie.Need-number-requires
+number-requires c κs = search needs
+
 maybe-requires : tie.Need-maybe-requires
 maybe-requires c κs = search needs
 
@@ -38,6 +41,7 @@ push-spec =
     tie.close
     (tie.spec
     eit-requires
+    number-requires
     maybe-requires
     push-requires
     write-pushed-requires

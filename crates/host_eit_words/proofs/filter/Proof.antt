@@ -39,6 +39,12 @@ element-copy-out-wanted-5 c = search needs
 wanted-requires-5 : tie.Need-wanted-requires-5
 wanted-requires-5 c κs = search needs
 
+element-copy-out-wanted-6 : tie.Need-element-copy-out-wanted-6
+element-copy-out-wanted-6 c = search needs
+
+wanted-requires-6 : tie.Need-wanted-requires-6
+wanted-requires-6 c κs = search needs
+
 returns : tie.Need-returns
 returns c = search filter-read
 
@@ -58,4 +64,6 @@ filter-spec =
     wanted-requires-4
     element-copy-out-wanted-5
     wanted-requires-5
+    element-copy-out-wanted-6
+    wanted-requires-6
     returns)

@@ -6,7 +6,8 @@ use Rattle.host_indexed.proofs.offer.Reads as reads
 use Rattle.host_indexed.proofs.offer.Lts as lts
 use Rattle.host_gate_words.proofs.read.Reads as read-reads
 use Rattle.host_gate_words.proofs.write_offered.Reads as write-offered-reads
-use Rattle.host_words.proofs.pids.number.Reads as number-reads
+use Rattle.host_words.proofs.inputs.number.Reads as number-reads
+use Rattle.host_words.proofs.pids.number.Reads as number2-reads
 use Rattle.gate_indexed.proofs.offer.Reads as offer-reads
 
 -- src/lib.rt:96:9
@@ -16,6 +17,10 @@ read-requires c κs = search needs
 -- src/lib.rt:97:9
 number-requires : tie.Need-number-requires
 number-requires c κs = search needs
+
+-- src/lib.rt:43:9
+number-requires-2 : tie.Need-number-requires-2
+number-requires-2 c κs = search needs
 
 -- src/lib.rt:98:9
 offer-requires : tie.Need-offer-requires
@@ -48,8 +53,8 @@ same-length-5 c = search needs
 -- src/lib.rt:83:1
 returns : tie.Need-returns
 returns c =
-    let a = c .before .before .before .before .before .before .before .before .before .before .before .before .before .before .before .before .before .before .before .before .before .before .before .before .before .before .before .before .args in
-    gate-offered (a .gate .now) (a .keys .now) (a .changes .now) (a .buckets .now) (a .links .now) (a .watch .now) (a .pid) (a .section .now) (a .failure .now) _ _ (c .before .before .before .before .before .before .before .before .before .before .before .before .before .offer .result) _ _ _ _ _ _ _ _ (c .before .before .before .before .before .before .before .before .before .before .before .before .before .before .before .before .before .before .before .before .read .ensures) (c .before .before .before .before .before .before .before .before .before .before .before .before .before .before .before .before .before .before .before .number .ensures) (c .before .before .before .before .before .before .before .before .before .before .before .before .before .offer .ensures) (c .write-offered .ensures)
+    let a = c .before .before .before .before .before .before .before .before .before .before .before .before .before .before .before .before .before .before .before .before .before .before .before .before .before .before .before .before .before .args in
+    gate-offered (a .gate .now) (a .keys .now) (a .changes .now) (a .buckets .now) (a .links .now) (a .watch .now) (a .input) (a .pid) (a .section .now) (a .failure .now) _ _ _ (c .before .before .before .before .before .before .before .before .before .before .before .before .before .offer .result) _ _ _ _ _ _ _ _ (c .before .before .before .before .before .before .before .before .before .before .before .before .before .before .before .before .before .before .before .before .before .read .ensures) (c .before .before .before .before .before .before .before .before .before .before .before .before .before .before .before .before .before .before .before .before .number .ensures) (c .before .before .before .before .before .before .before .before .before .before .before .before .before .before .before .before .before .before .before .number2 .ensures) (c .before .before .before .before .before .before .before .before .before .before .before .before .before .offer .ensures) (c .write-offered .ensures)
 
 pub offer-spec : {M : Type 1} → statement M
 offer-spec =
@@ -57,6 +62,7 @@ offer-spec =
     (tie.spec
     read-requires
     number-requires
+    number-requires-2
     offer-requires
     write-offered-requires
     same-length

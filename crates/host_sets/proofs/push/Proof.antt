@@ -6,6 +6,9 @@ use Rattle.host_sets.proofs.push.Tie as tie
 sets-requires : tie.Need-sets-requires
 sets-requires c κs = search needs
 
+number-requires : tie.Need-number-requires
+number-requires c κs = search needs
+
 maybe-requires : tie.Need-maybe-requires
 maybe-requires c κs = search needs
 
@@ -32,6 +35,7 @@ push-spec =
     tie.close
     (tie.spec
     sets-requires
+    number-requires
     maybe-requires
     push-requires
     write-pushed-requires

@@ -1,4 +1,4 @@
-use Rattle.offers.proofs.Facts.{read-pid, read-section, read-taken}
+use Rattle.offers.proofs.Facts.{read-nowhere, read-pid, read-section, read-taken}
 use borrow.Author.Needs.{needs}
 use Rattle.offers.proofs.read.Statement.{statement}
 use Rattle.offers.proofs.read.Tie as tie
@@ -15,14 +15,20 @@ read-from-requires c κs = search needs
 enum-told : tie.Need-enum-told
 enum-told c = search needs
 
+enum-told-2 : tie.Need-enum-told-2
+enum-told-2 c = search needs
+
 returns : tie.Need-returns
 returns c =
     let a = c .before .before .before .before .before .before .args in
-    (search read-section, read-taken (a .section .now) (a .rule) (a .pid) (c .read-from .result) (search read-section))
+    (search read-section, read-taken (a .section .now) (a .rule) (a .input) (a .pid) (c .read-from .result) (search read-section))
 
 returns-2 : tie.Need-returns-2
 returns-2 c = (search read-pid, tt)
 
+returns-3 : tie.Need-returns-3
+returns-3 c = (search read-nowhere, tt)
+
 pub read-spec : {M : Type 1} → statement M
 read-spec =
-    tie.close (tie.spec make-requires enum-known-from read-from-requires enum-told returns returns-2)
+    tie.close (tie.spec make-requires enum-known-from read-from-requires enum-told enum-told-2 returns returns-2 returns-3)

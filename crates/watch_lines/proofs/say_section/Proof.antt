@@ -10,7 +10,7 @@ use Rattle.io.proofs.write_all.Reads as write-all-reads
 use Rattle.text.proofs.put.Reads as put-reads
 use Rattle.text.proofs.put_dec.Reads as put-dec-reads
 use Rattle.text.proofs.put_hex2.Reads as put-hex2-reads
-use Rattle.text.proofs.put_hex4.Reads as put-hex4-reads
+use Rattle.watch_lines.proofs.put_place.Reads as put-place-reads
 
 -- src/main.rt:71:23
 slice-aggregate-put : tie.Need-slice-aggregate-put
@@ -21,12 +21,12 @@ put-requires : tie.Need-put-requires
 put-requires c κs = search needs
 
 -- src/main.rt:72:28
-slice-aggregate-put-hex4 : tie.Need-slice-aggregate-put-hex4
-slice-aggregate-put-hex4 c = search needs
+slice-aggregate-put-place : tie.Need-slice-aggregate-put-place
+slice-aggregate-put-place c = search needs
 
 -- src/main.rt:72:9
-put-hex4-requires : tie.Need-put-hex4-requires
-put-hex4-requires c κs = search needs
+put-place-requires : tie.Need-put-place-requires
+put-place-requires c κs = search needs
 
 -- src/main.rt:73:23
 slice-aggregate-put-2 : tie.Need-slice-aggregate-put-2
@@ -70,7 +70,7 @@ slice-aggregate-put-dec c = search needs
 
 -- src/main.rt:76:9
 put-dec-requires : tie.Need-put-dec-requires
-put-dec-requires c κs = omega (arith, c .before .before .before .before .before .before .before .before .before .before .before .before .before .before .before .before .before .before .before .before .before .pre, c .before .before .before .before .before .before .before .before .before .before .before .before .before .before .put-hex4, c .before .before .before .before .before .before .before .before .before .before .before .before .before .before .before .before .before .put, length-dec 3 (length (c .before .before .before .before .before .before .before .before .before .before .before .before .before .before .before .before .before .before .before .before .before .args .section .now)) (omega (arith, c .before .before .before .before .before .before .before .before .before .before .before .before .before .before .before .before .before .before .before .before .before .pre)))
+put-dec-requires c κs = omega (arith, c .before .before .before .before .before .before .before .before .before .before .before .before .before .before .before .before .before .before .before .before .before .pre, c .before .before .before .before .before .before .before .before .before .before .before .before .before .before .put-place, c .before .before .before .before .before .before .before .before .before .before .before .before .before .before .before .before .before .put, length-dec 3 (length (c .before .before .before .before .before .before .before .before .before .before .before .before .before .before .before .before .before .before .before .before .before .args .section .now)) (omega (arith, c .before .before .before .before .before .before .before .before .before .before .before .before .before .before .before .before .before .before .before .before .before .pre)))
 
 -- src/main.rt:77:23
 slice-aggregate-put-6 : tie.Need-slice-aggregate-put-6
@@ -82,7 +82,7 @@ slice-aggregate-put-7 c = search needs
 
 -- src/main.rt:77:9
 put-requires-4 : tie.Need-put-requires-4
-put-requires-4 c κs = omega (arith, c .before .before .before .before .before .before .before .before .before .before .before .before .before .before .before .before .before .before .before .before .before .before .before .before .before .pre, c .before .before .before .before .before .before .before .before .before .before .before .before .before .before .before .before .before .before .put-hex4, c .before .before .before .before .before .before .before .before .before .before .before .before .before .before .before .before .before .before .before .before .before .put, length-dec 3 (length (c .before .before .before .before .before .before .before .before .before .before .before .before .before .before .before .before .before .before .before .before .before .before .before .before .before .args .section .now)) (omega (arith, c .before .before .before .before .before .before .before .before .before .before .before .before .before .before .before .before .before .before .before .before .before .before .before .before .before .pre)))
+put-requires-4 c κs = omega (arith, c .before .before .before .before .before .before .before .before .before .before .before .before .before .before .before .before .before .before .before .before .before .before .before .before .before .pre, c .before .before .before .before .before .before .before .before .before .before .before .before .before .before .before .before .before .before .put-place, c .before .before .before .before .before .before .before .before .before .before .before .before .before .before .before .before .before .before .before .before .before .put, length-dec 3 (length (c .before .before .before .before .before .before .before .before .before .before .before .before .before .before .before .before .before .before .before .before .before .before .before .before .before .args .section .now)) (omega (arith, c .before .before .before .before .before .before .before .before .before .before .before .before .before .before .before .before .before .before .before .before .before .before .before .before .before .pre)))
 
 -- src/main.rt:78:34
 sub-write-all : tie.Need-sub-write-all
@@ -94,7 +94,7 @@ part-write-all-start c = search needs
 
 -- src/main.rt:78:34
 part-write-all-end : tie.Need-part-write-all-end
-part-write-all-end c = omega (arith, c .before .before .before .before .before .before .before .before .before .before .before .before .before .before .before .before .before .before .before .before .before .before .before .before .before .before .before .before .pre, c .before .before .before .before .before .before .before .before .before .before .before .before .before .before .before .before .before .before .before .before .before .put-hex4, c .before .before .before .before .before .before .before .before .before .before .before .before .before .before .before .before .before .before .before .before .before .before .before .before .put, length-dec 3 (length (c .before .before .before .before .before .before .before .before .before .before .before .before .before .before .before .before .before .before .before .before .before .before .before .before .before .before .before .before .args .section .now)) (omega (arith, c .before .before .before .before .before .before .before .before .before .before .before .before .before .before .before .before .before .before .before .before .before .before .before .before .before .before .before .before .pre)))
+part-write-all-end c = omega (arith, c .before .before .before .before .before .before .before .before .before .before .before .before .before .before .before .before .before .before .before .before .before .before .before .before .before .before .before .before .pre, c .before .before .before .before .before .before .before .before .before .before .before .before .before .before .before .before .before .before .before .before .before .put-place, c .before .before .before .before .before .before .before .before .before .before .before .before .before .before .before .before .before .before .before .before .before .before .before .before .put, length-dec 3 (length (c .before .before .before .before .before .before .before .before .before .before .before .before .before .before .before .before .before .before .before .before .before .before .before .before .before .before .before .before .args .section .now)) (omega (arith, c .before .before .before .before .before .before .before .before .before .before .before .before .before .before .before .before .before .before .before .before .before .before .before .before .before .before .before .before .pre)))
 
 -- src/main.rt:78:5
 write-all-requires : tie.Need-write-all-requires
@@ -110,8 +110,8 @@ say-section-spec =
     (tie.spec
     slice-aggregate-put
     put-requires
-    slice-aggregate-put-hex4
-    put-hex4-requires
+    slice-aggregate-put-place
+    put-place-requires
     slice-aggregate-put-2
     slice-aggregate-put-3
     put-requires-2

@@ -9,6 +9,8 @@ pub enum Call {
     Drop,
     /// A drop of a kind, whatever the PID.
     DropKind,
+    /// A drop of an input and a PID.
+    DropInput,
     Next,
     Table,
     Clear,
@@ -23,6 +25,7 @@ use Call::*;
 #[derive(Clone, PartialEq)]
 pub struct Damaged {
     eit: Eit,
+    input: u32,
     pid: u32,
     kind: u64,
     row: u64,
@@ -41,7 +44,7 @@ const WHOLE: EitState = EitState { limit: 3, size: 64, count: 4, used: 2, evicti
 
 impl Damaged {
     fn push(&mut self) -> Answer {
-        self.eit.push(self.pid, VERSION).0
+        self.eit.push(self.input, self.pid, VERSION).0
     }
 
     /// An opening with the settings that the case has. Whether a refusal left what is kept by value counts; what an opening makes of it does not.
@@ -73,10 +76,10 @@ impl Store for Damaged {
     /// Sets in rows 0 and 1, a schedule in row 0; both went out.
     fn filled() -> Self {
         let mut eit = Eit::lend(3, 256, 0);
-        let answers = (eit.open(3, 64, 4), eit.push(0x0012, PRESENT), eit.push(0x0012, SCHEDULE));
+        let answers = (eit.open(3, 64, 4), eit.push(0, 0x0012, PRESENT), eit.push(0, 0x0012, SCHEDULE));
         assert_eq!(answers, (Answer::DONE, (Answer::SET, 0), (Answer::SCHEDULE, 0)));
         assert_eq!(eit.state, WHOLE);
-        Self { eit, pid: 0x0012, kind: 0, row: 0, table: 0 }
+        Self { eit, input: 0, pid: 0x0012, kind: 0, row: 0, table: 0 }
     }
 
     fn name(call: Call) -> &'static str {
@@ -84,6 +87,7 @@ impl Store for Damaged {
             Push => "push",
             Drop => "drop",
             DropKind => "drop of a kind",
+            DropInput => "drop of an input",
             Next => "next section",
             Table => "next in the schedule",
             Clear => "clear",
@@ -99,6 +103,7 @@ impl Store for Damaged {
             Push => self.push(),
             Drop => self.eit.drop_matching(&Filter { pid: self.pid.into(), ..Filter::ALL }),
             DropKind => self.eit.drop_matching(&Filter { kind: self.kind, ..Filter::ALL }),
+            DropInput => self.eit.drop_matching(&Filter { input: self.input.into(), pid: self.pid.into(), ..Filter::ALL }),
             Next => told(|place| self.eit.next(self.row, 0, place)),
             Table => told(|place| self.eit.next_in_schedule(self.row, self.table, 0, place)),
             Clear => self.eit.clear(),
@@ -111,6 +116,7 @@ impl Store for Damaged {
 
 const ALL: &[Call] = &[Push, Drop, Next, Table, Clear, Open];
 const KIND: &[Call] = &[DropKind];
+const INPUT: &[Call] = &[Push, DropInput];
 
 /// The word of a slot with a kept length of 18 bytes, those of the sections here.
 const KEPT: u32 = 18 << 16;
@@ -191,6 +197,23 @@ pub const CASES: &[Case<Damaged>] = &[
         d.pid = 8192;
         d.eit.state = EitState { evictions: u64::MAX, schedules: 4, ..WHOLE };
     }),
+    // 37, after 12; and an input that no call can give, which no section has: its row is met by none.
+    case("input 0", INPUT, |_| {}),
+    case("input 1", INPUT, |d| d.input = 1),
+    case("input 16", INPUT, |d| d.input = 16),
+    case("input 256", INPUT, |d| d.input = 256),
+    case("input 255, PID 8192", INPUT, |d| (d.input, d.pid) = (255, 8192)),
+    case("input 16, evictions at their end", INPUT, |d| {
+        d.input = 16;
+        d.eit.state.evictions = u64::MAX;
+    }),
+    case("input 16, 4 schedules of 3", INPUT, |d| {
+        d.input = 16;
+        d.eit.state.schedules = 4;
+    }),
+    case("an input of 16 in a set's head", ALL, |d| d.eit.heads[22] = 16),
+    case("an input of 2^64 - 1 in a set's head", ALL, |d| d.eit.heads[22] = u64::MAX),
+    case("an input of 16 in a schedule's head", ALL, |d| d.eit.schedule_heads[10] = 16),
     // Limit 0, and 9: a row not in use has no section, nor has a table not present.
     case("limit 0, 2 rows used", ALL, |d| d.eit.state.limit = 0),
     case("limit 0, 1 schedule used", ALL, |d| d.eit.state = EitState { limit: 0, used: 0, ..WHOLE }),

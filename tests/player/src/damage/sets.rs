@@ -19,6 +19,7 @@ use Call::*;
 #[derive(Clone, PartialEq)]
 pub struct Damaged {
     sets: Sets,
+    input: u32,
     pid: u32,
     row: u64,
 }
@@ -35,7 +36,7 @@ const WHOLE: SetsState = SetsState { limit: 3, size: 64, count: 4, used: 2, evic
 
 impl Damaged {
     fn push(&mut self) -> Answer {
-        self.sets.push(self.pid, SECOND).0
+        self.sets.push(self.input, self.pid, SECOND).0
     }
 
     /// An opening with the settings that the case has. Whether a refusal left what is kept by value counts; what an opening makes of it does not.
@@ -67,10 +68,10 @@ impl Store for Damaged {
     /// Row 0 has a set that went out, row 1 the first of two sections.
     fn filled() -> Self {
         let mut sets = Sets::lend(3, 256, 0);
-        let answers = (sets.open(3, 64, 4), sets.push(0x0011, ONLY), sets.push(0x0011, FIRST).0);
+        let answers = (sets.open(3, 64, 4), sets.push(0, 0x0011, ONLY), sets.push(0, 0x0011, FIRST).0);
         assert_eq!(answers, (Answer::DONE, (Answer::SET, 0), Answer::NOTHING));
         assert_eq!(sets.state, WHOLE);
-        Self { sets, pid: 0x0011, row: 0 }
+        Self { sets, input: 0, pid: 0x0011, row: 0 }
     }
 
     fn name(call: Call) -> &'static str {
@@ -150,6 +151,17 @@ pub const CASES: &[Case<Damaged>] = &[
         d.pid = 8192;
         d.sets.state = SetsState { used: 4, evictions: u64::MAX, ..WHOLE };
     }),
+    // 37, after 12; and an input that no call can give, which no section has: its row is met by none.
+    case("input 1", ALL, |d| d.input = 1),
+    case("input 16", ALL, |d| d.input = 16),
+    case("input 256", ALL, |d| d.input = 256),
+    case("input 255, PID 8192", ALL, |d| (d.input, d.pid) = (255, 8192)),
+    case("input 16, evictions at their end", ALL, |d| {
+        d.input = 16;
+        d.sets.state.evictions = u64::MAX;
+    }),
+    case("an input of 16 in a head", ALL, |d| d.sets.heads[22] = 16),
+    case("an input of 2^64 - 1 in a head", ALL, |d| d.sets.heads[22] = u64::MAX),
     case("limit 0, 2 rows used", ALL, |d| d.sets.state.limit = 0),
     case("limit 0, no row used", ALL, |d| d.sets.state = SetsState { limit: 0, used: 0, ..WHOLE }),
     // 9: a row that is not in use has no section.

@@ -35,6 +35,18 @@ mul-result-3 c = search needs
 add-result-3 : tie.Need-add-result-3
 add-result-3 c = search needs
 
+-- src/header.rt:250:12
+cast-result-2 : tie.Need-cast-result-2
+cast-result-2 c = search needs
+
+-- src/header.rt:250:11
+mul-result-4 : tie.Need-mul-result-4
+mul-result-4 c = search needs
+
+-- src/header.rt:244:5
+add-result-4 : tie.Need-add-result-4
+add-result-4 c = search needs
+
 -- src/header.rt:240:1
 returns : tie.Need-returns
 unfolding keyOf
@@ -51,4 +63,7 @@ key-spec =
     add-result-2
     mul-result-3
     add-result-3
+    cast-result-2
+    mul-result-4
+    add-result-4
     returns)

@@ -2,14 +2,14 @@ use borrow.Author.Tests.{ltb-true}
 use Rattle.laws.proofs.Tests.{and-true}
 use native.Mathlib.Omega.{arith}
 use borrow.Author.Needs.{needs}
-use Rattle.watch.proofs.run.Statement.{statement}
-use Rattle.watch.proofs.run.Tie as tie
+use Rattle.watcher.proofs.all.Statement.{statement}
+use Rattle.watcher.proofs.all.Tie as tie
 
 abbrev Inv-loop : tie.InvT-loop
-Inv-loop keys₀ changes₀ words₀ buf₀ gate₀ counters₀ more₀ turns₀ keys changes words buf gate counters more turns = Unit
+Inv-loop inputs keys₀ changes₀ watches₀ buf₀ gate₀ counters₀ more₀ turns₀ keys changes watches buf gate counters more turns = Unit
 
 abbrev μ-loop : tie.MeasureT-loop
-μ-loop keys₀ changes₀ words₀ buf₀ gate₀ counters₀ more₀ turns₀ keys changes words buf gate counters more turns = turns
+μ-loop inputs keys₀ changes₀ watches₀ buf₀ gate₀ counters₀ more₀ turns₀ keys changes watches buf gate counters more turns = turns
 
 by-default-requires : tie.Need-by-default-requires Inv-loop μ-loop
 by-default-requires c κs = search needs
@@ -25,6 +25,9 @@ part-open-end c = search needs
 
 open-requires : tie.Need-open-requires Inv-loop μ-loop
 open-requires c κs = search needs
+
+open-watches-requires : tie.Need-open-watches-requires Inv-loop μ-loop
+open-watches-requires c κs = search needs
 
 loop-holds : tie.Need-loop-holds Inv-loop μ-loop
 loop-holds c = search needs
@@ -47,8 +50,8 @@ say-totals-requires c κs = search needs
 returns : tie.Need-returns Inv-loop μ-loop
 returns c = search needs
 
-pub run-spec : {M : Type 1} → statement M
-run-spec =
+pub all-spec : {M : Type 1} → statement M
+all-spec =
     tie.close
     (tie.spec
     Inv-loop
@@ -58,6 +61,7 @@ run-spec =
     part-open-start
     part-open-end
     open-requires
+    open-watches-requires
     loop-holds
     turn-requires
     sub-turns

@@ -1,20 +1,24 @@
+-- A record that was read has a section. Assumes nothing.
 use mathlib.Core.Path.{subst}
 use native.Mathlib.Omega.{arith}
-use Rattle.watch.specs.Next.{Within}
+use Rattle.watcher.specs.Read.{Within}
 use borrow.Author.Needs.{needs}
-use Rattle.watch.proofs.turn.Statement.{statement}
-use Rattle.watch.proofs.turn.Tie as tie
+use Rattle.watcher.proofs.turn.Statement.{statement}
+use Rattle.watcher.proofs.turn.Tie as tie
 
-read-record-requires : tie.Need-read-record-requires
-read-record-requires c κs = search needs
+read-requires : tie.Need-read-requires
+read-requires c κs = search needs
 
-enum-known-n : tie.Need-enum-known-n
-enum-known-n c = search needs
+enum-known-input : tie.Need-enum-known-input
+enum-known-input c = search needs
+
+place-of-requires : tie.Need-place-of-requires
+place-of-requires c κs = search needs
 
 judge-requires : tie.Need-judge-requires
 judge-requires c κs =
-    let w = subst Within (c .before .before .before .before .before .before .n .given .1) (c .before .before .before .before .before .before .before .before .read-record .ensures) in
-    (w .0, w .1, omega (arith, c .before .before .before .before .before .before .before .before .read-record .kept))
+    let w = subst Within (c .before .before .before .before .before .before .before .before .before .input .given .1) (c .before .before .before .before .before .before .before .before .before .before .before .read .ensures) in
+    (omega arith, (w .0, w .1, omega (arith, c .before .before .before .before .before .before .before .before .before .before .before .read .kept)))
 
 enum-told : tie.Need-enum-told
 enum-told c = search needs
@@ -47,8 +51,9 @@ pub turn-spec : {M : Type 1} → statement M
 turn-spec =
     tie.close
     (tie.spec
-    read-record-requires
-    enum-known-n
+    read-requires
+    enum-known-input
+    place-of-requires
     judge-requires
     enum-told
     leave-requires
