@@ -13,7 +13,7 @@ use Rattle.times.specs.Times.{timeOf, dayOf}
 use Rattle.times.specs.declared.Day.{Day}
 use Rattle.times.specs.declared.Time.{Time}
 use Rattle.entry_words.specs.declared.Event.{Event}
-use Rattle.entry_words.specs.Words.{eventOf, secondsWord, flagWord, eventWords, plainWords, entryWords}
+use Rattle.entry_words.specs.Words.{eventOf, secondsWord, flagWord, eventWords, plainWords, streamWords, serviceWords, entryWords}
 
 pub event-read : (h : List ℕ) (id : ℕ) (day : Day) (time duration : Time) (n : ℕ) → length h ≡ 12 → id ≡ word16 (byteAt h 0) (byteAt h 1) → day ≡ dayOf (byteAt h 2) (byteAt h 3)
     → time ≡ timeOf (byteAt h 4) (byteAt h 5) (byteAt h 6) → duration ≡ timeOf (byteAt h 7) (byteAt h 8) (byteAt h 9) → n ≡ counted (length h) h
@@ -39,11 +39,32 @@ pub plain-told : (number at : ℕ) (h : List ℕ) (id n : ℕ) → id ≡ word16
 unfolding plainWords
 plain-told number at h id n a b = rw (a, b)
 
-module _ (number at : ℕ) (h : List ℕ) (r : List ℕ) where
-  pub entry-event : (e : Event) → length h ≡ 12 → e ≡ eventOf h → r ≡ eventWords number at e → r ≡ entryWords number at h
+pub stream-told : (number at : ℕ) (h : List ℕ) (id n network : ℕ) → length h ≡ 6 → id ≡ word16 (byteAt h 0) (byteAt h 1) → n ≡ counted (length h) h → network ≡ word16 (byteAt h 2) (byteAt h 3)
+    → (3 ∷ number ∷ at ∷ id ∷ n ∷ network ∷ 0 ∷ 0 ∷ 0 ∷ 0 ∷ 0 ∷ 0 ∷ []) ≡ streamWords number at h
+unfolding streamWords
+stream-told number at h id n network l a b c = rw (a, b, c, l)
+
+pub service-told : (network number at : ℕ) (h : List ℕ) (id n running ca flags : ℕ) → length h ≡ 5 → id ≡ word16 (byteAt h 0) (byteAt h 1) → n ≡ counted (length h) h
+    → running ≡ byteAt h 3 / 32 → ca ≡ byteAt h 3 / 16 % 2 → flags ≡ byteAt h 2 % 4
+    → (4 ∷ number ∷ at ∷ id ∷ n ∷ network ∷ 0 ∷ 0 ∷ 0 ∷ running ∷ ca ∷ flags ∷ []) ≡ serviceWords network number at h
+unfolding serviceWords
+service-told network number at h id n running ca flags l a b p q r = rw (a, b, p, q, r, l)
+
+module _ (network number at : ℕ) (h : List ℕ) (r : List ℕ) where
+  pub entry-event : (e : Event) → length h ≡ 12 → e ≡ eventOf h → r ≡ eventWords number at e → r ≡ entryWords network number at h
   unfolding entryWords
   entry-event e l a b = rw (eq-eqb (length h) 12 l, ← a) b
 
-  pub entry-plain : (length h ≡ 12 → ⊥) → r ≡ plainWords number at h → r ≡ entryWords number at h
-  unfolding entryWords
-  entry-plain l b = rw (ne-eqb (length h) 12 l) b
+  module _ (l : length h ≡ 12 → ⊥) where
+    pub entry-stream : length h ≡ 6 → r ≡ streamWords number at h → r ≡ entryWords network number at h
+    unfolding entryWords
+    entry-stream m b = rw (ne-eqb (length h) 12 l, eq-eqb (length h) 6 m) b
+
+    module _ (m : length h ≡ 6 → ⊥) where
+      pub entry-service : length h ≡ 5 → r ≡ serviceWords network number at h → r ≡ entryWords network number at h
+      unfolding entryWords
+      entry-service n b = rw (ne-eqb (length h) 12 l, ne-eqb (length h) 6 m, eq-eqb (length h) 5 n) b
+
+      pub entry-plain : (length h ≡ 5 → ⊥) → r ≡ plainWords number at h → r ≡ entryWords network number at h
+      unfolding entryWords
+      entry-plain n b = rw (ne-eqb (length h) 12 l, ne-eqb (length h) 6 m, ne-eqb (length h) 5 n) b

@@ -8,13 +8,18 @@ ghost use mathlib.Core.Path.{_≡_};
 ghost use Prim.Native.Nat.{_≤_, _<_};
 ghost use lib.ListN.{length};
 ghost use Rattle.laws.specs.Entries.{counted};
-ghost use Rattle.entry_words.specs.Words.{eventOf, secondsWord, flagWord, eventWords, plainWords, entryWords, descriptorWords};
+ghost use Rattle.entry_words.specs.Words.{eventOf, secondsWord, flagWord, eventWords, plainWords, streamWords, serviceWords, entryWords, descriptorWords};
 
 // The words of an entry.
 pub const WORDS: usize = 12;
 
 // The bytes of an event's header.
 pub const EVENT_HEADER: usize = 12;
+
+// Of a transport stream's, and of a service's.
+pub const STREAM_HEADER: usize = 6;
+
+pub const SERVICE_HEADER: usize = 5;
 
 // The second count of a time that is undefined.
 pub const UNDEFINED: u32 = 4294967295;
@@ -70,6 +75,12 @@ fn flag_word(flag: bool) -> u32
     if flag { 1 } else { 0 }
 }
 
+fn byte_word(x: u8) -> u32
+    ensures { λ r. ⌜ r ≡ x ⌝ }
+{
+    x as u32
+}
+
 // The one place where a day and a second count become numbers.
 fn event_words(event: Event, number: u32, at: u32) -> [u32; 12]
     requires { ⌜ event .descriptors < 4096 ⌝ }
@@ -115,13 +126,60 @@ fn plain_words(header: &[u8], number: u32, at: u32) -> [u32; 12]
     ]
 }
 
-// Of an entry, by the length of its header: `number` is that of its section, `at` the place of its first byte.
-pub fn entry_words(header: &[u8], number: u32, at: u32) -> [u32; 12]
+fn stream_words(header: &[u8], number: u32, at: u32) -> [u32; 12]
+    requires { ⌜ length (now header) ≡ 6 ⌝ }
+    ensures { λ r. ⌜ r ≡ streamWords number at (now (header .entry)) ⌝ }
+{
+    [
+        3,
+        number,
+        at,
+        word(header, 0) as u32,
+        count(header) as u32,
+        word(header, 2) as u32,
+        0,
+        0,
+        0,
+        0,
+        0,
+        0,
+    ]
+}
+
+fn service_words(header: &[u8], network: u32, number: u32, at: u32) -> [u32; 12]
+    requires { ⌜ length (now header) ≡ 5 ⌝ }
+    ensures { λ r. ⌜ r ≡ serviceWords network number at (now (header .entry)) ⌝ }
+{
+    [
+        4,
+        number,
+        at,
+        word(header, 0) as u32,
+        count(header) as u32,
+        network,
+        0,
+        0,
+        0,
+        byte_word(header[3] / 32),
+        byte_word(header[3] / 16 % 2),
+        byte_word(header[2] % 4),
+    ]
+}
+
+// Of an entry, by the length of its header: `number` is that of its section, `at` the place of its first byte, `network` the section's original_network_id where its
+// services share one.
+pub fn entry_words(header: &[u8], network: u32, number: u32, at: u32) -> [u32; 12]
     requires { ⌜ 4 ≤ length (now header) ⌝ }
-    ensures { λ r. ⌜ r ≡ entryWords number at (now (header .entry)) ⌝ }
+    ensures { λ r. ⌜ r ≡ entryWords network number at (now (header .entry)) ⌝ }
 {
     if header.len() == EVENT_HEADER {
         return event_words(event_of(header), number, at);
+    }
+    if header.len() == STREAM_HEADER {
+        return stream_words(header, number, at);
+    }
+    if header.len() == SERVICE_HEADER {
+        return service_words(header, network, number, at);
     }
     plain_words(header, number, at)
 }

@@ -11,9 +11,9 @@ use borrow.Author.Tests.{ltb-false}
 use Rattle.laws.specs.Entries.{counted}
 use Rattle.listing.specs.Store.{Found, done, past, entry, descriptor, walk, foundFrom, wordsOf}
 
-module _ (number n : ℕ) (p : 2 ≤ n) where
+module _ (network number n : ℕ) (p : 2 ≤ n) where
   abbrev few : Found → ℕ → Type 0
-  few f size = 2 * length (wordsOf number f) ≤ size
+  few f size = 2 * length (wordsOf network number f) ≤ size
 
   pick : (b : Bool) (x y : Found) (size : ℕ) → few x size → (b ≡ false → few y size) → few (cond b x y) size
   pick true x y size h l = h
@@ -41,6 +41,6 @@ module _ (number n : ℕ) (p : 2 ≤ n) where
       let i = bounded t (1 + getD t 0 0) (suc left - 2 - getD t 0 0) (suc at) (omega arith) in omega arith))
 
   -- twice the number of entries is at most the bytes walked
-  pub two-bytes : (s : List ℕ) (at : ℕ) → 2 * length (wordsOf number (foundFrom n s at 0)) ≤ length s - at
+  pub two-bytes : (s : List ℕ) (at : ℕ) → 2 * length (wordsOf network number (foundFrom n s at 0)) ≤ length s - at
   unfolding foundFrom
   two-bytes s at = let i = bounded (drop at s) 0 0 at (omega arith) in let l : length (drop at s) ≡ length s - at = length-drop at s in omega arith

@@ -31,7 +31,7 @@ abbrev cutIs : List ℕ
 cutIs = 1 ∷ 3 ∷ 0 ∷ 1 ∷ 1 ∷ 0 ∷ 49273 ∷ 4294967295 ∷ 6330 ∷ 4 ∷ 0 ∷ 0 ∷ []
 
 abbrev section3 : (skip : ℕ) → Loop
-section3 skip = record { header = 12; number = 3; skip = skip }
+section3 skip = record { header = 12; network = 0; number = 3; skip = skip }
 
 unfoldable pub listed : (bytes : List ℕ) → (skip words : ℕ) → Walked × List ℕ
 unfolding timeOf eventOf eventWords entryWords descriptorWords walk foundFrom putIn putAll wordsOf endOf listing

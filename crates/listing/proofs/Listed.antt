@@ -59,7 +59,7 @@ module _ (n : ℕ) where
       two : 2 + y ≡ suc (suc y)
       two = omega arith
 
-  descriptors-laid : {body : List ℕ} {ds : List Part} → Laid 1 2 body ds → (rest : List ℕ) (at : ℕ)
+  pub descriptors-laid : {body : List ℕ} {ds : List Part} → Laid 1 2 body ds → (rest : List ℕ) (at : ℕ)
       → walk n (body ++ rest) 0 (length body) at ≡ foundParts at ds (walk n rest 0 0 (at + length body))
   unfolding foundParts
   descriptors-laid laid-none rest at = rw add-zero
@@ -76,7 +76,7 @@ module _ (n : ℕ) where
       ∙ ap (descriptor at x y) (descriptors-laid d rest (at + 2 + length body) ∙ ap (λ (k : ℕ). foundParts (at + 2 + length body) ds (walk n rest 0 0 k)) (omega arith))
   descriptors-laid (laid-more (x ∷ (y ∷ (v ∷ t))) body h b d) rest at = absurd (omega arith)
 
-  descriptors-broken : {body : List ℕ} {ds : List Part} {place : ℕ} → Breaks 1 2 body ds place → (rest : List ℕ) (at : ℕ)
+  pub descriptors-broken : {body : List ℕ} {ds : List Part} {place : ℕ} → Breaks 1 2 body ds place → (rest : List ℕ) (at : ℕ)
       → walk n (body ++ rest) 0 (length body) at ≡ foundParts at ds (past (at + place))
   unfolding foundParts
   descriptors-broken (breaks-short [] z l) rest at = absurd (omega arith)
@@ -186,35 +186,35 @@ module _ (n : ℕ) (p : 2 ≤ n) where
 
 -- ---- the words of what is found, and how it ends
 
-module _ (number : ℕ) where
-  words-parts : (ds : List Part) (at : ℕ) (f : Found) → wordsOf number (foundParts at ds f) ≡ flatParts number at ds ++ wordsOf number f
+module _ (network number : ℕ) where
+  words-parts : (ds : List Part) (at : ℕ) (f : Found) → wordsOf network number (foundParts at ds f) ≡ flatParts number at ds ++ wordsOf network number f
   unfolding foundParts flatParts wordsOf
   words-parts [] at f = refl
   words-parts (d ∷ ds) at f = ap (λ (l : List (List ℕ)). descriptorWords number at (byteAt (d .header) 0) (byteAt (d .header) 1) ∷ l) (words-parts ds (at + 2 + length (d .body)) f)
 
-  pub words-items : (items : List Item) (at : ℕ) (f : Found) → wordsOf number (foundItems at items f) ≡ flat number at items ++ wordsOf number f
+  pub words-items : (items : List Item) (at : ℕ) (f : Found) → wordsOf network number (foundItems at items f) ≡ flat network number at items ++ wordsOf network number f
   unfolding foundItems flat wordsOf
   words-items [] at f = refl
   words-items (i ∷ is) at f =
       let next : ℕ = at + length (i .header) in
       let then : Found = foundItems (next + sizeOf (i .descriptors)) is f in
-      ap (λ (l : List (List ℕ)). entryWords number at (i .header) ∷ l)
+      ap (λ (l : List (List ℕ)). entryWords network number at (i .header) ∷ l)
       (words-parts (i .descriptors) next then
       ∙ ap (λ (l : List (List ℕ)). flatParts number next (i .descriptors) ++ l) (words-items is (next + sizeOf (i .descriptors)) f)
-      ∙ sym (append-assoc (flatParts number next (i .descriptors)) (flat number (next + sizeOf (i .descriptors)) is) (wordsOf number f)))
+      ∙ sym (append-assoc (flatParts number next (i .descriptors)) (flat network number (next + sizeOf (i .descriptors)) is) (wordsOf network number f)))
 
   end-parts : (ds : List Part) (at k : ℕ) (f : Found) → endOf k (foundParts at ds f) ≡ endOf (k + length (flatParts number at ds)) f
   unfolding foundParts flatParts endOf
   end-parts [] at k f = rw add-zero
   end-parts (d ∷ ds) at k f = end-parts ds (at + 2 + length (d .body)) (k + 1) f ∙ ap (λ (j : ℕ). endOf j f) (omega arith)
 
-  end-items : (items : List Item) (at k : ℕ) (f : Found) → endOf k (foundItems at items f) ≡ endOf (k + length (flat number at items)) f
+  end-items : (items : List Item) (at k : ℕ) (f : Found) → endOf k (foundItems at items f) ≡ endOf (k + length (flat network number at items)) f
   unfolding foundItems flat endOf
   end-items [] at k f = rw add-zero
   end-items (i ∷ is) at k f =
       let next : ℕ = at + length (i .header) in
       let own : List (List ℕ) = flatParts number next (i .descriptors) in
-      let others : List (List ℕ) = flat number (next + sizeOf (i .descriptors)) is in
+      let others : List (List ℕ) = flat network number (next + sizeOf (i .descriptors)) is in
       let z : length (own ++ others) ≡ length own + length others = length-append own others in
       end-parts (i .descriptors) next (k + 1) (foundItems (next + sizeOf (i .descriptors)) is f)
       ∙ end-items is (next + sizeOf (i .descriptors)) (k + 1 + length own) f
@@ -241,23 +241,23 @@ items-are n p {s} w = items-in n p w (length s) (omega arith)
 
 module _ (of : Loop) (s : List ℕ) (at : ℕ) (list : List ℕ) (k : ℕ) (p : 2 ≤ of .header) where
   abbrev entriesOf : List Item → List (List ℕ)
-  entriesOf items = flat (of .number) at items
+  entriesOf items = flat (of .network) (of .number) at items
 
-  ends-so : (items : List Item) (f : Found) → wordsOf (of .number) f ≡ [] → foundFrom (of .header) s at 0 ≡ foundItems at items f
+  ends-so : (items : List Item) (f : Found) → wordsOf (of .network) (of .number) f ≡ [] → foundFrom (of .header) s at 0 ≡ foundItems at items f
       → listing of s at 0 list k ≡ (endOf (k + length (entriesOf items)) f, putAll list (of .skip) k (entriesOf items))
   unfolding listing
   ends-so items f z e =
-      rw (e, words-items (of .number) items at f, z, append-nil (entriesOf items), end-items (of .number) items at k f)
+      rw (e, words-items (of .network) (of .number) items at f, z, append-nil (entriesOf items), end-items (of .network) (of .number) items at k f)
 
   -- where every entry and every descriptor ends inside its loop, the walk is done, and the entries are exactly those of the loop: each once, in byte order
   pub all-listed : {items : List Item} → Whole (of .header) (drop at s) items
       → listing of s at 0 list k
-      ≡ (Done (k + length (flat (of .number) at (itemsOf (of .header) (drop at s)))), putAll list (of .skip) k (flat (of .number) at (itemsOf (of .header) (drop at s))))
+      ≡ (Done (k + length (flat (of .network) (of .number) at (itemsOf (of .header) (drop at s)))), putAll list (of .skip) k (flat (of .network) (of .number) at (itemsOf (of .header) (drop at s))))
   unfolding foundFrom endOf wordsOf
   all-listed {items} w = rw (items-are (of .header) p w) (ends-so items done refl (whole-found (of .header) p w at))
 
   -- where one runs past its loop, the walk stops at the first that does, and the entries are those that start before it
   pub first-past : {items : List Item} {place : ℕ} → RunsPast (of .header) (drop at s) items place
-      → listing of s at 0 list k ≡ (Past (at + place) (k + length (flat (of .number) at items)), putAll list (of .skip) k (flat (of .number) at items))
+      → listing of s at 0 list k ≡ (Past (at + place) (k + length (flat (of .network) (of .number) at items)), putAll list (of .skip) k (flat (of .network) (of .number) at items))
   unfolding foundFrom endOf wordsOf
   first-past {items} {place} w = ends-so items (past (at + place)) refl (past-found (of .header) p w at)

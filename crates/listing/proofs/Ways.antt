@@ -18,7 +18,7 @@ use Rattle.listing.proofs.Walk.{walk-end, walk-short, walk-past, walk-e
 
 module _ (of : Loop) (s : List ℕ) (at : ℕ) (list : List ℕ) (k : ℕ) where
   -- what is found decides
-  by-found : (left : ℕ) (f : Found) → foundFrom (of .header) s at left ≡ f → listing of s at left list k ≡ (endOf k f, putAll list (of .skip) k (wordsOf (of .number) f))
+  by-found : (left : ℕ) (f : Found) → foundFrom (of .header) s at left ≡ f → listing of s at left list k ≡ (endOf k f, putAll list (of .skip) k (wordsOf (of .network) (of .number) f))
   unfolding listing
   by-found left f e = rw e
 
@@ -43,7 +43,7 @@ module _ (of : Loop) (s : List ℕ) (at : ℕ) (list : List ℕ) (k : ℕ) where
 
   pub entries-more : 1 ≤ of .header → of .header ≤ length s - at → counted (of .header) (drop at s) ≤ length s - at - of .header
       → listing of s at 0 list k
-      ≡ listing of s (at + of .header) (counted (of .header) (drop at s)) (putIn list (of .skip) k (entryWords (of .number) at (take (of .header) (drop at s)))) (k + 1)
+      ≡ listing of s (at + of .header) (counted (of .header) (drop at s)) (putIn list (of .skip) k (entryWords (of .network) (of .number) at (take (of .header) (drop at s)))) (k + 1)
   unfolding foundFrom listing endOf putAll wordsOf
   entries-more z h m = rw (walk-entry (of .header) (drop at s) at z (omega (arith, left-is)) (omega (arith, left-is)), drop-drop (of .header) at s)
 
@@ -92,9 +92,9 @@ module _ (s : List ℕ) (at n : ℕ) (l : at + n ≤ length s) where
   count-read h r e =
       e ∙ rw (part-is, part-long, getD-take n (drop at s) (n - 2) 0 (omega arith), getD-take n (drop at s) (n - 1) 0 (omega arith))
 
-  pub entry-put : (list l : List ℕ) (skip k number : ℕ) (words : List ℕ) → words ≡ entryWords number at (take (at + n - at) (drop at s)) → l ≡ putIn list skip k words
-      → l ≡ putIn list skip k (entryWords number at (take n (drop at s)))
-  entry-put list l skip k number words e f = f ∙ rw (e, part-is)
+  pub entry-put : (list l : List ℕ) (skip k network number : ℕ) (words : List ℕ) → words ≡ entryWords network number at (take (at + n - at) (drop at s)) → l ≡ putIn list skip k words
+      → l ≡ putIn list skip k (entryWords network number at (take n (drop at s)))
+  entry-put list l skip k network number words e f = f ∙ rw (e, part-is)
 
 pub descriptor-put : (list l : List ℕ) (skip k number at tag size : ℕ) (words : List ℕ) → words ≡ descriptorWords number at tag size → l ≡ putIn list skip k words → l ≡ putIn list skip k (descriptorWords number at tag size)
 descriptor-put list l skip k number at tag size words e f = f ∙ rw e

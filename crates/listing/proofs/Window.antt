@@ -12,7 +12,7 @@ use lib.Seq.{take-nil, drop-nil, drop-drop, take-add, length-take-le, paste}
 use lib.Dec.{eqb}
 use Rattle.laws.proofs.Lists.{paste-part}
 use Rattle.laws.proofs.Tests.{lt-or-le}
-use Rattle.entry_words.specs.Words.{eventOf, eventWords, plainWords, entryWords, descriptorWords}
+use Rattle.entry_words.specs.Words.{eventOf, eventWords, plainWords, streamWords, serviceWords, entryWords, descriptorWords}
 use Rattle.listing.specs.Rules.{page, joined}
 use Rattle.listing.specs.Store.{Found, done, past, entry, descriptor, putIn, putAll, wordsOf}
 use Rattle.listing.proofs.Ways.{put-before, put-none, put-room}
@@ -26,21 +26,24 @@ either-twelve : (b : Bool) (x y : List ℕ) → length x ≡ 12 → length y ≡
 either-twelve true x y h l = h
 either-twelve false x y h l = l
 
-entry-twelve : (number at : ℕ) (header : List ℕ) → length (entryWords number at header) ≡ 12
-unfolding entryWords eventWords plainWords
-entry-twelve number at header = either-twelve (eqb (length header) 12) (eventWords number at (eventOf header)) (plainWords number at header) refl refl
+entry-twelve : (network number at : ℕ) (header : List ℕ) → length (entryWords network number at header) ≡ 12
+unfolding entryWords eventWords streamWords serviceWords plainWords
+entry-twelve network number at header =
+    either-twelve (eqb (length header) 12) (eventWords number at (eventOf header)) _ refl
+    (either-twelve (eqb (length header) 6) (streamWords number at header) _ refl
+    (either-twelve (eqb (length header) 5) (serviceWords network number at header) (plainWords number at header) refl refl))
 
 descriptor-twelve : (number at tag size : ℕ) → length (descriptorWords number at tag size) ≡ 12
 unfolding descriptorWords
 descriptor-twelve number at tag size = refl
 
 -- all that is found is listed by twelve words
-pub found-twelve : (number : ℕ) (f : Found) → Twelve (wordsOf number f)
+pub found-twelve : (network number : ℕ) (f : Found) → Twelve (wordsOf network number f)
 unfolding wordsOf
-found-twelve number done = none
-found-twelve number (past at) = none
-found-twelve number (entry at header f) = more (entry-twelve number at header) (found-twelve number f)
-found-twelve number (descriptor at tag size f) = more (descriptor-twelve number at tag size) (found-twelve number f)
+found-twelve network number done = none
+found-twelve network number (past at) = none
+found-twelve network number (entry at header f) = more (entry-twelve network number at header) (found-twelve network number f)
+found-twelve network number (descriptor at tag size f) = more (descriptor-twelve number at tag size) (found-twelve network number f)
 
 pub twelve-append : {xs ys : List (List ℕ)} → Twelve xs → Twelve ys → Twelve (xs ++ ys)
 twelve-append none q = q

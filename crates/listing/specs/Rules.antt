@@ -80,7 +80,7 @@ pub data DescriptorPast (n : ℕ) : List ℕ → List Item → (place : ℕ) →
 unfoldable pub itemsOf : (n : ℕ) → List ℕ → List Item
 itemsOf n s = map (λ (p : Part). item (p .header) (partsOf 1 2 (p .body))) (partsOf 16 n s)
 
--- ---- the words of all of them, in byte order: `number` is that of the section, `at` the place of the first byte
+-- ---- the words of all of them, in byte order: `network` is the section's where services share it, `number` that of the section, `at` the place of the first byte
 
 unfoldable pub flatParts : (number at : ℕ) → List Part → List (List ℕ)
 flatParts number at [] = []
@@ -92,11 +92,11 @@ sizeOf [] = 0
 sizeOf (d ∷ ds) = 2 + length (d .body) + sizeOf ds
 
 -- an entry before its descriptors
-unfoldable pub flat : (number at : ℕ) → List Item → List (List ℕ)
-flat number at [] = []
-flat number at (i ∷ is) =
-    entryWords number at (i .header)
-    ∷ (flatParts number (at + length (i .header)) (i .descriptors) ++ flat number (at + length (i .header) + sizeOf (i .descriptors)) is)
+unfoldable pub flat : (network number at : ℕ) → List Item → List (List ℕ)
+flat network number at [] = []
+flat network number at (i ∷ is) =
+    entryWords network number at (i .header)
+    ∷ (flatParts number (at + length (i .header)) (i .descriptors) ++ flat network number (at + length (i .header) + sizeOf (i .descriptors)) is)
 
 -- ---- pages: what a list of so much room shows of all entries, and its words one after another
 

@@ -51,11 +51,11 @@ putAll list skip k (words ∷ entries) = putAll (putIn list skip k words) skip (
 -- ---- what the readers answer and leave
 
 -- the words of all that was found
-unfoldable pub wordsOf : (number : ℕ) → Found → List (List ℕ)
-wordsOf number done = []
-wordsOf number (past at) = []
-wordsOf number (entry at header f) = entryWords number at header ∷ wordsOf number f
-wordsOf number (descriptor at tag size f) = descriptorWords number at tag size ∷ wordsOf number f
+unfoldable pub wordsOf : (network number : ℕ) → Found → List (List ℕ)
+wordsOf network number done = []
+wordsOf network number (past at) = []
+wordsOf network number (entry at header f) = entryWords network number at header ∷ wordsOf network number f
+wordsOf network number (descriptor at tag size f) = descriptorWords number at tag size ∷ wordsOf network number f
 
 -- how it ended, with k entries before it
 unfoldable pub endOf : (k : ℕ) → Found → Walked
@@ -65,7 +65,7 @@ endOf k (entry at header f) = endOf (k + 1) f
 endOf k (descriptor at tag size f) = endOf (k + 1) f
 
 unfoldable pub listing : Loop → (s : List ℕ) → (at left : ℕ) → (list : List ℕ) → (k : ℕ) → Walked × List ℕ
-listing of s at left list k = (endOf k (foundFrom (of .header) s at left), putAll list (of .skip) k (wordsOf (of .number) (foundFrom (of .header) s at left)))
+listing of s at left list k = (endOf k (foundFrom (of .header) s at left), putAll list (of .skip) k (wordsOf (of .network) (of .number) (foundFrom (of .header) s at left)))
 
 -- what the readers ask: a header with room for its count, places that are numbers of 32 bits, and a count that cannot run over
 pub record Sound (of : Loop) (size at k : ℕ) : Type 0 where

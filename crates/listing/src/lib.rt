@@ -9,9 +9,11 @@ ghost use Rattle.laws.specs.Entries.{counted};
 ghost use Rattle.entry_words.specs.Words.{entryWords, descriptorWords};
 ghost use Rattle.listing.specs.Store.{putIn, listing, Sound};
 
-// What stays while a section is walked: the bytes of an entry's header, the section's number, and how many entries the list passes over.
+// What stays while a section is walked: the bytes of an entry's header, the original_network_id that services share (0 of other entries), the section's number, and how
+// many entries the list passes over.
 pub struct Loop {
     pub header: usize,
+    pub network: u32,
     pub number: u32,
     pub skip: usize,
 }
@@ -57,9 +59,9 @@ fn put(list: &mut [u32], skip: usize, k: usize, words: &[u32; 12])
 
 fn put_entry(s: &[u8], of: Loop, at: usize, list: &mut [u32], k: usize)
     requires { ⌜ (at + of .header ≤ length (now s)) × (length (now s) < 4294967296) × (4 ≤ of .header) ⌝ }
-    ensures { λ _. ⌜ now (list .exit) ≡ putIn (now (list .entry)) (of .skip) k (entryWords (of .number) at (take (of .header) (drop at (now (s .entry))))) ⌝ }
+    ensures { λ _. ⌜ now (list .exit) ≡ putIn (now (list .entry)) (of .skip) k (entryWords (of .network) (of .number) at (take (of .header) (drop at (now (s .entry))))) ⌝ }
 {
-    let words = entry_words::entry_words(&s[at..at + of.header], of.number, at as u32);
+    let words = entry_words::entry_words(&s[at..at + of.header], of.network, of.number, at as u32);
     put(list, of.skip, k, &words);
 }
 

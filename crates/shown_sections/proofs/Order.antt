@@ -60,7 +60,7 @@ by-twelve : (bytes : List ℕ) (start size number : ℕ) (x : Reading) → Twelv
 unfolding goodShow
 by-twelve bytes start size number reading.NotEit = none
 by-twelve bytes start size number reading.Broken = none
-by-twelve bytes start size number (reading.Good e) = found-twelve number (foundFrom 12 (take (start + size - 4) bytes) (start + 14) 0)
+by-twelve bytes start size number (reading.Good e) = found-twelve 0 number (foundFrom 12 (take (start + size - 4) bytes) (start + 14) 0)
 
 pub section-twelve : (bytes : List ℕ) (start size number : ℕ) → Twelve (sectionShow bytes start size number .entries)
 unfolding sectionShow

@@ -50,9 +50,9 @@ end-items number start at (i ∷ is) f =
 
 -- what a section shows whose layout is an EIT's
 pub data Listed (bytes : List ℕ) (start size number : ℕ) : Type 0 where
-  all-listed : (items : List Item) → Whole 12 (eventLoop bytes start size) items → goodShow bytes start size number ≡ show (flat number (start + 14) items) finished → Listed bytes start size number
+  all-listed : (items : List Item) → Whole 12 (eventLoop bytes start size) items → goodShow bytes start size number ≡ show (flat 0 number (start + 14) items) finished → Listed bytes start size number
   stopped-at : (items : List Item) (place : ℕ) → DescriptorPast 12 (eventLoop bytes start size) items place
-      → goodShow bytes start size number ≡ show (flat number (start + 14) items) (past-loop number (14 + place)) → Listed bytes start size number
+      → goodShow bytes start size number ≡ show (flat 0 number (start + 14) items) (past-loop number (14 + place)) → Listed bytes start size number
 
 module _ (bytes : List ℕ) (start size number : ℕ) (l : start + size ≤ length bytes) where
   part : List ℕ
@@ -61,11 +61,11 @@ module _ (bytes : List ℕ) (start size number : ℕ) (l : start + size ≤ leng
   abbrev found : Found
   found = foundFrom 12 (take (start + size - 4) bytes) (start + 14) 0
 
-  shows : (items : List Item) (f : Found) → wordsOf number f ≡ [] → found ≡ foundItems (start + 14) items f → goodShow bytes start size number ≡ show (flat number (start + 14) items) (endBy number start f)
+  shows : (items : List Item) (f : Found) → wordsOf 0 number f ≡ [] → found ≡ foundItems (start + 14) items f → goodShow bytes start size number ≡ show (flat 0 number (start + 14) items) (endBy number start f)
   unfolding goodShow
   shows items f z e =
-      ap (λ (x : Found). show (wordsOf number x) (endBy number start x)) e
-      ∙ ap₂ show (words-items number items (start + 14) f ∙ ap (λ (x : List (List ℕ)). flat number (start + 14) items ++ x) z ∙ append-nil (flat number (start + 14) items)) (end-items number start (start + 14) items f)
+      ap (λ (x : Found). show (wordsOf 0 number x) (endBy number start x)) e
+      ∙ ap₂ show (words-items 0 number items (start + 14) f ∙ ap (λ (x : List (List ℕ)). flat 0 number (start + 14) items ++ x) z ∙ append-nil (flat 0 number (start + 14) items)) (end-items number start (start + 14) items f)
 
   go : 18 ≤ size → wholeEntries 12 (eventLoop bytes start size) ≡ true → Known 12 (eventLoop bytes start size) → Listed bytes start size number
   unfolding foundFrom wordsOf endBy
@@ -75,7 +75,7 @@ module _ (bytes : List ℕ) (start size number : ℕ) (l : start + size ≤ leng
       let p : start + 14 + place - start ≡ 14 + place = omega arith in
       stopped-at items place (layout-good 12 (omega arith) e w)
       (shows items (past (start + 14 + place)) refl (past-found 12 (omega arith) (rw (loop-is bytes start size h) w) (start + 14))
-      ∙ ap (λ (n : ℕ). show (flat number (start + 14) items) (past-loop number n)) p)
+      ∙ ap (λ (n : ℕ). show (flat 0 number (start + 14) items) (past-loop number n)) p)
 
   -- a section that passed 19 stops at a descriptor or not at all
   pub section-listed : layoutGood (take size (drop start bytes)) ≡ true → Listed bytes start size number

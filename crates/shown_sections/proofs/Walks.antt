@@ -49,7 +49,7 @@ module _ (start n : ℕ) where
 pub good-few : (bytes : List ℕ) (start size number : ℕ) → length (goodShow bytes start size number .entries) ≤ size
 unfolding goodShow
 good-few bytes start size number =
-    let h = two-bytes number 12 (omega arith) (take (start + size - 4) bytes) (start + 14) in
+    let h = two-bytes 0 number 12 (omega arith) (take (start + size - 4) bytes) (start + 14) in
     let l : length (take (start + size - 4) bytes) ≡ min (start + size - 4) (length bytes) = length-take (start + size - 4) bytes in
     omega arith
 
@@ -64,7 +64,7 @@ section-few bytes start size number = by-few bytes start size number (eitOf (tak
 
 -- ---- how it ends
 
-pub reached-is : (number start : ℕ) (f : Found) (k : ℕ) → reachedBy number start (endOf k f) ≡ reachedAs (k + length (wordsOf number f)) (endBy number start f)
+pub reached-is : (number start : ℕ) (f : Found) (k : ℕ) → reachedBy number start (endOf k f) ≡ reachedAs (k + length (wordsOf 0 number f)) (endBy number start f)
 unfolding endOf wordsOf endBy
 reached-is number start done k = rw add-zero
 reached-is number start (past at) k = rw add-zero

@@ -89,7 +89,7 @@ good-long s x f e h = by-long s (kindOf (byteAt s 0)) (ap isGood (sym e ∙ h))
 
 module _ (bytes : List ℕ) (start size number skip k : ℕ) (list : List ℕ) where
   abbrev events : Loop
-  events = record { header = 12; number = number; skip = skip }
+  events = record { header = 12; network = 0; number = number; skip = skip }
 
   -- the part is `&bytes[0..end]`
   abbrev walks : (w : Walked) (l : List ℕ) → Type 0
@@ -107,7 +107,7 @@ module _ (bytes : List ℕ) (start size number skip k : ℕ) (list : List ℕ) w
       let e = rw (sub-zero (start + size - 4)) at e' in
       let f : Found = foundFrom 12 (take (start + size - 4) bytes) (start + 14) 0 in
       let a : w ≡ endOf k f = ap (λ (p : Walked × List ℕ). p .0) e in
-      let b : l ≡ putAll list skip k (wordsOf number f) = ap (λ (p : Walked × List ℕ). p .1) e in
+      let b : l ≡ putAll list skip k (wordsOf 0 number f) = ap (λ (p : Walked × List ℕ). p .1) e in
       ap₂ (λ (x : Shown) (y : List ℕ). (x, y)) (g ∙ ap (reachedBy number start) a ∙ reached-is number start f k) b
 
   module _ (x : Reading) (e : x ≡ eitOf (take (start + size - start) (drop start bytes))) where

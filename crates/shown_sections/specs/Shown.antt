@@ -60,7 +60,7 @@ endBy number start (descriptor at tag size f) = endBy number start f
 unfoldable pub goodShow : (bytes : List ℕ) → (start size number : ℕ) → Show
 goodShow bytes start size number =
     let f : Found = foundFrom 12 (take (start + size - 4) bytes) (start + 14) 0 in
-    show (wordsOf number f) (endBy number start f)
+    show (wordsOf 0 number f) (endBy number start f)
 
 abbrev pub showBy : (bytes : List ℕ) → (start size number : ℕ) → Reading → Show
 showBy bytes start size number reading.NotEit = show [] (no-eit number)

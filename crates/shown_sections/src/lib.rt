@@ -123,6 +123,7 @@ fn show_events(
 {
     let of = Loop {
         header: entry_words::EVENT_HEADER,
+        network: 0,
         number: number as u32,
         skip,
     };
