@@ -1,0 +1,5 @@
+pub mod Once
+pub mod Listed
+pub mod Sdt
+pub mod Nit
+pub mod Examples
