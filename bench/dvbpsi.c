@@ -124,13 +124,15 @@ static double time_dvbpsi(void)
 
 static petrizolu_gate gate;
 static uint64_t keys[4096], changes[4096], buckets[4096], links[4096], watch[PETRIZOLU_WATCH_WORDS];
+static uint32_t pat_slots[PETRIZOLU_PAT_SLOTS];
+static uint8_t pat_cells[PETRIZOLU_PAT_CELLS];
 static petrizolu_eit eit;
 static uint64_t heads[LIMIT * PETRIZOLU_HEAD_WORDS], schedule_heads[LIMIT * PETRIZOLU_HEAD_WORDS];
 static uint32_t slots[LIMIT * PETRIZOLU_SLOT_WORDS], units[LIMIT * PETRIZOLU_UNIT_WORDS];
 static uint8_t cells[LIMIT * LONGEST];
 
 #define LEND(array) (array), sizeof(array) / sizeof((array)[0])
-#define GATE LEND(keys), LEND(changes), LEND(buckets), LEND(links), LEND(watch)
+#define GATE LEND(keys), LEND(changes), LEND(buckets), LEND(links), LEND(watch), LEND(pat_slots), LEND(pat_cells)
 #define EIT LEND(heads), LEND(slots), LEND(cells), LEND(schedule_heads), LEND(units)
 
 static bool open_port(void)

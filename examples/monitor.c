@@ -20,7 +20,11 @@ enum { CAPACITY = 4096, LIMIT = 64, CELL_SIZE = 4096, CELLS = 1024, LONGEST_SECT
 
 struct gate {
     petrizolu_gate state;
-    uint64_t keys[CAPACITY], changes[CAPACITY], buckets[CAPACITY], links[CAPACITY], watch[PETRIZOLU_WATCH_WORDS];
+    uint64_t keys[CAPACITY], changes[CAPACITY], buckets[CAPACITY], links[CAPACITY];
+    /* The watch record of the input. */
+    uint64_t watch[PETRIZOLU_WATCH_WORDS];
+    uint32_t pat_slots[PETRIZOLU_PAT_SLOTS];
+    uint8_t pat_cells[PETRIZOLU_PAT_CELLS];
 };
 
 struct sets {
@@ -46,7 +50,8 @@ struct monitor {
 
 /* An array and its number of elements, as every call takes them. */
 #define LEND(array) (array), sizeof(array) / sizeof((array)[0])
-#define LEND_GATE(g) LEND((g)->keys), LEND((g)->changes), LEND((g)->buckets), LEND((g)->links), LEND((g)->watch)
+#define LEND_RECORD(g) LEND((g)->watch), LEND((g)->pat_slots), LEND((g)->pat_cells)
+#define LEND_GATE(g) LEND((g)->keys), LEND((g)->changes), LEND((g)->buckets), LEND((g)->links), LEND_RECORD(g)
 #define LEND_SETS(s) LEND((s)->heads), LEND((s)->slots), LEND((s)->cells)
 #define LEND_EIT(e) LEND((e)->heads), LEND((e)->slots), LEND((e)->cells), LEND((e)->schedule_heads), LEND((e)->units)
 

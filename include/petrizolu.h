@@ -68,9 +68,10 @@ enum petrizolu_answer {
 #define PETRIZOLU_DEFAULT_LIMIT 256u         /* keys of a collector */
 
 /* Settings of a gate. */
-#define PETRIZOLU_REPEATS 1u       /* emit repeats too */
-#define PETRIZOLU_FOLLOW 2u        /* a changed PAT changes the watch */
-#define PETRIZOLU_WELL_KNOWN 4u    /* the eight well-known PIDs are watched and protected */
+#define PETRIZOLU_REPEATS 1u            /* emit repeats too */
+#define PETRIZOLU_FOLLOW 2u             /* complete PATs change the watch */
+#define PETRIZOLU_WELL_KNOWN 4u         /* the eight well-known PIDs are watched and protected */
+#define PETRIZOLU_FOLLOW_SECTIONS 8u    /* with PETRIZOLU_FOLLOW: each changed PAT section replaces the former, as dvb-si 12.0.1 does; alone it does nothing */
 #define PETRIZOLU_DEFAULT_SETTINGS (PETRIZOLU_FOLLOW | PETRIZOLU_WELL_KNOWN)
 
 /* How the gate tells that a section with a CRC and without a version changed, as the time offset table: */
@@ -89,7 +90,9 @@ enum petrizolu_answer {
  * is never read or written. The caller sees to it that the products fit a size_t: where they do not, no memory would do.
  */
 #define PETRIZOLU_GATE_ROWS(capacity) ((size_t)((capacity) == 0 ? 1 : (capacity)))    /* keys, changes, buckets, links: uint64_t each */
-#define PETRIZOLU_WATCH_WORDS 384u                                                    /* watch: uint64_t */
+#define PETRIZOLU_WATCH_WORDS 398u                                                    /* watch: uint64_t; the whole record, of which petrizolu_watch_ask needs the first 384 */
+#define PETRIZOLU_PAT_SLOTS 288u                                                      /* pat_slots: uint32_t */
+#define PETRIZOLU_PAT_CELLS 262144u                                                   /* pat_cells: uint8_t */
 #define PETRIZOLU_HEAD_WORDS 12u                                                      /* a row's words in heads */
 #define PETRIZOLU_SLOT_WORDS 288u                                                     /* a row's words in slots */
 #define PETRIZOLU_UNIT_WORDS (16u * PETRIZOLU_SLOT_WORDS)                             /* a schedule's words in units */
@@ -100,6 +103,9 @@ enum petrizolu_answer {
 #define PETRIZOLU_SMALLEST_CELL 12u
 #define PETRIZOLU_LARGEST_CELL 4096u
 #define PETRIZOLU_MOST_CELLS 65535u
+
+/* In the record of an input: how often the PAT of another transport_stream_id came in the place of the one that was held. A host may read it. */
+#define PETRIZOLU_WATCH_PAT_EVICTIONS 385u
 
 /*
  * What a row's head says. heads + row * PETRIZOLU_HEAD_WORDS has these words; a host may read them of a row that was handed out, to name the
@@ -134,7 +140,7 @@ uint32_t petrizolu_crc(const uint8_t *bytes, size_t byte_count);
 typedef struct petrizolu_gate {
     uint64_t capacity;    /* keys kept; 0 acts as 1 */
     uint64_t repeats;     /* not 0: on */
-    uint64_t follow;      /* not 0: on */
+    uint64_t follow;      /* 0: off, 2: each changed PAT section, any other: complete PATs */
     uint64_t change_rule; /* 1 or 2; another number is not whole (10) */
     uint64_t used;        /* rows in use */
     uint64_t first;       /* the row that leaves next */
@@ -155,21 +161,37 @@ typedef struct petrizolu_failure {
 } petrizolu_failure;
 
 /*
- * Opens a gate and its watch. settings: PETRIZOLU_REPEATS and so on, or'ed; other bits are not looked at. extra: PIDs that are watched and
- * protected besides the well-known ones. keys and changes need not be written before. watch is the record of one input: petrizolu_watch_open opens
- * those of the others.
- * 7: *gate and watch are written, counters 0. 12: an extra PID is 8192 or more. 13: keys, changes or watch are too short, or a change rule that there is not. A refusal writes nothing.
+ * ---- Following
+ *
+ * PAT sections that come on PID 0, are sound, marked current and of at most 1,024 bytes are collected, emitted or suppressed, and when all sections of a
+ * PAT are there, the PIDs of its programs are watched in place of those of the PAT before it. Until then the watch stays as it is, however many
+ * sections of a newer PAT have come; sections that contradict what is held, or are marked next, change nothing. Well-known and extra PIDs are
+ * always watched.
+ *
+ * watch, pat_slots and pat_cells are the watch record of one input: PETRIZOLU_WATCH_WORDS, PETRIZOLU_PAT_SLOTS and PETRIZOLU_PAT_CELLS elements, the
+ * PAT's sections in the last two. Where complete PATs are not followed (PETRIZOLU_FOLLOW_SECTIONS, or no PETRIZOLU_FOLLOW), 384 words of watch are
+ * enough, pat_slots and pat_cells may have length 0, and what is lent there is not looked at.
+ *
+ * Opens a gate and the watch record of one input: petrizolu_watch_open opens those of the others. settings: PETRIZOLU_REPEATS and so on, or'ed; other
+ * bits are not looked at. extra: PIDs that are watched and protected besides the well-known ones. keys, changes, pat_slots and pat_cells need not be
+ * written before and are not written here.
+ * 7: *gate and watch are written, counters 0. 12: an extra PID is 8192 or more. 13: keys, changes or the record are too short, or a change rule that
+ * there is not. A refusal writes nothing.
  *
  *     static uint64_t keys[512], changes[512], watch[PETRIZOLU_INPUTS][PETRIZOLU_WATCH_WORDS];
+ *     static uint32_t pat_slots[PETRIZOLU_INPUTS][PETRIZOLU_PAT_SLOTS];
+ *     static uint8_t pat_cells[PETRIZOLU_INPUTS][PETRIZOLU_PAT_CELLS];
+ *     #define RECORD(i) watch[i], PETRIZOLU_WATCH_WORDS, pat_slots[i], PETRIZOLU_PAT_SLOTS, pat_cells[i], PETRIZOLU_PAT_CELLS
  *     static const uint16_t extra[] = {0x0100};
  *     petrizolu_gate gate;
- *     if (petrizolu_gate_open(&gate, 512, PETRIZOLU_DEFAULT_SETTINGS, PETRIZOLU_DEFAULT_CHANGE_RULE, extra, 1, keys, 512, changes, 512, watch[0],
- *                             PETRIZOLU_WATCH_WORDS) != PETRIZOLU_DONE)
+ *     if (petrizolu_gate_open(&gate, 512, PETRIZOLU_DEFAULT_SETTINGS, PETRIZOLU_DEFAULT_CHANGE_RULE, extra, 1, keys, 512, changes, 512, RECORD(0))
+ *         != PETRIZOLU_DONE)
  *         return 1;
  */
 uint8_t petrizolu_gate_open(petrizolu_gate *gate, uint64_t capacity, uint32_t settings, uint64_t change_rule, const uint16_t *extra,
                             size_t extra_count, const uint64_t *keys, size_t key_count, const uint64_t *changes, size_t change_count,
-                            uint64_t *watch, size_t watch_words);
+                            uint64_t *watch, size_t watch_words, const uint32_t *pat_slots, size_t pat_slot_words, const uint8_t *pat_cells,
+                            size_t pat_cell_bytes);
 
 /*
  * ---- Several inputs
@@ -180,15 +202,17 @@ uint8_t petrizolu_gate_open(petrizolu_gate *gate, uint64_t capacity, uint32_t se
  * capacity, the limits and the cells: an eviction can come from a neighbour. A host opens as many records as it has tuners; the library does not
  * count them, and does not notice a record that is lent for another input.
  *
- * Opens the record of one input. Of settings only PETRIZOLU_WELL_KNOWN is looked at.
- * 7: watch is written. 12: an extra PID is 8192 or more. 13: watch is too short. A refusal writes nothing.
+ * Opens the record of one input, as petrizolu_gate_open opens its own. Of settings PETRIZOLU_WELL_KNOWN and how PATs are followed are looked at; the
+ * latter has to be what the gate is opened with.
+ * 7: watch is written. 12: an extra PID is 8192 or more. 13: the record is too short. A refusal writes nothing.
  *
  *     for (uint32_t i = 1; i < PETRIZOLU_INPUTS; i++)
- *         if (petrizolu_watch_open(PETRIZOLU_DEFAULT_SETTINGS, extra, 1, watch[i], PETRIZOLU_WATCH_WORDS) != PETRIZOLU_DONE)
+ *         if (petrizolu_watch_open(PETRIZOLU_DEFAULT_SETTINGS, extra, 1, RECORD(i)) != PETRIZOLU_DONE)
  *             return 1;
  *     bool wanted = petrizolu_watch_ask(watch[input], PETRIZOLU_WATCH_WORDS, pid) == PETRIZOLU_YES;
  */
-uint8_t petrizolu_watch_open(uint32_t settings, const uint16_t *extra, size_t extra_count, uint64_t *watch, size_t watch_words);
+uint8_t petrizolu_watch_open(uint32_t settings, const uint16_t *extra, size_t extra_count, uint64_t *watch, size_t watch_words,
+                             const uint32_t *pat_slots, size_t pat_slot_words, const uint8_t *pat_cells, size_t pat_cell_bytes);
 
 /*
  * Is this PID watched on the input whose record is lent? 8, 9; 10 (fewer than 384 words), 12. The example is above.
@@ -196,12 +220,13 @@ uint8_t petrizolu_watch_open(uint32_t settings, const uint16_t *extra, size_t ex
 uint8_t petrizolu_watch_ask(const uint64_t *watch, size_t watch_words, uint32_t pid);
 
 /*
- * Offers a section that came on an input and a PID, watched or not: 1 or 2, and counters and rows move, and a changed PAT changes the watch that is
- * lent where following is on; 3 or 31, and only counters move, and *failure is written. Every other answer leaves *failure as it was. 10, 11, 12, 37, in
- * this order: all as before.
+ * Offers a section that came on an input and a PID, watched or not: 1 or 2, and counters and rows move, and a PAT changes the record that is
+ * lent as following has it; 3 or 31, and only counters move, and *failure is written. Every other answer leaves *failure as it was. 10 (where complete
+ * PATs are followed also a record that is too short or whose PAT is damaged), 11 (then also word PETRIZOLU_WATCH_PAT_EVICTIONS), 12, 37, in this
+ * order: all as before. Answer and counters do not depend on how PATs are followed.
  *
  *     petrizolu_failure failure;
- *     switch (petrizolu_gate_offer(&gate, keys, 512, changes, 512, watch[input], PETRIZOLU_WATCH_WORDS, input, pid, section, length, &failure)) {
+ *     switch (petrizolu_gate_offer(&gate, keys, 512, changes, 512, RECORD(input), input, pid, section, length, &failure)) {
  *     case PETRIZOLU_EMITTED:
  *         printf("new, %llu so far\n", (unsigned long long)gate.emitted);
  *         break;
@@ -214,8 +239,8 @@ uint8_t petrizolu_watch_ask(const uint64_t *watch, size_t watch_words, uint32_t 
  *     }
  */
 uint8_t petrizolu_gate_offer(petrizolu_gate *gate, uint64_t *keys, size_t key_count, uint64_t *changes, size_t change_count, uint64_t *watch,
-                             size_t watch_words, uint32_t input, uint32_t pid, const uint8_t *section, size_t section_length,
-                             petrizolu_failure *failure);
+                             size_t watch_words, uint32_t *pat_slots, size_t pat_slot_words, uint8_t *pat_cells, size_t pat_cell_bytes,
+                             uint32_t input, uint32_t pid, const uint8_t *section, size_t section_length, petrizolu_failure *failure);
 
 /*
  * The same gate with an index over its rows: for thousands of keys. It answers as the one above and keeps the same rows; opening writes the
@@ -226,25 +251,26 @@ uint8_t petrizolu_gate_offer(petrizolu_gate *gate, uint64_t *keys, size_t key_co
  *     static uint64_t rows[4][ROWS];
  *     petrizolu_gate large;
  *     if (petrizolu_indexed_open(&large, ROWS, PETRIZOLU_DEFAULT_SETTINGS, PETRIZOLU_DEFAULT_CHANGE_RULE, extra, 1, rows[0], ROWS, rows[1], ROWS, rows[2],
- *                                ROWS, rows[3], ROWS, watch[0], PETRIZOLU_WATCH_WORDS) != PETRIZOLU_DONE)
+ *                                ROWS, rows[3], ROWS, RECORD(0)) != PETRIZOLU_DONE)
  *         return 1;
  */
 uint8_t petrizolu_indexed_open(petrizolu_gate *gate, uint64_t capacity, uint32_t settings, uint64_t change_rule, const uint16_t *extra,
                                size_t extra_count, const uint64_t *keys, size_t key_count, const uint64_t *changes, size_t change_count,
                                uint64_t *buckets, size_t bucket_count, const uint64_t *links, size_t link_count, uint64_t *watch,
-                               size_t watch_words);
+                               size_t watch_words, const uint32_t *pat_slots, size_t pat_slot_words, const uint8_t *pat_cells,
+                               size_t pat_cell_bytes);
 
 /*
  * As petrizolu_gate_offer.
  *
- *     if (petrizolu_indexed_offer(&large, rows[0], ROWS, rows[1], ROWS, rows[2], ROWS, rows[3], ROWS, watch[input], PETRIZOLU_WATCH_WORDS,
- *                                 input, pid, section, length, &failure) == PETRIZOLU_SUPPRESSED)
+ *     if (petrizolu_indexed_offer(&large, rows[0], ROWS, rows[1], ROWS, rows[2], ROWS, rows[3], ROWS, RECORD(input), input, pid, section, length,
+ *                                 &failure) == PETRIZOLU_SUPPRESSED)
  *         printf("seen before\n");
  */
 uint8_t petrizolu_indexed_offer(petrizolu_gate *gate, uint64_t *keys, size_t key_count, uint64_t *changes, size_t change_count,
                                 uint64_t *buckets, size_t bucket_count, uint64_t *links, size_t link_count, uint64_t *watch,
-                                size_t watch_words, uint32_t input, uint32_t pid, const uint8_t *section, size_t section_length,
-                                petrizolu_failure *failure);
+                                size_t watch_words, uint32_t *pat_slots, size_t pat_slot_words, uint8_t *pat_cells, size_t pat_cell_bytes,
+                                uint32_t input, uint32_t pid, const uint8_t *section, size_t section_length, petrizolu_failure *failure);
 
 /* ---- a section of a row */
 

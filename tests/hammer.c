@@ -5,7 +5,8 @@
  *
  * Each lent array stands right against a page that may not be touched, after it or before it, so that a single byte out of bounds ends the run; with
  * `heap` it is a block of the heap of exactly its length, for a memory checker. Each call's answer must be one that the header names for it, and after
- * a refusal every lent byte must be as before. The gate with an index is run beside the one without on the same sections.
+ * a refusal every lent byte must be as before. The gate with an index is run beside the one without on the same sections. Where complete PATs are
+ * followed, whether the PAT store is whole is worked out here too; where they are not, or where a section enters nothing, it must be as before.
  * Prints the calls by function and answer.
  */
 #include "../include/petrizolu.h"
@@ -291,13 +292,16 @@ static size_t draw_eit(uint8_t *b)
 
 static size_t draw_pat(uint8_t *b)
 {
-    size_t programs = below(4), n = 12 + 4 * programs + (once_in(20) ? 1 : 0);
+    size_t programs = once_in(40) ? 252 + below(3) : below(4), n = 12 + 4 * programs + (once_in(20) ? 1 : 0);
     draw_long(b, 0);
     set_length(b, n);
     for (size_t i = 8; i < n; i++)
         b[i] = (uint8_t)below(3);
     return n;
 }
+
+/* Whether half of the sections are PATs. */
+static bool many_pats;
 
 /* A section, or the one before it once more. */
 static void draw_section(void)
@@ -306,7 +310,7 @@ static void draw_section(void)
     size_t n;
     if (once_in(4))
         return;
-    switch (below(8)) {
+    switch (many_pats && once_in(2) ? 0 : below(8)) {
     case 0:
         n = draw_pat(b);
         break;
@@ -383,26 +387,95 @@ static size_t around(size_t needed)
 
 /* ---- the gates */
 
-enum { KEYS, CHANGES, BUCKETS, LINKS, WATCH, GATE_ARRAYS };
+enum { KEYS, CHANGES, BUCKETS, LINKS, WATCH, PAT_SLOTS, PAT_CELLS, GATE_ARRAYS };
 
-enum { GATE_WORDS = sizeof(petrizolu_gate) / 8, USED = offsetof(petrizolu_gate, used) / 8 };
+enum { GATE_WORDS = sizeof(petrizolu_gate) / 8, FOLLOW = offsetof(petrizolu_gate, follow) / 8, USED = offsetof(petrizolu_gate, used) / 8 };
+
+/* Words of a watch record: the three sets, then of the PAT store the rows in use, the evictions and the head of its row. */
+enum { SET_WORDS = 384, PAT_ROWS = SET_WORDS, PAT_EVICTIONS = PETRIZOLU_WATCH_PAT_EVICTIONS, PAT_HEAD = 386, PAT_LAST = PAT_HEAD + PETRIZOLU_HEAD_LAST };
+
+/* A row's slots stand behind 32 words that a set collector does not use. */
+enum { FIRST_SLOT = 32 };
 
 static struct part gate, indexed;
 
 #define A(p, i) (void *)(p)->arrays[i].data, (p)->arrays[i].count
+#define RECORD(p) A(p, WATCH), A(p, PAT_SLOTS), A(p, PAT_CELLS)
 #define SECTION section.data, section.count
+
+static uint64_t *watch_of(const struct part *p)
+{
+    return (uint64_t *)p->arrays[WATCH].data;
+}
+
+/* Whether a gate's word, or settings, say that complete PATs are followed. */
+static bool follows_tables(uint64_t word)
+{
+    return word != 0 && word != 2;
+}
+
+static bool asks_for_tables(uint32_t settings)
+{
+    return (settings & (PETRIZOLU_FOLLOW | PETRIZOLU_FOLLOW_SECTIONS)) == PETRIZOLU_FOLLOW;
+}
+
+static bool has_pat_room(const struct part *p)
+{
+    return p->arrays[WATCH].count >= PETRIZOLU_WATCH_WORDS && p->arrays[PAT_SLOTS].count >= PETRIZOLU_PAT_SLOTS && p->arrays[PAT_CELLS].count >= PETRIZOLU_PAT_CELLS;
+}
+
+static bool pats_whole(const struct part *p)
+{
+    const uint64_t *watch = watch_of(p);
+    const uint32_t *slots = (const uint32_t *)p->arrays[PAT_SLOTS].data;
+    if (!has_pat_room(p) || watch[PAT_ROWS] > 1)
+        return false;
+    for (uint64_t i = 0; watch[PAT_ROWS] == 1 && i <= watch[PAT_LAST] && i < 256; i++) {
+        uint32_t length = slots[FIRST_SLOT + i] >> 16, cell = slots[FIRST_SLOT + i] & 0xFFFF;
+        if (length != 0 && (length < 12 || length > 1024 || cell > 255))
+            return false;
+    }
+    return true;
+}
+
+/* That the record is as before from word `from` on, and its slots and cells. */
+static bool record_as_before(const struct part *p, size_t from)
+{
+    const struct array *watch = &p->arrays[WATCH];
+    bool words = watch->count <= from || memcmp(watch->before + 8 * from, watch->data + 8 * from, size_of(watch) - 8 * from) == 0;
+    return words && array_as_before(&p->arrays[PAT_SLOTS]) && array_as_before(&p->arrays[PAT_CELLS]);
+}
+
+static bool same_array(const struct part *a, const struct part *b, int i)
+{
+    return size_of(&a->arrays[i]) == size_of(&b->arrays[i]) && memcmp(a->arrays[i].data, b->arrays[i].data, size_of(&a->arrays[i])) == 0;
+}
+
+/* An opening writes the three sets and, where complete PATs are followed, two words more, with 0. */
+static void check_opened(enum call call, const struct part *p, uint32_t settings, unsigned answer)
+{
+    const uint64_t *watch = watch_of(p);
+    bool tables = asks_for_tables(settings);
+    if (tables && !has_pat_room(p) && answer != PETRIZOLU_BAD_PID && answer != PETRIZOLU_TOO_LITTLE)
+        fail(call, answer, "opened without room for a PAT");
+    if (answer == PETRIZOLU_DONE && !record_as_before(p, tables ? PAT_HEAD : SET_WORDS))
+        fail(call, answer, "an opening that wrote more of the record");
+    if (answer == PETRIZOLU_DONE && tables && (watch[PAT_ROWS] != 0 || watch[PAT_EVICTIONS] != 0))
+        fail(call, answer, "an opening that left a PAT");
+}
 
 static unsigned gate_open(struct part *p, bool with_index, uint64_t capacity, uint32_t settings, uint64_t rule, const uint16_t *extra, size_t extras)
 {
     unsigned answer;
     remember(p);
     if (with_index) {
-        answer = petrizolu_indexed_open((petrizolu_gate *)p->words, capacity, settings, rule, extra, extras, A(p, KEYS), A(p, CHANGES), A(p, BUCKETS), A(p, LINKS), A(p, WATCH));
+        answer = petrizolu_indexed_open((petrizolu_gate *)p->words, capacity, settings, rule, extra, extras, A(p, KEYS), A(p, CHANGES), A(p, BUCKETS), A(p, LINKS), RECORD(p));
         judge(INDEXED_OPEN, p, answer);
     } else {
-        answer = petrizolu_gate_open((petrizolu_gate *)p->words, capacity, settings, rule, extra, extras, A(p, KEYS), A(p, CHANGES), A(p, WATCH));
+        answer = petrizolu_gate_open((petrizolu_gate *)p->words, capacity, settings, rule, extra, extras, A(p, KEYS), A(p, CHANGES), RECORD(p));
         judge(GATE_OPEN, p, answer);
     }
+    check_opened(with_index ? INDEXED_OPEN : GATE_OPEN, p, settings, answer);
     return answer;
 }
 
@@ -423,18 +496,36 @@ static bool failure_told(unsigned answer, const petrizolu_failure *told, const p
     }
 }
 
+/* 10 and 11 by the PAT store where complete PATs are followed. Where they are not, it is as before; where they are, all of the record is, but after a sound section on PID 0. */
+static void check_record(enum call call, const struct part *p, bool tables, bool whole, bool full, uint32_t pid, unsigned answer)
+{
+    bool sound = answer == PETRIZOLU_EMITTED || answer == PETRIZOLU_SUPPRESSED;
+    if (tables && !whole && answer != PETRIZOLU_NOT_WHOLE)
+        fail(call, answer, "a PAT store that is not whole");
+    if (tables && full && answer != PETRIZOLU_NOT_WHOLE && answer != PETRIZOLU_COUNTER_FULL)
+        fail(call, answer, "a PAT store whose count is at its end");
+    if (!record_as_before(p, SET_WORDS) && !(tables && sound && pid == 0))
+        fail(call, answer, "a section that entered the PAT store");
+    if (tables && !(sound && pid == 0) && !array_as_before(&p->arrays[WATCH]))
+        fail(call, answer, "a section that changed the watch");
+    if (tables && sound && !pats_whole(p))
+        fail(call, answer, "a PAT store that is not whole any more");
+}
+
 static unsigned gate_offer(struct part *p, bool with_index, uint32_t input, uint32_t pid)
 {
     unsigned answer;
     petrizolu_failure before = {any_word(), any_word(), any_word()}, failure = before;
+    bool tables = follows_tables(p->words[FOLLOW]), whole = pats_whole(p), full = whole && watch_of(p)[PAT_EVICTIONS] == UINT64_MAX;
     remember(p);
     if (with_index) {
-        answer = petrizolu_indexed_offer((petrizolu_gate *)p->words, A(p, KEYS), A(p, CHANGES), A(p, BUCKETS), A(p, LINKS), A(p, WATCH), input, pid, SECTION, &failure);
+        answer = petrizolu_indexed_offer((petrizolu_gate *)p->words, A(p, KEYS), A(p, CHANGES), A(p, BUCKETS), A(p, LINKS), RECORD(p), input, pid, SECTION, &failure);
         judge(INDEXED_OFFER, p, answer);
     } else {
-        answer = petrizolu_gate_offer((petrizolu_gate *)p->words, A(p, KEYS), A(p, CHANGES), A(p, WATCH), input, pid, SECTION, &failure);
+        answer = petrizolu_gate_offer((petrizolu_gate *)p->words, A(p, KEYS), A(p, CHANGES), RECORD(p), input, pid, SECTION, &failure);
         judge(GATE_OFFER, p, answer);
     }
+    check_record(with_index ? INDEXED_OFFER : GATE_OFFER, p, tables, whole, full, pid, answer);
     if (!failure_told(answer, &failure, &before))
         fail(with_index ? INDEXED_OFFER : GATE_OFFER, answer, "tells another failure");
     if (answer != PETRIZOLU_NOT_WHOLE && answer != PETRIZOLU_COUNTER_FULL && answer != PETRIZOLU_BAD_PID && (answer == PETRIZOLU_BAD_INPUT) != (input >= PETRIZOLU_INPUTS))
@@ -447,8 +538,9 @@ static unsigned watch_open(struct part *p, uint32_t settings, const uint16_t *ex
 {
     unsigned answer;
     remember(p);
-    answer = petrizolu_watch_open(settings, extra, extras, A(p, WATCH));
+    answer = petrizolu_watch_open(settings, extra, extras, RECORD(p));
     judge(WATCH_OPEN, p, answer);
+    check_opened(WATCH_OPEN, p, settings, answer);
     return answer;
 }
 
@@ -458,12 +550,64 @@ static void gate_ask(struct part *p, uint32_t pid)
     judge_question(WATCH_ASK, p, petrizolu_watch_ask(A(p, WATCH), pid));
 }
 
-static void lend_gate(struct part *p, size_t rows, bool exact)
+static void lend_gate(struct part *p, size_t rows, bool tables, bool exact)
 {
-    for (int i = 0; i < GATE_ARRAYS; i++) {
-        size_t needed = i == WATCH ? PETRIZOLU_WATCH_WORDS : rows;
-        lend(&p->arrays[i], exact ? needed : around(needed));
+    const size_t needed[GATE_ARRAYS] = {rows, rows, rows, rows, tables ? PETRIZOLU_WATCH_WORDS : SET_WORDS, tables ? PETRIZOLU_PAT_SLOTS : 0, tables ? PETRIZOLU_PAT_CELLS : 0};
+    for (int i = 0; i < GATE_ARRAYS; i++)
+        lend(&p->arrays[i], exact ? needed[i] : around(needed[i]));
+}
+
+static uint32_t any_slot(void)
+{
+    static const uint32_t lengths[] = {1, 11, 12, 1024, 1025, 65535}, cells[] = {255, 256, 65535};
+    uint32_t length = once_in(3) ? lengths[below(sizeof lengths / sizeof lengths[0])] : (uint32_t)(12 + below(1013));
+    return length << 16 | (once_in(3) ? cells[below(sizeof cells / sizeof cells[0])] : (uint32_t)below(256));
+}
+
+/* Writes over one word of the PAT store, or one slot. */
+static void damage_pats(struct part *p)
+{
+    uint32_t slot = any_slot();
+    struct array *watch = &p->arrays[WATCH], *slots = &p->arrays[PAT_SLOTS];
+    if (watch->count >= PETRIZOLU_WATCH_WORDS && once_in(2))
+        watch_of(p)[SET_WORDS + below(PETRIZOLU_WATCH_WORDS - SET_WORDS)] = any_word();
+    else if (slots->count >= PETRIZOLU_PAT_SLOTS)
+        memcpy(slots->data + 4 * (FIRST_SLOT + (once_in(2) ? below(4) : below(256))), &slot, 4);
+}
+
+/* A gate that is whole over what was lent exactly, and a PAT row that came from nowhere: whole too, but for some of its slots. */
+static void likely(struct part *p, uint64_t capacity)
+{
+    uint64_t rows = PETRIZOLU_GATE_ROWS(capacity), *watch = watch_of(p);
+    for (int i = 0; i < GATE_WORDS; i++)
+        p->words[i] = below(6);
+    *(petrizolu_gate *)p->words = (petrizolu_gate){.capacity = capacity, .follow = below(4), .change_rule = 1 + below(2), .used = below(rows + 1), .first = below(rows)};
+    watch[PAT_ROWS] = below(2);
+    watch[PAT_EVICTIONS] = once_in(8) ? UINT64_MAX - below(2) : below(4);
+    for (int i = 0; i < (int)PETRIZOLU_HEAD_WORDS; i++)
+        watch[PAT_HEAD + i] = below(3) == 0 ? 1 : 0;
+    watch[PAT_LAST] = once_in(4) ? any_word() : below(3);
+    for (int i = 0; i < 256; i++) {
+        uint32_t slot = once_in(4) ? 0 : (uint32_t)(12 + below(1013)) << 16 | (uint32_t)below(256);
+        memcpy(p->arrays[PAT_SLOTS].data + 4 * (FIRST_SLOT + i), &slot, 4);
     }
+    if (once_in(3))
+        damage_pats(p);
+}
+
+/* In every history the watched PIDs are the protected ones and those that are followed. */
+static void check_watch(const struct part *p, unsigned answer)
+{
+    const uint64_t *watch = watch_of(p);
+    for (int i = 0; i < 128; i++)
+        if (watch[i] != (watch[128 + i] | watch[256 + i]))
+            fail(GATE_OFFER, answer, "a watch that is not the protected PIDs and the followed ones");
+}
+
+/* A PAT comes on PID 0, mostly. */
+static uint32_t draw_pid_of_section(void)
+{
+    return section.count > 0 && section.data[0] == 0 && !once_in(4) ? 0 : draw_pid();
 }
 
 static void round_of_gates(void)
@@ -474,18 +618,23 @@ static void round_of_gates(void)
     uint64_t rule = once_in(20) ? any_word() : once_in(8) ? below(4) : 1 + below(2);
     size_t extras = below(4);
     unsigned opened;
+    bool tables = asks_for_tables(settings);
+    many_pats = tables;
     for (int i = 0; i < 3; i++)
         extra[i] = (uint16_t)(once_in(20) ? 8190 + below(5) : below(8192));
     if (once_in(4)) { /* memory from nowhere */
         struct part *p = once_in(2) ? &gate : &indexed;
-        lend_gate(p, PETRIZOLU_GATE_ROWS(capacity), false);
+        bool from_likely = tables && once_in(2);
+        lend_gate(p, PETRIZOLU_GATE_ROWS(capacity), tables || once_in(8), from_likely);
         for (int i = 0; i < GATE_ARRAYS; i++)
             scramble(&p->arrays[i]);
         for (int i = 0; i < GATE_WORDS; i++)
             p->words[i] = once_in(2) ? below(6) : any_word();
+        if (from_likely)
+            likely(p, capacity);
         for (int i = 0; i < 4; i++) {
             draw_section();
-            gate_offer(p, p == &indexed, draw_input(), draw_pid());
+            gate_offer(p, p == &indexed, draw_input(), draw_pid_of_section());
             gate_ask(p, draw_pid());
         }
         if (once_in(2))
@@ -493,11 +642,16 @@ static void round_of_gates(void)
         gate_open(p, p == &indexed, once_in(4) ? any_word() : capacity, settings, rule, extra, extras);
         return;
     }
-    lend_gate(&gate, PETRIZOLU_GATE_ROWS(capacity), true);
-    lend_gate(&indexed, PETRIZOLU_GATE_ROWS(capacity), true);
-    for (int i = 0; i < GATE_ARRAYS; i++)
+    lend_gate(&gate, PETRIZOLU_GATE_ROWS(capacity), tables, true);
+    lend_gate(&indexed, PETRIZOLU_GATE_ROWS(capacity), tables, true);
+    for (int i = 0; i < WATCH; i++)
         if (once_in(4))
             scramble(&indexed.arrays[i]);
+    for (int i = WATCH; i < GATE_ARRAYS; i++) {
+        if (once_in(4))
+            scramble(&gate.arrays[i]);
+        memcpy(indexed.arrays[i].data, gate.arrays[i].data, size_of(&gate.arrays[i]));
+    }
     opened = gate_open(&gate, false, capacity, settings, rule, extra, extras);
     if (gate_open(&indexed, true, capacity, settings, rule, extra, extras) != opened)
         fail(INDEXED_OPEN, opened, "not as the gate without an index");
@@ -505,23 +659,28 @@ static void round_of_gates(void)
         return;
     if (once_in(4)) { /* the record that the opening wrote, by itself */
         static uint64_t watch[PETRIZOLU_WATCH_WORDS];
-        memcpy(watch, gate.arrays[WATCH].data, sizeof watch);
-        scramble(&gate.arrays[WATCH]);
-        if (watch_open(&gate, settings, extra, extras) != PETRIZOLU_DONE || memcmp(watch, gate.arrays[WATCH].data, sizeof watch) != 0)
+        uint64_t *now = watch_of(&gate);
+        size_t written = tables ? PAT_HEAD : SET_WORDS;
+        memcpy(watch, now, 8 * written);
+        for (size_t i = 0; i < written; i++)
+            now[i] = any_word();
+        if (watch_open(&gate, settings, extra, extras) != PETRIZOLU_DONE || memcmp(watch, now, 8 * written) != 0)
             fail(WATCH_OPEN, opened, "not the record that opening the gate writes");
     }
     for (int i = 0; i < 12; i++) {
-        uint32_t input = draw_input(), pid = draw_pid();
+        uint32_t input = draw_input(), pid;
         unsigned a, b;
         draw_section();
+        pid = draw_pid_of_section();
         a = gate_offer(&gate, false, input, pid);
         b = gate_offer(&indexed, true, input, pid);
-        if (a != b || memcmp(gate.words, indexed.words, sizeof gate.words) != 0 || memcmp(gate.arrays[WATCH].data, indexed.arrays[WATCH].data, size_of(&gate.arrays[WATCH])) != 0
+        check_watch(&gate, a);
+        if (a != b || memcmp(gate.words, indexed.words, sizeof gate.words) != 0 || !same_array(&gate, &indexed, WATCH) || !same_array(&gate, &indexed, PAT_SLOTS) || !same_array(&gate, &indexed, PAT_CELLS)
             || memcmp(gate.arrays[KEYS].data, indexed.arrays[KEYS].data, 8 * gate.words[USED]) != 0 || memcmp(gate.arrays[CHANGES].data, indexed.arrays[CHANGES].data, 8 * gate.words[USED]) != 0)
             fail(INDEXED_OFFER, b, "not as the gate without an index");
         gate_ask(&gate, pid);
     }
-    switch (below(3)) { /* damage, and on */
+    switch (below(4)) { /* damage, and on */
     case 0:
         gate.words[below(GATE_WORDS)] = any_word();
         indexed.words[below(GATE_WORDS)] = any_word();
@@ -530,15 +689,20 @@ static void round_of_gates(void)
         damage(&gate.arrays[below(GATE_ARRAYS)]);
         damage(&indexed.arrays[below(GATE_ARRAYS)]);
         break;
+    case 2:
+        damage_pats(&gate);
+        damage_pats(&indexed);
+        break;
     default:
-        lend_gate(&gate, PETRIZOLU_GATE_ROWS(capacity), false);
-        lend_gate(&indexed, PETRIZOLU_GATE_ROWS(capacity), false);
+        lend_gate(&gate, PETRIZOLU_GATE_ROWS(capacity), tables, false);
+        lend_gate(&indexed, PETRIZOLU_GATE_ROWS(capacity), tables, false);
     }
     for (int i = 0; i < 3; i++) {
         draw_section();
-        gate_offer(&gate, false, draw_input(), draw_pid());
-        gate_offer(&indexed, true, draw_input(), draw_pid());
+        gate_offer(&gate, false, draw_input(), draw_pid_of_section());
+        gate_offer(&indexed, true, draw_input(), draw_pid_of_section());
     }
+    many_pats = false;
 }
 
 /* ---- the collectors */
@@ -780,8 +944,9 @@ int main(int argc, char **argv)
     make(&section, 1);
     gate.array_count = indexed.array_count = GATE_ARRAYS;
     for (int i = 0; i < GATE_ARRAYS; i++) {
-        make(&gate.arrays[i], 8);
-        make(&indexed.arrays[i], 8);
+        size_t element = i == PAT_SLOTS ? 4 : i == PAT_CELLS ? 1 : 8;
+        make(&gate.arrays[i], element);
+        make(&indexed.arrays[i], element);
     }
     sets.array_count = SETS_ARRAYS;
     eit.array_count = EIT_ARRAYS;

@@ -8,8 +8,8 @@ use bytes::Bytes;
 use dvb_si::collect::{EitCollector, SectionSetCollector};
 use dvb_si::demux::SiDemux;
 use mpeg_ts::pid::Pid;
-use petrizolu::{Eit, Gate, Sets, SmallGate};
-use sections::{eit, long};
+use petrizolu::{DEFAULT_SETTINGS, Eit, FOLLOW_SECTIONS, Gate, Offered, Refused, Sets, SmallGate};
+use sections::{eit, long, of_version};
 use std::hint::black_box;
 use std::sync::atomic::Ordering;
 
@@ -174,6 +174,115 @@ fn gate_new_keys(rounds: usize) {
     }
 }
 
+/// Best nanoseconds an item of each side, which take turns.
+fn best(items: usize, rounds: usize, sides: &mut [Side]) -> Vec<f64> {
+    let mut best = vec![f64::MAX; sides.len()];
+    for round in 0..=rounds {
+        for (best, side) in best.iter_mut().zip(sides.iter_mut()) {
+            let start = now();
+            side();
+            let took = (now() - start) as f64 / items as f64;
+            // The first round warms up.
+            if round > 0 {
+                *best = best.min(took);
+            }
+        }
+    }
+    best
+}
+
+/// A section of the PAT of a stream, of so many programmes.
+fn pat(version: u8, number: u8, last: u8, programs: u16) -> Vec<u8> {
+    let body: Vec<u8> = (1..=programs).flat_map(|program| [program.to_be_bytes(), (0xE100 | program).to_be_bytes()].concat()).collect();
+    of_version(long(0, 1, number, last, &body), version)
+}
+
+/// Both forms of the gate.
+trait Form: Sized {
+    fn open(settings: u32, capacity: usize) -> Self;
+    fn offer(&mut self, pid: u16, section: &[u8]) -> Result<Offered, Refused>;
+}
+
+impl Form for SmallGate {
+    fn open(settings: u32, capacity: usize) -> Self {
+        Self::open_with(settings, capacity, &[]).expect("opens")
+    }
+
+    fn offer(&mut self, pid: u16, section: &[u8]) -> Result<Offered, Refused> {
+        SmallGate::offer(self, 0, pid, section)
+    }
+}
+
+impl Form for Gate {
+    fn open(settings: u32, capacity: usize) -> Self {
+        Self::open_with(settings, capacity, &[]).expect("opens")
+    }
+
+    fn offer(&mut self, pid: u16, section: &[u8]) -> Result<Offered, Refused> {
+        Gate::offer(self, 0, pid, section)
+    }
+}
+
+const BY_SECTIONS: u32 = DEFAULT_SETTINGS | FOLLOW_SECTIONS;
+
+/// A repeat in each manner of following, with a PAT of 1 and of 256 sections. The PAT comes first, and its keys leave the gate for the others: the keys held are the same in each.
+fn repeats_following<G: Form>(form: &str, keys: usize, rounds: usize) {
+    let all: Vec<Vec<u8>> = (0..keys).map(|i| long(0x42, i as u16, 0, 0, &[i as u8; 52])).collect();
+    let order = scattered(keys);
+    let turns = 20_000 / keys;
+    let manners = [(BY_SECTIONS, 0), (BY_SECTIONS, 255), (DEFAULT_SETTINGS, 0), (DEFAULT_SETTINGS, 255)];
+    let mut gates = manners.map(|(settings, last)| {
+        let mut gate = G::open(settings, keys);
+        (0..=last).for_each(|number| assert_eq!(gate.offer(0, &pat(0, number, last, 2)), Ok(Offered::Emitted)));
+        all.iter().for_each(|section| assert_eq!(gate.offer(PID, section), Ok(Offered::Emitted)));
+        all.iter().for_each(|section| assert_eq!(gate.offer(PID, section), Ok(Offered::Suppressed)));
+        gate
+    });
+    let mut sides: Vec<Side> = Vec::new();
+    for gate in &mut gates {
+        sides.push(Box::new(|| {
+            for &i in order.iter().cycle().take(turns * keys) {
+                let _ = black_box(gate.offer(PID, &all[i]));
+            }
+        }));
+    }
+    let took = best(turns * keys, 3 * rounds, &mut sides);
+    let figures: String = took.iter().map(|ns| format!(" {ns:.1} |")).collect();
+    println!("| {keys} | {form} |{figures} {:.1} | {:.1} |", took[2] - took[0], took[3] - took[1]);
+}
+
+/// In each manner of following: the check of the PAT store is part of every offer where complete PATs are followed.
+fn following(rounds: usize) {
+    println!(
+        "\nGate: a repeat of 64 bytes that is suppressed, by the manner of following and how many sections the PAT has that is held\n"
+    );
+    println!("| keys held | form | each changed section, 1 | 256 | complete PATs, 1 | 256 | more for 1 | for 256 |");
+    println!("|---|---|---|---|---|---|---|---|");
+    for keys in [16, 512] {
+        repeats_following::<SmallGate>("in order", keys, rounds);
+        repeats_following::<Gate>("with an index", keys, rounds);
+    }
+    println!("\nGate with an index: a PAT of 4 sections of 10 programmes each, another version each time, nanoseconds a PAT\n");
+    println!("| each changed section followed | entered, complete and followed | repeated, suppressed |");
+    println!("|---|---|---|");
+    const TURNS: usize = 500;
+    let versions: Vec<Vec<u8>> = (0..8).map(|at| pat(at / 4, at % 4, 3, 10)).collect();
+    let [mut old, mut new, mut repeated] =
+        [BY_SECTIONS, DEFAULT_SETTINGS, DEFAULT_SETTINGS].map(|settings| <Gate as Form>::open(settings, 512));
+    let round = |gate: &mut Gate, sections: &[Vec<u8>]| {
+        for section in sections.iter().cycle().take(4 * TURNS) {
+            let _ = black_box(Form::offer(gate, 0, section));
+        }
+    };
+    let mut sides: [Side; 3] = [
+        Box::new(|| round(&mut old, &versions)),
+        Box::new(|| round(&mut new, &versions)),
+        Box::new(|| round(&mut repeated, &versions[..4])),
+    ];
+    let took: String = best(TURNS, rounds, &mut sides).iter().map(|ns| format!(" {ns:.0} |")).collect();
+    println!("|{took}");
+}
+
 fn sets(rounds: usize) {
     head("Set collector: a repeat of a held set of one section", "keys held", &["port"]);
     for limit in [16, 256, 4096] {
@@ -306,6 +415,7 @@ fn main() {
     crc(rounds);
     gate(rounds);
     gate_new_keys(rounds);
+    following(rounds);
     sets(rounds);
     sets_new_keys(rounds);
     event_repeats(rounds, "EIT collector: a repeat of a held present/following set of one section", 0x4E);

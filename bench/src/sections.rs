@@ -25,3 +25,12 @@ pub fn eit(table_id: u8, service_id: u16, last_table_id: u8, size: usize) -> Vec
     }
     long(table_id, service_id, 0, 0, &body)
 }
+
+/// The same long form with another version_number.
+pub fn of_version(mut section: Vec<u8>, version: u8) -> Vec<u8> {
+    section.truncate(section.len() - 4);
+    section[5] = 0xC1 | version << 1;
+    let crc = petrizolu::crc(&section);
+    section.extend_from_slice(&crc.to_be_bytes());
+    section
+}

@@ -121,6 +121,8 @@ pub fn gate_open(
     keys: &[u64],
     changes: &[u64],
     watch: &mut [u64],
+    pat_slots: &[u32],
+    pat_cells: &[u8],
 ) -> Answer {
     // SAFETY: each pointer goes with the length of its own slice, here and in all that follow.
     Answer(unsafe {
@@ -137,6 +139,10 @@ pub fn gate_open(
             changes.len(),
             watch.as_mut_ptr(),
             watch.len(),
+            pat_slots.as_ptr(),
+            pat_slots.len(),
+            pat_cells.as_ptr(),
+            pat_cells.len(),
         )
     })
 }
@@ -146,6 +152,8 @@ pub fn gate_offer(
     keys: &mut [u64],
     changes: &mut [u64],
     watch: &mut [u64],
+    pat_slots: &mut [u32],
+    pat_cells: &mut [u8],
     input: u32,
     pid: u32,
     section: &[u8],
@@ -161,6 +169,10 @@ pub fn gate_offer(
             changes.len(),
             watch.as_mut_ptr(),
             watch.len(),
+            pat_slots.as_mut_ptr(),
+            pat_slots.len(),
+            pat_cells.as_mut_ptr(),
+            pat_cells.len(),
             input,
             pid,
             section.as_ptr(),
@@ -171,9 +183,21 @@ pub fn gate_offer(
 }
 
 /// The record of one input.
-pub fn watch_open(settings: u32, extra: &[u16], watch: &mut [u64]) -> Answer {
+pub fn watch_open(settings: u32, extra: &[u16], watch: &mut [u64], pat_slots: &[u32], pat_cells: &[u8]) -> Answer {
     // SAFETY: as above.
-    Answer(unsafe { raw::petrizolu_watch_open(settings, extra.as_ptr(), extra.len(), watch.as_mut_ptr(), watch.len()) })
+    Answer(unsafe {
+        raw::petrizolu_watch_open(
+            settings,
+            extra.as_ptr(),
+            extra.len(),
+            watch.as_mut_ptr(),
+            watch.len(),
+            pat_slots.as_ptr(),
+            pat_slots.len(),
+            pat_cells.as_ptr(),
+            pat_cells.len(),
+        )
+    })
 }
 
 pub fn watch_ask(watch: &[u64], pid: u32) -> Answer {
@@ -192,6 +216,8 @@ pub fn indexed_open(
     buckets: &mut [u64],
     links: &[u64],
     watch: &mut [u64],
+    pat_slots: &[u32],
+    pat_cells: &[u8],
 ) -> Answer {
     // SAFETY: as above.
     Answer(unsafe {
@@ -212,6 +238,10 @@ pub fn indexed_open(
             links.len(),
             watch.as_mut_ptr(),
             watch.len(),
+            pat_slots.as_ptr(),
+            pat_slots.len(),
+            pat_cells.as_ptr(),
+            pat_cells.len(),
         )
     })
 }
@@ -223,6 +253,8 @@ pub fn indexed_offer(
     buckets: &mut [u64],
     links: &mut [u64],
     watch: &mut [u64],
+    pat_slots: &mut [u32],
+    pat_cells: &mut [u8],
     input: u32,
     pid: u32,
     section: &[u8],
@@ -242,6 +274,10 @@ pub fn indexed_offer(
             links.len(),
             watch.as_mut_ptr(),
             watch.len(),
+            pat_slots.as_mut_ptr(),
+            pat_slots.len(),
+            pat_cells.as_mut_ptr(),
+            pat_cells.len(),
             input,
             pid,
             section.as_ptr(),

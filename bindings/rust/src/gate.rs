@@ -1,6 +1,9 @@
 //! The gate in both its forms, each with a watch record for each input.
 use crate::calls::{self, Failure, GateState};
-use crate::{Answer, DEFAULT_CHANGE_RULE, DEFAULT_SETTINGS, INPUTS, Refused, WATCH_WORDS};
+use crate::{
+    Answer, DEFAULT_CHANGE_RULE, DEFAULT_SETTINGS, FOLLOW, FOLLOW_SECTIONS, INPUTS, PAT_CELLS, PAT_SLOTS, Refused, WATCH_PAT_EVICTIONS,
+    WATCH_WORDS,
+};
 
 #[derive(Debug, Clone, Copy, PartialEq, Eq)]
 pub enum Offered {
@@ -30,28 +33,77 @@ fn rows(capacity: usize) -> Box<[u64]> {
     vec![0; capacity.max(1)].into_boxed_slice()
 }
 
-/// The watch record of each input. Who gives an input gets its own record, and no other.
-struct Watches(Box<[[u64; WATCH_WORDS]]>);
+/// The words of a record that the three sets of PIDs need.
+const SET_WORDS: usize = 384;
+
+/// The watch record of each input, in equal parts. Who gives an input gets its own record, and no other.
+struct Watches {
+    words: Box<[u64]>,
+    pat_slots: Box<[u32]>,
+    pat_cells: Box<[u8]>,
+}
+
+/// What is lent of one input.
+struct Record<'a> {
+    words: &'a mut [u64],
+    pat_slots: &'a mut [u32],
+    pat_cells: &'a mut [u8],
+}
 
 impl Watches {
-    fn new() -> Self {
-        Self(vec![[0; WATCH_WORDS]; INPUTS].into_boxed_slice())
+    /// What the settings need: where complete PATs are not followed, no PAT store.
+    fn new(settings: u32) -> Self {
+        let tables = settings & (FOLLOW | FOLLOW_SECTIONS) == FOLLOW;
+        let (words, slots, cells) = if tables { (WATCH_WORDS, PAT_SLOTS, PAT_CELLS) } else { (SET_WORDS, 0, 0) };
+        Self {
+            words: vec![0; INPUTS * words].into_boxed_slice(),
+            pat_slots: vec![0; INPUTS * slots].into_boxed_slice(),
+            pat_cells: vec![0; INPUTS * cells].into_boxed_slice(),
+        }
     }
 
     /// Opens the records of all inputs but 0: that one is opened with the gate.
-    fn open_further(&mut self, extra: &[u16]) -> Result<(), Refused> {
-        self.0[1..].iter_mut().try_for_each(|watch| calls::watch_open(DEFAULT_SETTINGS, extra, watch).done())
+    fn open_further(&mut self, settings: u32, extra: &[u16]) -> Result<(), Refused> {
+        (1..INPUTS as u8).try_for_each(|input| {
+            let Record { words, pat_slots, pat_cells } = self.of(input);
+            calls::watch_open(settings, extra, words, pat_slots, pat_cells).done()
+        })
     }
 
     /// What is lent to a call on an input. An input that there is not is refused whatever is lent (37).
-    fn of(&mut self, input: u8) -> &mut [u64] {
+    fn of(&mut self, input: u8) -> Record<'_> {
+        let at = usize::from(input) % INPUTS;
+        Record {
+            words: part_mut(&mut self.words, at),
+            pat_slots: part_mut(&mut self.pat_slots, at),
+            pat_cells: part_mut(&mut self.pat_cells, at),
+        }
+    }
+
+    /// The words of an input, where it is one.
+    fn words(&self, input: u8) -> Option<&[u64]> {
         let at = usize::from(input);
-        &mut self.0[if at < INPUTS { at } else { 0 }]
+        (at < INPUTS).then(|| part(&self.words, at))
     }
 
     fn watches(&self, input: u8, pid: u16) -> bool {
-        self.0.get(usize::from(input)).is_some_and(|watch| calls::watch_ask(watch, pid.into()) == Answer::YES)
+        self.words(input).is_some_and(|words| calls::watch_ask(words, pid.into()) == Answer::YES)
     }
+
+    fn pat_evictions(&self, input: u8) -> u64 {
+        self.words(input).and_then(|words| words.get(WATCH_PAT_EVICTIONS)).copied().unwrap_or(0)
+    }
+}
+
+/// One of as many equal parts as there are inputs.
+fn part<T>(all: &[T], at: usize) -> &[T] {
+    let size = all.len() / INPUTS;
+    &all[at * size..][..size]
+}
+
+fn part_mut<T>(all: &mut [T], at: usize) -> &mut [T] {
+    let size = all.len() / INPUTS;
+    &mut all[at * size..][..size]
 }
 
 /// The gate that looks through its rows in order: for some hundreds of keys.
@@ -65,30 +117,41 @@ pub struct SmallGate {
 impl SmallGate {
     /// A gate with the default settings; the extra PIDs are watched and protected besides the well-known ones, on every input.
     pub fn open(capacity: usize, extra: &[u16]) -> Result<Self, Refused> {
-        let mut gate = Self { state: GateState::default(), keys: rows(capacity), changes: rows(capacity), watches: Watches::new() };
+        Self::open_with(DEFAULT_SETTINGS, capacity, extra)
+    }
+
+    /// The same with settings of the caller's own: [`crate::REPEATS`] and so on, or'ed.
+    pub fn open_with(settings: u32, capacity: usize, extra: &[u16]) -> Result<Self, Refused> {
+        let mut gate = Self { state: GateState::default(), keys: rows(capacity), changes: rows(capacity), watches: Watches::new(settings) };
+        let Record { words, pat_slots, pat_cells } = gate.watches.of(0);
         let answer = calls::gate_open(
             &mut gate.state,
             capacity as u64,
-            DEFAULT_SETTINGS,
+            settings,
             DEFAULT_CHANGE_RULE,
             extra,
             &gate.keys,
             &gate.changes,
-            gate.watches.of(0),
+            words,
+            pat_slots,
+            pat_cells,
         );
         answer.done()?;
-        gate.watches.open_further(extra)?;
+        gate.watches.open_further(settings, extra)?;
         Ok(gate)
     }
 
     /// Offers a section that came on an input and a PID.
     pub fn offer(&mut self, input: u8, pid: u16, section: &[u8]) -> Result<Offered, Refused> {
         let mut failure = Failure::default();
+        let Record { words, pat_slots, pat_cells } = self.watches.of(input);
         let answer = calls::gate_offer(
             &mut self.state,
             &mut self.keys,
             &mut self.changes,
-            self.watches.of(input),
+            words,
+            pat_slots,
+            pat_cells,
             input.into(),
             pid.into(),
             section,
@@ -100,6 +163,11 @@ impl SmallGate {
     /// Whether the PID is watched on the input.
     pub fn watches(&self, input: u8, pid: u16) -> bool {
         self.watches.watches(input, pid)
+    }
+
+    /// How often the PAT of another transport_stream_id came in the place of the one that was held, on the input.
+    pub fn pat_evictions(&self, input: u8) -> u64 {
+        self.watches.pat_evictions(input)
     }
 
     /// Settings and counters.
@@ -121,41 +189,52 @@ pub struct Gate {
 impl Gate {
     /// A gate with the default settings; the extra PIDs are watched and protected besides the well-known ones, on every input.
     pub fn open(capacity: usize, extra: &[u16]) -> Result<Self, Refused> {
+        Self::open_with(DEFAULT_SETTINGS, capacity, extra)
+    }
+
+    /// The same with settings of the caller's own: [`crate::REPEATS`] and so on, or'ed.
+    pub fn open_with(settings: u32, capacity: usize, extra: &[u16]) -> Result<Self, Refused> {
         let mut gate = Self {
             state: GateState::default(),
             keys: rows(capacity),
             changes: rows(capacity),
             buckets: rows(capacity),
             links: rows(capacity),
-            watches: Watches::new(),
+            watches: Watches::new(settings),
         };
+        let Record { words, pat_slots, pat_cells } = gate.watches.of(0);
         let answer = calls::indexed_open(
             &mut gate.state,
             capacity as u64,
-            DEFAULT_SETTINGS,
+            settings,
             DEFAULT_CHANGE_RULE,
             extra,
             &gate.keys,
             &gate.changes,
             &mut gate.buckets,
             &gate.links,
-            gate.watches.of(0),
+            words,
+            pat_slots,
+            pat_cells,
         );
         answer.done()?;
-        gate.watches.open_further(extra)?;
+        gate.watches.open_further(settings, extra)?;
         Ok(gate)
     }
 
     /// Offers a section that came on an input and a PID.
     pub fn offer(&mut self, input: u8, pid: u16, section: &[u8]) -> Result<Offered, Refused> {
         let mut failure = Failure::default();
+        let Record { words, pat_slots, pat_cells } = self.watches.of(input);
         let answer = calls::indexed_offer(
             &mut self.state,
             &mut self.keys,
             &mut self.changes,
             &mut self.buckets,
             &mut self.links,
-            self.watches.of(input),
+            words,
+            pat_slots,
+            pat_cells,
             input.into(),
             pid.into(),
             section,
@@ -167,6 +246,11 @@ impl Gate {
     /// Whether the PID is watched on the input.
     pub fn watches(&self, input: u8, pid: u16) -> bool {
         self.watches.watches(input, pid)
+    }
+
+    /// How often the PAT of another transport_stream_id came in the place of the one that was held, on the input.
+    pub fn pat_evictions(&self, input: u8) -> u64 {
+        self.watches.pat_evictions(input)
     }
 
     /// Settings and counters.

@@ -30,10 +30,12 @@ pub const DEFAULT_CAPACITY: u64 = 65_536;
 /// Keys of a collector by default.
 pub const DEFAULT_LIMIT: u64 = 256;
 
-/// Settings of a gate: emit repeats too; a changed PAT changes the watch; the eight well-known PIDs are watched and protected.
+/// Settings of a gate: emit repeats too; complete PATs change the watch; the eight well-known PIDs are watched and protected; with `FOLLOW`, each changed PAT
+/// section replaces the former, as dvb-si 12.0.1 does.
 pub const REPEATS: u32 = 1;
 pub const FOLLOW: u32 = 2;
 pub const WELL_KNOWN: u32 = 4;
+pub const FOLLOW_SECTIONS: u32 = 8;
 pub const DEFAULT_SETTINGS: u32 = FOLLOW | WELL_KNOWN;
 
 /// By which rule a gate tells that a section with a CRC and without a version changed, as the time offset table: by the CRC over all its bytes, which is
@@ -42,8 +44,14 @@ pub const CHANGE_AS_THE_RUST: u64 = 1;
 pub const CHANGE_STORED_CRC: u64 = 2;
 pub const DEFAULT_CHANGE_RULE: u64 = CHANGE_STORED_CRC;
 
-/// Words of the watch, of a row's head, of a row's slots, and of a schedule's 16 tables.
-pub const WATCH_WORDS: usize = 384;
+/// The watch record of an input: its words, of which `watch_ask` needs the first 384, and the slots and the bytes of its PAT. One of the words counts how often the PAT
+/// of another transport_stream_id came in the place of the one that was held.
+pub const WATCH_WORDS: usize = 398;
+pub const PAT_SLOTS: usize = 288;
+pub const PAT_CELLS: usize = 262_144;
+pub const WATCH_PAT_EVICTIONS: usize = 385;
+
+/// Words of a row's head, of a row's slots, and of a schedule's 16 tables.
 pub const HEAD_WORDS: usize = 12;
 pub const SLOT_WORDS: usize = 288;
 pub const UNIT_WORDS: usize = 16 * SLOT_WORDS;

@@ -16,6 +16,10 @@ unsafe extern "C" {
         change_count: usize,
         watch: *mut u64,
         watch_words: usize,
+        pat_slots: *const u32,
+        pat_slot_words: usize,
+        pat_cells: *const u8,
+        pat_cell_bytes: usize,
     ) -> u8;
     pub fn petrizolu_gate_offer(
         gate: *mut GateState,
@@ -25,13 +29,27 @@ unsafe extern "C" {
         change_count: usize,
         watch: *mut u64,
         watch_words: usize,
+        pat_slots: *mut u32,
+        pat_slot_words: usize,
+        pat_cells: *mut u8,
+        pat_cell_bytes: usize,
         input: u32,
         pid: u32,
         section: *const u8,
         section_length: usize,
         failure: *mut Failure,
     ) -> u8;
-    pub fn petrizolu_watch_open(settings: u32, extra: *const u16, extra_count: usize, watch: *mut u64, watch_words: usize) -> u8;
+    pub fn petrizolu_watch_open(
+        settings: u32,
+        extra: *const u16,
+        extra_count: usize,
+        watch: *mut u64,
+        watch_words: usize,
+        pat_slots: *const u32,
+        pat_slot_words: usize,
+        pat_cells: *const u8,
+        pat_cell_bytes: usize,
+    ) -> u8;
     pub fn petrizolu_watch_ask(watch: *const u64, watch_words: usize, pid: u32) -> u8;
     pub fn petrizolu_indexed_open(
         gate: *mut GateState,
@@ -50,6 +68,10 @@ unsafe extern "C" {
         link_count: usize,
         watch: *mut u64,
         watch_words: usize,
+        pat_slots: *const u32,
+        pat_slot_words: usize,
+        pat_cells: *const u8,
+        pat_cell_bytes: usize,
     ) -> u8;
     pub fn petrizolu_indexed_offer(
         gate: *mut GateState,
@@ -63,6 +85,10 @@ unsafe extern "C" {
         link_count: usize,
         watch: *mut u64,
         watch_words: usize,
+        pat_slots: *mut u32,
+        pat_slot_words: usize,
+        pat_cells: *mut u8,
+        pat_cell_bytes: usize,
         input: u32,
         pid: u32,
         section: *const u8,

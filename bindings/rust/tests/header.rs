@@ -5,6 +5,7 @@ const HEADER: &str = include_str!("../../../include/petrizolu.h");
 const RAW: &str = include_str!("../src/raw.rs");
 const CALLS: &str = include_str!("../src/calls.rs");
 const ANSWER: &str = include_str!("../src/answer.rs");
+const LIB: &str = include_str!("../src/lib.rs");
 
 /// Names with what is said of each.
 type Said = BTreeMap<String, Vec<String>>;
@@ -117,4 +118,27 @@ fn answers() {
     let of_rust: Vec<String> = ANSWER.lines().filter_map(constant).collect();
     assert_eq!(of_c, of_rust);
     assert_eq!(of_c.len(), 25);
+}
+
+/// Constants that both texts give as a plain number: the name and the number, without its type.
+fn numbers(text: &str, before: &str, between: &str, after: char) -> BTreeMap<String, u64> {
+    let number = |line: &str| {
+        let (name, rest) = line.strip_prefix(before)?.split_once(between)?;
+        let digits = rest.split(after).next()?.replace('_', "");
+        Some((name.split(':').next()?.to_string(), digits.parse().ok()?))
+    };
+    text.lines().filter_map(number).collect()
+}
+
+#[test]
+fn constants() {
+    let of_c = numbers(HEADER, "#define PETRIZOLU_", " ", 'u');
+    let of_rust = numbers(LIB, "pub const ", " = ", ';');
+    let both: Vec<&String> = of_rust.keys().filter(|name| of_c.contains_key(*name)).collect();
+    both.iter().for_each(|name| assert_eq!(of_c[*name], of_rust[*name], "{name}"));
+    for name in
+        ["INPUTS", "FOLLOW", "FOLLOW_SECTIONS", "WATCH_WORDS", "PAT_SLOTS", "PAT_CELLS", "WATCH_PAT_EVICTIONS", "HEAD_WORDS", "SLOT_WORDS"]
+    {
+        assert!(both.iter().any(|known| *known == name), "{name}");
+    }
 }

@@ -77,9 +77,15 @@ impl Apart {
 type Shared = (u32, bool, bool, u64);
 
 /// Whether originals, one for each input, are the measure of a script: nothing is evicted and every section finds its cell; and since an opening of the gate is an opening
-/// for all inputs but opens the watch of one, the inputs that the gate is used on are opened one directly after the other, alike in what they share.
+/// for all inputs but opens the watch of one, the inputs that the gate is used on are opened one directly after the other, alike in what they share; nowhere are
+/// complete PATs followed.
 pub fn is_apart(script: &[Command]) -> bool {
-    nothing_leaves(script) && opened_together(script)
+    !follows_tables(script) && nothing_leaves(script) && opened_together(script)
+}
+
+/// Whether complete PATs are followed somewhere, which the original does not.
+pub fn follows_tables(script: &[Command]) -> bool {
+    script.iter().any(|command| matches!(command, Command::GateOpen { follow: true, pats: true, .. }))
 }
 
 fn nothing_leaves(script: &[Command]) -> bool {

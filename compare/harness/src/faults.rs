@@ -27,6 +27,13 @@ impl Fault {
         matches!(self, Fault::RuleIgnored | Fault::OnlyTotStoredCrc | Fault::PlainStoredCrc)
     }
 
+    /// Whether it shows where complete PATs are followed alone.
+    pub fn of_pats(self) -> bool {
+        let first = Fault::PatSectionReplaces as usize;
+        let last = Fault::PatStoreShared as usize;
+        (first..=last).contains(&(self as usize))
+    }
+
     /// Whether it shows where there are several inputs alone.
     pub fn of_inputs(self) -> bool {
         let of_gate = matches!(self, Fault::InputNotInKey | Fault::InputBeforePid | Fault::PatOfAnotherInput);
@@ -63,6 +70,27 @@ faults! {
     InputNotInKey Gate "the input is no part of the gate's key",
     InputBeforePid Gate "an input that there is not is answered before a PID that there is not",
     PatOfAnotherInput Gate "a PAT changes the watch of input 0, whatever input it came on",
+
+    PatSectionReplaces Gate "the second section of a PAT replaces the first's PIDs",
+    PatMarkedNext Gate "a PAT marked next enters the PAT store",
+    PatOnAnyPid Gate "a PAT on another PID than 0 enters the PAT store",
+    PatSuppressed Gate "a suppressed PAT section does not enter the PAT store",
+    PatSuppressedUnfollowed Gate "a PAT that a suppressed section completes is not followed",
+    PatOverlong Gate "a PAT section of more than 1,024 bytes enters the PAT store",
+    PatIncompleteFollowed Gate "the PIDs of a PAT are added before it is complete",
+    PatConflictFollowed Gate "a section that conflicts in the PAT store is followed",
+    PatDropsProtected Gate "a complete PAT drops a protected PID",
+    PatLastSectionOnly Gate "of a complete PAT the last section alone is followed",
+    PatNetworkOfASecond Gate "program 0 of a second section is followed",
+    PatFailed Gate "a PAT section of wrong CRC enters the PAT store",
+    PatOfTheFormerManner Gate "a PAT enters the PAT store where each changed section is followed",
+    PatEvictionUncounted Gate "a PAT that leaves the PAT store is not counted",
+    PatEvictionInTheGate Gate "a PAT that leaves the PAT store is counted with the gate's keys",
+    PatStreamIgnored Gate "transport_stream_id is no part of the PAT store's key",
+    PatBegunForgetsFormer Gate "the first section of another PAT forgets the former one's PIDs",
+    PatLeftByOpening Gate "an opening leaves the row of the PAT store",
+    PatCountLeftByOpening Gate "an opening leaves the count of the PAT store",
+    PatStoreShared Gate "all inputs have one PAT store",
 
     NewestLeaves Sets "the most recently touched key leaves",
     RepeatUntouched Sets "a repeat does not make its key the newest",

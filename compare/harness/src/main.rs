@@ -5,17 +5,20 @@ mod lent;
 mod make;
 mod original;
 mod pairs;
+mod pats;
 mod present;
 mod program;
 mod report;
 mod second;
+mod split;
 mod store;
 mod watch;
+mod watch_pats;
 mod written;
 
 use faults::Fault;
 use make::Domain;
-use pairs::{Found, Side, differing, differing_apart, first_difference, smallest};
+use pairs::{Found, Side, differing, differing_apart, differing_somehow, first_difference, smallest};
 use player::command::Command;
 use player::play::play;
 use player::port::Port;
@@ -31,10 +34,12 @@ use written::Written;
 const USAGE: &str = "usage: compare/run [SEEDS] [COMMANDS]             scripts inside the rules' domain, damaged and cell-bound
        compare/run --rule-2 [SEEDS] [COMMANDS]    the same by change rule 2: the port beside the second implementation, the original has none
        compare/run --inputs [SEEDS] [COMMANDS]    several inputs: each beside an original of its own where nothing leaves, else the port beside the second implementation
+       compare/run --pats [SEEDS] [COMMANDS]      PATs in several sections: complete PATs followed, the port beside the second implementation
        compare/run --faults [SEEDS] [COMMANDS]    the same, with each fault in turn in the second implementation
        compare/run --present [SEEDS] [COMMANDS]   two EIT collectors, one with a smaller limit: the third demand for present and following
+       compare/run --split STREAM                 the PAT of a transport stream sent in two sections: which of its programmes are seen
        compare/run --script FILE                  a script of your own
-       compare/run --tape DOMAIN SEED COMMANDS    writes the script of a seed as a tape (inside, damaged or cells; inputs or apart for several inputs)
+       compare/run --tape DOMAIN SEED COMMANDS    writes the script of a seed as a tape (inside, damaged or cells; inputs or apart for several inputs; pats)
        compare/run --store                        makes the tapes of tests/tapes and the output of examples_run anew";
 
 fn main() -> ExitCode {
@@ -51,6 +56,10 @@ fn main() -> ExitCode {
             (Some(seeds), Some(commands)) => compare_inputs(&root, seeds, commands),
             _ => return usage(),
         },
+        Some(&"--pats") => match (number(1, 50), number(2, 20_000)) {
+            (Some(seeds), Some(commands)) => pats::compare(&root, seeds, commands),
+            _ => return usage(),
+        },
         Some(&"--faults") => match (number(1, 40), number(2, 2000)) {
             (Some(seeds), Some(commands)) => compare_faults(seeds, commands),
             _ => return usage(),
@@ -59,6 +68,7 @@ fn main() -> ExitCode {
             (Some(seeds), Some(commands)) => present::compare(seeds, commands),
             _ => return usage(),
         },
+        Some(&"--split") if words.len() == 2 => split::compare(Path::new(words[1])),
         Some(&"--script") if words.len() == 2 => compare_file(Path::new(words[1])),
         Some(&"--tape") if words.len() == 4 => match (number(2, 0), number(3, 0)) {
             (Some(seed), Some(commands)) => match named_script(words[1], seed as u64, commands) {
@@ -201,6 +211,7 @@ fn named_script(name: &str, seed: u64, commands: usize) -> Option<Vec<Command>> 
     Some(match name {
         "inputs" => make::on_inputs(seed, commands, Domain::Damaged),
         "apart" => make::apart(seed, commands),
+        "pats" => pats::script(seed, commands),
         _ => make::script(seed, commands, Domain::named(name)?),
     })
 }
@@ -214,7 +225,7 @@ fn played(tape: &[u8]) -> String {
 
 /// A tape that ends inside a command, at each place, and a command that there is not.
 fn compare_ends(root: &Path) -> bool {
-    let written = ["scripts", "inputs"].into_iter().flat_map(|folder| Written::all(root, folder));
+    let written = ["scripts", "inputs", "pats"].into_iter().flat_map(|folder| Written::all(root, folder));
     let script = &first_of_each_kind(written.flat_map(|script| script.commands))[..];
     let lines = Side::RULES.lines(script);
     let starts: Vec<usize> = (0..=script.len()).map(|whole| tape_of(&script[..whole]).len()).collect();
@@ -225,7 +236,7 @@ fn compare_ends(root: &Path) -> bool {
         lines[..whole].iter().map(|line| format!("{line}\n")).collect::<String>() + cut
     };
     let mut good = (0..=tape.len()).all(|end| played(&tape[..end]) == expected(end));
-    for bad in [0x00, 0x0F, 0x16, 0x1F, 0x23, 0x34, 0x4F, 0x51, 0xFF] {
+    for bad in [0x00, 0x0F, 0x17, 0x1F, 0x23, 0x34, 0x4F, 0x51, 0xFF] {
         let output = played(&[&tape[..], &[bad, 0x14]].concat());
         good &= output == expected(tape.len()) + &format!("bad {}\n", tape.len());
     }
@@ -243,25 +254,25 @@ fn first_of_each_kind(commands: impl Iterator<Item = Command>) -> Vec<Command> {
     first
 }
 
-/// `watch` on the rules' example, cut at each place, and on streams of sections: the program by change rule 2, its default, the original by rule 1.
+/// `watch` on the rules' example, cut at each place, and on streams of sections: the program in its own manner, the original in its own.
 fn compare_watch(root: &Path) -> bool {
     let program = Program::new(root, "watch");
     let example = watch::EXAMPLE.concat().concat();
     let mut inputs: Vec<Vec<u8>> = (0..=example.len()).map(|end| example[..end].to_vec()).collect();
     inputs.extend((0..20).map(watch_stream));
-    let mut good = watch_second(2, &example) == watch::EXAMPLE_OUTPUT;
+    let mut good = watch_second(watch::BY_DEFAULT, &example) == watch::EXAMPLE_OUTPUT;
     for input in &inputs {
         let mut original = original::Original::new(0);
-        good &= watch_second(1, input) == watch::output(|command| original.answer(command), 1, input);
-        good &= watch_second(2, input) == program.output(input);
+        good &= watch_second(watch::AS_THE_RUST, input) == watch::output(|command| original.answer(command), watch::AS_THE_RUST, input);
+        good &= watch_second(watch::BY_DEFAULT, input) == program.output(input);
     }
     println!("watch on {} inputs: {}", inputs.len(), if good { "equal" } else { "DIFFERS" });
     good
 }
 
-fn watch_second(rule: u64, input: &[u8]) -> String {
+fn watch_second(manner: watch::Manner, input: &[u8]) -> String {
     let mut second = second::Second::new(second::Reading::default());
-    watch::output(|command| second.answer(command), rule, input)
+    watch::output(|command| second.answer(command), manner, input)
 }
 
 /// Sections of a script as `watch` reads them, each with its PID; the last one may be cut.
@@ -303,8 +314,16 @@ fn compare_faults(seeds: usize, commands: usize) -> bool {
     missed == 0
 }
 
+/// Scripts of PATs are of one kind.
+fn domains_of(fault: Fault) -> &'static [(Domain, &'static str)] {
+    if fault.of_pats() { &[(Domain::Inside, "PATs in several sections")] } else { &DOMAINS }
+}
+
 /// The commands of a seed that the faulty part is given.
 fn script_for(fault: Fault, seed: u64, commands: usize, domain: Domain) -> Vec<Command> {
+    if fault.of_pats() {
+        return pats::script(seed, commands);
+    }
     let script = if fault.of_inputs() { make::on_inputs } else { make::script };
     let mut script = make::counted(script(seed, commands, domain));
     if fault.of_rule_2() {
@@ -333,9 +352,9 @@ fn find_fault(fault: Fault, seeds: usize, commands: usize) -> Option<(u64, &'sta
         {
             return Some((seed, "apart", smallest(found)));
         }
-        for (domain, name) in DOMAINS {
+        for &(domain, name) in domains_of(fault) {
             let script = script_for(fault, seed, commands, domain);
-            let has_original = !fault.of_rule_2() && !fault.of_inputs();
+            let has_original = !fault.of_rule_2() && !fault.of_inputs() && !fault.of_pats();
             let beside_original = || has_original.then(|| first_difference([Side::Original, with(true)], &script)).flatten();
             let found = beside_original().or_else(|| first_difference([Side::RULES, with(false)], &script));
             if let Some(found) = found {
@@ -351,7 +370,7 @@ fn found_by_the_port(fault: Fault, seeds: usize, commands: usize) -> bool {
     let faulty = Side::Second { as_original: false, fault: Some(fault) };
     (0..seeds as u64).any(|seed| {
         let differs = |domain| first_difference([Side::Port, faulty], &script_for(fault, seed, commands, domain)).is_some();
-        DOMAINS.iter().any(|&(domain, _)| differs(domain))
+        domains_of(fault).iter().any(|&(domain, _)| differs(domain))
     })
 }
 
@@ -360,9 +379,7 @@ fn compare_file(path: &Path) -> bool {
     for (command, line) in script.iter().zip(Side::RULES.lines(&script)) {
         println!("{command}\n    {line}");
     }
-    let on_inputs = script.iter().any(|command| matches!(command, Command::Input(_)));
-    let found = if on_inputs { first_difference([Side::RULES, Side::Port], &script) } else { differing(&script, &mut Report::default()) };
-    match found {
+    match differing_somehow(&script) {
         None => true,
         Some(found) => {
             println!("a difference at command {}; the smallest script found:\n{}", found.line + 1, smallest(found));

@@ -74,7 +74,7 @@ impl Dice {
         dice
     }
 
-    fn next(&mut self) -> u64 {
+    pub fn next(&mut self) -> u64 {
         self.0 ^= self.0 << 13;
         self.0 ^= self.0 >> 7;
         self.0 ^= self.0 << 17;
@@ -134,14 +134,14 @@ pub fn long(head: Head, body: &[u8]) -> Vec<u8> {
     sealed(bytes)
 }
 
-fn short(table_id: u8, body: &[u8]) -> Vec<u8> {
+pub fn short(table_id: u8, body: &[u8]) -> Vec<u8> {
     let mut bytes = start(table_id, false, 3 + body.len()).to_vec();
     bytes.extend(body);
     bytes
 }
 
 /// Makes section_length and the CRC fit the bytes again, where there is room for them.
-fn mend(bytes: &mut Vec<u8>) {
+pub fn mend(bytes: &mut Vec<u8>) {
     let total = bytes.len();
     if total >= 3 {
         let [high, low] = (total as u16 - 3).to_be_bytes();
@@ -156,7 +156,7 @@ fn mend(bytes: &mut Vec<u8>) {
 
 /// Another section with the same key and the same stored CRC: a bit of its version or its body is changed, and the four bytes before the CRC so
 /// that it fits.
-fn same_crc(dice: &mut Dice, bytes: &[u8]) -> Option<Vec<u8>> {
+pub fn same_crc(dice: &mut Dice, bytes: &[u8]) -> Option<Vec<u8>> {
     let total = bytes.len();
     if total < 17 || bytes[1] & 0x80 == 0 {
         return None;
@@ -178,7 +178,7 @@ fn same_crc(dice: &mut Dice, bytes: &[u8]) -> Option<Vec<u8>> {
     Some(other)
 }
 
-fn damaged(dice: &mut Dice, mut bytes: Vec<u8>) -> Vec<u8> {
+pub fn damaged(dice: &mut Dice, mut bytes: Vec<u8>) -> Vec<u8> {
     if bytes.is_empty() {
         return dice.bytes(2);
     }
@@ -308,15 +308,16 @@ fn gate_run(dice: &mut Dice, length: usize, domain: Domain) -> Vec<Command> {
     run
 }
 
-fn gate_opening(dice: &mut Dice, refused: bool) -> Command {
+pub fn gate_opening(dice: &mut Dice, refused: bool) -> Command {
     let extra = (0..dice.below(4)).map(|_| dice.of(&[0x0000, 0x0050, 0x0100, 0x0101, 0x1FFF])).collect();
     let (repeats, follow, well_known) = (dice.once_in(4), !dice.once_in(7), !dice.once_in(7));
     let capacity = dice.of(&[0, 1, 2, 3, 5, 8, 20, 512, 65_536]);
     let rule = 1;
+    let pats = false;
     match refused {
-        false => Command::GateOpen { capacity, repeats, follow, well_known, rule, extra },
-        true if dice.once_in(2) => Command::GateOpen { capacity, repeats, follow, well_known, rule, extra: vec![0x0100, 0x2000] },
-        true => Command::GateOpen { capacity: dice.of(&[65_537, u32::MAX]), repeats, follow, well_known, rule, extra },
+        false => Command::GateOpen { capacity, repeats, follow, well_known, rule, pats, extra },
+        true if dice.once_in(2) => Command::GateOpen { capacity, repeats, follow, well_known, rule, pats, extra: vec![0x0100, 0x2000] },
+        true => Command::GateOpen { capacity: dice.of(&[65_537, u32::MAX]), repeats, follow, well_known, rule, pats, extra },
     }
 }
 
@@ -376,7 +377,7 @@ fn spread(dice: &mut Dice, commands: Vec<Command>, inputs: &[u8], wrong: bool) -
     all
 }
 
-fn another_input(dice: &mut Dice, inputs: &[u8], wrong: bool) -> Command {
+pub fn another_input(dice: &mut Dice, inputs: &[u8], wrong: bool) -> Command {
     let wrong = wrong && dice.once_in(15);
     Command::Input(dice.of(if wrong { &[16, 17, 255] } else { inputs }))
 }
@@ -422,7 +423,7 @@ fn apart_run(dice: &mut Dice, part: Part, inputs: &[u8]) -> Vec<Command> {
 /// An opening whose watch is of one input: each has its own extra PIDs.
 fn roomy_gate(dice: &mut Dice, repeats: bool, follow: bool, rule: u64) -> Command {
     let Command::GateOpen { well_known, extra, .. } = gate_opening(dice, false) else { panic!("an opening") };
-    Command::GateOpen { capacity: 65_536, repeats, follow, well_known, rule, extra }
+    Command::GateOpen { capacity: 65_536, repeats, follow, well_known, rule, pats: false, extra }
 }
 
 // ---- The collectors

@@ -28,7 +28,8 @@ impl Original {
     pub fn answer(&mut self, command: &Command) -> Answer {
         match command {
             Command::Input(input) => Answer::Input(*input),
-            Command::GateOpen { capacity, repeats, follow, well_known, rule, extra } => {
+            Command::GateOpen { follow: true, pats: true, .. } => panic!("the original follows each changed PAT section"),
+            Command::GateOpen { capacity, repeats, follow, well_known, rule, extra, .. } => {
                 let answer = lent::gate_opening(*capacity, *rule, extra);
                 if answer == 7 {
                     let settings = SiDemux::builder()
@@ -50,6 +51,7 @@ impl Original {
             Command::Ask { pid } => Answer::Number(Part::Gate, if self.gate.watched().contains(pid) { 8 } else { 9 }),
             Command::Watched => Answer::Watched(self.gate.watched()),
             Command::Counters => Answer::Counters(self.counters()),
+            Command::Pats => Answer::Pats { evicted: 0, rows: 0 },
             Command::Open { part, limit, cells, size } => self.open(*part, *limit, *cells, *size),
             Command::Push { part: Part::Eit, pid, section } => self.push_eit(*pid, section),
             Command::Push { pid, section, .. } => self.push_set(*pid, section),

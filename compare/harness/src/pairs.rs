@@ -1,5 +1,5 @@
 //! Which implementations are compared, and the smallest script that tells two apart.
-use crate::apart::{Apart, is_apart};
+use crate::apart::{Apart, follows_tables, is_apart};
 use crate::faults::Fault;
 use crate::original::Original;
 use crate::report::Report;
@@ -152,6 +152,15 @@ pub fn first_difference(sides: [Side; 2], script: &[Command]) -> Option<Found> {
 /// the second implementation on the side of the rules, whose answers are counted.
 pub fn differing(script: &[Command], report: &mut Report) -> Option<Found> {
     differing_beside(Side::Original, script, report)
+}
+
+/// The same of any script: where there are several inputs, or complete PATs are followed, without the original.
+pub fn differing_somehow(script: &[Command]) -> Option<Found> {
+    let on_inputs = script.iter().any(|command| matches!(command, Command::Input(_)));
+    if on_inputs || follows_tables(script) {
+        return first_difference([Side::RULES, Side::Port], script);
+    }
+    differing(script, &mut Report::default())
 }
 
 /// The same with one original for each input.

@@ -1,8 +1,9 @@
 //! The stored tapes of tests/tapes with the lines that they print, and the stored output of the program `examples_run`.
 use crate::make::{self, Domain};
-use crate::pairs::{Side, differing, first_difference, smallest};
-use crate::report::Report;
+use crate::pairs::{Side, differing_somehow, smallest};
+use crate::pats;
 use crate::second::{Reading, Second};
+use crate::watch_pats;
 use crate::written::Written;
 use player::answer::{Answer, Out, hex};
 use player::command::Command;
@@ -15,7 +16,7 @@ const SEEDS: std::ops::Range<u64> = 1000..1004;
 const COMMANDS: usize = 2500;
 
 /// `domain` has the written scripts and some seeds inside the domain, without what a named difference decides, answered by the original; `damaged` has
-/// damaged and cell-bound seeds, and `inputs` seeds of each domain on several inputs, answered by the second implementation.
+/// damaged and cell-bound seeds, `inputs` seeds of each domain on several inputs, and `pats` seeds of PATs in several sections, answered by the second implementation.
 pub fn store(root: &Path) -> bool {
     let seeds = |domain| SEEDS.flat_map(move |seed| make::script(seed, COMMANDS, domain));
     let by_hand = Written::all(root, "scripts").into_iter().flat_map(|script| script.commands);
@@ -24,7 +25,9 @@ pub fn store(root: &Path) -> bool {
     store_tape(root, "domain", Side::Original, &without_named(inside))
         && store_tape(root, "damaged", Side::RULES, &outside)
         && store_tape(root, "inputs", Side::RULES, &on_inputs(root))
+        && store_tape(root, "pats", Side::RULES, &of_pats(root))
         && store_examples(root)
+        && watch_pats::store(root)
 }
 
 /// The written scripts of inputs/ and a seed of each domain.
@@ -35,11 +38,15 @@ fn on_inputs(root: &Path) -> Vec<Command> {
     by_hand.chain(seeds).collect()
 }
 
-/// Whether all sides agree on a script, the original too where there is one input alone; says where they do not.
+/// The written scripts of pats/ and a seed.
+fn of_pats(root: &Path) -> Vec<Command> {
+    let by_hand = Written::all(root, "pats").into_iter().flat_map(|script| script.commands);
+    by_hand.chain(pats::script(SEEDS.start, COMMANDS)).collect()
+}
+
+/// Whether all sides agree on a script, the original too where it is a measure; says where they do not.
 fn agreed(script: &[Command]) -> bool {
-    let on_inputs = script.iter().any(|command| matches!(command, Command::Input(_)));
-    let found = if on_inputs { first_difference([Side::RULES, Side::Port], script) } else { differing(script, &mut Report::default()) };
-    if let Some(found) = found {
+    if let Some(found) = differing_somehow(script) {
         println!("a difference at command {}; the smallest script found:\n{}", found.line + 1, smallest(found));
         return false;
     }

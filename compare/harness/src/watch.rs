@@ -21,12 +21,26 @@ emitted 0014 70 8
 completed 5 emitted 3 suppressed 1 crc 1 evicted 0
 ";
 
-/// What `watch` writes on an input by a change rule, where `answer` is asked for each command.
-pub fn output(mut answer: impl FnMut(&Command) -> Answer, rule: u64, input: &[u8]) -> String {
+/// What a run of `watch` is opened with besides its capacity: the change rule, and whether complete PATs are followed.
+#[derive(Clone, Copy)]
+pub struct Manner {
+    pub rule: u64,
+    pub pats: bool,
+}
+
+/// As dvb-si 12.0.1.
+pub const AS_THE_RUST: Manner = Manner { rule: 1, pats: false };
+
+/// As the programs.
+pub const BY_DEFAULT: Manner = Manner { rule: 2, pats: true };
+
+/// What `watch` writes on an input, where `answer` is asked for each command.
+pub fn output(mut answer: impl FnMut(&Command) -> Answer, manner: Manner, input: &[u8]) -> String {
     let mut text = String::new();
     let mut totals = [0; 5];
     let mut rest = input;
-    answer(&Command::GateOpen { capacity: 512, repeats: false, follow: true, well_known: true, rule, extra: Vec::new() });
+    let Manner { rule, pats } = manner;
+    answer(&Command::GateOpen { capacity: 512, repeats: false, follow: true, well_known: true, rule, pats, extra: Vec::new() });
     while !rest.is_empty() {
         let Some((pid, section)) = record(rest) else {
             text.push_str("cut\n");

@@ -24,9 +24,10 @@ use Rattle.offers.specs.declared.Arrival.{Arrival}
 use Rattle.offers.specs.declared.Verdict.{Verdict}
 use Rattle.offers.specs.declared.Verdict.the-variants as verdict
 use Rattle.watched.specs.Store.{allPids, filled, following}
-use Rattle.gate_state.specs.State.{begun, refused, failedBy, seenBy}
+use Rattle.gate_state.specs.State.{bySections, begun, refused, failedBy, seenBy}
 use Rattle.offers.specs.declared.Failure.{Failure}
 use Rattle.gate.specs.Store.{begunBy, canOpen, opened, wholeOf, Fits, Store, Offering, storeOf, leftBy, followedPat, watchAfter, admittedTo, carried, isWhole, offered}
+use Rattle.gate_state.specs.declared.Follow.{Follow}
 use Rattle.gate_state.specs.declared.Gate.{Gate}
 use Rattle.gate_state.specs.declared.Offered.{Offered}
 use Rattle.gate_state.specs.declared.Settings.{Settings}
@@ -69,13 +70,13 @@ module _ (words section : List ℕ) where
   unfolding followedPat
   no-pat h = rw (unreadable section (ne-eqb (tableId section) 0 h))
 
-  -- the ways out of following: a is whether the section is changed, b whether following is on, t its table_id
-  module _ (t : ℕ) (a b : Bool) (e : t ≡ tableId section) where
-    pub follow-yes : (ws : List ℕ) → (a && b && eqb t 0) ≡ true → ws ≡ followedPat words section → ws ≡ watchAfter (a && b) words section
-    follow-yes ws h j = rw (and-true (a && b) (eqb t 0) h .0) j
+  -- the ways out of following: a is whether the section is changed, b whether each changed one is followed, t its table_id
+  module _ (t : ℕ) (a b : Bool) (f : Follow) (e : t ≡ tableId section) (q : b ≡ bySections f) where
+    pub follow-yes : (ws : List ℕ) → (a && b && eqb t 0) ≡ true → ws ≡ followedPat words section → ws ≡ watchAfter (a && bySections f) words section
+    follow-yes ws h j = rw (← q, and-true (a && b) (eqb t 0) h .0) j
 
-    pub follow-no : (a && b && eqb t 0) ≡ false → words ≡ watchAfter (a && b) words section
-    follow-no h = go (a && b) (eqb t 0) refl h
+    pub follow-no : (a && b && eqb t 0) ≡ false → words ≡ watchAfter (a && bySections f) words section
+    follow-no h = rw (← q) (go (a && b) (eqb t 0) refl h)
       where
         go : (c d : Bool) → d ≡ eqb t 0 → (c && d) ≡ false → words ≡ watchAfter c words section
         go true true p q = absurd (true≢false q)
@@ -89,7 +90,7 @@ pub admitted-told :
     seen ≡ seenOf (g .ring) keys changes (a .key) (stampOf (a .version) (a .change)) →
     ks ≡ keysAfter (g .ring) keys (a .key) →
     ms ≡ changesAfter (g .ring) keys changes (a .key) (stampOf (a .version) (a .change)) →
-    ws ≡ watchAfter (seen .changed && g .follow) words section →
+    ws ≡ watchAfter (seen .changed && bySections (g .follow)) words section →
     o ≡ seenBy g c seen →
     leftBy o ks ms ws ≡ admittedTo (storeOf g c keys changes words) section a
 unfolding admittedTo

@@ -12,15 +12,17 @@ use Rattle.gate_state.specs.declared.Settings.{Settings}
 use Rattle.gate_state.specs.declared.Opened.{Opened}
 use Rattle.gate_state.specs.declared.Offered.{Offered}
 
-pub open-unique :
-    (s : Settings) (extra : List ℕ) (keys changes : ℕ) (words : List ℕ) (o p : Opened) (ws xs : List ℕ) →
-    begunBy o ws ≡ opened s extra keys changes words → begunBy p xs ≡ opened s extra keys changes words → (o ≡ p) × (ws ≡ xs)
-open-unique s extra keys changes words o p ws xs a b =
-    let e : begunBy o ws ≡ begunBy p xs = one-result (opened s extra keys changes words) a b in
+pub begun-one : (o p : Opened) (ws xs : List ℕ) → begunBy o ws ≡ begunBy p xs → (o ≡ p) × (ws ≡ xs)
+begun-one o p ws xs e =
     let n : o .answer ≡ p .answer = outcome-apart (o .answer) (p .answer) (ap (λ (l : Begun). l .answer) e) in
     let g = ap (λ (l : Begun). l .gate) e in
     let c = ap (λ (l : Begun). l .counters) e in
     (λ i. record { answer = n i; gate = g i; counters = c i }, ap (λ (l : Begun). l .words) e)
+
+pub open-unique :
+    (s : Settings) (extra : List ℕ) (keys changes : ℕ) (words : List ℕ) (o p : Opened) (ws xs : List ℕ) →
+    begunBy o ws ≡ opened s extra keys changes words → begunBy p xs ≡ opened s extra keys changes words → (o ≡ p) × (ws ≡ xs)
+open-unique s extra keys changes words o p ws xs a b = begun-one o p ws xs (one-result (opened s extra keys changes words) a b)
 
 pub offer-unique :
     (s : Store) (input pid : ℕ) (section : List ℕ) (o p : Offered) (ks ls ms ns ws xs : List ℕ) →

@@ -19,7 +19,7 @@ use Rattle.watched.specs.Store.{allPids, filled, following}
 use Rattle.answers.specs.Answers.{refusalNo, outcomeNo}
 use Rattle.counters.specs.Counters.{zeroes}
 use Rattle.counters.specs.declared.Counters.{Counters}
-use Rattle.gate_state.specs.State.{Said, plain, saidOf, emptyGate, failedBy, seenBy}
+use Rattle.gate_state.specs.State.{Said, plain, saidOf, bySections, emptyGate, failedBy, seenBy}
 use Rattle.gate_state.specs.declared.Settings.{Settings}
 use Rattle.gate_state.specs.declared.Gate.{Gate}
 use Rattle.gate_state.specs.declared.Offered.{Offered}
@@ -105,7 +105,7 @@ admittedTo s section a =
     leftBy (seenBy (s .gate) (s .counters) seen)
     (keysAfter (s .gate .ring) (s .keys) (a .key))
     (changesAfter (s .gate .ring) (s .keys) (s .changes) (a .key) number)
-    (watchAfter (seen .changed && s .gate .follow) (s .words) section)
+    (watchAfter (seen .changed && bySections (s .gate .follow)) (s .words) section)
 
 -- a verdict carried out: a refusal leaves all as it was
 unfoldable pub carried : Store → List ℕ → Verdict → Offering

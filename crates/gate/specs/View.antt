@@ -8,11 +8,11 @@ use Rattle.ring.specs.View.{Memory, inOrder, Reached}
 use Rattle.watched.specs.View.{watchIn}
 use Rattle.gate.specs.Rules.{Offer, Manner, Held, Told}
 use Rattle.gate.specs.Store.{Store, Offering, offered}
-use Rattle.gate_state.specs.State.{Said, numberOf}
+use Rattle.gate_state.specs.State.{Said, numberOf, bySections}
 use Rattle.gate_state.specs.declared.Gate.{Gate}
 
 abbrev pub mannerOf : Gate → Manner
-mannerOf g = record { capacity = g .ring .capacity; repeats = g .repeats; follow = g .follow; rule = g .«change_rule» }
+mannerOf g = record { capacity = g .ring .capacity; repeats = g .repeats; follow = bySections (g .follow); rule = g .«change_rule» }
 
 abbrev pub memoryOf : Store → Memory
 memoryOf s = record { ring = s .gate .ring; keys = s .keys; changes = s .changes }

@@ -12,6 +12,7 @@ ghost use Prim.Native.Nat.{_<_, _≤_};
 ghost use lib.ListN.{length};
 ghost use Rattle.section.specs.Header.{tableId};
 ghost use Rattle.counters.specs.Counters.{CanCount};
+ghost use Rattle.gate_state.specs.State.{bySections};
 ghost use Rattle.gate.specs.Store.{wholeOf, canOpen, Fits, followedPat, watchAfter, storeOf, leftBy, admittedTo};
 
 // Not 10: the ring fits its slices, the watch has its words, and there is such a change rule.
@@ -47,13 +48,14 @@ fn follow_pat(words: &mut [u64], section: &[u8])
     }
 }
 
-// A changed PAT is followed where following is on. One that is emitted only because repeats are on is not.
+// A changed PAT section is followed where each of them is. One that is emitted only because repeats are on is not.
 pub fn follow(gate: Gate, seen: Seen, table_id: u8, words: &mut [u64], section: &[u8])
     requires { ⌜ 384 ≤ length (now words) ⌝ }
     requires { ⌜ «table_id» ≡ tableId (now section) ⌝ }
-    ensures { λ _. ⌜ now (words .exit) ≡ watchAfter (seen .changed && gate .follow) (now (words .entry)) (now (section .entry)) ⌝ }
+    ensures { λ _. ⌜ now (words .exit) ≡ watchAfter (seen .changed && bySections (gate .follow)) (now (words .entry)) (now (section .entry)) ⌝ }
 {
-    if seen.changed & gate.follow & (table_id == 0) {
+    let follow = gate.follow;
+    if seen.changed & follow.by_sections() & (table_id == 0) {
         follow_pat(words, section);
     }
 }

@@ -21,7 +21,7 @@ use Rattle.answers.specs.declared.Refusal.{Refusal}
 use Rattle.answers.specs.declared.Refusal.the-variants.{BadPid, TooLittle}
 use Rattle.answers.specs.declared.Outcome.the-variants as outcome
 use Rattle.counters.specs.declared.Counters.{Counters}
-use Rattle.gate_state.specs.State.{begun, refused, failedBy}
+use Rattle.gate_state.specs.State.{bySections, begun, refused, failedBy}
 use Rattle.offers.specs.declared.Failure.{Failure}
 use Rattle.gate.specs.Store.{canOpen, watchAfter}
 use Rattle.gate_state.specs.State.{seenBy as answeredBy}
@@ -52,7 +52,7 @@ pub admitted-told :
     ks ≡ keysBy (g .ring) keys x (a .key) →
     ms ≡ changesBy (g .ring) keys changes x (a .key) (stampOf (a .version) (a .change)) →
     y ≡ indexBy (g .ring) keys x (a .key) →
-    ws ≡ watchAfter (seen .changed && g .follow) words section →
+    ws ≡ watchAfter (seen .changed && bySections (g .follow)) words section →
     o ≡ answeredBy g c seen →
     leftBy o ks ms y ws ≡ admittedBy (indexedOf g c keys changes x words) section a
 unfolding admittedBy

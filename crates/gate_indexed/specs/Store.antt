@@ -17,7 +17,7 @@ use Rattle.answers.specs.Answers.{refusalNo, outcomeNo}
 use Rattle.counters.specs.Counters.{zeroes}
 use Rattle.counters.specs.declared.Counters.{Counters}
 use Rattle.offers.specs.declared.Failure.{Failure}
-use Rattle.gate_state.specs.State.{Said, plain, saidOf, emptyGate}
+use Rattle.gate_state.specs.State.{Said, plain, saidOf, bySections, emptyGate}
 use Rattle.gate_state.specs.State.{failedBy as failure}
 use Rattle.gate.specs.Store.{canOpen, wholeOf, Fits, Store, storeOf, watchAfter}
 use Rattle.gate_state.specs.State.{seenBy as answeredBy}
@@ -96,7 +96,7 @@ admittedBy s section a =
     (keysBy (s .store .gate .ring) (s .store .keys) (s .index) (a .key))
     (changesBy (s .store .gate .ring) (s .store .keys) (s .store .changes) (s .index) (a .key) number)
     (indexBy (s .store .gate .ring) (s .store .keys) (s .index) (a .key))
-    (watchAfter (seen .changed && s .store .gate .follow) (s .store .words) section)
+    (watchAfter (seen .changed && bySections (s .store .gate .follow)) (s .store .words) section)
 
 -- 31 and 3 change neither rows nor index nor watch
 abbrev pub failedBy : Indexed → Failure → Offering

@@ -13,6 +13,8 @@ use Rattle.offers.specs.declared.Failure.{Failure}
 use Rattle.offers.specs.declared.Failure.the-variants.{TooShort, Mismatch}
 use Rattle.counters.specs.Counters.{zeroes, countedOf, failedOf}
 use Rattle.counters.specs.declared.Counters.{Counters}
+use Rattle.gate_state.specs.declared.Follow.{Follow}
+use Rattle.gate_state.specs.declared.Follow.the-variants.{Off, Sections, Tables}
 use Rattle.gate_state.specs.declared.Settings.{Settings}
 use Rattle.gate_state.specs.declared.Gate.{Gate}
 use Rattle.gate_state.specs.declared.Offered.{Offered}
@@ -20,9 +22,21 @@ use Rattle.gate_state.specs.declared.Opened.{Opened}
 use Rattle.gate_state.specs.declared.Answer.{Answer}
 use Rattle.gate_state.specs.declared.Answer.the-variants.{Emitted, Suppressed, Failed, Refused}
 
--- capacity 65,536, repeats off, following on, the well-known PIDs watched, change rule 2
+-- each changed PAT section replaces the PIDs of the one before
+abbrev pub bySections : Follow → Bool
+bySections Off = false
+bySections Sections = true
+bySections Tables = false
+
+-- PATs are collected, and a complete one replaces the PIDs of the one before
+abbrev pub byTables : Follow → Bool
+byTables Off = false
+byTables Sections = false
+byTables Tables = true
+
+-- capacity 65,536, repeats off, complete PATs followed, the well-known PIDs watched, change rule 2
 abbrev pub defaults : Settings
-defaults = record { capacity = 65536; repeats = false; follow = true; «well_known» = true; «change_rule» = 2 }
+defaults = record { capacity = 65536; repeats = false; follow = Tables; «well_known» = true; «change_rule» = 2 }
 
 -- an answer as the table has it (docs/RULES.md, "Answers"): its number, and the values that it comes with
 pub data Said : Type 0 where
@@ -53,6 +67,13 @@ saidOf Emitted = plain 1
 saidOf Suppressed = plain 2
 saidOf (Failed f) = failureSaid f
 saidOf (Refused r) = plain (refusalNo r)
+
+-- 1 or 2: the section is sound
+abbrev pub isSound : Answer → Bool
+isSound Emitted = true
+isSound Suppressed = true
+isSound (Failed f) = false
+isSound (Refused r) = false
 
 -- a gate with no rows
 abbrev pub emptyGate : Settings → Gate

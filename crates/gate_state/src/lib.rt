@@ -9,7 +9,38 @@ use ring::Seen;
 use section::header::ChangeRule;
 ghost use mathlib.Core.Path.{_≡_};
 ghost use Rattle.counters.specs.Counters.{CanCount};
-ghost use Rattle.gate_state.specs.State.{defaults, saidOf, numberOf, failureNo, begun, refused, failedBy, answerOf, seenBy};
+ghost use Rattle.gate_state.specs.State.{bySections, byTables, defaults, saidOf, numberOf, failureNo, isSound, begun, refused, failedBy, answerOf, seenBy};
+
+// How PATs change the watch: not at all; by each changed PAT section, as dvb-si 12.0.1 does; by complete PATs alone.
+pub enum Follow {
+    Off,
+    Sections,
+    Tables,
+}
+
+impl Follow {
+    // Whether each changed PAT section replaces the PIDs of the one before.
+    pub fn by_sections(self) -> bool
+        ensures { λ r. ⌜ r ≡ bySections self ⌝ }
+    {
+        match self {
+            Follow::Off => false,
+            Follow::Sections => true,
+            Follow::Tables => false,
+        }
+    }
+
+    // Whether PATs are collected, and a complete one replaces the PIDs of the one before.
+    pub fn by_tables(self) -> bool
+        ensures { λ r. ⌜ r ≡ byTables self ⌝ }
+    {
+        match self {
+            Follow::Off => false,
+            Follow::Sections => false,
+            Follow::Tables => true,
+        }
+    }
+}
 
 // What a gate is opened with.
 pub struct Settings {
@@ -17,8 +48,8 @@ pub struct Settings {
     pub capacity: u64,
     // Whether a section that repeats what was seen is emitted too.
     pub repeats: bool,
-    // Whether a changed PAT changes the watch.
-    pub follow: bool,
+    // How PATs change the watch.
+    pub follow: Follow,
     // Whether the eight well-known PIDs are watched.
     pub well_known: bool,
     // By which rule a section with a CRC and no version is found changed: 1 or 2 (`ChangeRule`). A number, since a host can give any.
@@ -30,7 +61,7 @@ impl Settings {
 
     pub const REPEATS: bool = false;
 
-    pub const FOLLOW: bool = true;
+    pub const FOLLOW: Follow = Follow::Tables;
 
     pub const WELL_KNOWN: bool = true;
 
@@ -52,7 +83,7 @@ impl Settings {
 pub struct Gate {
     pub ring: Ring,
     pub repeats: bool,
-    pub follow: bool,
+    pub follow: Follow,
     pub change_rule: u64,
 }
 
@@ -73,6 +104,18 @@ impl Answer {
             Answer::Suppressed => 2,
             Answer::Failed(failure) => failure_number(failure),
             Answer::Refused(refusal) => refusal.number(),
+        }
+    }
+
+    // 1 or 2: the section is sound.
+    pub fn is_sound(self) -> bool
+        ensures { λ r. ⌜ r ≡ isSound self ⌝ }
+    {
+        match self {
+            Answer::Emitted => true,
+            Answer::Suppressed => true,
+            Answer::Failed(_) => false,
+            Answer::Refused(_) => false,
         }
     }
 }
@@ -102,6 +145,7 @@ pub struct Opened {
 pub fn begin(answer: Outcome, settings: Settings) -> Opened
     ensures { λ r. ⌜ r ≡ begun answer settings ⌝ }
 {
+    let follow = settings.follow;
     Opened {
         answer: answer,
         gate: Gate {
@@ -111,7 +155,7 @@ pub fn begin(answer: Outcome, settings: Settings) -> Opened
                 first: 0,
             },
             repeats: settings.repeats,
-            follow: settings.follow,
+            follow: follow,
             change_rule: settings.change_rule,
         },
         counters: counters::fresh(),
@@ -158,12 +202,13 @@ pub fn tell(gate: Gate, counters: Counters, seen: Seen) -> Offered
 {
     let emits = seen.changed | gate.repeats;
     let ring = seen.ring;
+    let follow = gate.follow;
     Offered {
         answer: answered(emits),
         gate: Gate {
             ring: ring,
             repeats: gate.repeats,
-            follow: gate.follow,
+            follow: follow,
             change_rule: gate.change_rule,
         },
         counters: counters::counted(counters, emits, seen.evicted),

@@ -16,14 +16,44 @@ use Rattle.gate_state.specs.declared.Answer.{Answer}
 use Rattle.gate_state.specs.declared.Answer.the-variants as answer
 use Rattle.counters.specs.declared.Counters.{Counters}
 use Rattle.gate_state.specs.declared.Gate.{Gate}
+use Rattle.gate_state.specs.declared.Follow.{Follow}
+use Rattle.gate_state.specs.declared.Follow.the-variants.{Off, Sections, Tables}
+use Rattle.host_words.specs.Answers.{at}
+use borrow.Author.Tests.{eq-eqb, ne-eqb}
 use Rattle.gate_state.specs.declared.Settings.{Settings}
 use Rattle.host_gate_words.specs.declared.Held.{Held}
-use Rattle.host_gate_words.specs.Words.{asksForKnown, settingsOf, gateOf, countersOf, heldIn, wordsOf, wordsOpened, failureAfter, told}
+use Rattle.host_gate_words.specs.Words.{asksForKnown, followAsked, followIn, isOn, settingsOf, gateOf, countersOf, heldIn, wordsOf, wordsOpened, failureAfter, told}
 
 pub settings-are :
-    (capacity bits rule : ℕ) (known : Bool) → known ≡ asksForKnown bits →
-    _≡_ {A = Settings} (record { capacity = capacity; repeats = eqb (bits % 2) 1; follow = eqb (bits / 2 % 2) 1; «well_known» = known; «change_rule» = rule }) (settingsOf capacity bits rule)
-settings-are capacity bits rule known e = rw e
+    (capacity bits rule : ℕ) (follow : Follow) (known : Bool) → follow ≡ followAsked bits → known ≡ asksForKnown bits →
+    _≡_ {A = Settings} (record { capacity = capacity; repeats = eqb (bits % 2) 1; follow = follow; «well_known» = known; «change_rule» = rule }) (settingsOf capacity bits rule)
+settings-are capacity bits rule follow known f e = rw (f, e)
+
+-- the ways out of reading how PATs are followed, from bits and from a word
+module _ (bits : ℕ) where
+  pub asked-off : (bits / 2 % 2 ≡ 1 → ⊥) → Off ≡ followAsked bits
+  asked-off h = rw (ne-eqb (bits / 2 % 2) 1 h)
+
+  pub asked-sections : bits / 2 % 2 ≡ 1 → bits / 8 % 2 ≡ 1 → Sections ≡ followAsked bits
+  asked-sections h k = rw (eq-eqb (bits / 2 % 2) 1 h, eq-eqb (bits / 8 % 2) 1 k)
+
+  pub asked-tables : bits / 2 % 2 ≡ 1 → (bits / 8 % 2 ≡ 1 → ⊥) → Tables ≡ followAsked bits
+  asked-tables h k = rw (eq-eqb (bits / 2 % 2) 1 h, ne-eqb (bits / 8 % 2) 1 k)
+
+module _ (w : ℕ) where
+  pub off-in : w ≡ 0 → Off ≡ followIn w
+  off-in h = rw (eq-eqb w 0 h)
+
+  pub sections-in : (w ≡ 0 → ⊥) → w ≡ 2 → Sections ≡ followIn w
+  sections-in h k = rw (ne-eqb w 0 h, eq-eqb w 2 k)
+
+  pub tables-in : (w ≡ 0 → ⊥) → (w ≡ 2 → ⊥) → Tables ≡ followIn w
+  tables-in h k = rw (ne-eqb w 0 h, ne-eqb w 2 k)
+
+pub gate-is :
+    (w : List ℕ) (f : Follow) → f ≡ followIn (at w 2) →
+    _≡_ {A = Gate} (record { ring = record { capacity = at w 0; used = at w 4; first = at w 5 }; repeats = isOn (at w 1); follow = f; «change_rule» = at w 3 }) (gateOf w)
+gate-is w f e = rw e
 
 pub held-are : (w : List ℕ) (g : Gate) (c : Counters) → g ≡ gateOf w → c ≡ countersOf w → _≡_ {A = Held} (record { gate = g; counters = c }) (heldIn w)
 held-are w g c e f = λ i. record { gate = e i; counters = f i }

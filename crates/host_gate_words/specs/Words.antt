@@ -1,4 +1,4 @@
--- The thirteen words of a gate: 0 capacity, 1 repeats, 2 follow (not 0: on), 3 change rule, 4 used, 5 first, 6 completed, 7 emitted, 8 suppressed,
+-- The thirteen words of a gate: 0 capacity, 1 repeats, 2 follow (0 off, 2 each changed PAT section, any other complete PATs), 3 change rule, 4 used, 5 first, 6 completed, 7 emitted, 8 suppressed,
 -- 9 CRC failures, 10 short sections, 11 CRC mismatches, 12 evictions; its settings as bits; and the three words of a failure.
 use Prim.Native.Nat.{ℕ, _/_, _%_}
 use mathlib.Core.List.{List, [], _∷_}
@@ -10,6 +10,8 @@ use Rattle.answers.specs.declared.Outcome.the-variants as outcome
 use Rattle.counters.specs.Counters.{counts}
 use Rattle.counters.specs.declared.Counters.{Counters}
 use Rattle.gate_state.specs.State.{Said, plain, short, mismatch, saidOf, numberOf}
+use Rattle.gate_state.specs.declared.Follow.{Follow}
+use Rattle.gate_state.specs.declared.Follow.the-variants.{Off, Sections, Tables}
 use Rattle.gate_state.specs.declared.Settings.{Settings}
 use Rattle.gate_state.specs.declared.Gate.{Gate}
 use Rattle.gate_state.specs.declared.Opened.{Opened}
@@ -21,17 +23,31 @@ use Rattle.host_gate_words.specs.declared.Held.{Held}
 abbrev pub asksForKnown : ℕ → Bool
 asksForKnown bits = eqb (bits / 4 % 2) 1
 
--- bit 1 repeats, 2 follow, 4 the well-known PIDs; other bits are not looked at
+-- how PATs are to be followed: bit 2 switches it on, bit 8 with it asks for each changed section
+abbrev pub followAsked : ℕ → Follow
+followAsked bits = cond (eqb (bits / 2 % 2) 1) (cond (eqb (bits / 8 % 2) 1) Sections Tables) Off
+
+-- what the word `follow` says, whatever it is
+abbrev pub followIn : ℕ → Follow
+followIn w = cond (eqb w 0) Off (cond (eqb w 2) Sections Tables)
+
+-- the word that says it
+abbrev pub followWord : Follow → ℕ
+followWord Off = 0
+followWord Sections = 2
+followWord Tables = 1
+
+-- bit 1 repeats, 2 follow, 4 the well-known PIDs, 8 with 2 each changed PAT section; other bits are not looked at
 abbrev pub settingsOf : ℕ → ℕ → ℕ → Settings
 settingsOf capacity bits rule =
-    record { capacity = capacity; repeats = eqb (bits % 2) 1; follow = eqb (bits / 2 % 2) 1; «well_known» = asksForKnown bits; «change_rule» = rule }
+    record { capacity = capacity; repeats = eqb (bits % 2) 1; follow = followAsked bits; «well_known» = asksForKnown bits; «change_rule» = rule }
 
 abbrev pub isOn : ℕ → Bool
 isOn w = not (eqb w 0)
 
 abbrev pub gateOf : List ℕ → Gate
 gateOf w =
-    record { ring = record { capacity = at w 0; used = at w 4; first = at w 5 }; repeats = isOn (at w 1); follow = isOn (at w 2); «change_rule» = at w 3 }
+    record { ring = record { capacity = at w 0; used = at w 4; first = at w 5 }; repeats = isOn (at w 1); follow = followIn (at w 2); «change_rule» = at w 3 }
 
 abbrev pub countersOf : List ℕ → Counters
 countersOf w = counts (at w 6) (at w 7) (at w 8) (at w 9) (at w 10) (at w 11) (at w 12)
@@ -50,7 +66,7 @@ countsOf g c =
 
 -- all thirteen
 abbrev pub wordsOf : Gate → Counters → List ℕ
-wordsOf g c = g .ring .capacity ∷ bit (g .repeats) ∷ bit (g .follow) ∷ g .«change_rule» ∷ countsOf g c
+wordsOf g c = g .ring .capacity ∷ bit (g .repeats) ∷ followWord (g .follow) ∷ g .«change_rule» ∷ countsOf g c
 
 -- an offer writes words 4 to 12 only
 abbrev pub wordsAfter : List ℕ → Gate → Counters → List ℕ

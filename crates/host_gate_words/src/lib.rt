@@ -1,8 +1,9 @@
-// The thirteen words of a gate: 0 capacity, 1 repeats, 2 follow (not 0: on), 3 change_rule, 4 used, 5 first, 6 completed, 7 emitted, 8 suppressed,
+// The thirteen words of a gate: 0 capacity, 1 repeats, 2 follow (0 off, 2 each changed PAT section, any other complete PATs), 3 change_rule, 4 used, 5 first, 6 completed, 7 emitted, 8 suppressed,
 // 9 crc_failures, 10 short_sections, 11 crc_mismatches, 12 evictions. And the three of a failure: 0 length, 1 stored, 2 worked.
 use answers::Outcome;
 use counters::Counters;
 use gate_state::Answer;
+use gate_state::Follow;
 use gate_state::Gate;
 use gate_state::Offered;
 use gate_state::Opened;
@@ -13,7 +14,7 @@ ghost use mathlib.Core.Path.{_≡_};
 ghost use mathlib.Core.List.{[]};
 ghost use Rattle.gate_state.specs.State.{saidOf, failureSaid};
 ghost use Rattle.host_words.specs.Answers.{words};
-ghost use Rattle.host_gate_words.specs.Words.{asksForKnown, settingsOf, gateOf, countersOf, heldIn, bit, wordsOf, wordsAfter, wordsOpened, failureAfter, told, tellsOpened, tellsOffered};
+ghost use Rattle.host_gate_words.specs.Words.{asksForKnown, followAsked, followIn, followWord, settingsOf, gateOf, countersOf, heldIn, bit, wordsOf, wordsAfter, wordsOpened, failureAfter, told, tellsOpened, tellsOffered};
 
 // What the words hold.
 pub struct Held {
@@ -21,14 +22,14 @@ pub struct Held {
     pub counters: Counters,
 }
 
-// Settings as bits: 1 repeats, 2 follow, 4 well-known PIDs. Other bits are not looked at. The change rule is a number of its own.
+// Settings as bits: 1 repeats, 2 follow, 4 well-known PIDs, 8 with 2 each changed PAT section. Other bits are not looked at. The change rule is a number of its own.
 pub fn settings(capacity: u64, bits: u32, change_rule: u64) -> Settings
     ensures { λ r. ⌜ r ≡ settingsOf capacity bits «change_rule» ⌝ }
 {
     Settings {
         capacity: capacity,
         repeats: bits % 2 == 1,
-        follow: bits / 2 % 2 == 1,
+        follow: follow_asked(bits),
         well_known: well_known(bits),
         change_rule: change_rule,
     }
@@ -41,6 +42,45 @@ pub fn well_known(bits: u32) -> bool
     bits / 4 % 2 == 1
 }
 
+// How PATs are to be followed: bit 8 without bit 2 asks for nothing.
+fn follow_asked(bits: u32) -> Follow
+    ensures { λ r. ⌜ r ≡ followAsked bits ⌝ }
+{
+    if bits / 2 % 2 != 1 {
+        return Follow::Off;
+    }
+    if bits / 8 % 2 == 1 {
+        Follow::Sections
+    } else {
+        Follow::Tables
+    }
+}
+
+// What the word `follow` says, whatever it is.
+fn follow_in(word: u64) -> Follow
+    ensures { λ r. ⌜ r ≡ followIn word ⌝ }
+{
+    if word == 0 {
+        return Follow::Off;
+    }
+    if word == 2 {
+        Follow::Sections
+    } else {
+        Follow::Tables
+    }
+}
+
+// The word that says it.
+fn follow_word(follow: Follow) -> u64
+    ensures { λ r. ⌜ r ≡ followWord follow ⌝ }
+{
+    match follow {
+        Follow::Off => 0,
+        Follow::Sections => 2,
+        Follow::Tables => 1,
+    }
+}
+
 fn gate(words: &[u64; 13]) -> Gate
     ensures { λ r. ⌜ r ≡ gateOf (now (words .entry)) ⌝ }
 {
@@ -51,7 +91,7 @@ fn gate(words: &[u64; 13]) -> Gate
             first: words[5] as usize,
         },
         repeats: words[1] != 0,
-        follow: words[2] != 0,
+        follow: follow_in(words[2]),
         change_rule: words[3],
     }
 }
@@ -91,10 +131,11 @@ fn write(words: &mut [u64; 13], gate: Gate, counters: Counters)
     ensures { λ _. ⌜ now (words .exit) ≡ wordsOf gate counters ⌝ }
 {
     let ring = gate.ring;
+    let follow = gate.follow;
     *words = [
         ring.capacity,
         word(gate.repeats),
-        word(gate.follow),
+        follow_word(follow),
         gate.change_rule,
         ring.used as u64,
         ring.first as u64,

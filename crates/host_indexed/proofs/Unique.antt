@@ -5,15 +5,16 @@ use Prim.Native.Nat.{ℕ}
 use mathlib.Core.Path.{_≡_, ap}
 use mathlib.Core.List.{List}
 use Rattle.laws.proofs.Unique.{one-result}
+use Rattle.pats.specs.Store.{Record}
 use Rattle.host_indexed.specs.Calls.{GateBegun, begun, gateOpened, GateLeft, left, gateOffered}
 
 pub unique-indexed-open :
-    (gate : List ℕ) (capacity settings rule : ℕ) (extra keys changes buckets links watch : List ℕ) (r s : ℕ) (g h b c w x : List ℕ) →
-    begun r g b w ≡ gateOpened gate capacity settings rule extra keys changes buckets links watch →
-    begun s h c x ≡ gateOpened gate capacity settings rule extra keys changes buckets links watch →
+    (gate : List ℕ) (capacity settings rule : ℕ) (extra keys changes buckets links slots cells watch : List ℕ) (r s : ℕ) (g h b c w x : List ℕ) →
+    begun r g b w ≡ gateOpened gate capacity settings rule extra keys changes buckets links slots cells watch →
+    begun s h c x ≡ gateOpened gate capacity settings rule extra keys changes buckets links slots cells watch →
     (r ≡ s) × (g ≡ h) × (b ≡ c) × (w ≡ x)
-unique-indexed-open gate capacity settings rule extra keys changes buckets links watch r s g h b c w x p q =
-    let e : begun r g b w ≡ begun s h c x = one-result (gateOpened gate capacity settings rule extra keys changes buckets links watch) p q in (
+unique-indexed-open gate capacity settings rule extra keys changes buckets links slots cells watch r s g h b c w x p q =
+    let e : begun r g b w ≡ begun s h c x = one-result (gateOpened gate capacity settings rule extra keys changes buckets links slots cells watch) p q in (
       ap (λ (t : GateBegun). t .answer) e,
       ap (λ (t : GateBegun). t .gate) e,
       ap (λ (t : GateBegun). t .buckets) e,
@@ -21,7 +22,7 @@ unique-indexed-open gate capacity settings rule extra keys changes buckets links
     )
 
 pub unique-indexed-offer :
-    (gate keys changes buckets links watch : List ℕ) (input pid : ℕ) (section failure : List ℕ) (r s : ℕ) (g h k l m n b c d i w x y z : List ℕ) →
+    (gate keys changes buckets links : List ℕ) (watch : Record) (input pid : ℕ) (section failure : List ℕ) (r s : ℕ) (g h k l m n b c d i : List ℕ) (w x : Record) (y z : List ℕ) →
     left r g k m b d w y ≡ gateOffered gate keys changes buckets links watch input pid section failure →
     left s h l n c i x z ≡ gateOffered gate keys changes buckets links watch input pid section failure →
     (r ≡ s) × (g ≡ h) × (k ≡ l) × (m ≡ n) × (b ≡ c) × (d ≡ i) × (w ≡ x) × (y ≡ z)

@@ -32,7 +32,7 @@ pub fn programs(s: &[u8], n: &mut [u64; 128]) -> Pat
 }
 
 // Long form, table_id 0, the length that section_length says, and whole groups of four between the eight bytes of the header and the CRC.
-fn is_readable(s: &[u8]) -> bool
+pub fn is_readable(s: &[u8]) -> bool
     ensures { λ r. ⌜ r ≡ readable (now (s .entry)) ⌝ }
 {
     if s.len() < 12 {

@@ -6,6 +6,7 @@ ghost use Rattle.crc.specs.Crc.{crcOf};
 ghost use Rattle.host_gate.specs.Calls.{begun, gateOpened, left, gateOffered, watchOpened, watchAsked};
 ghost use Rattle.host_indexed.specs.Calls as indexed;
 ghost use Rattle.host_words.specs.Answers.{words};
+ghost use Rattle.pats.specs.Store.{recordOf};
 ghost use Rattle.host_sets.specs.Calls.{setsLeft, setsOpened, setsPushed, setsCleared, setsNext};
 ghost use Rattle.host_eit.specs.Calls.{eitOpened, eitLeft, eitPushed, eitCleared, eitDroppedTo, eitDropped, eitNext, eitNextIn};
 
@@ -17,7 +18,8 @@ pub extern "C" fn petrizolu_crc(bytes: &[u8]) -> u32
     crc::crc(bytes)
 }
 
-// Opens a gate and its watch: 7, 12 or 13. `settings` are bits: 1 repeats, 2 follow, 4 well-known PIDs. A refusal writes nothing.
+// Opens a gate and the watch record of one input: 7, 12 or 13. `settings` are bits: 1 repeats, 2 follow complete PATs, 4 well-known PIDs, 8 with 2 each changed
+// PAT section. A refusal writes nothing.
 #[no_mangle]
 pub extern "C" fn petrizolu_gate_open(
     gate: &mut [u64; 13],
@@ -28,8 +30,10 @@ pub extern "C" fn petrizolu_gate_open(
     keys: &[u64],
     changes: &[u64],
     watch: &mut [u64],
+    pat_slots: &[u32],
+    pat_cells: &[u8],
 ) -> u8
-    ensures { λ r. ⌜ begun r (now (gate .exit)) (now (watch .exit)) ≡ gateOpened (now (gate .entry)) capacity settings «change_rule» (now (extra .entry)) (now (keys .entry)) (now (changes .entry)) (now (watch .entry)) ⌝ }
+    ensures { λ r. ⌜ begun r (now (gate .exit)) (now (watch .exit)) ≡ gateOpened (now (gate .entry)) capacity settings «change_rule» (now (extra .entry)) (now (keys .entry)) (now (changes .entry)) (now («pat_slots» .entry)) (now («pat_cells» .entry)) (now (watch .entry)) ⌝ }
 {
     host_gate::open(
         gate,
@@ -40,6 +44,8 @@ pub extern "C" fn petrizolu_gate_open(
         keys,
         changes,
         watch,
+        pat_slots,
+        pat_cells,
     )
 }
 
@@ -50,22 +56,41 @@ pub extern "C" fn petrizolu_gate_offer(
     keys: &mut [u64],
     changes: &mut [u64],
     watch: &mut [u64],
+    pat_slots: &mut [u32],
+    pat_cells: &mut [u8],
     input: u32,
     pid: u32,
     section: &[u8],
     failure: &mut [u64; 3],
 ) -> u8
-    ensures { λ r. ⌜ left r (now (gate .exit)) (now (keys .exit)) (now (changes .exit)) (now (watch .exit)) (now (failure .exit)) ≡ gateOffered (now (gate .entry)) (now (keys .entry)) (now (changes .entry)) (now (watch .entry)) input pid (now (section .entry)) (now (failure .entry)) ⌝ }
+    ensures { λ r. ⌜ left r (now (gate .exit)) (now (keys .exit)) (now (changes .exit)) (recordOf (now (watch .exit)) (now («pat_slots» .exit)) (now («pat_cells» .exit))) (now (failure .exit)) ≡ gateOffered (now (gate .entry)) (now (keys .entry)) (now (changes .entry)) (recordOf (now (watch .entry)) (now («pat_slots» .entry)) (now («pat_cells» .entry))) input pid (now (section .entry)) (now (failure .entry)) ⌝ }
 {
-    host_gate::offer(gate, keys, changes, watch, input, pid, section, failure)
+    host_gate::offer(
+        gate,
+        keys,
+        changes,
+        watch,
+        pat_slots,
+        pat_cells,
+        input,
+        pid,
+        section,
+        failure,
+    )
 }
 
-// Opens the watch record of a further input: 7, 12 or 13. Of `settings` only 4, the well-known PIDs, is looked at. A refusal writes nothing.
+// Opens the watch record of a further input: 7, 12 or 13. Of `settings` how PATs are followed and the well-known PIDs are looked at. A refusal writes nothing.
 #[no_mangle]
-pub extern "C" fn petrizolu_watch_open(settings: u32, extra: &[u16], watch: &mut [u64]) -> u8
-    ensures { λ r. ⌜ words r (now (watch .exit)) ≡ watchOpened settings (now (extra .entry)) (now (watch .entry)) ⌝ }
+pub extern "C" fn petrizolu_watch_open(
+    settings: u32,
+    extra: &[u16],
+    watch: &mut [u64],
+    pat_slots: &[u32],
+    pat_cells: &[u8],
+) -> u8
+    ensures { λ r. ⌜ words r (now (watch .exit)) ≡ watchOpened settings (now (extra .entry)) (now («pat_slots» .entry)) (now («pat_cells» .entry)) (now (watch .entry)) ⌝ }
 {
-    host_gate::open_watch(settings, extra, watch)
+    host_gate::open_watch(settings, extra, watch, pat_slots, pat_cells)
 }
 
 // Whether a PID is watched: 8, 9, 10 or 12.
@@ -89,8 +114,10 @@ pub extern "C" fn petrizolu_indexed_open(
     buckets: &mut [u64],
     links: &[u64],
     watch: &mut [u64],
+    pat_slots: &[u32],
+    pat_cells: &[u8],
 ) -> u8
-    ensures { λ r. ⌜ indexed.begun r (now (gate .exit)) (now (buckets .exit)) (now (watch .exit)) ≡ indexed.gateOpened (now (gate .entry)) capacity settings «change_rule» (now (extra .entry)) (now (keys .entry)) (now (changes .entry)) (now (buckets .entry)) (now (links .entry)) (now (watch .entry)) ⌝ }
+    ensures { λ r. ⌜ indexed.begun r (now (gate .exit)) (now (buckets .exit)) (now (watch .exit)) ≡ indexed.gateOpened (now (gate .entry)) capacity settings «change_rule» (now (extra .entry)) (now (keys .entry)) (now (changes .entry)) (now (buckets .entry)) (now (links .entry)) (now («pat_slots» .entry)) (now («pat_cells» .entry)) (now (watch .entry)) ⌝ }
 {
     host_indexed::open(
         gate,
@@ -103,6 +130,8 @@ pub extern "C" fn petrizolu_indexed_open(
         buckets,
         links,
         watch,
+        pat_slots,
+        pat_cells,
     )
 }
 
@@ -115,12 +144,14 @@ pub extern "C" fn petrizolu_indexed_offer(
     buckets: &mut [u64],
     links: &mut [u64],
     watch: &mut [u64],
+    pat_slots: &mut [u32],
+    pat_cells: &mut [u8],
     input: u32,
     pid: u32,
     section: &[u8],
     failure: &mut [u64; 3],
 ) -> u8
-    ensures { λ r. ⌜ indexed.left r (now (gate .exit)) (now (keys .exit)) (now (changes .exit)) (now (buckets .exit)) (now (links .exit)) (now (watch .exit)) (now (failure .exit)) ≡ indexed.gateOffered (now (gate .entry)) (now (keys .entry)) (now (changes .entry)) (now (buckets .entry)) (now (links .entry)) (now (watch .entry)) input pid (now (section .entry)) (now (failure .entry)) ⌝ }
+    ensures { λ r. ⌜ indexed.left r (now (gate .exit)) (now (keys .exit)) (now (changes .exit)) (now (buckets .exit)) (now (links .exit)) (recordOf (now (watch .exit)) (now («pat_slots» .exit)) (now («pat_cells» .exit))) (now (failure .exit)) ≡ indexed.gateOffered (now (gate .entry)) (now (keys .entry)) (now (changes .entry)) (now (buckets .entry)) (now (links .entry)) (recordOf (now (watch .entry)) (now («pat_slots» .entry)) (now («pat_cells» .entry))) input pid (now (section .entry)) (now (failure .entry)) ⌝ }
 {
     host_indexed::offer(
         gate,
@@ -129,6 +160,8 @@ pub extern "C" fn petrizolu_indexed_offer(
         buckets,
         links,
         watch,
+        pat_slots,
+        pat_cells,
         input,
         pid,
         section,

@@ -13,7 +13,6 @@ use Rattle.laws.proofs.Tests.{true-and, and-true}
 use Rattle.laws.specs.Runs.{answers, storeAfter}
 use Rattle.ring.specs.Store.{roomOf, stampOf}
 use Rattle.ring.specs.View.{memoryAfter}
-use Rattle.ring.proofs.Laws.{whole-test}
 use Rattle.ring.proofs.Order.{opened-reached}
 use Rattle.ring_index.specs.Store.{indexOf, clearedBy}
 use Rattle.ring_index.specs.Runs.{openedIndex}
@@ -26,17 +25,17 @@ use Rattle.offers.specs.declared.Arrival.{Arrival}
 use Rattle.offers.specs.declared.Verdict.{Verdict}
 use Rattle.offers.specs.declared.Verdict.the-variants.{Refused, Failed, Arrived}
 use Rattle.gate_state.specs.State.{emptyGate}
-use Rattle.gate.specs.Store.{canOpen, isWhole, Store, admittedTo, carried, opened, offered}
+use Rattle.gate.specs.Store.{canOpen, Store, admittedTo, carried, opened, offered}
 use Rattle.counters.specs.Counters.{zeroes, anyFull}
 use Rattle.gate_state.specs.State.{seenBy as answeredBy}
 use Rattle.gate.specs.Store.{Offering as Told}
-use Rattle.gate.specs.Rules.{Offer, Held, rowFrom, tells, tellsNo, acts, OfBytes}
+use Rattle.gate.specs.Rules.{Offer, Held, rowFrom, tellsNo, acts, OfBytes}
 use Rattle.gate.specs.View.{memoryOf, Opened, storeTells, storeActs}
 use Rattle.gate_state.specs.declared.Settings.{Settings}
 use Rattle.watched.specs.Store.{allPids, filled}
 use Rattle.watched.proofs.Meaning.{length-filled}
 use Rattle.gate.specs.Store as plain
-use Rattle.ties_gate.proofs.Order.{follows, verdict-small}
+use Rattle.ties_gate.proofs.Order.{follows, verdict-small, opened-whole}
 use Rattle.watched.specs.Store.{asked}
 use Rattle.ties_gate.specs.Watching.{isProtected, noPid, emptyHeld, nAfter, answered}
 use Rattle.ties_gate.specs.Counting.{evictionsIn}
@@ -77,25 +76,19 @@ module _ (s : Indexed) (r : OpenedBy s) (section : List ℕ) where
   carried-same (Failed f) k = record { answer = refl; store = refl; kept = record { covers = r .kept .covers; holds = r .kept .holds } }
   carried-same (Arrived a) k = admitted-same a (k a refl)
 
+-- 10 does not occur
+pub opened-whole-by : (s : Indexed) → OpenedBy s → isWholeBy s ≡ true
+opened-whole-by s r =
+    true-and (true-and (opened-whole (s .store) (r .opened)) (le-leb (roomOf (s .store .gate .ring .capacity)) (length (s .index .buckets)) (r .kept .covers .buckets-long)))
+    (le-leb (roomOf (s .store .gate .ring .capacity)) (length (s .index .links)) (r .kept .covers .links-long))
+
 module _ (s : Indexed) (r : OpenedBy s) (input pid : ℕ) (section : List ℕ) where
   -- every offer
   pub offer-same : Bytes section → Same (offeredBy s input pid section) (offered (s .store) input pid section)
   unfolding offeredBy offered verdictOf
   offer-same b =
-      rw (whole-by, whole)
+      rw (opened-whole-by s r, opened-whole (s .store) (r .opened))
       (carried-same s r section (cond (anyFull (s .store .counters)) (Refused CounterFull) (readOf (s .store .gate .«change_rule») input pid section)) (verdict-small (s .store .gate .«change_rule») (record { input = input; pid = pid; section = section }) b (anyFull (s .store .counters))))
-    where
-      whole : isWhole (s .store) ≡ true
-      whole =
-          true-and
-          (true-and (whole-test (s .store .gate .ring) (length (s .store .keys)) (length (s .store .changes)) (r .opened .reached .whole))
-          (le-leb 384 (length (s .store .words)) (r .opened .watch)))
-          (r .opened .rule)
-
-      whole-by : isWholeBy s ≡ true
-      whole-by =
-          true-and (true-and whole (le-leb (roomOf (s .store .gate .ring .capacity)) (length (s .index .buckets)) (r .kept .covers .buckets-long)))
-          (le-leb (roomOf (s .store .gate .ring .capacity)) (length (s .index .links)) (r .kept .covers .links-long))
 
 -- the store that is left came from opening too
 next : (s : Indexed) (o : Offer) → OpenedBy s → Bytes (o .section) → OpenedBy (actsBy s o)

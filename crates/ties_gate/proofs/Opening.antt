@@ -22,6 +22,7 @@ use Rattle.counters.specs.Counters.{zeroes}
 use Rattle.gate.specs.Store.{Begun, begins, canOpen, opened, Store, storeOf}
 use Rattle.gate.specs.Rules.{Offer, Manner, tells, acts, OfBytes}
 use Rattle.gate.specs.View.{mannerOf, heldBy, Opened, storeTells, storeActs}
+use Rattle.gate_state.specs.State.{bySections}
 use Rattle.gate_state.specs.declared.Settings.{Settings}
 use Rattle.ties_gate.specs.Watching.{isProtected, emptyHeld}
 use Rattle.ties_gate.proofs.Order.{same-answers, same-view}
@@ -29,6 +30,14 @@ use Rattle.ties_gate.proofs.Order.{same-answers, same-view}
 is-listed : (q : ℕ) (ps : List ℕ) → among q ps ≡ listed q ps
 is-listed q [] = refl
 is-listed q (p ∷ ps) = ap (λ (b : Bool). eqb q p || b) (is-listed q ps)
+
+-- the watch as opening sets it: the protected PIDs are watched, and N is empty
+pub watch-empty : (words : List ℕ) (on : Bool) (extra : List ℕ) → allPids extra ≡ true → watchIn (filled words on extra) ≡ emptyHeld (isProtected on extra) .watch
+watch-empty words on extra e = λ i. record {
+  watched = λ q. (opened-watched words on extra e q ∙ is-listed q (protectedPids on extra)) i;
+  protected = λ q. (opened-protected words on extra e q ∙ is-listed q (protectedPids on extra)) i;
+  followed = λ q. opened-followed words on extra e q i;
+}
 
 -- what a call of `open` left, with the slices that it does not write
 abbrev pub leftOpen : Begun → List ℕ → List ℕ → Store
@@ -69,8 +78,8 @@ module _
     needs =
         and-true (leb (roomOf (st .capacity)) (length keys) && leb (roomOf (st .capacity)) (length changes) && leb 384 (length words)) (ruleKnown (st .«change_rule»)) (z .room)
 
-    w : 384 ≤ length words
-    w = leb-true 384 (length words) (and-true (leb (roomOf (st .capacity)) (length keys) && leb (roomOf (st .capacity)) (length changes)) (leb 384 (length words)) (needs .0) .1)
+    pub watch-room : 384 ≤ length words
+    watch-room = leb-true 384 (length words) (and-true (leb (roomOf (st .capacity)) (length keys) && leb (roomOf (st .capacity)) (length changes)) (leb 384 (length words)) (needs .0) .1)
 
     rooms : (leb (roomOf (st .capacity)) (length keys) ≡ true) × (leb (roomOf (st .capacity)) (length changes) ≡ true)
     rooms =
@@ -83,26 +92,19 @@ module _
         subst (λ (b : Begun). Opened (leftOpen b keys changes)) (sym (z .left))
         (record {
           reached = opened-reached (st .capacity) keys changes (leb-true _ _ (rooms .0)) (leb-true _ _ (rooms .1));
-          watch = subst (λ (l : ℕ). 384 ≤ l) (sym (length-filled words (st .«well_known») extra w)) w;
+          watch = subst (λ (l : ℕ). 384 ≤ l) (sym (length-filled words (st .«well_known») extra watch-room)) watch-room;
           rule = needs .1;
         })
 
     -- it stands for an empty gate, with the protected PIDs watched and N empty
-    watch-empty : watchIn (filled words (st .«well_known») extra) ≡ emptyHeld (isProtected (st .«well_known») extra) .watch
-    watch-empty = λ i. record {
-      watched = λ q. (opened-watched words (st .«well_known») extra (z .pids) q ∙ is-listed q (protectedPids (st .«well_known») extra)) i;
-      protected = λ q. (opened-protected words (st .«well_known») extra (z .pids) q ∙ is-listed q (protectedPids (st .«well_known») extra)) i;
-      followed = λ q. opened-followed words (st .«well_known») extra (z .pids) q i;
-    }
-
     pub opened-empty : heldBy (leftOpen (opened st extra (length keys) (length changes) words) keys changes) ≡ emptyHeld (isProtected (st .«well_known») extra)
     opened-empty =
         ap (λ (b : Begun). heldBy (leftOpen b keys changes)) (z .left)
-        ∙ (λ i. record { rows = []; counters = zeroes; watch = watch-empty i })
+        ∙ (λ i. record { rows = []; counters = zeroes; watch = watch-empty words (st .«well_known») extra (z .pids) i })
 
 -- the settings that an offer looks at
 abbrev pub mannerFor : Settings → Manner
-mannerFor st = record { capacity = st .capacity; repeats = st .repeats; follow = st .follow; rule = st .«change_rule» }
+mannerFor st = record { capacity = st .capacity; repeats = st .repeats; follow = bySections (st .follow); rule = st .«change_rule» }
 
 -- from an opening that answers 7 every sequence of offers of bytes has the rule's answers from the empty gate, and leaves what the rule leaves
 module _

@@ -27,7 +27,7 @@ use Rattle.watched.specs.Store.{following}
 use Rattle.watched.specs.Rules.{followedBy}
 use Rattle.watched.specs.View.{watchIn}
 use Rattle.watched.proofs.Meaning.{length-following, following-shown}
-use Rattle.gate_state.specs.State.{seenBy}
+use Rattle.gate_state.specs.State.{bySections, seenBy}
 use Rattle.gate.specs.Store.{isWhole, Store, Offering, admittedTo, carried, offered, programsOf, followedPat, watchAfter}
 use Rattle.gate.specs.Rules as rules
 use Rattle.gate_state.proofs.Laws.{answer-said}
@@ -88,12 +88,12 @@ module _ (s : Store) (r : Opened s) (section : List ℕ) (b : Bytes section) (a 
         st .tells,
         st .leaves,
         answer-said (changed (rowFrom a) (inOrder (memoryOf s)) || s .gate .repeats),
-        watch-shown (changed (rowFrom a) (inOrder (memoryOf s)) && s .gate .follow) (s .words) section (r .watch) b,
+        watch-shown (changed (rowFrom a) (inOrder (memoryOf s)) && bySections (s .gate .follow)) (s .words) section (r .watch) b,
       )
 
   admitted-opened : Opened (admittedTo s section a .store)
   unfolding admittedTo seenBy memoryAfter
-  admitted-opened = record { reached = st .reached; watch = watch-kept (seenIn (memoryOf s) (rowFrom a) .changed && s .gate .follow) (s .words) section (r .watch); rule = r .rule }
+  admitted-opened = record { reached = st .reached; watch = watch-kept (seenIn (memoryOf s) (rowFrom a) .changed && bySections (s .gate .follow)) (s .words) section (r .watch); rule = r .rule }
 
   admitted-manner : mannerOf (admittedTo s section a .store .gate) ≡ mannerOf (s .gate)
   unfolding admittedTo seenBy memoryAfter
@@ -107,6 +107,10 @@ failed-follows s short r = record { reached = r .reached; watch = r .watch; rule
 pub verdict-small : (rule : ℕ) (o : Offer) → Bytes (o .section) → (f : Bool) (a : Arrival) → cond f (Refused CounterFull) (readOf rule (o .input) (o .pid) (o .section)) ≡ Arrived a → a .change < 2 ^ 32
 verdict-small rule o b true a e = let z : _≡_ {A = ℕ} 0 1 = cc in absurd (omega arith)
 verdict-small rule o b false a e = arrived-small (o .section) rule b (o .input) (o .pid) a e
+
+-- 10 does not occur
+pub opened-whole : (s : Store) → Opened s → isWhole s ≡ true
+opened-whole s r = true-and (true-and (whole-test (s .gate .ring) (length (s .keys)) (length (s .changes)) (r .reached .whole)) (le-leb 384 (length (s .words)) (r .watch))) (r .rule)
 
 module _ (s : Store) (o : Offer) (r : Opened s) (b : Bytes (o .section)) where
   -- a verdict carried out
@@ -124,11 +128,8 @@ module _ (s : Store) (o : Offer) (r : Opened s) (b : Bytes (o .section)) where
   pub follows : Follows s o (offered s (o .input) (o .pid) (o .section))
   unfolding offered told verdictOf
   follows =
-      rw whole
+      rw (opened-whole s r)
       (carried-follows (cond (anyFull (s .counters)) (Refused CounterFull) (readOf (s .gate .«change_rule») (o .input) (o .pid) (o .section))) (verdict-small (s .gate .«change_rule») o b (anyFull (s .counters))))
-    where
-      whole : isWhole s ≡ true
-      whole = true-and (true-and (whole-test (s .gate .ring) (length (s .keys)) (length (s .changes)) (r .reached .whole)) (le-leb 384 (length (s .words)) (r .watch))) (r .rule)
 
 -- THE THEOREM: from an opened store, every sequence of offers of bytes has the rule's answers, and the store then stands for what the rule holds
 pub same-answers :

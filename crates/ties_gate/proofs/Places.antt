@@ -21,7 +21,7 @@ use Rattle.ring.specs.Store.{stampOf, renewed, seenOf}
 use Rattle.ring.specs.View.{Memory, memoryAfter, laidIn, inOrder}
 use Rattle.ring.proofs.Laws.{whole-test}
 use Rattle.ring.proofs.Places.{seenIn, Lies, lies}
-use Rattle.gate_state.specs.State.{seenBy}
+use Rattle.gate_state.specs.State.{bySections, seenBy}
 use Rattle.gate.specs.Store.{isWhole, Fits, Store, Offering, admittedTo, carried, offered}
 use Rattle.gate.specs.Rules.{Offer, Manner, rowFrom, admitted, OfBytes}
 use Rattle.gate.specs.View.{mannerOf, memoryOf, storeTells, storeActs}
@@ -54,9 +54,9 @@ module _ (s : Store) (r : Passes s) (section : List ℕ) (b : Bytes section) (a 
               st .tells,
               st .leaves,
               answer-said (changed (rowFrom a) (laidIn (memoryOf s) .rows) || s .gate .repeats),
-              watch-shown (changed (rowFrom a) (laidIn (memoryOf s) .rows) && s .gate .follow) (s .words) section (r .watch) b,
+              watch-shown (changed (rowFrom a) (laidIn (memoryOf s) .rows) && bySections (s .gate .follow)) (s .words) section (r .watch) b,
             );
-        passes = record { rows = st .whole; watch = watch-kept (seenIn (memoryOf s) (rowFrom a) .changed && s .gate .follow) (s .words) section (r .watch); rule = r .rule };
+        passes = record { rows = st .whole; watch = watch-kept (seenIn (memoryOf s) (rowFrom a) .changed && bySections (s .gate .follow)) (s .words) section (r .watch); rule = r .rule };
         manner = rw (st .capacity);
       }
 

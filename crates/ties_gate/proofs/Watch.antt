@@ -16,7 +16,7 @@ use Rattle.pat.proofs.Laws.{length-programs}
 use Rattle.watched.specs.Store.{allPids, filled, following}
 use Rattle.watched.specs.View.{InStep}
 use Rattle.watched.proofs.Meaning.{opened-in-step, following-in-step, length-following}
-use Rattle.gate_state.specs.State.{seenBy}
+use Rattle.gate_state.specs.State.{bySections, seenBy}
 use Rattle.gate.specs.Store.{isWhole, Store, admittedTo, carried, offered, programsOf, followedPat, watchAfter}
 use Rattle.gate.specs.Rules.{Offer}
 use Rattle.gate.specs.View.{storeActs}
@@ -53,7 +53,7 @@ carried-kept : (s : Store) (section : List ℕ) (v : Verdict) → Kept (s .words
 unfolding carried admittedTo seenBy
 carried-kept s section (Refused r) k = k
 carried-kept s section (Failed f) k = k
-carried-kept s section (Arrived a) k = watch-kept (changedBy s a && s .gate .follow) (s .words) section k
+carried-kept s section (Arrived a) k = watch-kept (changedBy s a && bySections (s .gate .follow)) (s .words) section k
 
 -- every offer to every store
 pub offer-kept : (s : Store) (o : Offer) → Kept (s .words) → Kept (storeActs s o .words)

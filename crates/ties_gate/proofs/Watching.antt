@@ -42,16 +42,16 @@ still false true false = refl
 still false false true = refl
 still false false false = refl
 
+-- N that is followed is N
+pub follow-watches : (p : ℕ → Bool) (w : Watch) (n n′ : ℕ → Bool) → Watches w p n → Watches (followedBy n′ w) p n′
+follow-watches p w n n′ k =
+    record { watched = λ q. rw (k .watched q, k .protected q, k .followed q) (still (p q) (n q) (n′ q)); protected = k .protected; followed = λ q. refl }
+
 module _ (m : Manner) (p : ℕ → Bool) where
   -- a changed readable PAT replaces N where following is on, and nothing else does
   followed-watches : (w : Watch) (n : ℕ → Bool) (section : List ℕ) → Watches w p n → (c r : Bool) →
       Watches (cond c (cond r (followedBy (setN section) w) w) w) p (cond (c && r) (setN section) n)
-  followed-watches w n section k true true =
-      record {
-        watched = λ q. rw (k .watched q, k .protected q, k .followed q) (still (p q) (n q) (setN section q));
-        protected = k .protected;
-        followed = λ q. refl;
-      }
+  followed-watches w n section k true true = follow-watches p w n (setN section) k
   followed-watches w n section k true false = k
   followed-watches w n section k false r = k
 

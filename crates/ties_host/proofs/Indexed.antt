@@ -1,35 +1,38 @@
 -- The same of the gate with an index: from an opening on it answers as the gate without, and so as the rule.
 -- Assumes nothing.
-use Prim.Native.Nat.{ℕ, _≤_}
-use mathlib.Core.Path.{_≡_, refl, sym, ap, _∙_}
-use mathlib.Core.List.{List, [], _∷_, map}
-use mathlib.Core.Bool.{Bool, true, false, cond}
-use native.Mathlib.Omega.{arith}
+use Prim.Native.Nat.{ℕ}
+use mathlib.Core.Path.{_≡_, refl, sym, ap, subst, _∙_}
+use mathlib.Core.List.{List, map}
 use lib.ListN.{length}
 use Rattle.laws.specs.Runs.{answers, storeAfter}
-use Rattle.ring.specs.Store.{roomOf, stampOf}
+use Rattle.ring.specs.Store.{stampOf}
 use Rattle.ring.specs.declared.Ring.{Ring}
-use Rattle.ring_index.specs.Store.{Index, indexOf, isFound, foundBy, clearedBy}
+use Rattle.ring_index.specs.Store.{Index, indexOf, isFound, foundBy}
 use Rattle.ring_index.specs.Store.{seenBy as foundIn}
 use Rattle.offers.specs.Offers.{verdictOf}
 use Rattle.offers.specs.declared.Verdict.{Verdict}
 use Rattle.offers.specs.declared.Verdict.the-variants.{Refused, Failed, Arrived}
-use Rattle.watched.specs.Store.{allPids, filled}
-use Rattle.gate.specs.Rules as rules
 use Rattle.gate.specs.Rules.{Offer, OfBytes}
-use Rattle.gate_state.specs.State.{Said, numberOf, emptyGate, gateWith, seenBy}
-use Rattle.gate.specs.View.{mannerOf, heldBy}
+use Rattle.gate_state.specs.State.{numberOf, emptyGate, gateWith, seenBy}
+use Rattle.gate.specs.View.{mannerOf}
 use Rattle.gate_state.specs.declared.Gate.{Gate}
 use Rattle.gate_state.specs.declared.Settings.{Settings}
-use Rattle.ties_gate.proofs.Order as order
-use Rattle.gate_indexed.specs.Store.{canOpenBy, Begun, begins, openedBy, Indexed, indexedOf, admittedBy, carriedBy, isWholeBy, offeredBy}
-use Rattle.gate_indexed.specs.Runs.{tellsBy, actsBy}
-use Rattle.ties_gate.proofs.Indexed as same
-use Rattle.ties_gate.proofs.Indexed.{leftOpen, opening-opens}
+use Rattle.counters.specs.Counters.{zeroes}
+use Rattle.gate_indexed.specs.Store.{Begun, Indexed, admittedBy, carriedBy, isWholeBy, offeredBy}
+use Rattle.pats.specs.Store.{recordOf}
+use Rattle.gate_pats.specs.Store.{stateOf}
+use Rattle.gate_pats.specs.declared.inner.State.{State}
+use Rattle.gate_pats.specs.declared.inner.State.the-variants.{NotWhole, Full, Ready}
+use Rattle.gate_pats_indexed.specs.Store.{KeptBy, keptBy, sectionsBy, openedWith, takenBy, offeredAs, offeredWith}
+use Rattle.ties_gate.specs.Watching.{isProtected}
+use Rattle.ties_gate_pats.specs.Rules.{emptyHolding, tellsWith, actsWith}
+use Rattle.ties_gate_pats.specs.View.{holding, keptTellsBy, keptActsBy}
+use Rattle.ties_gate_pats.proofs.Order as order
+use Rattle.ties_gate_pats.proofs.Indexed as same
 use Rattle.host_words.specs.Inputs.{inputNumber}
 use Rattle.host_words.specs.Pids.{pidNumber}
 use Rattle.host_gate_words.specs.Words.{settingsOf, gateOf, countersOf, wordsOf, failureAfter}
-use Rattle.host_indexed.specs.Calls.{begunAs, gateOpened, gateOffered}
+use Rattle.host_indexed.specs.Calls.{gateOpened, gateOffered}
 use Rattle.ties_host.specs.Gate.{offerOf}
 use Rattle.ties_host.specs.Indexed.{Lent, tells, acts, storeIn, OpenedBy}
 use Rattle.ties_host.proofs.Gate.{ringCounted, counted, picked-counts, opened-read}
@@ -52,67 +55,92 @@ offered-counts : (s : Indexed) (input pid : ℕ) (section : List ℕ) → (offer
 unfolding offeredBy
 offered-counts s input pid section = carried-counts s section (verdictOf (isWholeBy s) (s .store .counters) (s .store .gate .«change_rule») input pid section)
 
+kept-counts : (s : KeptBy) (input pid : ℕ) (section : List ℕ) → (offeredWith s input pid section) .left .kept .gate ≡ counted (s .kept .gate) ((offeredWith s input pid section) .left .kept .gate)
+unfolding offeredWith offeredAs takenBy
+kept-counts s input pid section = go (stateOf (s .kept .gate .follow) (s .kept .watch))
+  where
+    go : (x : State) → (offeredAs s input pid section x) .left .kept .gate ≡ counted (s .kept .gate) ((offeredAs s input pid section x) .left .kept .gate)
+    go NotWhole = refl
+    go Full = refl
+    go Ready = offered-counts (sectionsBy s) input pid section
+
 -- ---- one call
 
-pub reads-back : (l : Lent) (o : Offer) → storeIn (acts l o) ≡ actsBy (storeIn l) (offerOf o)
-unfolding acts actsBy gateOffered
+pub reads-back : (l : Lent) (o : Offer) → storeIn (acts l o) ≡ keptActsBy (storeIn l) (offerOf o)
+unfolding acts keptActsBy gateOffered
 reads-back l o =
-    let a = (offeredBy (storeIn l) (inputNumber (o .input)) (pidNumber (o .pid)) (o .section)) .left in
-    ap (λ (g : Gate). indexedOf g (a .store .counters) (a .store .keys) (a .store .changes) (indexOf (a .index .buckets) (a .index .links)) (a .store .words))
-    (sym (offered-counts (storeIn l) (inputNumber (o .input)) (pidNumber (o .pid)) (o .section)))
+    let a = (offeredWith (storeIn l) (inputNumber (o .input)) (pidNumber (o .pid)) (o .section)) .left in
+    ap (λ (g : Gate). keptBy g (a .kept .counters) (a .kept .keys) (a .kept .changes) (indexOf (a .index .buckets) (a .index .links)) (a .kept .watch))
+    (sym (kept-counts (storeIn l) (inputNumber (o .input)) (pidNumber (o .pid)) (o .section)))
 
-pub tells-as : (l : Lent) (o : Offer) → tells l o ≡ numberOf (tellsBy (storeIn l) (offerOf o))
-unfolding tells tellsBy gateOffered
+pub tells-as : (l : Lent) (o : Offer) → tells l o ≡ numberOf (keptTellsBy (storeIn l) (offerOf o))
+unfolding tells keptTellsBy gateOffered
 tells-as l o = refl
 
-pub tells-failure : (l : Lent) (o : Offer) → (acts l o) .failure ≡ failureAfter (tellsBy (storeIn l) (offerOf o)) (l .failure)
-unfolding acts tellsBy gateOffered
+pub tells-failure : (l : Lent) (o : Offer) → (acts l o) .failure ≡ failureAfter (keptTellsBy (storeIn l) (offerOf o)) (l .failure)
+unfolding acts keptTellsBy gateOffered
 tells-failure l o = refl
 
 -- ---- every sequence of C calls, on any words and slices
 
-pub same-answers : (offers : List Offer) (l : Lent) → answers tells acts l offers ≡ map numberOf (answers tellsBy actsBy (storeIn l) (map offerOf offers))
-same-answers offers l = runs.same-answers storeIn offerOf numberOf tells acts tellsBy actsBy tells-as reads-back offers l
+pub same-answers : (offers : List Offer) (l : Lent) → answers tells acts l offers ≡ map numberOf (answers keptTellsBy keptActsBy (storeIn l) (map offerOf offers))
+same-answers offers l = runs.same-answers storeIn offerOf numberOf tells acts keptTellsBy keptActsBy tells-as reads-back offers l
 
-pub same-store : (offers : List Offer) (l : Lent) → storeIn (storeAfter acts l offers) ≡ storeAfter actsBy (storeIn l) (map offerOf offers)
-same-store = runs.same-store storeIn offerOf numberOf tells acts tellsBy actsBy tells-as reads-back
+pub same-store : (offers : List Offer) (l : Lent) → storeIn (storeAfter acts l offers) ≡ storeAfter keptActsBy (storeIn l) (map offerOf offers)
+same-store = runs.same-store storeIn offerOf numberOf tells acts keptTellsBy keptActsBy tells-as reads-back
 
 -- ---- from an opening on
 
--- where opening answers 7, the words stand for an opened gate
-pub opened-by : (l : Lent) → OpenedBy l → same.OpenedBy (storeIn l)
-unfolding gateOpened openedBy
-opened-by l o =
-    go (allPids (o .extra)) (canOpenBy (settingsOf (o .capacity) (o .settings) (o .rule)) (length (l .keys)) (length (l .changes)) (length (o .old)) (length (l .links)) (length (o .watched)))
-    (o .answer) (o .words) (o .buckets) (o .watch) (opening-opens st (o .extra) (l .keys) (l .changes) (o .old) (l .links) (o .watched))
-  where
-    st : Settings
-    st = settingsOf (o .capacity) (o .settings) (o .rule)
+module _ (l : Lent) (o : OpenedBy l) where
+  abbrev asked : Settings
+  asked = settingsOf (o .capacity) (o .settings) (o .rule)
 
-    bs : List ℕ
-    bs = clearedBy (roomOf (o .capacity)) (o .old)
+  abbrev begun : Begun
+  begun =
+      openedWith asked (o .extra) (length (l .keys)) (length (l .changes)) (length (l .links)) (length (l .watch .slots)) (length (l .watch .cells)) (o .old) (o .watched)
 
-    ws : List ℕ
-    ws = filled (o .watched) (st .«well_known») (o .extra)
+  answered : begun .answer ≡ 7
+  unfolding gateOpened
+  answered = o .answer
 
-    begin : Bool → Bool → Begun
-    begin good room = cond good (cond room (begins 7 st bs ws) (begins 13 st (o .old) (o .watched))) (begins 12 st (o .old) (o .watched))
+  fresh : (begun .gate ≡ emptyGate asked) × (begun .counters ≡ zeroes)
+  fresh = same.opening-fresh asked (o .extra) (l .keys) (l .changes) (o .old) (l .links) (l .watch .slots) (l .watch .cells) (o .watched) answered
 
-    go : (good room : Bool)
-        → (begunAs (o .before) (begin good room)) .answer ≡ 7
-        → l .words ≡ (begunAs (o .before) (begin good room)) .gate
-        → l .buckets ≡ (begunAs (o .before) (begin good room)) .buckets
-        → l .watch ≡ (begunAs (o .before) (begin good room)) .watch
-        → ((begin good room) .answer ≡ 7 → same.OpenedBy (leftOpen (begin good room) (l .keys) (l .changes) (l .links)))
-        → same.OpenedBy (storeIn l)
-    go true true h w b v f = rw (w, opened-read st, b, v) (f h)
-    go true false h w b v f = absurd (omega arith)
-    go false room h w b v f = absurd (omega arith)
+  words-read : l .words ≡ wordsOf (emptyGate asked) zeroes
+  unfolding gateOpened
+  words-read = o .words ∙ rw (answered, fresh .0, fresh .1)
 
--- the answers are those of the rule without memory; 10 never occurs
-pub as-rules : (l : Lent) → OpenedBy l → (offers : List Offer) → OfBytes (map offerOf offers)
-    → answers tells acts l offers
-    ≡ map numberOf (answers (rules.tells (mannerOf (gateOf (l .words)))) (rules.acts (mannerOf (gateOf (l .words)))) (heldBy ((storeIn l) .store)) (map offerOf offers))
-as-rules l o offers b =
-    same-answers offers l
-    ∙ ap (map numberOf) (same.same-answers (storeIn l) (map offerOf offers) (opened-by l o) b ∙ order.same-answers ((storeIn l) .store) (map offerOf offers) (opened-by l o .opened) b)
+  buckets-read : l .buckets ≡ begun .buckets
+  unfolding gateOpened
+  buckets-read = o .buckets
+
+  watch-read : l .watch .words ≡ begun .words
+  unfolding gateOpened
+  watch-read = o .watch
+
+  -- the words and slices stand for what the call of the crate left
+  is-left : storeIn l ≡ same.leftOpen begun (l .keys) (l .changes) (l .links) (l .watch .slots) (l .watch .cells)
+  is-left =
+      let g = ap gateOf words-read ∙ opened-read asked ∙ sym (fresh .0) in
+      let c = ap countersOf words-read ∙ sym (fresh .1) in
+      λ i. keptBy (g i) (c i) (l .keys) (l .changes) (indexOf (buckets-read i) (l .links)) (recordOf (watch-read i) (l .watch .slots) (l .watch .cells))
+
+  -- where opening answers 7, the words stand for an opened gate, its index is sound, and the record is an opened one
+  pub opened-by : same.OpenedBy (storeIn l)
+  opened-by =
+      subst same.OpenedBy (sym is-left)
+      (same.opening-opens asked (o .extra) (l .keys) (l .changes) (o .old) (l .links) (l .watch .slots) (l .watch .cells) (o .watched) answered)
+
+  pub opened-empty : holding ((storeIn l) .kept) ≡ emptyHolding (isProtected (asked .«well_known») (o .extra))
+  opened-empty =
+      ap (λ (s : KeptBy). holding (s .kept)) is-left
+      ∙ same.opened-empty asked (o .extra) (l .keys) (l .changes) (o .old) (l .links) (l .watch .slots) (l .watch .cells) (o .watched) answered
+
+  -- the answers are those of the rules without memory; 10 never occurs
+  pub as-rules :
+      (offers : List Offer) → OfBytes (map offerOf offers) →
+      answers tells acts l offers
+      ≡ map numberOf (answers (tellsWith (gateOf (l .words) .follow) (mannerOf (gateOf (l .words)))) (actsWith (gateOf (l .words) .follow) (mannerOf (gateOf (l .words)))) (holding ((storeIn l) .kept)) (map offerOf offers))
+  as-rules offers b =
+      same-answers offers l
+      ∙ ap (map numberOf) (same.same-answers (storeIn l) (map offerOf offers) opened-by b ∙ order.same-answers ((storeIn l) .kept) (map offerOf offers) (opened-by .opened) b)

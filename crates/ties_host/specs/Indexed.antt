@@ -4,18 +4,19 @@ use mathlib.Core.Path.{_≡_}
 use mathlib.Core.List.{List}
 use Rattle.gate.specs.Rules.{Offer}
 use Rattle.ring_index.specs.Store.{indexOf}
-use Rattle.gate_indexed.specs.Store.{Indexed, indexedOf}
+use Rattle.pats.specs.Store.{Record}
+use Rattle.gate_pats_indexed.specs.Store.{KeptBy, keptBy}
 use Rattle.host_gate_words.specs.Words.{gateOf, countersOf}
 use Rattle.host_indexed.specs.Calls.{gateOpened, gateOffered}
 
--- what the host keeps from call to call: the ten words of the gate and its counters, and the five slices that it lends
+-- what the host keeps from call to call: the thirteen words of the gate and its counters, the slices of its rows and their index, and a watch record
 pub record Lent : Type 0 where
   pub words : List ℕ
   pub keys : List ℕ
   pub changes : List ℕ
   pub buckets : List ℕ
   pub links : List ℕ
-  pub watch : List ℕ
+  pub watch : Record
   pub failure : List ℕ
 
 -- `petrizolu_indexed_offer`: the number that is answered
@@ -28,11 +29,12 @@ acts l o =
     let r = gateOffered (l .words) (l .keys) (l .changes) (l .buckets) (l .links) (l .watch) (o .input) (o .pid) (o .section) (l .failure) in
     record { words = r .gate; keys = r .keys; changes = r .changes; buckets = r .buckets; links = r .links; watch = r .watch; failure = r .failure }
 
--- the gate, the counters and the index that the words and slices stand for
-abbrev pub storeIn : Lent → Indexed
-storeIn l = indexedOf (gateOf (l .words)) (countersOf (l .words)) (l .keys) (l .changes) (indexOf (l .buckets) (l .links)) (l .watch)
+-- the gate, the counters and the index that the words and slices stand for, and the record
+abbrev pub storeIn : Lent → KeptBy
+storeIn l = keptBy (gateOf (l .words)) (countersOf (l .words)) (l .keys) (l .changes) (indexOf (l .buckets) (l .links)) (l .watch)
 
--- as `petrizolu_indexed_open` leaves the words, the buckets and the watch where it answers 7, whatever stood in them
+-- as `petrizolu_indexed_open` leaves the words of the gate and of the watch, and the buckets, where it answers 7, whatever stood in them and in what else is
+-- lent
 pub record OpenedBy (l : Lent) : Type 0 where
   pub before : List ℕ
   pub capacity : ℕ
@@ -41,7 +43,7 @@ pub record OpenedBy (l : Lent) : Type 0 where
   pub extra : List ℕ
   pub old : List ℕ
   pub watched : List ℕ
-  pub answer : (gateOpened before capacity settings rule extra (l .keys) (l .changes) old (l .links) watched) .answer ≡ 7
-  pub words : l .words ≡ (gateOpened before capacity settings rule extra (l .keys) (l .changes) old (l .links) watched) .gate
-  pub buckets : l .buckets ≡ (gateOpened before capacity settings rule extra (l .keys) (l .changes) old (l .links) watched) .buckets
-  pub watch : l .watch ≡ (gateOpened before capacity settings rule extra (l .keys) (l .changes) old (l .links) watched) .watch
+  pub answer : (gateOpened before capacity settings rule extra (l .keys) (l .changes) old (l .links) (l .watch .slots) (l .watch .cells) watched) .answer ≡ 7
+  pub words : l .words ≡ (gateOpened before capacity settings rule extra (l .keys) (l .changes) old (l .links) (l .watch .slots) (l .watch .cells) watched) .gate
+  pub buckets : l .buckets ≡ (gateOpened before capacity settings rule extra (l .keys) (l .changes) old (l .links) (l .watch .slots) (l .watch .cells) watched) .buckets
+  pub watch : l .watch .words ≡ (gateOpened before capacity settings rule extra (l .keys) (l .changes) old (l .links) (l .watch .slots) (l .watch .cells) watched) .watch

@@ -1,6 +1,6 @@
 // What `watch` and `watch_inputs` do: they read records from standard input, a PID (two bytes, high byte first) and a section, or an input (one byte) before
-// these, and say of each record what the gate makes of it, a line for each, and the totals last. Default settings but a gate of 512 keys; sixteen watch
-// records opened alike, of which `watch` uses the first. One record is held at a time, so standard input may be of any length.
+// these, and say of each record what the gate makes of it, a line for each, and the totals last. Default settings, so complete PATs are followed, but a gate of
+// 512 keys; sixteen watch records opened alike, of which `watch` uses the first. One record is held at a time, so standard input may be of any length.
 use answers::Refusal;
 use answers::Reply;
 use counters::Counters;
@@ -17,7 +17,7 @@ ghost use mathlib.Core.Path.{_≡_};
 ghost use Prim.Native.Nat.{_≤_, _<_};
 ghost use lib.ListN.{length};
 ghost use Rattle.records.specs.Next as records;
-ghost use Rattle.watcher.specs.Read.{Within, InWatches};
+ghost use Rattle.watcher.specs.Read.{Within, IsInput, InWatches};
 
 // The gate and its counters between two records, and whether there may be another.
 struct Between {
@@ -33,9 +33,16 @@ enum Came {
     Cut,
 }
 
-// Where the watch record of a place begins among the sixteen, or what is wrong with the place.
+// Which of the sixteen watch records is that of a place, or what is wrong with the place.
 enum Found {
     At(usize),
+    Refused(Refusal),
+}
+
+// What the watch says of a place: its PID is watched, by which of the sixteen records; it is not; or the place is none.
+enum Asked {
+    Watched(usize),
+    Unwatched,
     Refused(Refusal),
 }
 
@@ -86,10 +93,10 @@ fn read(inputs: bool, buf: &mut [u8]) -> Came
 
 // 12, then 37, whatever the watch of a record says.
 fn find(place: Place) -> Found
-    ensures { λ r. ⌜ InWatches r ⌝ }
+    ensures { λ r. ⌜ IsInput r ⌝ }
 {
     match Origin::make(place.input, place.pid) {
-        OriginMade::One(from) => Found::At(wide(from.input.0) * 384),
+        OriginMade::One(from) => Found::At(wide(from.input.0)),
         OriginMade::BadPid => Found::Refused(Refusal::BadPid),
         OriginMade::BadInput => Found::Refused(Refusal::BadInput),
     }
@@ -111,23 +118,59 @@ fn place_of(inputs: bool, input: u8, buf: &[u8]) -> Place
     }
 }
 
+// What the watch of a place's input says of its PID.
+fn ask(watches: &[u64], place: Place) -> Asked
+    requires { ⌜ 6368 ≡ length (now watches) ⌝ }
+    ensures { λ r. ⌜ InWatches r ⌝ }
+{
+    match find(place) {
+        Found::At(i) => ask_on(watches, i, place.pid),
+        Found::Refused(refusal) => Asked::Refused(refusal),
+    }
+}
+
+fn ask_on(watches: &[u64], i: usize, pid: u16) -> Asked
+    requires { ⌜ (6368 ≡ length (now watches)) × (i ≤ 15) ⌝ }
+    ensures { λ r. ⌜ InWatches r ⌝ }
+{
+    told(i, watched::ask(&watches[i * 398..i * 398 + 398], pid))
+}
+
+fn told(i: usize, reply: Reply) -> Asked
+    requires { ⌜ i ≤ 15 ⌝ }
+    ensures { λ r. ⌜ InWatches r ⌝ }
+{
+    match reply {
+        Reply::Yes => Asked::Watched(i),
+        Reply::No => Asked::Unwatched,
+        Reply::Refused(refusal) => Asked::Refused(refusal),
+    }
+}
+
+// A section on a watched PID goes to the gate with the record of its input, the i-th of the sixteen.
 fn offer(
     gate: Gate,
     counters: Counters,
     keys: &mut [u64; 512],
     changes: &mut [u64; 512],
-    words: &mut [u64],
+    watches: &mut [u64],
+    slots: &mut [u32],
+    cells: &mut [u8],
+    i: usize,
     place: Place,
     section: &[u8],
 ) -> Between
+    requires { ⌜ (6368 ≡ length (now watches)) × (4608 ≡ length (now slots)) × (4194304 ≡ length (now cells)) × (i ≤ 15) ⌝ }
     requires { ⌜ (3 ≤ length (now section)) × (length (now section) ≤ 4098) ⌝ }
 {
-    let offered = gate::offer(
+    let offered = gate_pats::offer(
         gate,
         counters,
         keys,
         changes,
-        words,
+        &mut watches[i * 398..i * 398 + 398],
+        &mut slots[i * 288..i * 288 + 288],
+        &mut cells[i * 262_144..i * 262_144 + 262_144],
         place.input,
         place.pid,
         section,
@@ -142,50 +185,37 @@ fn offer(
     )
 }
 
-// A section goes to the gate where the watch of its input, these words, has its PID.
-fn look(
-    gate: Gate,
-    counters: Counters,
-    keys: &mut [u64; 512],
-    changes: &mut [u64; 512],
-    words: &mut [u64],
-    place: Place,
-    section: &[u8],
-) -> Between
-    requires { ⌜ (3 ≤ length (now section)) × (length (now section) ≤ 4098) ⌝ }
-{
-    match watched::ask(words, place.pid) {
-        Reply::Yes => offer(gate, counters, keys, changes, words, place, section),
-        Reply::No => leave(watch_lines::say_place(b"unwatched ", place), gate, counters),
-        Reply::Refused(refusal) => leave(watch_lines::say_refusal(refusal, place), gate, counters),
-    }
-}
-
-// One record, of which all but the input is the first n bytes of buf: its section is looked at where its place is one.
+// One record, of which all but the input is the first n bytes of buf, by what the watch says.
 fn judge(
     gate: Gate,
     counters: Counters,
     keys: &mut [u64; 512],
     changes: &mut [u64; 512],
     watches: &mut [u64],
+    slots: &mut [u32],
+    cells: &mut [u8],
     place: Place,
     buf: &[u8],
     n: usize,
 ) -> Between
-    requires { ⌜ 6144 ≡ length (now watches) ⌝ }
+    requires { ⌜ (6368 ≡ length (now watches)) × (4608 ≡ length (now slots)) × (4194304 ≡ length (now cells)) ⌝ }
     requires { ⌜ (5 ≤ n) × (n ≤ 4100) × (4100 ≡ length (now buf)) ⌝ }
 {
-    match find(place) {
-        Found::At(at) => look(
+    match ask(watches, place) {
+        Asked::Watched(i) => offer(
             gate,
             counters,
             keys,
             changes,
-            &mut watches[at..at + 384],
+            watches,
+            slots,
+            cells,
+            i,
             place,
             &buf[2..n],
         ),
-        Found::Refused(refusal) => leave(watch_lines::say_refusal(refusal, place), gate, counters),
+        Asked::Unwatched => leave(watch_lines::say_place(b"unwatched ", place), gate, counters),
+        Asked::Refused(refusal) => leave(watch_lines::say_refusal(refusal, place), gate, counters),
     }
 }
 
@@ -196,13 +226,26 @@ fn turn(
     counters: Counters,
     keys: &mut [u64; 512],
     changes: &mut [u64; 512],
-    watches: &mut [u64; 6144],
+    watches: &mut [u64; 6368],
+    slots: &mut [u32; 4608],
+    cells: &mut [u8; 4_194_304],
     buf: &mut [u8; 4100],
 ) -> Between {
     match read(inputs, buf) {
         Came::Record(input, n) => {
             let from = place_of(inputs, input, buf);
-            judge(gate, counters, keys, changes, watches, from, buf, n)
+            judge(
+                gate,
+                counters,
+                keys,
+                changes,
+                watches,
+                slots,
+                cells,
+                from,
+                buf,
+                n,
+            )
         }
         Came::End => leave(false, gate, counters),
         Came::Cut => {
@@ -212,18 +255,27 @@ fn turn(
     }
 }
 
-// Opens the watch records of all inputs alike.
-fn open_watches(watches: &mut [u64], well_known: bool)
-    requires { ⌜ 6144 ≡ length (now watches) ⌝ }
+// Opens the watch record of one of the sixteen inputs.
+fn open_watch(settings: Settings, watches: &mut [u64], slots: &[u32], cells: &[u8], i: usize)
+    requires { ⌜ (6368 ≡ length (now watches)) × (4608 ≡ length (now slots)) × (4194304 ≡ length (now cells)) × (i ≤ 15) ⌝ }
 {
     let none = [0u16; 1];
+    gate_pats::open_record(
+        settings,
+        &none[0..0],
+        &mut watches[i * 398..i * 398 + 398],
+        &slots[i * 288..i * 288 + 288],
+        &cells[i * 262_144..i * 262_144 + 262_144],
+    );
+}
+
+// Opens the watch records of all inputs alike.
+fn open_watches(settings: Settings, watches: &mut [u64], slots: &[u32], cells: &[u8])
+    requires { ⌜ (6368 ≡ length (now watches)) × (4608 ≡ length (now slots)) × (4194304 ≡ length (now cells)) ⌝ }
+{
     let mut i = 0;
     while i < 16 {
-        watched::open(
-            &mut watches[i * 384..i * 384 + 384],
-            well_known,
-            &none[0..0],
-        );
+        open_watch(settings, watches, slots, cells, i);
         i += 1;
     }
 }
@@ -233,20 +285,32 @@ fn all(
     inputs: bool,
     keys: &mut [u64; 512],
     changes: &mut [u64; 512],
-    watches: &mut [u64; 6144],
+    watches: &mut [u64; 6368],
+    slots: &mut [u32; 4608],
+    cells: &mut [u8; 4_194_304],
     buf: &mut [u8; 4100],
 ) {
     let mut settings = Settings::by_default();
     settings.capacity = 512;
     let none = [0u16; 1];
-    let opened = gate::open(settings, &none[0..0], keys, changes, watches);
-    open_watches(watches, settings.well_known);
+    let opened = gate_pats::open(settings, &none[0..0], keys, changes, watches, slots, cells);
+    open_watches(settings, watches, slots, cells);
     let mut gate = opened.gate;
     let mut counters = opened.counters;
     let mut more = true;
     let mut turns = u64::MAX;
     while more & (turns > 0) {
-        let t = turn(inputs, gate, counters, keys, changes, watches, buf);
+        let t = turn(
+            inputs,
+            gate,
+            counters,
+            keys,
+            changes,
+            watches,
+            slots,
+            cells,
+            buf,
+        );
         gate = t.gate;
         counters = t.counters;
         more = t.more;
@@ -259,7 +323,17 @@ fn all(
 pub fn run(inputs: bool) {
     let mut keys = [0u64; 512];
     let mut changes = [0u64; 512];
-    let mut watches = [0u64; 6144];
+    let mut watches = [0u64; 6368];
+    let mut slots = [0u32; 4608];
+    let mut cells = [0u8; 4_194_304];
     let mut buf = [0u8; 4100];
-    all(inputs, &mut keys, &mut changes, &mut watches, &mut buf);
+    all(
+        inputs,
+        &mut keys,
+        &mut changes,
+        &mut watches,
+        &mut slots,
+        &mut cells,
+        &mut buf,
+    );
 }

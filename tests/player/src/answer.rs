@@ -62,6 +62,11 @@ pub enum Answer {
     Judged(Judgement, [u64; 5]),
     /// The seven counters: the five, with short sections and CRC mismatches before evictions.
     Counters([u64; 7]),
+    /// Of the PAT store of the input.
+    Pats {
+        evicted: u64,
+        rows: u64,
+    },
     /// No packet of this PID is looked at.
     Unwatched,
     /// No packets bring these bytes as one section.
@@ -79,7 +84,8 @@ impl Answer {
             Answer::Judged(judgement, _) => Some((Part::Gate, judgement.number())),
             Answer::Collected(n, Held::Sets { .. }, _) => Some((Part::Sets, *n)),
             Answer::Collected(n, Held::Eit { .. }, _) => Some((Part::Eit, *n)),
-            Answer::Input(_) | Answer::Unwatched | Answer::Undeliverable | Answer::Watched(_) | Answer::Counters(_) => None,
+            Answer::Input(_) | Answer::Unwatched | Answer::Undeliverable | Answer::Watched(_) => None,
+            Answer::Counters(_) | Answer::Pats { .. } => None,
         }
     }
 }
@@ -131,6 +137,7 @@ impl Display for Answer {
                 f.write_str("gate counters")?;
                 counters.iter().try_for_each(|count| write!(f, " {count}"))
             }
+            Answer::Pats { evicted, rows } => write!(f, "gate pats ev={evicted} rows={rows}"),
             Answer::Unwatched => f.write_str("gate unwatched"),
             Answer::Undeliverable => f.write_str("gate undeliverable"),
             Answer::Watched(pids) => {

@@ -42,14 +42,42 @@ pub enum By {
 #[derive(Clone, Debug)]
 pub enum Command {
     Input(u8),
-    GateOpen { capacity: u32, repeats: bool, follow: bool, well_known: bool, rule: u64, extra: Vec<u16> },
-    Gate { by: By, pid: u16, section: Vec<u8> },
-    Ask { pid: u16 },
+    /// `pats` says how PATs are followed where they are: complete PATs on PID 0, or, without it, each changed section.
+    GateOpen {
+        capacity: u32,
+        repeats: bool,
+        follow: bool,
+        well_known: bool,
+        rule: u64,
+        pats: bool,
+        extra: Vec<u16>,
+    },
+    Gate {
+        by: By,
+        pid: u16,
+        section: Vec<u8>,
+    },
+    Ask {
+        pid: u16,
+    },
     Watched,
     Counters,
-    Open { part: Part, limit: u16, cells: u16, size: u16 },
-    Push { part: Part, pid: Option<u16>, section: Vec<u8> },
-    Clear { part: Part },
+    /// How many rows the PAT store of the input has in use, and how many left it.
+    Pats,
+    Open {
+        part: Part,
+        limit: u16,
+        cells: u16,
+        size: u16,
+    },
+    Push {
+        part: Part,
+        pid: Option<u16>,
+        section: Vec<u8>,
+    },
+    Clear {
+        part: Part,
+    },
     Drop(Filter),
 }
 
@@ -58,9 +86,8 @@ impl Command {
     pub fn part(&self) -> Option<Part> {
         match self {
             Command::Input(_) => None,
-            Command::GateOpen { .. } | Command::Gate { .. } | Command::Ask { .. } | Command::Watched | Command::Counters => {
-                Some(Part::Gate)
-            }
+            Command::GateOpen { .. } | Command::Gate { .. } | Command::Ask { .. } => Some(Part::Gate),
+            Command::Watched | Command::Counters | Command::Pats => Some(Part::Gate),
             Command::Open { part, .. } | Command::Push { part, .. } | Command::Clear { part } => Some(*part),
             Command::Drop(_) => Some(Part::Eit),
         }
@@ -76,6 +103,7 @@ impl Command {
             Command::Ask { .. } => "gate ask",
             Command::Watched => "gate watched",
             Command::Counters => "gate counters",
+            Command::Pats => "gate pats",
             Command::Open { part: Part::Eit, .. } => "eit open",
             Command::Open { .. } => "sets open",
             Command::Push { part: Part::Eit, .. } => "eit push",

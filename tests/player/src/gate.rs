@@ -1,21 +1,47 @@
 //! The gate over lent memory, in both its forms, and the two beside each other.
 use crate::answer::{Answer, Judgement};
 use crate::command::{By, Command, Part};
-use crate::lent::{Lent, words};
+use crate::lent::{Lent, halves, words};
 use petrizolu::{
-    Answer as Number, CHANGE_AS_THE_RUST, DEFAULT_CAPACITY, DEFAULT_SETTINGS, FOLLOW, Failure, GateState, INPUTS, REPEATS, WATCH_WORDS,
-    WELL_KNOWN, calls,
+    Answer as Number, CHANGE_AS_THE_RUST, DEFAULT_CAPACITY, DEFAULT_SETTINGS, FOLLOW, FOLLOW_SECTIONS, Failure, GateState, INPUTS,
+    PAT_CELLS, PAT_SLOTS, REPEATS, WATCH_PAT_EVICTIONS, WATCH_WORDS, WELL_KNOWN, calls,
 };
 
 /// Where the two forms differ, in words.
 #[derive(Debug)]
 pub struct Differs(pub String);
 
-/// A watch record for each input.
-pub type Watches = [Lent<u64>; INPUTS];
+/// The words of a record before those of its PAT store, and the first of these: how many rows it has in use.
+const SET_WORDS: usize = 384;
+const PAT_ROWS: usize = SET_WORDS;
 
-fn lend_watches(byte: u8) -> Watches {
-    std::array::from_fn(|_| words(byte, WATCH_WORDS))
+/// The watch record of an input.
+#[derive(Clone, PartialEq)]
+pub struct Record {
+    pub words: Lent<u64>,
+    pub pat_slots: Lent<u32>,
+    pub pat_cells: Lent<u8>,
+}
+
+impl Record {
+    /// A whole record, every byte of it `byte`, but the words of the PAT store: these are 0.
+    fn lend(byte: u8) -> Self {
+        let mut record =
+            Self { words: words(byte, WATCH_WORDS), pat_slots: halves(byte, PAT_SLOTS), pat_cells: Lent::new(byte, PAT_CELLS) };
+        record.words[SET_WORDS..].fill(0);
+        record
+    }
+
+    fn open(&mut self, settings: u32, extra: &[u16]) -> Number {
+        calls::watch_open(settings, extra, &mut self.words, &self.pat_slots, &self.pat_cells)
+    }
+}
+
+/// A watch record for each input.
+pub type Records = [Record; INPUTS];
+
+fn lend_records(byte: u8) -> Records {
+    std::array::from_fn(|_| Record::lend(byte))
 }
 
 /// The place of the record that a call on an input is lent: its own, or that of input 0 where there is no such input, so that a call can answer it.
@@ -29,32 +55,55 @@ pub struct Plain {
     pub state: GateState,
     pub keys: Lent<u64>,
     pub changes: Lent<u64>,
-    pub watch: Watches,
+    pub watch: Records,
 }
 
 impl Plain {
     /// Memory for so many rows, every byte of it `byte`; no gate is open.
     pub fn lend(rows: usize, byte: u8) -> Self {
-        Self { state: GateState::default(), keys: words(byte, rows), changes: words(byte, rows), watch: lend_watches(byte) }
+        Self { state: GateState::default(), keys: words(byte, rows), changes: words(byte, rows), watch: lend_records(byte) }
     }
 
     /// Opens the gate and the watch record of an input.
     pub fn open(&mut self, input: u32, capacity: u64, settings: u32, rule: u64, extra: &[u16]) -> Number {
-        calls::gate_open(&mut self.state, capacity, settings, rule, extra, &self.keys, &self.changes, &mut self.watch[record(input)])
+        let watch = &mut self.watch[record(input)];
+        calls::gate_open(
+            &mut self.state,
+            capacity,
+            settings,
+            rule,
+            extra,
+            &self.keys,
+            &self.changes,
+            &mut watch.words,
+            &watch.pat_slots,
+            &watch.pat_cells,
+        )
     }
 
     pub fn offer(&mut self, input: u32, pid: u32, section: &[u8], failure: &mut Failure) -> Number {
         let watch = &mut self.watch[record(input)];
-        calls::gate_offer(&mut self.state, &mut self.keys, &mut self.changes, watch, input, pid, section, failure)
+        calls::gate_offer(
+            &mut self.state,
+            &mut self.keys,
+            &mut self.changes,
+            &mut watch.words,
+            &mut watch.pat_slots,
+            &mut watch.pat_cells,
+            input,
+            pid,
+            section,
+            failure,
+        )
     }
 
     /// Opens the watch record of an input alone.
     pub fn open_watch(&mut self, input: u32, settings: u32, extra: &[u16]) -> Number {
-        calls::watch_open(settings, extra, &mut self.watch[record(input)])
+        self.watch[record(input)].open(settings, extra)
     }
 
     pub fn ask(&self, input: u32, pid: u32) -> Number {
-        calls::watch_ask(&self.watch[record(input)], pid)
+        calls::watch_ask(&self.watch[record(input)].words, pid)
     }
 }
 
@@ -66,7 +115,7 @@ pub struct Indexed {
     pub changes: Lent<u64>,
     pub buckets: Lent<u64>,
     pub links: Lent<u64>,
-    pub watch: Watches,
+    pub watch: Records,
 }
 
 impl Indexed {
@@ -78,12 +127,13 @@ impl Indexed {
             changes: words(byte, rows),
             buckets: words(byte, rows),
             links: words(byte, rows),
-            watch: lend_watches(byte),
+            watch: lend_records(byte),
         }
     }
 
     /// Opens the gate and the watch record of an input.
     pub fn open(&mut self, input: u32, capacity: u64, settings: u32, rule: u64, extra: &[u16]) -> Number {
+        let watch = &mut self.watch[record(input)];
         calls::indexed_open(
             &mut self.state,
             capacity,
@@ -94,18 +144,23 @@ impl Indexed {
             &self.changes,
             &mut self.buckets,
             &self.links,
-            &mut self.watch[record(input)],
+            &mut watch.words,
+            &watch.pat_slots,
+            &watch.pat_cells,
         )
     }
 
     pub fn offer(&mut self, input: u32, pid: u32, section: &[u8], failure: &mut Failure) -> Number {
+        let watch = &mut self.watch[record(input)];
         calls::indexed_offer(
             &mut self.state,
             &mut self.keys,
             &mut self.changes,
             &mut self.buckets,
             &mut self.links,
-            &mut self.watch[record(input)],
+            &mut watch.words,
+            &mut watch.pat_slots,
+            &mut watch.pat_cells,
             input,
             pid,
             section,
@@ -115,11 +170,11 @@ impl Indexed {
 
     /// Opens the watch record of an input alone.
     pub fn open_watch(&mut self, input: u32, settings: u32, extra: &[u16]) -> Number {
-        calls::watch_open(settings, extra, &mut self.watch[record(input)])
+        self.watch[record(input)].open(settings, extra)
     }
 
     pub fn ask(&self, input: u32, pid: u32) -> Number {
-        calls::watch_ask(&self.watch[record(input)], pid)
+        calls::watch_ask(&self.watch[record(input)].words, pid)
     }
 }
 
@@ -147,16 +202,17 @@ pub struct Gates {
 }
 
 impl Gates {
-    /// Gates with the default settings but the original's change rule, and all watch records with the default settings, on memory whose bytes were all
-    /// `byte`.
+    /// Gates with the default settings but the original's change rule and its manner of following, and all watch records likewise, on memory whose bytes
+    /// were all `byte`.
     pub fn begin(byte: u8) -> Self {
         let rows = DEFAULT_CAPACITY as usize;
+        let settings = DEFAULT_SETTINGS | FOLLOW_SECTIONS;
         let mut gates = Self { plain: Plain::lend(rows, byte), indexed: Indexed::lend(rows, byte) };
-        gates.plain.open(0, DEFAULT_CAPACITY, DEFAULT_SETTINGS, CHANGE_AS_THE_RUST, &[]);
-        gates.indexed.open(0, DEFAULT_CAPACITY, DEFAULT_SETTINGS, CHANGE_AS_THE_RUST, &[]);
+        gates.plain.open(0, DEFAULT_CAPACITY, settings, CHANGE_AS_THE_RUST, &[]);
+        gates.indexed.open(0, DEFAULT_CAPACITY, settings, CHANGE_AS_THE_RUST, &[]);
         for input in 1..INPUTS as u32 {
-            gates.plain.open_watch(input, DEFAULT_SETTINGS, &[]);
-            gates.indexed.open_watch(input, DEFAULT_SETTINGS, &[]);
+            gates.plain.open_watch(input, settings, &[]);
+            gates.indexed.open_watch(input, settings, &[]);
         }
         gates
     }
@@ -165,8 +221,8 @@ impl Gates {
     pub fn answer(&mut self, input: u8, command: &Command) -> Result<Answer, Differs> {
         let input = u32::from(input);
         match command {
-            Command::GateOpen { capacity, repeats, follow, well_known, rule, extra } => {
-                let flags = [(*repeats, REPEATS), (*follow, FOLLOW), (*well_known, WELL_KNOWN)];
+            Command::GateOpen { capacity, repeats, follow, well_known, rule, pats, extra } => {
+                let flags = [(*repeats, REPEATS), (*follow, FOLLOW), (*well_known, WELL_KNOWN), (!pats, FOLLOW_SECTIONS)];
                 let settings = flags.iter().filter(|(on, _)| *on).map(|(_, flag)| flag).sum();
                 self.open(input, (*capacity).into(), settings, *rule, extra)
             }
@@ -175,6 +231,7 @@ impl Gates {
             Command::Ask { pid } => Ok(Answer::Number(Part::Gate, self.ask(input, *pid)?.0)),
             Command::Watched => self.watched(input),
             Command::Counters => self.counters(input),
+            Command::Pats => self.pats(input),
             other => panic!("no command of the gate: {other}"),
         }
     }
@@ -218,6 +275,13 @@ impl Gates {
         Ok(Answer::Counters(self.all_counters()))
     }
 
+    /// The words of the PAT store of an input, in use or not.
+    fn pats(&self, input: u32) -> Result<Answer, Differs> {
+        self.same_state(input)?;
+        let words = &self.plain.watch[record(input)].words;
+        Ok(Answer::Pats { evicted: words[WATCH_PAT_EVICTIONS], rows: words[PAT_ROWS] })
+    }
+
     fn ask(&self, input: u32, pid: u16) -> Result<Number, Differs> {
         self.same(input, self.plain.ask(input, pid.into()), self.indexed.ask(input, pid.into()))
     }
@@ -243,23 +307,31 @@ impl Gates {
         if plain == indexed { Ok(plain) } else { Err(Differs(format!("plain {plain}, indexed {indexed}"))) }
     }
 
-    /// That settings, counters, the rows in use and the watch of an input are the same.
+    /// That settings, counters, the rows in use and the record of an input, but its PAT's bytes, are the same.
     fn same_state(&self, input: u32) -> Result<(), Differs> {
         if self.plain.state != self.indexed.state {
             return Err(Differs(format!("plain {:?}, indexed {:?}", self.plain.state, self.indexed.state)));
         }
-        same_words("watch", &self.plain.watch[record(input)], &self.indexed.watch[record(input)])
+        same_record(&self.plain.watch[record(input)], &self.indexed.watch[record(input)])
     }
 
-    /// Keys and changes are many, and so are the watches of all inputs: they are compared at each opening and at the end.
+    /// Keys and changes are many, and so are the records of all inputs: they are compared at each opening and at the end.
     pub fn same_rows(&self) -> Result<(), Differs> {
         same_words("keys", &self.plain.keys, &self.indexed.keys)?;
         same_words("changes", &self.plain.changes, &self.indexed.changes)?;
-        self.plain.watch.iter().zip(&self.indexed.watch).try_for_each(|(plain, indexed)| same_words("watch", plain, indexed))
+        self.plain.watch.iter().zip(&self.indexed.watch).try_for_each(|(plain, indexed)| {
+            same_record(plain, indexed)?;
+            same_words("PAT cells", &plain.pat_cells, &indexed.pat_cells)
+        })
     }
 }
 
-fn same_words(what: &str, plain: &[u64], indexed: &[u64]) -> Result<(), Differs> {
+fn same_record(plain: &Record, indexed: &Record) -> Result<(), Differs> {
+    same_words("watch", &plain.words, &indexed.words)?;
+    same_words("PAT slots", &plain.pat_slots, &indexed.pat_slots)
+}
+
+fn same_words<T: PartialEq>(what: &str, plain: &[T], indexed: &[T]) -> Result<(), Differs> {
     if plain == indexed {
         return Ok(());
     }

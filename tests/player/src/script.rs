@@ -9,16 +9,16 @@ impl Display for Command {
         write!(f, "{}", self.kind())?;
         match self {
             Command::Input(input) => write!(f, " {input}"),
-            Command::GateOpen { capacity, repeats, follow, well_known, rule, extra } => {
+            Command::GateOpen { capacity, repeats, follow, well_known, rule, pats, extra } => {
                 let extra: Vec<String> = extra.iter().map(|pid| format!("{pid:04X}")).collect();
                 write!(f, " cap={capacity} repeats={} follow={}", u8::from(*repeats), u8::from(*follow))?;
-                write!(f, " wellknown={} rule={rule} extra={}", u8::from(*well_known), extra.join(","))
+                write!(f, " wellknown={} rule={rule} pats={} extra={}", u8::from(*well_known), u8::from(*pats), extra.join(","))
             }
             Command::Gate { pid, section, .. } => write!(f, " {pid:04X} {}", hex(section)),
             Command::Ask { pid } => write!(f, " {pid:04X}"),
             Command::Open { limit, cells, size, .. } => write!(f, " limit={limit} cells={cells} size={size}"),
             Command::Push { pid, section, .. } => write!(f, " {} {}", pid_text(*pid), hex(section)),
-            Command::Watched | Command::Counters | Command::Clear { .. } => Ok(()),
+            Command::Watched | Command::Counters | Command::Pats | Command::Clear { .. } => Ok(()),
             Command::Drop(filter) => {
                 if let Some(pid) = filter.pid {
                     write!(f, " pid={}", pid_text(pid))?;
@@ -68,6 +68,7 @@ pub fn parse(line: &str) -> Option<Command> {
             follow: flag("follow", true),
             well_known: flag("wellknown", true),
             rule: number("rule", 1).filter(|&rule| rule < 4)?.into(),
+            pats: flag("pats", false),
             extra: match field("extra").unwrap_or("") {
                 "" => Vec::new(),
                 list => list.split(',').map(hex16).collect::<Option<_>>()?,
@@ -81,6 +82,7 @@ pub fn parse(line: &str) -> Option<Command> {
         (Part::Gate, "ask") => Command::Ask { pid: hex16(words.get(2)?)? },
         (Part::Gate, "watched") => Command::Watched,
         (Part::Gate, "counters") => Command::Counters,
+        (Part::Gate, "pats") => Command::Pats,
         (Part::Sets | Part::Eit, "open") => {
             Command::Open { part, limit: small("limit", 64)?, cells: small("cells", 64)?, size: small("size", 4096)? }
         }

@@ -2,12 +2,14 @@
 //!
 //! ```text
 //! 10 gate open     capacity u32, flags u8 (1 repeats, 2 follow, 4 well-known PIDs; change rule: neither 8 nor 10 is 1, 8 alone 2, 10 alone 0,
-//!                  which there is not, both 3, neither is there), count u8, that many PIDs u16
+//!                  which there is not, both 3, neither is there; 20 with 2 complete PATs are followed, 2 alone each changed PAT section, 20
+//!                  alone does nothing), count u8, that many PIDs u16
 //! 11 gate section  PID u16, length u16, the bytes: as a packet would deliver them, so only on a watched PID
 //! 12 gate offer    PID u16, length u16, the bytes: offered, watched or not
 //! 13 gate ask      PID u16
 //! 14 gate watched
 //! 15 gate counters
+//! 16 gate pats     how many rows of the PAT store are in use, and how many left it, of the input that is current
 //! 20 sets open     limit u16, cells u16, cell size u16
 //! 21 sets push     PID u16 (FFFF none), length u16, the bytes
 //! 22 sets clear
@@ -75,6 +77,7 @@ impl<R: Read> Tape<R> {
             0x13 => Command::Ask { pid: self.short()? },
             0x14 => Command::Watched,
             0x15 => Command::Counters,
+            0x16 => Command::Pats,
             0x20 | 0x30 => Command::Open { part, limit: self.short()?, cells: self.short()?, size: self.short()? },
             0x21 | 0x31 => Command::Push { part, pid: self.maybe_pid()?, section: self.section()? },
             0x22 | 0x32 => Command::Clear { part },
@@ -115,7 +118,8 @@ impl<R: Read> Tape<R> {
         let flags = self.byte()?;
         let extra = (0..self.byte()?).map(|_| self.short()).collect::<Result<_, _>>()?;
         let rule = RULES[usize::from(flags >> 3 & 3)];
-        Ok(Command::GateOpen { capacity, repeats: flags & 1 != 0, follow: flags & 2 != 0, well_known: flags & 4 != 0, rule, extra })
+        let on = |flag: u8| flags & flag != 0;
+        Ok(Command::GateOpen { capacity, repeats: on(1), follow: on(2), well_known: on(4), rule, pats: on(0x20), extra })
     }
 
     fn filter(&mut self) -> Result<Command, Stop> {
@@ -145,11 +149,11 @@ fn write_command(command: &Command, tape: &mut Vec<u8>) {
     let collector = |part: &Part, command: u8| if *part == Part::Eit { 0x30 + command } else { 0x20 + command };
     match command {
         Command::Input(input) => tape.extend([0x50, *input]),
-        Command::GateOpen { capacity, repeats, follow, well_known, rule, extra } => {
+        Command::GateOpen { capacity, repeats, follow, well_known, rule, pats, extra } => {
             tape.push(0x10);
             tape.extend(capacity.to_be_bytes());
             let by = RULES.iter().position(|known| known == rule).expect("a rule that a tape can name") as u8;
-            tape.push(u8::from(*repeats) | u8::from(*follow) << 1 | u8::from(*well_known) << 2 | by << 3);
+            tape.push(u8::from(*repeats) | u8::from(*follow) << 1 | u8::from(*well_known) << 2 | by << 3 | u8::from(*pats) << 5);
             tape.push(u8::try_from(extra.len()).expect("at most 255 extra PIDs"));
             tape.extend(extra.iter().flat_map(|pid| pid.to_be_bytes()));
         }
@@ -163,6 +167,7 @@ fn write_command(command: &Command, tape: &mut Vec<u8>) {
         }
         Command::Watched => tape.push(0x14),
         Command::Counters => tape.push(0x15),
+        Command::Pats => tape.push(0x16),
         Command::Open { part, limit, cells, size } => {
             tape.push(collector(part, 0));
             tape.extend([limit, cells, size].into_iter().flat_map(|n| n.to_be_bytes()));

@@ -11,7 +11,7 @@ fn lines(tape: &[u8], mut port: Port) -> String {
 #[test]
 fn a_word_of_the_watch_differs() {
     let mut port = Port::begin();
-    port.gates.indexed.watch[0][1] ^= 1;
+    port.gates.indexed.watch[0].words[1] ^= 1;
     assert_eq!(lines(b"\x22\x13\x00\x00\x13\x00\x00", port), "sets 10\ndiffers 1\ndiffers 1\n");
 }
 
@@ -19,11 +19,33 @@ fn a_word_of_the_watch_differs() {
 fn a_word_of_the_watch_of_another_input_differs() {
     let differs_on_3 = || {
         let mut port = Port::begin();
-        port.gates.indexed.watch[3][1] ^= 1;
+        port.gates.indexed.watch[3].words[1] ^= 1;
         port
     };
     assert_eq!(lines(b"\x13\x00\x00\x50\x03\x13\x00\x00", differs_on_3()), "gate 8\ninput 3\ndiffers 5\ndiffers 5\n");
     assert_eq!(lines(b"\x13\x00\x00", differs_on_3()), "gate 8\ndiffers 3\n");
+}
+
+#[test]
+fn a_pat_differs() {
+    let mut port = Port::begin();
+    port.gates.indexed.watch[0].pat_slots[32] ^= 1;
+    assert_eq!(lines(b"\x16", port), "differs 0\ndiffers 0\n");
+    let mut port = Port::begin();
+    port.gates.indexed.watch[15].pat_cells[9] ^= 1;
+    assert_eq!(lines(b"\x16", port), "gate pats ev=0 rows=0\ndiffers 1\n");
+}
+
+/// 2 alone follows each changed section, 20 (hexadecimal) alone does nothing: both leave the PAT store, whatever the record held.
+#[test]
+fn the_flag_of_complete_pats() {
+    let pat = b"\x11\0\0\0\x10\x00\xB0\x0D\x00\x01\xC1\x00\x00\x00\x01\xE1\x00\xE8\xF9\x5E\x7D";
+    let asked = b"\x13\x01\x00\x16";
+    for (flags, watched, rows) in [(4, 9, 0), (0x24, 9, 0), (6, 8, 0), (0x26, 8, 1)] {
+        let tape = [&[0x10, 0, 0, 0, 1, flags, 0], &pat[..], &asked[..]].concat();
+        let expected = format!("gate 7\ngate 1 1 1 0 0 0\ngate {watched}\ngate pats ev=0 rows={rows}\n");
+        assert_eq!(lines(&tape, Port::on_bytes(0xFF)), expected, "flags {flags:02X}");
+    }
 }
 
 #[test]
@@ -90,8 +112,9 @@ fn there_is_no_input_16() {
 
 #[test]
 fn what_memory_held_does_not_matter() {
-    let tape = include_bytes!("../../tapes/damaged.tape");
-    let expected = include_str!("../../tapes/damaged.txt");
-    assert!(lines(tape, Port::on_bytes(0xA5)) == expected);
-    assert!(lines(tape, Port::on_bytes(0xFF)) == expected);
+    let pats: (&[u8], &str) = (include_bytes!("../../tapes/pats.tape"), include_str!("../../tapes/pats.txt"));
+    for (tape, expected) in [TAPES[1], pats] {
+        assert!(lines(tape, Port::on_bytes(0xA5)) == expected);
+        assert!(lines(tape, Port::on_bytes(0xFF)) == expected);
+    }
 }

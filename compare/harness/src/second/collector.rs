@@ -78,6 +78,11 @@ impl Collector {
         }
     }
 
+    /// How many sections are kept in its rows.
+    pub fn kept(&self) -> usize {
+        self.rows.held.iter().map(|row| cells(row).len()).sum()
+    }
+
     pub fn clear(&mut self, zeroes: bool) {
         self.rows.held.clear();
         self.schedules.held.clear();
@@ -137,7 +142,7 @@ impl Collector {
             input: if left_out { 0 } else { input },
             pid: if reading.has(Fault::NoPidIsPidZero) { Some(pid.unwrap_or(0)) } else { pid },
             table_id: section[0],
-            extension: word(section, 3),
+            extension: if reading.has(Fault::PatStreamIgnored) { 0 } else { word(section, 3) },
             current_next: section[5] & 1 == 1 || reading.has(Fault::CurrentNextIgnored),
             network: self.eit.then(|| (word(section, 8), word(section, 10))),
         }

@@ -1,8 +1,9 @@
 //! docs/RULES.md, "Gate" and "Watched PIDs".
 use super::Reading;
-use super::section::{crc, crc_fits, long_form, programs, stored_crc, version, word};
+use super::collector::Collector;
+use super::section::{crc, crc_fits, current, long_form, programs, programs_and_network, stored_crc, version, word};
 use crate::faults::Fault;
-use player::answer::Judgement;
+use player::answer::{Judgement, Out};
 use std::collections::BTreeSet;
 
 /// What the gate keeps for a key.
@@ -15,7 +16,7 @@ struct Kept {
 pub struct Gate {
     capacity: usize,
     repeats: bool,
-    follow: bool,
+    follow: Follow,
     /// The change rule.
     rule: u64,
     /// In order of first arrival.
@@ -24,13 +25,35 @@ pub struct Gate {
     pub counters: [u64; 7],
 }
 
-/// The watched PIDs of one input.
-#[derive(Clone)]
+/// What changes the watch: nothing, each changed PAT section, or complete PATs.
+#[derive(Clone, Copy, PartialEq, Eq)]
+pub enum Follow {
+    Off,
+    Sections,
+    Tables,
+}
+
+impl Follow {
+    pub fn of(follow: bool, pats: bool) -> Follow {
+        match (follow, pats) {
+            (false, _) => Follow::Off,
+            (true, false) => Follow::Sections,
+            (true, true) => Follow::Tables,
+        }
+    }
+}
+
+/// The watched PIDs of one input, and its PAT store.
 pub struct Watch {
     pub watched: BTreeSet<u16>,
     protected: BTreeSet<u16>,
     followed: BTreeSet<u16>,
+    /// A set collector of one key, 256 cells of 1,024 bytes.
+    pub pats: Collector,
 }
+
+/// The longest section of a PAT (ISO/IEC 13818-1, 2.4.4.3).
+const LONGEST_PAT: u16 = 1024;
 
 const COMPLETED: usize = 0;
 const EMITTED: usize = 1;
@@ -42,13 +65,38 @@ const EVICTIONS: usize = 6;
 
 const WELL_KNOWN: [u16; 8] = [0x0000, 0x0001, 0x0010, 0x0011, 0x0012, 0x0013, 0x0014, 0x001B];
 
+fn pat_store(reading: &Reading) -> Collector {
+    Collector::open(false, 1, 256, if reading.has(Fault::PatOverlong) { 4096 } else { LONGEST_PAT })
+}
+
 impl Watch {
-    pub fn open(well_known: bool, extra: &[u16]) -> Watch {
-        let mut protected = BTreeSet::from_iter(extra.iter().copied());
+    /// With the default settings but the former manner of following, and nothing in the PAT store.
+    pub fn new(reading: &Reading) -> Watch {
+        let protected = BTreeSet::from(WELL_KNOWN);
+        Watch { watched: protected.clone(), protected, followed: BTreeSet::new(), pats: pat_store(reading) }
+    }
+
+    /// The PAT store is emptied where complete PATs are followed, and else left alone.
+    pub fn open(&mut self, reading: &Reading, well_known: bool, extra: &[u16], follow: Follow) {
+        self.protected = BTreeSet::from_iter(extra.iter().copied());
         if well_known {
-            protected.extend(WELL_KNOWN);
+            self.protected.extend(WELL_KNOWN);
         }
-        Watch { watched: protected.clone(), protected, followed: BTreeSet::new() }
+        self.watched = self.protected.clone();
+        self.followed.clear();
+        if follow == Follow::Tables {
+            self.open_pats(reading);
+        }
+    }
+
+    fn open_pats(&mut self, reading: &Reading) {
+        let former = std::mem::replace(&mut self.pats, pat_store(reading));
+        if reading.has(Fault::PatLeftByOpening) {
+            self.pats = former;
+            self.pats.rows.evictions = 0;
+        } else if reading.has(Fault::PatCountLeftByOpening) {
+            self.pats.rows.evictions = former.rows.evictions;
+        }
     }
 
     pub fn watches(&self, pid: u16) -> bool {
@@ -65,6 +113,67 @@ impl Watch {
         }
         self.followed = programs;
     }
+
+    /// A sound section, where complete PATs are followed: a set that is handed out is followed, and nothing else is.
+    fn follow_tables(&mut self, reading: &mut Reading, from: Origin, emitted: bool, section: &[u8]) {
+        let former = self.followed.clone();
+        match self.enter(reading, from, emitted, section) {
+            None => {}
+            Some((_, Out::Set(_))) if !emitted && reading.has(Fault::PatSuppressedUnfollowed) => {}
+            Some((_, Out::Set(set))) => {
+                let all = all_programs(reading, &set.sections);
+                self.follow_pat(reading, all);
+            }
+            Some((number, _)) => self.follow_too_early(reading, number, section),
+        }
+        if reading.has(Fault::PatDropsProtected) {
+            self.watched.retain(|pid| self.followed.contains(pid) || !former.contains(pid));
+        }
+    }
+
+    /// A section on PID 0 that is readable as a PAT, marked current and of at most 1,024 bytes enters the PAT store by the set rules, emitted or suppressed.
+    /// `None` for every other: it enters nothing.
+    fn enter(&mut self, reading: &mut Reading, from: Origin, emitted: bool, section: &[u8]) -> Option<(u8, Out)> {
+        programs(reading, section)?;
+        let enters = (from.pid == 0 || reading.has(Fault::PatOnAnyPid))
+            && (current(section) || reading.has(Fault::PatMarkedNext))
+            && (section.len() <= LONGEST_PAT.into() || reading.has(Fault::PatOverlong))
+            && (emitted || !reading.has(Fault::PatSuppressed));
+        let before = self.pats.rows.evictions;
+        let pushed = enters.then(|| self.pats.push(reading, from.input, Some(0), section));
+        if reading.has(Fault::PatEvictionUncounted) {
+            self.pats.rows.evictions = before;
+        }
+        pushed
+    }
+
+    /// Of a section that entered and completed nothing: it changes no watch, unless by a fault.
+    fn follow_too_early(&mut self, reading: &mut Reading, number: u8, section: &[u8]) {
+        let own = BTreeSet::from_iter(programs(reading, section).into_iter().flatten());
+        let kept = number == 4;
+        if (kept && reading.has(Fault::PatSectionReplaces)) || (number == 22 && reading.has(Fault::PatConflictFollowed)) {
+            self.follow_pat(reading, own);
+        } else if kept && reading.has(Fault::PatIncompleteFollowed) {
+            self.follow_pat(reading, &self.followed | &own);
+        } else if kept && self.pats.kept() == 1 && reading.has(Fault::PatBegunForgetsFormer) {
+            self.follow_pat(reading, BTreeSet::new());
+        }
+    }
+}
+
+/// The PIDs of all programs of a complete PAT.
+fn all_programs(reading: &mut Reading, sections: &[Vec<u8>]) -> BTreeSet<u16> {
+    let mut all = BTreeSet::new();
+    for (at, section) in sections.iter().enumerate() {
+        if at + 1 < sections.len() && reading.has(Fault::PatLastSectionOnly) {
+            continue;
+        }
+        all.extend(programs(reading, section).into_iter().flatten());
+        if at > 0 && reading.has(Fault::PatNetworkOfASecond) {
+            all.extend(programs_and_network(section));
+        }
+    }
+    all
 }
 
 /// Where a section came from.
@@ -75,11 +184,11 @@ pub struct Origin {
 }
 
 impl Gate {
-    pub fn open(capacity: usize, repeats: bool, follow: bool, rule: u64) -> Gate {
+    pub fn open(capacity: usize, repeats: bool, follow: Follow, rule: u64) -> Gate {
         Gate { capacity, repeats, follow, rule, keys: Vec::new(), counters: [0; 7] }
     }
 
-    /// A changed PAT changes the watch of its own input.
+    /// A PAT changes the watch of its own input.
     pub fn offer(&mut self, reading: &mut Reading, watches: &mut [Watch], from: Origin, section: &[u8]) -> Judgement {
         self.counters[COMPLETED] += 1;
         if section.len() < 3 || (has_crc(reading, section) && !crc_fits(section)) {
@@ -90,20 +199,41 @@ impl Gate {
             if reading.has(Fault::FailureHeld) && section.len() >= 12 {
                 self.admit(reading, kept(reading, self.rule, from, section));
             }
+            if reading.has(Fault::PatFailed) && section.len() >= 12 && self.follow == Follow::Tables {
+                self.follow_tables(reading, watches, from, true, section);
+            }
             return failure;
         }
         let changed = self.admit(reading, kept(reading, self.rule, from, section));
         let emitted = changed || self.repeats;
         let follows = if reading.has(Fault::RepeatFollowed) { emitted } else { changed };
-        if follows
-            && self.follow
-            && let Some(programs) = programs(reading, section)
-        {
-            let input = if reading.has(Fault::PatOfAnotherInput) { 0 } else { from.input };
-            watches[usize::from(input)].follow_pat(reading, BTreeSet::from_iter(programs));
+        match self.follow {
+            Follow::Off => {}
+            Follow::Sections => {
+                let input = if reading.has(Fault::PatOfAnotherInput) { 0 } else { from.input };
+                let watch = &mut watches[usize::from(input)];
+                if reading.has(Fault::PatOfTheFormerManner) {
+                    watch.enter(reading, from, emitted, section);
+                }
+                if follows && let Some(programs) = programs(reading, section) {
+                    watch.follow_pat(reading, BTreeSet::from_iter(programs));
+                }
+            }
+            Follow::Tables => self.follow_tables(reading, watches, from, emitted, section),
         }
         self.counters[if emitted { EMITTED } else { SUPPRESSED }] += 1;
         if emitted { Judgement::Emitted } else { Judgement::Suppressed }
+    }
+
+    fn follow_tables(&mut self, reading: &mut Reading, watches: &mut [Watch], from: Origin, emitted: bool, section: &[u8]) {
+        let at = usize::from(from.input);
+        exchange_stores(reading, watches, at);
+        let before = watches[at].pats.rows.evictions;
+        watches[at].follow_tables(reading, from, emitted, section);
+        if reading.has(Fault::PatEvictionInTheGate) {
+            self.counters[EVICTIONS] += watches[at].pats.rows.evictions - before;
+        }
+        exchange_stores(reading, watches, at);
     }
 
     /// Whether the key was unknown, or known with another version or change number.
@@ -129,6 +259,14 @@ impl Gate {
             self.keys.push(new);
         }
         true
+    }
+}
+
+/// By a fault all inputs have the PAT store of input 0: it is in the place of theirs while a section enters.
+fn exchange_stores(reading: &Reading, watches: &mut [Watch], at: usize) {
+    if reading.has(Fault::PatStoreShared) && at > 0 {
+        let (first, others) = watches.split_at_mut(1);
+        std::mem::swap(&mut first[0].pats, &mut others[at - 1].pats);
     }
 }
 

@@ -7,7 +7,7 @@ mod section;
 use crate::faults::Fault;
 use crate::lent;
 use collector::Collector;
-use gate::{Gate, Origin, Watch};
+use gate::{Follow, Gate, Origin, Watch};
 use player::answer::{Answer, Held, Out};
 use player::command::{By, Command, Filter, Part};
 pub use section::crc;
@@ -71,8 +71,8 @@ pub struct Second {
 
 impl Second {
     pub fn new(reading: Reading) -> Second {
-        let watches = vec![Watch::open(true, &[]); lent::INPUTS];
-        Second { reading, input: 0, gate: Gate::open(65_536, false, true, 1), watches, sets: None, eit: None }
+        let watches = (0..lent::INPUTS).map(|_| Watch::new(&reading)).collect();
+        Second { reading, input: 0, gate: Gate::open(65_536, false, Follow::Sections, 1), watches, sets: None, eit: None }
     }
 
     /// How many sets went on into a schedule since the EIT collector was opened.
@@ -87,12 +87,13 @@ impl Second {
                 self.input = *input;
                 Answer::Input(*input)
             }
-            Command::GateOpen { capacity, repeats, follow, well_known, rule, extra } => {
+            Command::GateOpen { capacity, repeats, follow, well_known, rule, pats, extra } => {
                 let answer = lent::gate_opening(*capacity, *rule, extra);
                 if answer == 7 {
-                    self.gate = Gate::open(*capacity as usize, *repeats, *follow, *rule);
+                    let follow = Follow::of(*follow, *pats);
+                    self.gate = Gate::open(*capacity as usize, *repeats, follow, *rule);
                     let at = self.record();
-                    self.watches[at] = Watch::open(*well_known, extra);
+                    self.watches[at].open(&self.reading, *well_known, extra, follow);
                 }
                 Answer::Number(Part::Gate, answer)
             }
@@ -111,6 +112,10 @@ impl Second {
             Command::Ask { pid } => Answer::Number(Part::Gate, if self.watch().watches(*pid) { 8 } else { 9 }),
             Command::Watched => Answer::Watched(self.watch().watched.iter().copied().collect()),
             Command::Counters => Answer::Counters(self.gate.counters),
+            Command::Pats => {
+                let pats = &self.watch().pats.rows;
+                Answer::Pats { evicted: pats.evictions, rows: pats.held.len() as u64 }
+            }
             Command::Open { part, limit, cells, size } => {
                 let answer = lent::collector_opening(*limit, *cells, *size);
                 if answer == 7 {

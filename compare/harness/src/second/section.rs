@@ -43,6 +43,11 @@ pub fn version(section: &[u8]) -> u8 {
     section[5] >> 1 & 0x1F
 }
 
+/// Whether a long form of 12 bytes or more is marked current.
+pub fn current(section: &[u8]) -> bool {
+    section[5] & 1 == 1
+}
+
 /// The PIDs of a readable PAT whose program_number is not 0.
 pub fn programs(reading: &mut Reading, section: &[u8]) -> Option<Vec<u16>> {
     if section.len() < 12 || section[0] != 0 || !true_length(section) {
@@ -63,6 +68,11 @@ pub fn programs(reading: &mut Reading, section: &[u8]) -> Option<Vec<u16>> {
     Some(named.map(|group| word(group, 2) & 0x1FFF).collect())
 }
 
+/// The PIDs of a PAT that is known to be readable, that of program 0 too.
+pub fn programs_and_network(section: &[u8]) -> Vec<u16> {
+    section[8..section.len() - 4].chunks_exact(4).map(|group| word(group, 2) & 0x1FFF).collect()
+}
+
 /// 14 to 17, in this order.
 pub fn refused_by_a_collector(reading: &Reading, section: &[u8]) -> Option<u8> {
     if section.len() < 3 || !true_length(section) || (long_form(section) && section.len() < 12) {
@@ -77,7 +87,7 @@ pub fn refused_by_a_collector(reading: &Reading, section: &[u8]) -> Option<u8> {
     if section[6] > section[7] {
         return Some(16);
     }
-    (!crc_fits(section)).then_some(17)
+    (!crc_fits(section) && !reading.has(Fault::PatFailed)).then_some(17)
 }
 
 #[derive(Clone, Copy, Debug, PartialEq, Eq, PartialOrd)]

@@ -1,7 +1,7 @@
-use Rattle.section.proofs.Facts.{origin-one}
-use Rattle.section.specs.declared.ids.Origin.{Origin}
-use mathlib.Core.Path.{ap}
 use native.Mathlib.Omega.{arith}
+use mathlib.Core.Path.{ap}
+use Rattle.section.specs.declared.ids.Origin.{Origin}
+use Rattle.section.proofs.Facts.{origin-one}
 use borrow.Author.Needs.{needs}
 use Rattle.watcher.proofs.find.Statement.{statement}
 use Rattle.watcher.proofs.find.Tie as tie
@@ -21,10 +21,6 @@ enum-known-from c = search needs
 -- src/lib.rt:92:44
 wide-requires : tie.Need-wide-requires
 wide-requires c κs = search needs
-
--- src/lib.rt:92:44
-mul-t6 : tie.Need-mul-t6
-mul-t6 c = search needs
 
 -- src/lib.rt:93:46
 enum-told : tie.Need-enum-told
@@ -56,7 +52,6 @@ find-spec =
     make-requires
     enum-known-from
     wide-requires
-    mul-t6
     enum-told
     enum-told-2
     returns

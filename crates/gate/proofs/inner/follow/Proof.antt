@@ -8,6 +8,9 @@ use Rattle.gate.proofs.inner.follow.Lts as lts
 use Rattle.gate.proofs.inner.follow_pat.Reads as follow-pat-reads
 
 -- src/inner.rt:130:9
+by-sections-requires : tie.Need-by-sections-requires
+by-sections-requires c κs = search needs
+
 follow-pat-requires : tie.Need-follow-pat-requires
 follow-pat-requires c κs = search needs
 
@@ -24,4 +27,4 @@ returns-2 : tie.Need-returns-2
 returns-2 c = search follow-no
 
 pub follow-spec : {M : Type 1} → statement M
-follow-spec = tie.close (tie.spec follow-pat-requires same-length returns returns-2)
+follow-spec = tie.close (tie.spec by-sections-requires follow-pat-requires same-length returns returns-2)

@@ -1,0 +1,4 @@
+pub mod Store
+pub mod Ways
+pub mod Laws
+pub mod Unique

@@ -1,0 +1,228 @@
+-- The PAT store in its record: what a push leaves of it stands there again, is whole, and a set that goes out is in row 0.
+-- Assumes nothing.
+use mathlib.Core.Path.{_≡_, refl, sym, ap, subst, _∙_}
+use mathlib.Core.Bool.{Bool, true, false, cond}
+use mathlib.Core.List.{List, _++_, append-assoc}
+use Prim.Native.Nat.{ℕ, _+_, _≤_, _<_}
+use native.Mathlib.Omega.{arith}
+use borrow.Author.Tests.{ne-eqb}
+use borrow.Rule.Slice.PartMut.{putMid, same-len-mid}
+use lib.ListN.{length, getD, take, drop, set, length-set, length-drop}
+use lib.Seq.{paste, take-all, length-take-le, drop-drop, length-paste, drop-set-lt, getD-set-same, getD-set-other}
+use Rattle.ages.proofs.Slots.{part-pasted}
+use Rattle.section.proofs.Facts.{takes}
+use Rattle.section.specs.Header.{headerOf}
+use Rattle.section.specs.Judged.{collectedOf}
+use Rattle.section.specs.Ids.{originMade}
+use Rattle.section.specs.declared.header.Header.{Header}
+use Rattle.section.specs.declared.header.Collected.{Collected}
+use Rattle.section.specs.declared.header.Collected.the-variants as collected
+use Rattle.section.specs.declared.ids.OriginMade.{OriginMade}
+use Rattle.section.specs.declared.ids.OriginMade.the-variants as made
+use Rattle.section.specs.declared.ids.MaybePid.{MaybePid}
+use Rattle.section.specs.declared.ids.MaybePid.the-variants as maybe
+use Rattle.rows.specs.Rows.{touched}
+use Rattle.rows.specs.declared.Entry.{Entry}
+use Rattle.rows.specs.declared.Origin.{Origin}
+use Rattle.store.specs.Store.{Store, store, WholeStore}
+use Rattle.store.specs.declared.Sets.{Sets}
+use Rattle.store.proofs.Whole.{means-whole}
+use Rattle.arrivals.specs.Arrivals.{setArrival, setJudged, setRead, madeWords, Taken}
+use Rattle.arrivals.specs.declared.SetArrival.the-variants as arrival
+use Rattle.sets_plan.specs.Plan.{planOf, PlanOk, Ready}
+use Rattle.sets_plan.specs.declared.Plan.{Plan}
+use Rattle.sets_plan.specs.declared.Plan.the-variants as plan
+use Rattle.sets_plan.proofs.May.{plan-ok}
+use Rattle.sets_settle.specs.Settle.{Told, done, nothing, handed, refused, SetsAfter, setIn, answerOf, afterPush, goesOut, settledAnswer, settledHeads, settled, keptIn, carried}
+use Rattle.sets_settle.specs.declared.PushAnswer.{PushAnswer}
+use Rattle.sets_settle.specs.declared.PushAnswer.the-variants.{Nothing, Set, Refused}
+use Rattle.sets_settle.specs.declared.Pushed.{Pushed as Answered}
+use Rattle.sets_push.specs.Pushing.{wholePushed, admitted}
+use Rattle.sets.specs.Store.{pushedOf}
+use Rattle.sets.proofs.Stays.{push-stays}
+use Rattle.pats.specs.Store.{Record, recordOf, patSets, patHead, patStore, withStore, pushedBy, pushedIn, PatsReady, Arrives, RowThere, Pushed}
+
+-- ---- the counts and the head are where they were put
+
+module _ (words : List ℕ) (s : Store) (h : 398 ≤ length words) (l : length (s .heads) ≡ 12) where
+  pasted : length (paste words 386 (s .heads) 12) ≡ length words
+  pasted = length-paste words 386 (s .heads) 12 h (omega arith)
+
+  pub length-with : length (withStore words s) ≡ length words
+  length-with = length-set (set (paste words 386 (s .heads) 12) 384 (s .sets .used)) 385 (s .sets .evictions) ∙ length-set (paste words 386 (s .heads) 12) 384 (s .sets .used) ∙ pasted
+
+  with-used : getD (withStore words s) 384 0 ≡ s .sets .used
+  with-used =
+      getD-set-other (set (paste words 386 (s .heads) 12) 384 (s .sets .used)) 385 384 (s .sets .evictions) 0 (omega arith)
+      ∙ getD-set-same (paste words 386 (s .heads) 12) 384 (s .sets .used) 0 (rw pasted (omega arith))
+
+  with-evictions : getD (withStore words s) 385 0 ≡ s .sets .evictions
+  with-evictions =
+      getD-set-same (set (paste words 386 (s .heads) 12) 384 (s .sets .used)) 385 (s .sets .evictions) 0
+      (rw (length-set (paste words 386 (s .heads) 12) 384 (s .sets .used), pasted) (omega arith))
+
+  with-head : patHead (withStore words s) ≡ s .heads
+  with-head =
+      rw (
+        drop-set-lt 386 (set (paste words 386 (s .heads) 12) 384 (s .sets .used)) 385 (s .sets .evictions) (omega arith),
+        drop-set-lt 386 (paste words 386 (s .heads) 12) 384 (s .sets .used) (omega arith),
+        part-pasted words 386 (s .heads) 12 (omega arith) (omega arith),
+      ) (take-all 12 (s .heads) (omega arith))
+
+  -- so the record has that store
+  pub with-store : s .sets .limit ≡ 1 → s .sets .size ≡ 1024 → s .sets .count ≡ 256 → patStore (recordOf (withStore words s) (s .slots) (s .cells)) ≡ s
+  with-store a b c = λ i. record {
+    sets = record { limit = sym a i; size = sym b i; count = sym c i; used = with-used i; evictions = with-evictions i };
+    heads = with-head i;
+    slots = s .slots;
+    cells = s .cells;
+  }
+
+-- a part that was lent, and came back as long as it was
+part-back : (words h : List ℕ) → length h ≡ 12 → putMid 386 12 words h ≡ paste words 386 h 12
+part-back words h l =
+    sym (append-assoc (take 386 words) h (drop 12 (drop 386 words))) ∙ (λ i. (take 386 words ++ sym (take-all 12 h (omega arith)) i) ++ drop-drop 12 386 words i)
+
+-- ---- what a push leaves
+
+-- the settings stay
+pub record Same (s t : Sets) : Type 0 where
+  pub limit : t .limit ≡ s .limit
+  pub size : t .size ≡ s .size
+  pub count : t .count ≡ s .count
+
+carried-same : (s : Store) (bytes : List ℕ) (p : Plan) → Same (s .sets) ((carried s bytes p) .store .sets)
+unfolding settled keptIn
+carried-same s bytes (plan.Refuse r) = record { limit = refl; size = refl; count = refl }
+carried-same s bytes plan.Silent = record { limit = refl; size = refl; count = refl }
+carried-same s bytes (plan.Conflict i) = record { limit = refl; size = refl; count = refl }
+carried-same s bytes (plan.Repeat i) = record { limit = refl; size = refl; count = refl }
+carried-same s bytes (plan.Keep k) = record { limit = refl; size = refl; count = refl }
+
+pub pushed-same : (s : Store) (e : Entry) (bytes : List ℕ) → Same (s .sets) ((wholePushed s e bytes) .store .sets)
+unfolding wholePushed
+pushed-same s e bytes = carried-same s bytes (planOf s e bytes)
+
+-- a set that goes out is in row 0 of the one row
+abbrev ToldRow : Told → ℕ → Type 0
+ToldRow done used = Unit {0}
+ToldRow nothing used = Unit {0}
+ToldRow (handed h) used = (h .row ≡ 0) × (0 < used)
+ToldRow (refused r) used = Unit {0}
+
+settled-row : (s : Store) (i : ℕ) → i < s .sets .used → s .sets .used ≤ 1 → ToldRow ((settled s i) .told) ((settled s i) .store .sets .used)
+unfolding settled settledAnswer setIn
+settled-row s i h k = go (goesOut (touched (s .sets .used) i (s .heads)) (s .slots) i)
+  where
+    go : (b : Bool)
+        → ToldRow (answerOf (cond b (Set i) Nothing) (store (s .sets) (settledHeads (s .sets .used) (s .heads) (s .slots) i) (s .slots) (s .cells))) (s .sets .used)
+    go true = (omega arith, omega arith)
+    go false = tt
+
+carried-row : (s : Store) (bytes : List ℕ) → s .sets .limit ≡ 1 → (p : Plan) → PlanOk s bytes p → ToldRow ((carried s bytes p) .told) ((carried s bytes p) .store .sets .used)
+unfolding keptIn
+carried-row s bytes l (plan.Refuse r) o = tt
+carried-row s bytes l plan.Silent o = tt
+carried-row s bytes l (plan.Conflict i) o = tt
+carried-row s bytes l (plan.Repeat i) o = let u = o .whole .used in settled-row s i (o .row) (omega arith)
+carried-row s bytes l (plan.Keep k) o = let u = o .room .room in settled-row (keptIn s bytes k) (k .room .row) (o .room .row) (omega arith)
+
+pushed-row : (s : Store) (e : Entry) (bytes : List ℕ) → s .sets .limit ≡ 1 → WholeStore s → Taken bytes e → ToldRow ((wholePushed s e bytes) .told) ((wholePushed s e bytes) .store .sets .used)
+unfolding wholePushed
+pushed-row s e bytes l w t = carried-row s bytes l (planOf s e bytes) (plan-ok s w e bytes t)
+
+row-there : (a : PushAnswer) (s : Store) → ToldRow (answerOf a s) (s .sets .used) → RowThere a s
+unfolding setIn
+row-there Nothing s o = tt
+row-there (Set i) s o = o
+row-there (Refused r) s o = tt
+
+-- ---- pushing is the set collector's push, once 10 and 11 have been asked
+
+pub pushed-as : (s : Store) → Ready s → (input : ℕ) (pid : MaybePid) (bytes : List ℕ) (e : Entry) → setArrival input pid bytes ≡ arrival.Arrived e → pushedOf s input pid bytes ≡ wholePushed s e bytes
+unfolding pushedOf admitted
+pushed-as s o input pid bytes e q = rw (means-whole s (o .whole), ne-eqb (s .sets .evictions) 18446744073709551615 (o .counts), q)
+
+-- a section that arrived has its last_section_number in byte 7
+last-byte : (input : ℕ) (bytes : List ℕ) (e : Entry) → setArrival input (maybe.Some 0) bytes ≡ arrival.Arrived e → e .last ≡ getD bytes 7 0
+unfolding setArrival headerOf
+last-byte input bytes e q = by-origin (originMade input 0) q
+  where
+    by-read : (from : Origin) (c : Collected) → collectedOf bytes ≡ c → setRead from c ≡ arrival.Arrived e → e .last ≡ getD bytes 7 0
+    by-read from collected.Malformed p f = let z : _≡_ {A = ℕ} 0 1 = cc in absurd (omega arith)
+    by-read from collected.ShortForm p f = let z : _≡_ {A = ℕ} 0 1 = cc in absurd (omega arith)
+    by-read from collected.BadNumber p f = let z : _≡_ {A = ℕ} 0 1 = cc in absurd (omega arith)
+    by-read from collected.BadCrc p f = let z : _≡_ {A = ℕ} 0 1 = cc in absurd (omega arith)
+    by-read from (collected.Good h) p f =
+        let t = takes bytes h (collectedOf bytes) refl p in
+        let z : h .last ≡ e .last = cc in
+        sym z ∙ ap (λ (x : Header). x .last) (t .header)
+
+    by-origin : (m : OriginMade) → setJudged (madeWords m) bytes ≡ arrival.Arrived e → e .last ≡ getD bytes 7 0
+    by-origin (made.One o) f = by-read (record { input = o .input .0; pid = o .pid .0 }) (collectedOf bytes) refl f
+    by-origin made.BadPid f = let z : _≡_ {A = ℕ} 0 1 = cc in absurd (omega arith)
+    by-origin made.BadInput f = let z : _≡_ {A = ℕ} 0 1 = cc in absurd (omega arith)
+
+pub pushed-whole : (s : Store) (e : Entry) (bytes : List ℕ) → Ready s → Arrives bytes e → WholeStore ((wholePushed s e bytes) .store)
+pushed-whole s e bytes o a =
+    let l = a .taken .numbered .last in
+    subst (λ (k : SetsAfter). WholeStore (k .store)) (pushed-as s o (a .input) (maybe.Some 0) bytes e (a .read))
+    (push-stays s (a .input) (maybe.Some 0) bytes (rw (← last-byte (a .input) bytes e (a .read)) l) (o .whole))
+
+-- ---- the push of the crate: the part comes back, the counts are written
+
+module _ (words slots cells section : List ℕ) (e : Entry) (o : PatsReady (recordOf words slots cells)) (a : Arrives section e) where
+  abbrev r : Record
+  r = recordOf words slots cells
+
+  abbrev left : SetsAfter
+  left = wholePushed (patStore r) e section
+
+  module _ (p : Answered) (h l b : List ℕ) (n : length h ≡ 12) (q : afterPush p h l b ≡ left) where
+    abbrev then : Store
+    then = store (p .sets) h l b
+
+    abbrev words' : List ℕ
+    words' = set (set (putMid 386 12 words h) 384 (p .sets .used)) 385 (p .sets .evictions)
+
+    is-left : then ≡ left .store
+    is-left = ap (λ (k : SetsAfter). k .store) q
+
+    same : Same (patSets words) (p .sets)
+    same = subst (λ (k : Store). Same (patSets words) (k .sets)) (sym is-left) (pushed-same (patStore r) e section)
+
+    is-written : words' ≡ withStore words then
+    is-written = ap (λ (w : List ℕ). set (set w 384 (p .sets .used)) 385 (p .sets .evictions)) (part-back words h n)
+
+    is-then : patStore (recordOf words' l b) ≡ then
+    is-then = ap (λ (w : List ℕ). patStore (recordOf w l b)) is-written ∙ with-store words then (o .words) n (same .limit) (same .size) (same .count)
+
+    push-done : pushedBy (p .answer) words' l b ≡ pushedIn r left
+    push-done =
+        ap (λ (s : Store). record { told = answerOf (p .answer) s; then = recordOf words' l b }) is-then
+        ∙ ap (λ (w : List ℕ). record { told = answerOf (p .answer) then; then = recordOf w l b }) is-written ∙ ap (pushedIn r) q
+
+    push-left : Pushed (p .answer) (recordOf words' l b)
+    push-left = record {
+      words = rw (is-written, length-with words then (o .words) n) (o .words);
+      whole = subst WholeStore (sym (is-then ∙ is-left)) (pushed-whole (patStore r) e section (o .ready) a);
+      row = subst (RowThere (p .answer)) (sym is-then) (row-there (p .answer) then
+          (subst (λ (k : SetsAfter). ToldRow (k .told) (k .store .sets .used)) (sym q) (pushed-row (patStore r) e section refl (o .ready .whole) (a .taken))));
+    }
+
+  pub push-all : (t : Sets) (p : Answered) (h l b : List ℕ) → t ≡ patSets words → length h ≡ length (take 12 (drop 386 words)) → afterPush p h l b ≡ wholePushed (store t (patHead words) slots cells) e section
+      → (pushedBy (p .answer) (set (set (putMid 386 12 words h) 384 (p .sets .used)) 385 (p .sets .evictions)) l b ≡ pushedIn r left)
+      × Pushed (p .answer) (recordOf (set (set (putMid 386 12 words h) 384 (p .sets .used)) 385 (p .sets .evictions)) l b)
+  push-all t p h l b f n q =
+      let d = o .words in
+      let n' : length h ≡ 12 = n ∙ length-take-le 12 (drop 386 words) (rw (length-drop 386 words) (omega arith)) in
+      let q' : afterPush p h l b ≡ left = q ∙ ap (λ (k : Sets). wholePushed (store k (patHead words) slots cells) e section) f in
+      (push-done p h l b n' q', push-left p h l b n' q')
+
+-- what it asks of its parts
+pub push-may : (words slots cells section : List ℕ) (e : Entry) (t : Sets) → PatsReady (recordOf words slots cells) → Arrives section e → t ≡ patSets words
+    → Ready (store t (patHead words) slots cells) × Taken section e
+push-may words slots cells section e t o a q = (subst (λ (k : Sets). Ready (store k (patHead words) slots cells)) (sym q) (o .ready), a .taken)
+
+pub write-fits : (words h : List ℕ) (u : ℕ) → 398 ≤ length words → length h ≡ length (take 12 (drop 386 words)) → 385 < length (set (putMid 386 12 words h) 384 u)
+write-fits words h u o l = rw (length-set (putMid 386 12 words h) 384 u, same-len-mid 386 12 words h l) (omega arith)
