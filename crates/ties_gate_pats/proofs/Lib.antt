@@ -4,3 +4,4 @@ pub mod Indexed
 pub mod Answers
 pub mod Entered
 pub mod Watch
+pub mod One
