@@ -3,3 +3,5 @@ pub mod Listed
 pub mod Sdt
 pub mod Nit
 pub mod Examples
+pub mod Broken
+pub mod Entries
