@@ -59,7 +59,7 @@ static uint64_t any_word(void)
 
 /* ---- lent arrays */
 
-enum { ARENA = 1 << 20, MOST_ARRAYS = 8, MOST_WORDS = 16 };
+enum { ARENA = 1 << 20, MOST_ARRAYS = 10, MOST_WORDS = 16 };
 
 static bool on_heap;
 static size_t page;
@@ -143,9 +143,9 @@ static void damage(struct array *a)
 
 /* ---- what must hold */
 
-enum call { GATE_OPEN, GATE_OFFER, WATCH_OPEN, WATCH_ASK, INDEXED_OPEN, INDEXED_OFFER, SETS_OPEN, SETS_PUSH, SETS_CLEAR, SETS_NEXT, EIT_OPEN, EIT_PUSH, EIT_CLEAR, EIT_DROP, EIT_NEXT, EIT_NEXT_IN_SCHEDULE, CALLS };
+enum call { GATE_OPEN, GATE_OFFER, WATCH_OPEN, WATCH_ASK, INDEXED_OPEN, INDEXED_OFFER, SETS_OPEN, SETS_PUSH, SETS_CLEAR, SETS_NEXT, EIT_OPEN, EIT_PUSH, EIT_CLEAR, EIT_DROP, EIT_NEXT, EIT_NEXT_IN_SCHEDULE, STREAMS_OPEN, FEED, INDEXED_FEED, CALLS };
 
-#define ANSWERS 38
+#define ANSWERS 44
 #define ONE(n) ((uint64_t)1 << (n))
 
 static const struct {
@@ -168,6 +168,9 @@ static const struct {
     {"eit_drop", ONE(7) | ONE(10) | ONE(12) | ONE(37)},
     {"eit_next", ONE(8) | ONE(9) | ONE(10)},
     {"eit_next_in_schedule", ONE(8) | ONE(9) | ONE(10)},
+    {"streams_open", ONE(7) | ONE(13)},
+    {"feed", ONE(10) | ONE(11) | ONE(29) | ONE(30) | ONE(37) | ONE(43)},
+    {"indexed_feed", ONE(10) | ONE(11) | ONE(29) | ONE(30) | ONE(37) | ONE(43)},
 };
 
 /* Refusals that leave all as before: 10 to 21, and 37. */
@@ -918,6 +921,503 @@ static void round_of_collectors(void)
     with_eit ? use_eit(6) : use_sets(6);
 }
 
+/* ---- packets */
+
+/* Behind the arrays of a gate; and behind its words those of the streams. */
+enum { PID_WORDS = GATE_ARRAYS, BUFFERS, PLACES, FEED_ARRAYS };
+enum { COUNT = GATE_WORDS, PACKETS, MALFORMED, FEED_WORDS };
+enum { PACKET = PETRIZOLU_PACKET_BYTES, BUFFER = PETRIZOLU_BUFFER_BYTES, MOST_SECTIONS = 61, LONGEST = 4098 };
+
+static struct part feeds, indexed_feeds;
+
+/* ---- a sender, so that sections go on from packet to packet */
+
+static uint8_t packet_bytes[256];
+static struct array packet;
+static struct {
+    uint8_t counter, rest[LONGEST];
+    size_t left;
+} senders[6];
+static const uint16_t sender_pids[6] = {0x0000, 0x0000, 0x0011, 0x0014, 0x0101, 0x1FFF};
+
+/* Sections are small, mostly, so that several are in a packet; now and then one of 3 bytes, or of the most. */
+static size_t draw_small(uint8_t *b)
+{
+    size_t n = once_in(40) ? 3 : once_in(30) ? 3 + below(4096) : 3 + below(60);
+    if (!once_in(3)) {
+        draw_section();
+        if (section.count > 0 && section.count <= LONGEST && section.data[0] != 0xFF) {
+            memcpy(b, section.data, section.count);
+            return section.count;
+        }
+    }
+    for (size_t i = 0; i < n; i++)
+        b[i] = (uint8_t)below(3);
+    b[0] = (uint8_t)(0x70 + below(3));
+    b[1] = (uint8_t)(0x70 | (n - 3) >> 8);
+    b[2] = (uint8_t)(n - 3);
+    return n;
+}
+
+/* The payload from `at` on: what is left of a section, then others, then stuffing. */
+static bool draw_payload(int s, size_t at)
+{
+    uint8_t *b = packet_bytes;
+    size_t left = senders[s].left;
+    bool starts = left + 2 <= PACKET - at && !once_in(6);
+    if (starts) {
+        b[at++] = (uint8_t)left;
+    } else if (left > PACKET - at) {
+        left = PACKET - at;
+    }
+    memcpy(b + at, senders[s].rest, left);
+    memmove(senders[s].rest, senders[s].rest + left, senders[s].left - left);
+    senders[s].left -= left;
+    at += left;
+    while (starts && at < PACKET && !once_in(4)) {
+        size_t n = draw_small(senders[s].rest), part = n < PACKET - at ? n : PACKET - at;
+        memcpy(b + at, senders[s].rest, part);
+        memmove(senders[s].rest, senders[s].rest + part, n - part);
+        senders[s].left = n - part;
+        at += part;
+    }
+    memset(b + at, 0xFF, PACKET - at);
+    return starts;
+}
+
+/* A packet, or the one before it once more; then perhaps damaged, or of another length. */
+static void draw_packet(void)
+{
+    uint8_t *b = packet_bytes;
+    size_t n = PACKET, at = 4;
+    if (!once_in(10)) {
+        int s = (int)below(6);
+        uint16_t pid = once_in(30) ? (uint16_t)below(8192) : sender_pids[s];
+        b[0] = 0x47;
+        b[3] = 0x10 | senders[s].counter;
+        if (once_in(5)) {
+            b[3] |= 0x20;
+            b[4] = (uint8_t)(once_in(3) ? below(256) : below(183));
+            at = 5 + (size_t)b[4];
+            if (at > PACKET)
+                at = PACKET;
+            memset(b + 5, (int)below(256), at > 5 ? at - 5 : 0);
+        }
+        b[1] = (uint8_t)(pid >> 8 | (draw_payload(s, at) ? 0x40 : 0));
+        b[2] = (uint8_t)pid;
+        senders[s].counter = (uint8_t)(once_in(12) ? below(16) : (senders[s].counter + 1) & 15);
+    }
+    switch (below(16)) {
+    case 0:
+        b[below(PACKET)] ^= (uint8_t)(1u << below(8));
+        break;
+    case 1:
+        b[below(8)] = (uint8_t)draw();
+        break;
+    case 2:
+        n = once_in(2) ? below(PACKET) : PACKET - 1 + below(3);
+        break;
+    case 3:
+        for (size_t i = 4; i < PACKET; i++)
+            b[i] = (uint8_t)(once_in(4) ? draw() : below(3));
+        break;
+    }
+    lend(&packet, n);
+    memcpy(packet.data, b, n);
+}
+
+/* ---- what a packet has to leave, by ISO/IEC 13818-1, 2.4.3 and 2.4.4, and docs/RULES.md, "Packets" */
+
+struct outcome {
+    unsigned answer;
+    uint32_t pid;
+    bool read;                      /* a watched PID's payload that is no repeat */
+    bool repeat, unwatched;
+    uint64_t buffer, words[4];      /* its words after it */
+    uint64_t count;
+    struct { uint64_t where, start, length; } sections[MOST_SECTIONS];
+    uint8_t front[LONGEST + PACKET];
+    size_t front_bytes;             /* what stands at the buffer's front after it */
+};
+
+static uint64_t section_bytes(const uint8_t *b, uint64_t n)
+{
+    return n < 3 ? UINT64_MAX : 3 + ((uint64_t)(b[1] & 0x0F) << 8 | b[2]);
+}
+
+static bool near_end(uint64_t counter)
+{
+    return UINT64_MAX - counter <= 64;
+}
+
+static bool feed_is_whole(const struct part *p, bool with_index)
+{
+    const petrizolu_gate *g = (const petrizolu_gate *)p->words;
+    uint64_t rows = g->capacity == 0 ? 1 : g->capacity, count = p->words[COUNT];
+    for (int i = KEYS; i <= (with_index ? LINKS : CHANGES); i++)
+        if (p->arrays[i].count < rows)
+            return false;
+    return g->used <= rows && g->first < rows && g->change_rule >= 1 && g->change_rule <= 2 && p->arrays[WATCH].count >= SET_WORDS && (!follows_tables(g->follow) || pats_whole(p))
+        && count >= 1 && count <= PETRIZOLU_MOST_BUFFERS && p->arrays[PID_WORDS].count >= PETRIZOLU_PID_WORDS && p->arrays[BUFFERS].count / BUFFER >= count
+        && p->arrays[PLACES].count >= PETRIZOLU_PLACES_WORDS;
+}
+
+static bool feed_is_full(const struct part *p)
+{
+    const petrizolu_gate *g = (const petrizolu_gate *)p->words;
+    bool full = near_end(g->completed) || near_end(g->emitted) || near_end(g->suppressed) || near_end(g->crc_failures) || near_end(g->short_sections) || near_end(g->crc_mismatches) || near_end(g->evictions);
+    return full || near_end(p->words[PACKETS]) || near_end(p->words[MALFORMED]) || (follows_tables(g->follow) && near_end(watch_of(p)[PAT_EVICTIONS]));
+}
+
+static bool watches(const uint64_t *watch, uint32_t pid)
+{
+    return watch[pid / 64] >> pid % 64 & 1;
+}
+
+static bool holds(const struct part *p, uint32_t pid, uint64_t *buffer)
+{
+    uint64_t word = ((const uint64_t *)p->arrays[PID_WORDS].data)[4 * pid];
+    *buffer = word - 1;
+    return word != 0 && word <= p->words[COUNT];
+}
+
+static bool lowest_free(const struct part *p, uint64_t *buffer)
+{
+    for (*buffer = 0; *buffer < p->words[COUNT]; (*buffer)++) {
+        bool taken = false;
+        uint64_t held;
+        for (uint32_t pid = 0; pid < 8192 && !taken; pid++)
+            taken = holds(p, pid, &held) && held == *buffer;
+        if (!taken)
+            return true;
+    }
+    return false;
+}
+
+/* The section under way goes on with the bytes up to `to`; whether it was finished. */
+static bool goes_on(struct outcome *o, size_t from, size_t to)
+{
+    while (o->front_bytes > 0 && o->front_bytes < section_bytes(o->front, o->front_bytes) && from < to)
+        o->front[o->front_bytes++] = packet.data[from++];
+    return o->front_bytes > 0 && o->front_bytes == section_bytes(o->front, o->front_bytes);
+}
+
+static void tell_section(struct outcome *o, uint64_t where, uint64_t start, uint64_t length)
+{
+    o->sections[o->count].where = where;
+    o->sections[o->count].start = start;
+    o->sections[o->count++].length = length;
+}
+
+/* Its payload: o->front has the bytes under way, if any. */
+static void read_payload(struct outcome *o, size_t from)
+{
+    const uint8_t *b = packet.data;
+    bool starts = b[1] & 0x40;
+    size_t begin = PACKET, finished = 0;
+    if (starts && (from == PACKET || from + 1 + b[from] > PACKET)) {
+        o->front_bytes = 0;
+    } else {
+        begin = starts ? from + 1 + (size_t)b[from] : PACKET;
+        if (goes_on(o, starts ? from + 1 : from, begin)) {
+            finished = o->front_bytes;
+            tell_section(o, 1, o->buffer * BUFFER, finished);
+        } else if (starts) {
+            o->front_bytes = 0;
+        }
+    }
+    while (begin < PACKET && b[begin] != 0xFF) {
+        uint64_t n = section_bytes(b + begin, PACKET - begin);
+        if (n > PACKET - begin) {
+            memcpy(o->front + o->front_bytes, b + begin, PACKET - begin);
+            o->front_bytes += PACKET - begin;
+            break;
+        }
+        tell_section(o, 0, begin, n);
+        begin += n;
+    }
+    o->words[0] = o->buffer + 1;
+    o->words[1] = b[3] & 15;
+    o->words[2] = finished;
+    o->words[3] = o->front_bytes - finished;
+}
+
+static void expect(struct outcome *o, const struct part *p, bool with_index, uint32_t input)
+{
+    const uint8_t *b = packet.data;
+    const uint64_t *words;
+    size_t from = 4;
+    bool held;
+    memset(o, 0, sizeof *o);
+    if (!feed_is_whole(p, with_index)) {
+        o->answer = PETRIZOLU_NOT_WHOLE;
+        return;
+    }
+    if (feed_is_full(p) || input >= PETRIZOLU_INPUTS) {
+        o->answer = feed_is_full(p) ? PETRIZOLU_COUNTER_FULL : PETRIZOLU_BAD_INPUT;
+        return;
+    }
+    o->answer = PETRIZOLU_MALFORMED_PACKET;
+    if (packet.count != PACKET || b[0] != 0x47)
+        return;
+    if (b[3] & 0x20)
+        from = 5 + (size_t)b[4];
+    if (from > PACKET)
+        return;
+    o->answer = PETRIZOLU_FED;
+    if ((b[1] & 0x80) || (b[3] & 0xC0) || !(b[3] & 0x10))
+        return;
+    o->pid = (uint32_t)(b[1] & 0x1F) << 8 | b[2];
+    words = (const uint64_t *)p->arrays[PID_WORDS].data + 4 * o->pid;
+    o->unwatched = !watches(watch_of(p), o->pid);
+    if (o->unwatched)
+        return;
+    held = holds(p, o->pid, &o->buffer);
+    if (!held && !lowest_free(p, &o->buffer)) {
+        o->answer = PETRIZOLU_NO_BUFFER;
+        return;
+    }
+    if (held && (words[1] & 31) == (uint64_t)(b[3] & 15)) {
+        o->repeat = true;
+        memcpy(o->words, words, sizeof o->words);
+        o->words[1] = 16 | (b[3] & 15);
+        return;
+    }
+    o->read = true;
+    if (held && ((words[1] & 15) + 1) % 16 == (uint64_t)(b[3] & 15) && words[3] <= LONGEST - 1 && words[2] <= BUFFER && words[2] + words[3] <= BUFFER) {
+        const uint8_t *under = p->arrays[BUFFERS].data + o->buffer * BUFFER + words[2];
+        if (section_bytes(under, words[3]) > words[3]) {
+            o->front_bytes = words[3];
+            memcpy(o->front, under, words[3]);
+        }
+    }
+    read_payload(o, from);
+}
+
+static void check_place(enum call call, const uint64_t *place, const uint8_t *bytes, uint64_t length, uint64_t tally[4])
+{
+    bool has_crc = (bytes[1] & 0x80) || bytes[0] == 0x73;
+    uint32_t stored = 0, worked = 0;
+    for (uint64_t i = length < 4 ? length : length - 4; i < length; i++)
+        stored = stored << 8 | bytes[i];
+    if (has_crc && length >= 4)
+        worked = crc_of(bytes, length - 4);
+    if (has_crc && length < 4 ? place[0] != PETRIZOLU_TOO_SHORT : has_crc && stored != worked ? place[0] != PETRIZOLU_CRC_MISMATCH : place[0] != PETRIZOLU_EMITTED && place[0] != PETRIZOLU_SUPPRESSED)
+        fail(call, PETRIZOLU_FED, "another answer to a section");
+    if (place[0] == PETRIZOLU_CRC_MISMATCH ? place[1] != stored || place[2] != worked : place[1] != 0 || place[2] != 0)
+        fail(call, PETRIZOLU_FED, "a place that tells other numbers");
+    tally[place[0] == PETRIZOLU_TOO_SHORT ? 3 : place[0] - 1]++;
+}
+
+/* The words of all PIDs: those of the packet's as expected, or empty where it left; the others as before, or empty where they may have left. */
+static void check_pids(enum call call, const struct part *p, const struct outcome *o, bool may_leave)
+{
+    static const uint64_t none[4];
+    const uint64_t *now = (const uint64_t *)p->arrays[PID_WORDS].data, *before = (const uint64_t *)p->arrays[PID_WORDS].before;
+    for (uint32_t pid = 0; pid < 8192; pid++) {
+        bool own = pid == o->pid && (o->read || o->repeat || o->unwatched);
+        const uint64_t *want = own ? o->words : before + 4 * pid;
+        if (memcmp(now + 4 * pid, want, 32) != 0 && !(may_leave && memcmp(now + 4 * pid, none, 32) == 0))
+            fail(call, o->answer, "other words of a PID");
+        if (may_leave && !own && watches((const uint64_t *)p->arrays[WATCH].before, pid) && !watches(watch_of(p), pid) && memcmp(now + 4 * pid, none, 32) != 0)
+            fail(call, o->answer, "a PID that left and keeps its words");
+    }
+}
+
+static void check_fed(enum call call, const struct part *p, const struct outcome *o, uint64_t finished)
+{
+    const uint64_t *places = (const uint64_t *)p->arrays[PLACES].data;
+    const petrizolu_gate *now = (const petrizolu_gate *)p->words, *before = (const petrizolu_gate *)p->words_before;
+    uint64_t tally[4] = {0};
+    bool may_leave = false;
+    size_t written = 8 * PETRIZOLU_PLACE_WORDS * finished;
+    if (finished != o->count)
+        fail(call, o->answer, "another number of sections");
+    for (uint64_t k = 0; k < finished; k++) {
+        const uint64_t *place = places + PETRIZOLU_PLACE_WORDS * k;
+        const uint8_t *bytes = o->sections[k].where == 0 ? packet.data + o->sections[k].start : o->front;
+        const uint8_t *told = place[3] == PETRIZOLU_IN_PACKET ? packet.data : p->arrays[BUFFERS].data;
+        if (place[3] != o->sections[k].where || place[4] != o->sections[k].start || place[5] != o->sections[k].length || memcmp(told + place[4], bytes, place[5]) != 0)
+            fail(call, o->answer, "another section");
+        may_leave = may_leave || bytes[0] == 0;
+        check_place(call, place, bytes, place[5], tally);
+    }
+    if (memcmp(p->arrays[PLACES].data + written, p->arrays[PLACES].before + written, size_of(&p->arrays[PLACES]) - written) != 0)
+        fail(call, o->answer, "places of no section written");
+    check_pids(call, p, o, may_leave);
+    memcpy(p->arrays[BUFFERS].before + o->buffer * BUFFER, o->front, o->front_bytes);
+    if (!array_as_before(&p->arrays[BUFFERS]))
+        fail(call, o->answer, "other bytes in the buffers");
+    if (now->completed != before->completed + finished || now->emitted != before->emitted + tally[0] || now->suppressed != before->suppressed + tally[1] || now->crc_mismatches != before->crc_mismatches + tally[2]
+        || now->short_sections != before->short_sections + tally[3] || now->crc_failures != before->crc_failures + tally[2] + tally[3] || p->words[PACKETS] != p->words_before[PACKETS] + 1
+        || p->words[MALFORMED] != p->words_before[MALFORMED] || p->words[COUNT] != p->words_before[COUNT])
+        fail(call, o->answer, "other counts");
+    if (finished == 0 && (!array_as_before(&p->arrays[KEYS]) || !array_as_before(&p->arrays[CHANGES]) || !record_as_before(p, 0)))
+        fail(call, o->answer, "a gate that changed without a section");
+}
+
+#define FED(p) A(p, PID_WORDS), A(p, BUFFERS), input, packet.data, packet.count, A(p, PLACES), &finished
+
+static unsigned feed(struct part *p, bool with_index, uint32_t input, struct outcome *o)
+{
+    const uint64_t untold = any_word();
+    uint64_t finished = untold;
+    enum call call = with_index ? INDEXED_FEED : FEED;
+    petrizolu_gate *g = (petrizolu_gate *)p->words;
+    petrizolu_streams *streams = (petrizolu_streams *)(p->words + COUNT);
+    unsigned answer;
+    remember(p);
+    expect(o, p, with_index, input);
+    if (with_index)
+        answer = petrizolu_indexed_feed(g, streams, A(p, KEYS), A(p, CHANGES), A(p, BUCKETS), A(p, LINKS), RECORD(p), FED(p));
+    else
+        answer = petrizolu_feed(g, streams, A(p, KEYS), A(p, CHANGES), RECORD(p), FED(p));
+    judge(call, p, answer);
+    if (answer != o->answer)
+        fail(call, answer, "another answer");
+    if (answer == PETRIZOLU_FED) {
+        check_fed(call, p, o, finished);
+        return answer;
+    }
+    if (finished != untold)
+        fail(call, answer, "a number of sections where there is none");
+    if (answer == PETRIZOLU_MALFORMED_PACKET || answer == PETRIZOLU_NO_BUFFER) {
+        p->words_before[PACKETS]++;
+        p->words_before[MALFORMED] += answer == PETRIZOLU_MALFORMED_PACKET;
+        if (!as_before(p))
+            fail(call, answer, "more than the counts changed");
+    }
+    return answer;
+}
+
+static unsigned streams_open(struct part *p, uint64_t count)
+{
+    unsigned answer;
+    remember(p);
+    answer = petrizolu_streams_open((petrizolu_streams *)(p->words + COUNT), count, A(p, PID_WORDS), A(p, BUFFERS));
+    judge(STREAMS_OPEN, p, answer);
+    if ((answer == PETRIZOLU_DONE) != (count >= 1 && count <= PETRIZOLU_MOST_BUFFERS && p->arrays[PID_WORDS].count >= PETRIZOLU_PID_WORDS && p->arrays[BUFFERS].count / BUFFER >= count))
+        fail(STREAMS_OPEN, answer, "too little or too much was lent");
+    if (answer == PETRIZOLU_DONE) {
+        const uint64_t words[3] = {count, 0, 0};
+        memcpy(p->words_before + COUNT, words, sizeof words);
+        memset(p->arrays[PID_WORDS].before, 0, 8 * PETRIZOLU_PID_WORDS);
+        if (!as_before(p))
+            fail(STREAMS_OPEN, answer, "an opening that wrote something else");
+    }
+    return answer;
+}
+
+static void lend_feed(struct part *p, size_t rows, bool tables, size_t count, bool exact)
+{
+    lend_gate(p, rows, tables, exact);
+    lend(&p->arrays[PID_WORDS], exact || !once_in(3) ? PETRIZOLU_PID_WORDS : around(PETRIZOLU_PID_WORDS));
+    lend(&p->arrays[BUFFERS], exact || !once_in(3) ? PETRIZOLU_BUFFERS(count) : around(PETRIZOLU_BUFFERS(count)));
+    lend(&p->arrays[PLACES], exact || !once_in(3) ? PETRIZOLU_PLACES_WORDS : around(PETRIZOLU_PLACES_WORDS));
+}
+
+/* The words of a PID that packets come on, each whole by itself. */
+static void damage_pid(struct part *p)
+{
+    uint64_t *words = (uint64_t *)p->arrays[PID_WORDS].data + 4 * sender_pids[below(6)];
+    static const uint64_t starts[] = {0, 1, 4100, 4113, 4285, 4286, 4287, 4288, 4289}, counts[] = {0, 1, 2, 3, 175, 4097, 4098, 4287, 4288};
+    if (p->arrays[PID_WORDS].count < PETRIZOLU_PID_WORDS)
+        return;
+    switch (below(5)) {
+    case 0:
+        words[0] = once_in(3) ? any_word() : below(8);
+        break;
+    case 1:
+        words[1] = once_in(3) ? any_word() : below(64);
+        break;
+    case 2:
+        words[2] = once_in(3) ? any_word() : starts[below(sizeof starts / sizeof starts[0])];
+        break;
+    case 3:
+        words[3] = once_in(3) ? any_word() : counts[below(sizeof counts / sizeof counts[0])];
+        break;
+    default:
+        damage(&p->arrays[BUFFERS]);
+    }
+}
+
+static void round_of_packets(void)
+{
+    static struct outcome outcome;
+    static const uint16_t extra[2] = {0x0101, 0x1FFF};
+    uint64_t capacity = below(6), count = 1 + below(4);
+    uint32_t settings = (uint32_t)draw() | (once_in(8) ? 0 : PETRIZOLU_WELL_KNOWN);
+    bool tables = asks_for_tables(settings);
+    many_pats = tables;
+    lend_feed(&feeds, PETRIZOLU_GATE_ROWS(capacity), tables, count, true);
+    lend_feed(&indexed_feeds, PETRIZOLU_GATE_ROWS(capacity), tables, count, true);
+    if (once_in(4)) { /* memory from nowhere, whole here and there */
+        struct part *p = once_in(2) ? &feeds : &indexed_feeds;
+        lend_feed(p, PETRIZOLU_GATE_ROWS(capacity), tables, count, once_in(2));
+        for (int i = 0; i < FEED_ARRAYS; i++)
+            scramble(&p->arrays[i]);
+        if (has_pat_room(p) && p->arrays[KEYS].count >= PETRIZOLU_GATE_ROWS(capacity))
+            likely(p, capacity);
+        p->words[COUNT] = once_in(4) ? any_word() : count;
+        p->words[PACKETS] = once_in(4) ? any_word() : below(9);
+        p->words[MALFORMED] = once_in(4) ? any_word() : below(9);
+        for (int i = 0; i < 6; i++) {
+            draw_packet();
+            feed(p, p == &indexed_feeds, draw_input(), &outcome);
+            damage_pid(p);
+        }
+        streams_open(p, once_in(3) ? any_word() : count);
+        many_pats = false;
+        return;
+    }
+    for (int i = WATCH; i < FEED_ARRAYS; i++) {
+        if (once_in(8))
+            scramble(&feeds.arrays[i]);
+        memcpy(indexed_feeds.arrays[i].data, feeds.arrays[i].data, size_of(&feeds.arrays[i]));
+    }
+    if (gate_open(&feeds, false, capacity, settings, 1 + below(2), extra, 2) != PETRIZOLU_DONE || streams_open(&feeds, count) != PETRIZOLU_DONE)
+        fail(STREAMS_OPEN, 0, "enough was lent");
+    if (gate_open(&indexed_feeds, true, capacity, settings, ((petrizolu_gate *)feeds.words)->change_rule, extra, 2) != PETRIZOLU_DONE || streams_open(&indexed_feeds, count) != PETRIZOLU_DONE)
+        fail(STREAMS_OPEN, 0, "enough was lent");
+    for (int i = 0; i < 24; i++) {
+        uint32_t input = once_in(30) ? draw_input() : 0;
+        unsigned a, b;
+        draw_packet();
+        a = feed(&feeds, false, input, &outcome);
+        b = feed(&indexed_feeds, true, input, &outcome);
+        if (a != b || memcmp(feeds.words, indexed_feeds.words, sizeof feeds.words) != 0)
+            fail(INDEXED_FEED, b, "not as through the gate without an index");
+        for (int k = WATCH; k < FEED_ARRAYS; k++)
+            if (!same_array(&feeds, &indexed_feeds, k))
+                fail(INDEXED_FEED, b, "not as through the gate without an index");
+        if (once_in(3)) { /* the words of a PID, alike in both */
+            uint64_t then = seed;
+            damage_pid(&feeds);
+            seed = then;
+            damage_pid(&indexed_feeds);
+        }
+    }
+    for (int i = 0; i < 3; i++) { /* damage, and on */
+        struct part *p = once_in(2) ? &feeds : &indexed_feeds;
+        switch (below(4)) {
+        case 0:
+            p->words[below(FEED_WORDS)] = any_word();
+            break;
+        case 1:
+            damage(&p->arrays[below(FEED_ARRAYS)]);
+            break;
+        case 2:
+            damage_pats(p);
+            break;
+        default:
+            lend_feed(p, PETRIZOLU_GATE_ROWS(capacity), tables, count, false);
+        }
+        draw_packet();
+        feed(p, p == &indexed_feeds, draw_input(), &outcome);
+    }
+    many_pats = false;
+}
+
 static void print_counts(void)
 {
     uint64_t total = 0;
@@ -948,6 +1448,13 @@ int main(int argc, char **argv)
         make(&gate.arrays[i], element);
         make(&indexed.arrays[i], element);
     }
+    make(&packet, 1);
+    feeds.array_count = indexed_feeds.array_count = FEED_ARRAYS;
+    for (int i = 0; i < FEED_ARRAYS; i++) {
+        size_t element = i == PAT_SLOTS ? 4 : i == PAT_CELLS || i == BUFFERS ? 1 : 8;
+        make(&feeds.arrays[i], element);
+        make(&indexed_feeds.arrays[i], element);
+    }
     sets.array_count = SETS_ARRAYS;
     eit.array_count = EIT_ARRAYS;
     for (int i = 0; i < EIT_ARRAYS; i++) {
@@ -958,6 +1465,7 @@ int main(int argc, char **argv)
     while (rounds-- > 0) {
         round_of_gates();
         round_of_collectors();
+        round_of_packets();
     }
     print_counts();
     return 0;

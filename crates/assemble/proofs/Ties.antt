@@ -22,7 +22,7 @@ use Rattle.transport.proofs.Restart.{at-most-61}
 use Rattle.packet.specs.declared.Load.{Load}
 use Rattle.payload.specs.declared.Span.{Span}
 use Rattle.payload.specs.declared.Parts.{Parts}
-use Rattle.payload.specs.Payload.{front, bytesOf, endedOf, goingOf, goneOf, parts, partsOf, partOf, placed, toldFrom}
+use Rattle.payload.specs.Payload.{front, bytesOf, firstOf, endedOf, goingOf, goneOf, parts, partsOf, partOf, placed, toldFrom}
 use Rattle.payload.proofs.Ends.{Ways, nothing, longer, finished, ways, none-lacks, under-lacks, Suffix, under-last, Behind, behind, one-behind}
 use Rattle.payload.proofs.Laws.{placed-length, length-front}
 use Rattle.assemble.specs.declared.Words.{Words}
@@ -106,7 +106,7 @@ module _ (u packet : Bytes) (k : lacking u ≡ true) where
 
 -- ---- the bytes under way then
 
-all-append : (a b : Bytes) → AllBytes a → AllBytes b → AllBytes (a ++ b)
+pub all-append : (a b : Bytes) → AllBytes a → AllBytes b → AllBytes (a ++ b)
 all-append [] b f g i = g i
 all-append (x ∷ a) b f g zero = f 0
 all-append (x ∷ a) b f g (suc i) = all-append a b (λ j. f (suc j)) g i
@@ -145,6 +145,28 @@ gather-bytes begin got (b ∷ bs) f g = go (stops begin got b) (whole more) (gat
     go true q i j = all-none
     go false true i j = i
     go false false i j = j
+
+-- and the first section
+first-bytes : (begin : Bool) (got bs : Bytes) → AllBytes got → AllBytes bs → AllBytes (firstOf ((gather begin got bs) .sections))
+unfolding gather
+first-bytes begin got [] f g = all-none
+first-bytes begin got (b ∷ bs) f g = go (stops begin got b) (whole more) (first-bytes begin more bs all (λ i. g (suc i)))
+  where
+    more : Bytes
+    more = got ++ (b ∷ [])
+
+    one : AllBytes (b ∷ [])
+    one zero = g 0
+    one (suc i) = omega arith
+
+    all : AllBytes more
+    all = all-append got (b ∷ []) f one
+
+    go : (p q : Bool) → AllBytes (firstOf ((gather begin more bs) .sections))
+        → AllBytes (firstOf ((cond p (read [] []) (cond q (found more (gather begin [] bs)) (gather begin more bs))) .sections))
+    go true q j = all-none
+    go false true j = all
+    go false false j = j
 
 pub record UnderWay (x : Bytes) : Type 0 where
   pub lacks : lacking x ≡ true
@@ -416,6 +438,23 @@ module _ (fresh : Bool) (w : Words) (buffer : Bytes) (number : ℕ) (l : Load) (
     way =
         let b : AllBytes u = all-take (under .size) (drop (under .first) buffer) (all-drop (under .first) buffer bs) in
         rw (ruled .under) (taken-under u (l .start) (drop (l .from) packet) (record { lacks = reads .lacks; bytes = b }) (all-drop (l .from) packet ps))
+
+    -- the buffer holds bytes
+    pub buffer-bytes : AllBytes (bufferAfter fresh w buffer l packet)
+    unfolding bufferAfter front reading
+    buffer-bytes = go again
+      where
+        p : Parts
+        p = partsOf packet (l .start) (l .from)
+
+        ended : AllBytes (r .ended)
+        ended =
+            first-bytes false u (partOf packet p) (all-take (under .size) (drop (under .first) buffer) (all-drop (under .first) buffer bs))
+            (all-take (p .to - p .from) (drop (p .from) packet) (all-drop (p .from) packet ps))
+
+        go : (a : Bool) → AllBytes (cond a buffer ((r .ended ++ r .under) ++ drop (length (r .ended ++ r .under)) buffer))
+        go true = bs
+        go false = all-append (r .ended ++ r .under) (drop (length (r .ended ++ r .under)) buffer) (all-append (r .ended) (r .under) ended (way .bytes)) (all-drop (length (r .ended ++ r .under)) buffer bs)
 
     under-then : underIn (wordsOf number (l .counter) (takenOf r)) (front (r .ended ++ r .under) buffer) ≡ r .under
     unfolding spanIn

@@ -5,7 +5,8 @@
 --   byte 2   the low 8 bits of the PID
 --   byte 3   transport_scrambling_control (64), adaptation_field_control (32: an adaptation field is there, 16: a payload is there), continuity_counter
 --   byte 4   adaptation_field_length, where there is an adaptation field: how many bytes of it follow
-use Prim.Native.Nat.{ℕ, _+_, _*_, _/_, _%_}
+use mathlib.Core.Path.{_≡_}
+use Prim.Native.Nat.{ℕ, _+_, _*_, _/_, _%_, _≤_, _<_}
 use mathlib.Core.List.{List}
 use mathlib.Core.Bool.{Bool, true, false, cond, _&&_}
 use lib.ListN.{length, getD}
@@ -40,3 +41,11 @@ packetBy flags low control fieldLength =
 
 unfoldable pub packetOf : List ℕ → Packet
 packetOf s = cond (eqb (length s) 188 && eqb (getD s 0 0) 0x47) (packetBy (getD s 1 0) (getD s 2 0) (getD s 3 0) (getD s 4 0)) Malformed
+
+-- what is so of a payload in a packet, whatever its bytes
+pub record IsLoad (l : Load) (packet : List ℕ) : Type 0 where
+  pub pid : l .pid .0 < 8192
+  pub counted : l .counter < 16
+  pub headed : 4 ≤ l .from
+  pub inside : l .from ≤ 188
+  pub long : length packet ≡ 188

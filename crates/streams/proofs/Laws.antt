@@ -9,18 +9,19 @@ use native.Mathlib.Nat.{zero-div}
 use native.Mathlib.Omega.{arith}
 use lib.Dec.{eqb, ltb, leb}
 use lib.Bits.{bitOr}
-use lib.ListN.{length, getD, set, drop, replicate, length-replicate, length-set}
+use lib.ListN.{length, getD, set, take, drop, replicate, length-replicate, length-set}
+use lib.Seq.{length-take-le, getD-take}
 use borrow.Author.Tests.{eqb-true, le-leb, lt-leb, lt-ltb, le-ltb, eq-eqb, ne-eqb, leb-true, leb-false}
-use Rattle.laws.specs.Bits.{bit, hasBit, addBit}
+use Rattle.laws.specs.Bits.{bit, hasBit, addBit, without}
 use Rattle.laws.proofs.Bits.{one-shl, has-added, length-addBit}
-use Rattle.laws.proofs.Lists.{fill-turn}
+use Rattle.laws.proofs.Lists.{fill-turn, getD-zip}
 use Rattle.laws.proofs.Tests.{same-test}
 use Rattle.laws.proofs.Search.{first-same}
 use Rattle.cells.specs.Cells.{lowestFree, lowestClear}
 use Rattle.cells.proofs.Laws.{has-none}
 use Rattle.answers.specs.declared.Outcome.the-variants as outcome
 use Rattle.answers.specs.declared.Refusal.the-variants.{TooLittle}
-use Rattle.streams.specs.Store.{areEnough, cleared, opening, asked, openedOf, four, bufferOf, isNamed, marked, markedTo, pidBack, givenBack, wordBack}
+use Rattle.streams.specs.Store.{areEnough, cleared, opening, asked, openedOf, four, bufferOf, isNamed, marked, markedTo, pidBack, givenBack, leftOf, wordBack}
 
 -- ---- opening
 
@@ -207,10 +208,22 @@ whole-word left pids k (suc n) h =
     ap (λ (i : ℕ). givenBack left i pids) z ∙ ap (λ (b : Bool). givenBack left (k * 64 + n) (cond b (four pids ((k * 64 + n) * 4) 0 0 0 0) pids)) has
     ∙ whole-word left (pidBack pids (k * 64 + n) (bit (getD left k 0) n)) k n (omega arith)
 
-pub back-turn : (left : List ℕ) (k : ℕ) (all pids pids' : List ℕ) → pids' ≡ wordBack (getD left (k - 1) 0) (k - 1) 64 pids → 0 < k → givenBack left (k * 64) pids ≡ all → givenBack left ((k - 1) * 64) pids' ≡ all
+back-turn : (left : List ℕ) (k : ℕ) (all pids pids' : List ℕ) → pids' ≡ wordBack (getD left (k - 1) 0) (k - 1) 64 pids → 0 < k → givenBack left (k * 64) pids ≡ all → givenBack left ((k - 1) * 64) pids' ≡ all
 back-turn left k all pids pids' e h q =
     let z : (k - 1) * 64 + 64 ≡ k * 64 = omega arith in
     rw e (sym (whole-word left pids (k - 1) 64 (omega arith)) ∙ rw z q)
+
+-- one word of the two sets
+pub back-turn-of : (before after : List ℕ) (k : ℕ) (all pids pids' : List ℕ) (w : ℕ) → w ≡ without (getD before (k - 1) 0) (getD after (k - 1) 0)
+    → pids' ≡ wordBack w (k - 1) 64 pids → 0 < k → k ≤ 128 → 128 ≤ length before → 128 ≤ length after
+    → givenBack (leftOf before after) (k * 64) pids ≡ all → givenBack (leftOf before after) ((k - 1) * 64) pids' ≡ all
+back-turn-of before after k all pids pids' w f e h m a b q =
+    let x : length (take 128 before) ≡ 128 = length-take-le 128 before a in
+    let y : length (take 128 after) ≡ 128 = length-take-le 128 after b in
+    let z : getD (leftOf before after) (k - 1) 0 ≡ w =
+    getD-zip without (take 128 before) (take 128 after) (k - 1) 0 (omega arith) (omega arith)
+    ∙ (λ i. without (getD-take 128 before (k - 1) 0 (omega arith) i) (getD-take 128 after (k - 1) 0 (omega arith) i)) ∙ sym f in
+    back-turn (leftOf before after) k all pids pids' (e ∙ ap (λ (v : ℕ). wordBack v (k - 1) 64 pids) (sym z)) h q
 
 pub back-end : (left : List ℕ) (k : ℕ) (all pids : List ℕ) → k ≤ 0 → givenBack left (k * 64) pids ≡ all → pids ≡ all
 unfolding givenBack

@@ -1,14 +1,18 @@
 -- The PID words, four for each of 8,192 PIDs, and which section buffers they name, for every content.
 -- `cond test a b` is a where the test is true, else b.
-use mathlib.Core.Bool.{Bool, true, false, cond, _&&_, _||_}
+use mathlib.Core.Bool.{Bool, true, false, cond, not, _&&_, _||_}
 use mathlib.Core.List.{List, _++_}
 use Prim.Native.Nat.{ℕ, zero, suc, _+_, _-_, _*_, _≤_, _<_}
 use lib.Dec.{leb, ltb, eqb}
-use lib.ListN.{length, getD, set, drop, replicate}
-use Rattle.laws.specs.Bits.{bit, hasBit, addBit}
+use lib.ListN.{length, getD, set, take, drop, replicate}
+use lib.Seq.{paste}
+use Rattle.laws.specs.Bits.{bit, hasBit, addBit, less}
 use Rattle.answers.specs.Answers.{outcomeNo}
 use Rattle.section.specs.declared.ids.Pid.{Pid}
+use Rattle.cells.specs.Cells.{lowestFree}
+use Rattle.packet.specs.declared.Load.{Load}
 use Rattle.assemble.specs.declared.Words.{Words}
+use Rattle.assemble.specs.Store.{steppedOf, bufferAfter, placesAfter, sectionsIn}
 use Rattle.streams.specs.declared.Streams.{Streams}
 use Rattle.streams.specs.declared.Opened.{Opened}
 
@@ -87,7 +91,49 @@ unfoldable pub givenBack : List ℕ → ℕ → List ℕ → List ℕ
 givenBack left zero pids = pids
 givenBack left (suc n) pids = givenBack left n (cond (hasBit left n) (four pids (n * 4) 0 0 0 0) pids)
 
--- the same of the first n PIDs of word k of a set
+-- of two sets in the first 128 words each, the PIDs of the first that are not in the second
+abbrev pub leftOf : List ℕ → List ℕ → List ℕ
+leftOf before after = less (take 128 before) (take 128 after)
+
+pub record TwoSets (pids before after : List ℕ) : Type 0 where
+  pub long : 32768 ≤ length pids
+  pub first : 128 ≤ length before
+  pub second : 128 ≤ length after
+
+-- the first n PIDs of word k of a set give their buffers back
 unfoldable pub wordBack : ℕ → ℕ → ℕ → List ℕ → List ℕ
 wordBack word k zero pids = pids
 wordBack word k (suc n) pids = wordBack word k n (pidBack pids (k * 64 + n) (bit word n))
+
+-- ---- a packet with a payload
+
+-- buffer b of the lent bytes
+abbrev pub bufferAt : List ℕ → ℕ → List ℕ
+bufferAt buffers b = take 4288 (drop (b * 4288) buffers)
+
+-- the buffer that PID p holds, or count
+abbrev pub heldBuffer : ℕ → List ℕ → ℕ → ℕ
+heldBuffer count pids p = bufferOf (getD pids (p * 4) 0) count
+
+-- whether PID p takes a buffer with its packet, and the buffer that this is read into: its own, else the lowest free, or count where none is
+abbrev pub isFresh : ℕ → List ℕ → ℕ → Bool
+isFresh count pids p = not (ltb (heldBuffer count pids p) count)
+
+abbrev pub usedBuffer : ℕ → List ℕ → ℕ → ℕ
+usedBuffer count pids p = cond (isFresh count pids p) (lowestFree (isNamed pids 8192) count) (heldBuffer count pids p)
+
+-- the words of the PIDs, the buffers, the places and the sections finished, after a packet that is read into buffer b
+abbrev pub pidsRead : (b : ℕ) (fresh : Bool) → List ℕ → List ℕ → Load → List ℕ → List ℕ
+pidsRead b fresh pids buffers l packet = withWords pids (l .pid) ((steppedOf fresh (wordsAt pids (l .pid)) (bufferAt buffers b) b l packet) .words)
+
+abbrev pub buffersRead : (b : ℕ) (fresh : Bool) → List ℕ → List ℕ → Load → List ℕ → List ℕ
+buffersRead b fresh pids buffers l packet = paste buffers (b * 4288) (bufferAfter fresh (wordsAt pids (l .pid)) (bufferAt buffers b) l packet) 4288
+
+abbrev pub placesRead : (b : ℕ) (fresh : Bool) → List ℕ → List ℕ → Load → List ℕ → List ℕ → List ℕ
+placesRead b fresh pids buffers l packet places = placesAfter fresh (wordsAt pids (l .pid)) (bufferAt buffers b) b l packet places
+
+abbrev pub countRead : (b : ℕ) (fresh : Bool) → List ℕ → List ℕ → Load → List ℕ → ℕ
+countRead b fresh pids buffers l packet = (steppedOf fresh (wordsAt pids (l .pid)) (bufferAt buffers b) b l packet) .count
+
+abbrev pub sectionsRead : (b : ℕ) (fresh : Bool) → List ℕ → List ℕ → Load → List ℕ → List (List ℕ)
+sectionsRead b fresh pids buffers l packet = sectionsIn fresh (wordsAt pids (l .pid)) (bufferAt buffers b) l packet

@@ -1,11 +1,13 @@
 // The words of the PIDs, over slices and PIDs that their callers have judged: which buffer a PID holds, which is free, and who gives its buffer back.
+use crate::Streams;
 use assemble::Words;
 use section::ids::Pid;
 ghost use mathlib.Core.Path.{_≡_};
 ghost use Prim.Native.Nat.{_+_, _*_, _<_, _≤_};
 ghost use lib.ListN.{length};
 ghost use Rattle.cells.specs.Cells.{lowestFree};
-ghost use Rattle.streams.specs.Store.{wordsAt, withWords, bufferOf, marked, markedTo, isNamed, pidBack, wordBack, givenBack, InWords};
+ghost use Rattle.laws.specs.Bits.{without};
+ghost use Rattle.streams.specs.Store.{areEnough, wordsAt, withWords, bufferOf, marked, markedTo, isNamed, pidBack, wordBack, givenBack, leftOf, InWords, TwoSets};
 
 const WORDS_EACH: usize = 4;
 
@@ -13,6 +15,21 @@ const PIDS: usize = 8192;
 
 // A set of PIDs: PID p is bit p % 64 of word p / 64.
 const SET_WORDS: usize = 128;
+
+// ---- what is lent
+
+// 1 to 8,192 buffers, and the words and bytes that they ask for.
+pub fn are_enough(count: usize, words: usize, bytes: usize) -> bool
+    ensures { λ r. ⌜ r ≡ areEnough count words bytes ⌝ }
+{
+    if count == 0 {
+        return false;
+    }
+    if Streams::MOST_BUFFERS < count {
+        return false;
+    }
+    (crate::PID_WORDS <= words) & (count * assemble::BUFFER_BYTES <= bytes)
+}
 
 // ---- the words of a PID
 
@@ -120,14 +137,22 @@ fn give_word(pids: &mut [u64], k: usize, left: u64)
     }
 }
 
-// The PIDs of a set give their buffers back: their four words become 0. Words of the set without a PID are passed over whole.
-pub fn give_back(pids: &mut [u64], left: &[u64])
-    requires { ⌜ (32768 ≤ length (now pids)) × (128 ≤ length (now left)) ⌝ }
-    ensures { λ _. ⌜ now (pids .exit) ≡ givenBack (now (left .entry)) 8192 (now (pids .entry)) ⌝ }
+// The bits of one word of a set that the same word of another has not.
+fn less(before: u64, after: u64) -> u64
+    ensures { λ r. ⌜ r ≡ without before after ⌝ }
+{
+    before ^ (before & after)
+}
+
+// The PIDs that were in the set `before` and are not in `after` give their buffers back: their four words become 0. Words of the sets that say of no PID
+// that it left are passed over whole.
+pub fn give_back(pids: &mut [u64], before: &[u64], after: &[u64])
+    requires { ⌜ TwoSets (now pids) (now before) (now after) ⌝ }
+    ensures { λ _. ⌜ now (pids .exit) ≡ givenBack (leftOf (now (before .entry)) (now (after .entry))) 8192 (now (pids .entry)) ⌝ }
 {
     let mut k = SET_WORDS;
     while k > 0 {
         k -= 1;
-        give_word(pids, k, left[k]);
+        give_word(pids, k, less(before[k], after[k]));
     }
 }

@@ -6,7 +6,7 @@ use answers::Refusal;
 ghost use mathlib.Core.Path.{_≡_};
 ghost use Prim.Native.Nat.{_≤_};
 ghost use lib.ListN.{length};
-ghost use Rattle.streams.specs.Store.{areEnough, openedOf, opening, cleared};
+ghost use Rattle.streams.specs.Store.{openedOf, opening, cleared};
 
 pub mod inner;
 
@@ -42,7 +42,7 @@ pub fn open(count: usize, pids: &mut [u64], buffers: &[u8]) -> Opened
         packets: 0,
         malformed: 0,
     };
-    if are_enough(count, pids.len(), buffers.len()) {
+    if inner::are_enough(count, pids.len(), buffers.len()) {
         clear(pids, PID_WORDS);
         return Opened {
             answer: Outcome::Done,
@@ -53,19 +53,6 @@ pub fn open(count: usize, pids: &mut [u64], buffers: &[u8]) -> Opened
         answer: Outcome::Refused(Refusal::TooLittle),
         streams,
     }
-}
-
-// 1 to 8,192 buffers, and the words and bytes that they ask for.
-fn are_enough(count: usize, words: usize, bytes: usize) -> bool
-    ensures { λ r. ⌜ r ≡ areEnough count words bytes ⌝ }
-{
-    if count == 0 {
-        return false;
-    }
-    if Streams::MOST_BUFFERS < count {
-        return false;
-    }
-    (PID_WORDS <= words) & (count * assemble::BUFFER_BYTES <= bytes)
 }
 
 // The first n words become 0.

@@ -10,7 +10,6 @@ use native.Mathlib.Omega.{arith}
 use lib.Dec.{eqb, ltb, leb}
 use lib.ListN.{length, take, drop, getD}
 use lib.Seq.{paste, take-all, drop-drop}
-use borrow.Rule.Slice.PartMut.{putMid}
 use borrow.Author.Tests.{le-leb, lt-ltb, le-ltb, ltb-true, ltb-false, leb-true, eq-eqb, ne-eqb, eqb-true}
 use Rattle.laws.specs.Bits.{hasBit}
 use Rattle.laws.proofs.Search.{first-same}
@@ -22,16 +21,9 @@ use Rattle.section.specs.declared.ids.Pid.{Pid}
 use Rattle.transport.specs.Receiver.{Stream, Streams, stream}
 use Rattle.assemble.specs.declared.Words.{Words}
 use Rattle.assemble.specs.Store.{stateIn}
-use Rattle.streams.specs.Store.{bufferOf, isNamed, withWords, givenBack, cleared}
+use Rattle.streams.specs.Store.{bufferOf, isNamed, withWords, givenBack, cleared, bufferAt, heldBuffer, usedBuffer}
 use Rattle.streams.proofs.After.{wordsOf, put-there, put-apart, back-stays, back-gone, cleared-word, not-named}
-use Rattle.ties_streams.specs.View.{bufferAt, wordsAt, heldBuffer, heldWith, heldBy, holdsIt, isHeld, below, lowestOf, usedBuffer, Lent, Apart}
-
--- ---- a buffer that was lent as a part of the bytes, and came back
-
-pub part-back : (xs ys : List ℕ) (a e : ℕ) → length ys ≡ e - a → putMid a (e - a) xs ys ≡ paste xs a ys (e - a)
-part-back xs ys a e l =
-    let q : take (e - a) ys ≡ ys = take-all (e - a) ys (omega arith) in
-    sym (append-assoc (take a xs) ys (drop (e - a) (drop a xs))) ∙ (λ i. (take a xs ++ sym q i) ++ drop-drop (e - a) a xs i)
+use Rattle.ties_streams.specs.View.{wordsAt, heldWith, heldBy, holdsIt, isHeld, below, lowestOf, Lent, Apart}
 
 -- ---- a word 0
 

@@ -7,68 +7,30 @@ use mathlib.Core.Logic.{_≢_, by-cases}
 use mathlib.Core.Bool.{Bool, true, false, cond, not, _&&_, true≢false}
 use mathlib.Core.Option.{Option, none, some}
 use mathlib.Core.List.{List, []}
-use Prim.Native.Nat.{ℕ, _+_, _-_, _*_, _/_, _%_, _≤_, _<_}
+use Prim.Native.Nat.{ℕ, _+_, _-_, _*_, _≤_, _<_}
 use native.Mathlib.Decide.{ℕ-discrete}
 use native.Mathlib.Omega.{arith}
-use lib.Dec.{eqb, ltb, leb}
+use lib.Dec.{eqb, ltb}
 use lib.ListN.{length, drop, getD, replicate, length-drop, length-replicate}
 use lib.Seq.{length-take-le}
-use borrow.Author.Tests.{lt-ltb, le-ltb, ltb-true, ltb-false, leb-true, eq-eqb, ne-eqb, eqb-true}
+use borrow.Author.Tests.{lt-ltb, le-ltb, ltb-true, ltb-false, eq-eqb, ne-eqb}
 use Rattle.laws.specs.Bits.{hasBit}
 use Rattle.cells.specs.Cells.{lowestFree}
 use Rattle.section.specs.Facts.{Bytes as AllBytes}
 use Rattle.section.specs.declared.ids.Pid.{Pid}
 use Rattle.packet.specs.declared.Load.{Load}
-use Rattle.packet.specs.declared.Packet.the-variants.{Malformed, Nothing, Payload}
-use Rattle.packet.specs.Packets.{packetOf, packetBy, payloadAt, isReadable, loadOf}
+use Rattle.packet.specs.Packets.{IsLoad}
 use Rattle.transport.specs.Rules.{State, step}
 use Rattle.transport.specs.Receiver.{Stream, Streams, stream, withStream, leaving, taking}
 use Rattle.assemble.specs.declared.Words.{Words}
 use Rattle.assemble.specs.Store.{stateIn, payloadOf, steppedOf, bufferAfter, placesAfter, toldAt, Fits}
 use Rattle.assemble.proofs.Ties.{same-sections, same-state, few-sections, told-bytes, buffer-length, number-then, all-take, all-drop}
-use Rattle.streams.specs.Store.{bufferOf, isNamed, withWords, givenBack, cleared}
+use Rattle.streams.specs.Store.{bufferOf, isNamed, withWords, givenBack, cleared, bufferAt, heldBuffer, isFresh, usedBuffer}
 use Rattle.streams.proofs.After.{wordsOf, put-there, put-apart, back-stays, back-gone, cleared-word}
-use Rattle.ties_streams.specs.View.{bufferAt, wordsAt, heldBuffer, heldWith, heldBy, below, lowestOf, isFresh, usedBuffer, pidsAfter, buffersAfter, sectionsFrom, Lent, Apart}
+use Rattle.ties_streams.specs.View.{wordsAt, heldWith, heldBy, below, lowestOf, pidsAfter, buffersAfter, sectionsFrom, Lent, Apart}
 use Rattle.ties_streams.proofs.Held.{pid, past-held, back-held, back-kept, held-word, none-held, some-held, no-buffer, own-buffer, own-bytes, other-buffer, put-own, put-other, lowest-same, nobody-else}
 
--- a packet as `packet::read` gives it
-pub record Read (l : Load) (packet : List ℕ) : Type 0 where
-  pub pid : l .pid .0 < 8192
-  pub counted : l .counter < 16
-  pub headed : 4 ≤ l .from
-  pub inside : l .from ≤ 188
-  pub long : length packet ≡ 188
-
-read-fields : (flags low control from : ℕ) (s : List ℕ) → low < 256 → 4 ≤ from → from ≤ 188 → length s ≡ 188 → Read (loadOf flags low control from) s
-read-fields flags low control from s b h k n = record { pid = omega arith; counted = omega arith; headed = h; inside = k; long = n }
-
-header-there : (control field : ℕ) → 4 ≤ payloadAt control field
-header-there control field = go (eqb (control / 32 % 2) 1)
-  where
-    go : (b : Bool) → 4 ≤ cond b (5 + field) 4
-    go true = omega arith
-    go false = omega arith
-
-pub as-read : (s : List ℕ) (l : Load) → AllBytes s → packetOf s ≡ Payload l → Read l s
-unfolding packetOf packetBy
-as-read s l b = go (eqb (length s) 188) (eqb (getD s 0 0) 0x47) (leb from 188) (isReadable (getD s 1 0) (getD s 3 0)) refl refl
-  where
-    from : ℕ
-    from = payloadAt (getD s 3 0) (getD s 4 0)
-
-    told : Load
-    told = loadOf (getD s 1 0) (getD s 2 0) (getD s 3 0) from
-
-    go : (x y z w : Bool) → eqb (length s) 188 ≡ x → leb from 188 ≡ z → cond (x && y) (cond z (cond w (Payload told) Nothing) Malformed) Malformed ≡ Payload l → Read l s
-    go true true true true p q e =
-        let same : told ≡ l = cc in
-        rw (← same) (read-fields (getD s 1 0) (getD s 2 0) (getD s 3 0) from s (b 2) (header-there (getD s 3 0) (getD s 4 0)) (leb-true _ _ q) (eqb-true _ _ p))
-    go true true true false p q e = let z : _≡_ {A = ℕ} 0 1 = cc in absurd (omega arith)
-    go true true false w p q e = let z : _≡_ {A = ℕ} 0 1 = cc in absurd (omega arith)
-    go true false z w p q e = let z : _≡_ {A = ℕ} 0 1 = cc in absurd (omega arith)
-    go false y z w p q e = let z : _≡_ {A = ℕ} 0 1 = cc in absurd (omega arith)
-
-module _ (count : ℕ) (pids buffers : List ℕ) (lent : Lent count pids buffers) (l : Load) (packet : List ℕ) (h : Read l packet) where
+module _ (count : ℕ) (pids buffers : List ℕ) (lent : Lent count pids buffers) (l : Load) (packet : List ℕ) (h : IsLoad l packet) where
   abbrev p : ℕ
   p = l .pid .0
 

@@ -11,20 +11,12 @@ use Rattle.cells.specs.Cells.{lowestFree}
 use Rattle.packet.specs.declared.Load.{Load}
 use Rattle.transport.specs.Receiver.{Stream, Streams, stream}
 use Rattle.assemble.specs.declared.Words.{Words}
-use Rattle.assemble.specs.Store.{stateIn, steppedOf, bufferAfter, sectionsIn}
-use Rattle.streams.specs.Store.{bufferOf, isNamed, withWords}
-
--- buffer b of the lent bytes
-abbrev pub bufferAt : List ℕ → ℕ → List ℕ
-bufferAt buffers b = take 4288 (drop (b * 4288) buffers)
+use Rattle.assemble.specs.Store.{stateIn}
+use Rattle.streams.specs.Store.{isNamed, bufferAt, heldBuffer, isFresh, usedBuffer, pidsRead, buffersRead, sectionsRead}
 
 -- the four words of PID p
 abbrev pub wordsAt : List ℕ → ℕ → Words
 wordsAt pids p = record { number = getD pids (p * 4) 0; counter = getD pids (p * 4 + 1) 0; first = getD pids (p * 4 + 2) 0; size = getD pids (p * 4 + 3) 0 }
-
--- the buffer that PID p holds, or count
-abbrev pub heldBuffer : ℕ → List ℕ → ℕ → ℕ
-heldBuffer count pids p = bufferOf (getD pids (p * 4) 0) count
 
 abbrev pub heldWith : ℕ → ℕ → ℕ → Words → List ℕ → Option Stream
 heldWith count p b w buffer = cond (ltb p 8192 && ltb b count) (some (stream b (stateIn false w buffer))) none
@@ -53,30 +45,15 @@ lowestOf count f = below count (lowestFree (isHeld f 8192) count)
 
 -- ---- a packet
 
--- the buffer that a packet of PID p is read into, its own or the lowest free, and whether the PID takes it with this packet
-abbrev pub isFresh : ℕ → List ℕ → ℕ → Bool
-isFresh count pids p = not (ltb (heldBuffer count pids p) count)
-
-abbrev pub usedBuffer : ℕ → List ℕ → ℕ → ℕ
-usedBuffer count pids p = cond (isFresh count pids p) (lowestFree (isNamed pids 8192) count) (heldBuffer count pids p)
-
 -- the PID words, the buffers and the sections after a packet with a payload
 abbrev pub pidsAfter : ℕ → List ℕ → List ℕ → Load → List ℕ → List ℕ
-pidsAfter count pids buffers l packet =
-    let p : ℕ = l .pid .0 in
-    let b : ℕ = usedBuffer count pids p in
-    withWords pids (l .pid) ((steppedOf (isFresh count pids p) (wordsAt pids p) (bufferAt buffers b) b l packet) .words)
+pidsAfter count pids buffers l packet = pidsRead (usedBuffer count pids (l .pid .0)) (isFresh count pids (l .pid .0)) pids buffers l packet
 
 abbrev pub buffersAfter : ℕ → List ℕ → List ℕ → Load → List ℕ → List ℕ
-buffersAfter count pids buffers l packet =
-    let p : ℕ = l .pid .0 in
-    let b : ℕ = usedBuffer count pids p in
-    paste buffers (b * 4288) (bufferAfter (isFresh count pids p) (wordsAt pids p) (bufferAt buffers b) l packet) 4288
+buffersAfter count pids buffers l packet = buffersRead (usedBuffer count pids (l .pid .0)) (isFresh count pids (l .pid .0)) pids buffers l packet
 
 abbrev pub sectionsFrom : ℕ → List ℕ → List ℕ → Load → List ℕ → List (List ℕ)
-sectionsFrom count pids buffers l packet =
-    let p : ℕ = l .pid .0 in
-    sectionsIn (isFresh count pids p) (wordsAt pids p) (bufferAt buffers (usedBuffer count pids p)) l packet
+sectionsFrom count pids buffers l packet = sectionsRead (usedBuffer count pids (l .pid .0)) (isFresh count pids (l .pid .0)) pids buffers l packet
 
 -- ---- what is lent, and what every history has
 
