@@ -30,6 +30,7 @@ impl Answer {
     pub const CONFLICT: Self = Self(22);
     pub const RANGE: Self = Self(23);
     pub const TOO_SHORT: Self = Self(31);
+    pub const PAST_LOOP: Self = Self(32);
     pub const BAD_INPUT: Self = Self(37);
 
     /// `Ok` where the answer is 7.

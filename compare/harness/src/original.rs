@@ -57,6 +57,7 @@ impl Original {
             Command::Push { pid, section, .. } => self.push_set(*pid, section),
             Command::Clear { part } => self.clear(*part),
             Command::Drop(filter) => self.drop(filter),
+            Command::Events { .. } | Command::Read { .. } | Command::Date(_) => panic!("the original lists no entries"),
         }
     }
 

@@ -1,5 +1,5 @@
 //! Which implementations are compared, and the smallest script that tells two apart.
-use crate::apart::{Apart, follows_tables, is_apart};
+use crate::apart::{Apart, asks_for_entries, follows_tables, is_apart};
 use crate::faults::Fault;
 use crate::original::Original;
 use crate::report::Report;
@@ -157,7 +157,7 @@ pub fn differing(script: &[Command], report: &mut Report) -> Option<Found> {
 /// The same of any script: where there are several inputs, or complete PATs are followed, without the original.
 pub fn differing_somehow(script: &[Command]) -> Option<Found> {
     let on_inputs = script.iter().any(|command| matches!(command, Command::Input(_)));
-    if on_inputs || follows_tables(script) {
+    if on_inputs || follows_tables(script) || asks_for_entries(script) {
         return first_difference([Side::RULES, Side::Port], script);
     }
     differing(script, &mut Report::default())

@@ -1,4 +1,5 @@
 //! The stored tapes of tests/tapes with the lines that they print, and the stored output of the program `examples_run`.
+use crate::events;
 use crate::make::{self, Domain};
 use crate::pairs::{Side, differing_somehow, smallest};
 use crate::pats;
@@ -16,7 +17,8 @@ const SEEDS: std::ops::Range<u64> = 1000..1004;
 const COMMANDS: usize = 2500;
 
 /// `domain` has the written scripts and some seeds inside the domain, without what a named difference decides, answered by the original; `damaged` has
-/// damaged and cell-bound seeds, `inputs` seeds of each domain on several inputs, and `pats` seeds of PATs in several sections, answered by the second implementation.
+/// damaged and cell-bound seeds, `inputs` seeds of each domain on several inputs, `pats` seeds of PATs in several sections, and
+/// `events` seeds that ask for entries, answered by the second implementation.
 pub fn store(root: &Path) -> bool {
     let seeds = |domain| SEEDS.flat_map(move |seed| make::script(seed, COMMANDS, domain));
     let by_hand = Written::all(root, "scripts").into_iter().flat_map(|script| script.commands);
@@ -26,6 +28,7 @@ pub fn store(root: &Path) -> bool {
         && store_tape(root, "damaged", Side::RULES, &outside)
         && store_tape(root, "inputs", Side::RULES, &on_inputs(root))
         && store_tape(root, "pats", Side::RULES, &of_pats(root))
+        && store_tape(root, "events", Side::RULES, &of_events(root))
         && store_examples(root)
         && watch_pats::store(root)
 }
@@ -42,6 +45,12 @@ fn on_inputs(root: &Path) -> Vec<Command> {
 fn of_pats(root: &Path) -> Vec<Command> {
     let by_hand = Written::all(root, "pats").into_iter().flat_map(|script| script.commands);
     by_hand.chain(pats::script(SEEDS.start, COMMANDS)).collect()
+}
+
+/// The written scripts of events/ and a seed.
+fn of_events(root: &Path) -> Vec<Command> {
+    let by_hand = Written::all(root, "events").into_iter().flat_map(|script| script.commands);
+    by_hand.chain(events::script(SEEDS.start, COMMANDS)).collect()
 }
 
 /// Whether all sides agree on a script, the original too where it is a measure; says where they do not.

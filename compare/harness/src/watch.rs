@@ -71,7 +71,7 @@ pub fn output(mut answer: impl FnMut(&Command) -> Answer, manner: Manner, input:
 }
 
 /// A PID and a section, by its own section_length; `None` where the input is cut.
-fn record(input: &[u8]) -> Option<(u16, &[u8])> {
+pub fn record(input: &[u8]) -> Option<(u16, &[u8])> {
     let &[pid_high, pid_low, _, high, low, ..] = input else { return None };
     let length = 3 + usize::from(u16::from_be_bytes([high & 0x0F, low]));
     Some((u16::from_be_bytes([pid_high, pid_low]), input.get(2..2 + length)?))

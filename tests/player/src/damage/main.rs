@@ -1,4 +1,4 @@
-//! `damage gate`, `damage sets`, `damage eit`: what a tape cannot reach. Lent memory is written over, less of it is lent or a count is preset, one
+//! `damage gate`, `damage sets`, `damage eit`, `damage events`: what a tape cannot reach. Lent memory is written over, less of it is lent or a count is preset, one
 //! thing at a time, and each call is made on it: a line says what it answers, and whether every word, lent or kept by value, is as it was. 10, 11, 12,
 //! 13 and 37 leave all as before.
 use petrizolu::{Answer, Place};
@@ -6,6 +6,7 @@ use std::io::{self, BufWriter, Write};
 use std::process::ExitCode;
 
 mod eit;
+mod events;
 mod gate;
 mod sets;
 
@@ -20,6 +21,11 @@ trait Store: Clone + PartialEq {
     fn name(call: Self::Call) -> &'static str;
 
     fn call(&mut self, call: Self::Call) -> Answer;
+
+    /// What else there is to say after a call.
+    fn says(&self) -> String {
+        String::new()
+    }
 }
 
 /// A damage, and the calls that are made after it, each on a store of its own.
@@ -50,7 +56,7 @@ fn run<S: Store>(cases: &[Case<S>], out: &mut impl Write) -> io::Result<()> {
             let before = store.clone();
             let answer = store.call(call);
             let left = if store == before { "as before" } else { "CHANGED" };
-            writeln!(out, "{}: {} {answer} {left}", case.name, S::name(call))?;
+            writeln!(out, "{}: {} {answer} {left}{}", case.name, S::name(call), store.says())?;
         }
     }
     Ok(())
@@ -63,8 +69,9 @@ fn main() -> io::Result<ExitCode> {
         "gate" => run(gate::CASES, &mut out)?,
         "sets" => run(sets::CASES, &mut out)?,
         "eit" => run(eit::CASES, &mut out)?,
+        "events" => run(events::CASES, &mut out)?,
         _ => {
-            eprintln!("usage: damage gate|sets|eit");
+            eprintln!("usage: damage gate|sets|eit|events");
             return Ok(ExitCode::from(2));
         }
     }
