@@ -1,6 +1,7 @@
 /*
- * The port beside libdvbpsi (Debian's libdvbpsi-dev): repeats of the EIT present/following of 150 services, one section each, nanoseconds a section, both from
- * the same packets: through the packet layer, the gate and the EIT collector. Beside it the port's figures from whole sections, without the packets, and without the gate.
+ * The port beside libdvbpsi (Debian's libdvbpsi-dev): repeats of the EIT present/following of 150 services, one section each, nanoseconds a section.
+ * libdvbpsi takes packets: its figure holds the gathering of a section from them, which the port leaves to its host. The port's figure holds the gate
+ * and the EIT collector.
  */
 #include "../include/petrizolu.h"
 
@@ -141,46 +142,6 @@ static bool open_port(void)
         && petrizolu_eit_open(&eit, LIMIT, LONGEST, LIMIT, EIT) == PETRIZOLU_DONE;
 }
 
-static petrizolu_streams streams;
-static uint64_t pids[PETRIZOLU_PID_WORDS], places[PETRIZOLU_PLACES_WORDS];
-static uint8_t buffers[PETRIZOLU_BUFFERS(4)];
-
-/* Each packet, and the sections that it finishes to the collector. */
-static void push_to_port(uint8_t *counter)
-{
-    for (int s = 0; s < SERVICES; s++)
-        for (int k = 0; k < packet_count; k++) {
-            uint8_t *p = packets[s][k];
-            uint64_t finished = 0, row;
-            p[3] = (uint8_t)(0x10 | *counter);
-            *counter = (*counter + 1) & 15;
-            petrizolu_indexed_feed(&gate, &streams, GATE, LEND(pids), LEND(buffers), 0, p, PACKET, LEND(places), &finished);
-            for (uint64_t n = 0; n < finished; n++) {
-                const uint64_t *place = places + n * PETRIZOLU_PLACE_WORDS;
-                const uint8_t *section = (place[PETRIZOLU_PLACE_WHERE] == PETRIZOLU_IN_PACKET ? p : buffers) + place[PETRIZOLU_PLACE_START];
-                if (place[PETRIZOLU_PLACE_ANSWER] == PETRIZOLU_EMITTED)
-                    petrizolu_eit_push(&eit, EIT, 0, EVENT_PID, section, place[PETRIZOLU_PLACE_LENGTH], &row);
-            }
-        }
-}
-
-static double time_port_by_packets(void)
-{
-    double best = 1e30;
-    uint8_t counter = 0;
-    if (!open_port() || petrizolu_streams_open(&streams, 4, LEND(pids), LEND(buffers)) != PETRIZOLU_DONE)
-        exit(2);
-    for (int round = 0; round <= ROUNDS; round++) {
-        double start = now(), took;
-        for (int turn = 0; turn < TURNS; turn++)
-            push_to_port(&counter);
-        took = (now() - start) / (TURNS * SERVICES);
-        if (round > 0 && took < best)
-            best = took;
-    }
-    return best;
-}
-
 /* The gate emits repeats too, so that the collector works on every section, as libdvbpsi's does; or the collector alone. */
 static double time_port(size_t size, bool with_gate)
 {
@@ -206,10 +167,10 @@ int main(void)
 {
     static const size_t sizes[] = {64, 184, 1000, 4000};
     puts("\nEIT present/following of 150 services, repeats, beside libdvbpsi\n");
-    puts("| bytes | EIT collector | gate and EIT collector | packets, gate and EIT collector | libdvbpsi | ratio |");
+    puts("| bytes | EIT collector | gate and EIT collector | libdvbpsi | ratio | ratio |");
     puts("|---|---|---|---|---|---|");
     for (size_t i = 0; i < sizeof sizes / sizeof sizes[0]; i++) {
-        double alone, both, all, other;
+        double alone, both, other;
         for (unsigned s = 0; s < SERVICES; s++) {
             make_section(sections[s], s, sizes[i]);
             packet_count = make_packets(packets[s], sections[s], sizes[i]);
@@ -217,13 +178,12 @@ int main(void)
         tables = 0;
         alone = time_port(sizes[i], false);
         both = time_port(sizes[i], true);
-        all = time_port_by_packets();
         other = time_dvbpsi();
         if (tables != SERVICES || eit.used != SERVICES) {
             printf("tables: %llu\n", (unsigned long long)tables);
             return 1;
         }
-        printf("| %zu | %.0f | %.0f | %.0f | %.0f | %.2f |\n", sizes[i], alone, both, all, other, all / other);
+        printf("| %zu | %.0f | %.0f | %.0f | %.2f | %.2f |\n", sizes[i], alone, both, other, alone / other, both / other);
     }
     return 0;
 }

@@ -1,6 +1,6 @@
 /*
  * A guide monitor in C over the proved library. It reads records from standard input or from the file named: a PID (two bytes, high byte first)
- * and a section; with --ts a transport stream, packets of 188 bytes one after another, whose sections the library gathers. Sections of watched PIDs go through the gate; those that are sound, new or not, go on to the set collector, EIT sections to the EIT
+ * and a section. Sections of watched PIDs go through the gate; those that are sound, new or not, go on to the set collector, EIT sections to the EIT
  * collector: a set that was evicted between two of its sections, or found no cell, is completed by repeats. It prints what a monitor shows: each new
  * section, each complete set with its sections, each complete schedule table by table, and totals.
  */
@@ -10,12 +10,11 @@
 #include <stdbool.h>
 #include <stdio.h>
 #include <stdlib.h>
-#include <string.h>
 
-/* All records, and all packets, come on one input. */
-enum { INPUT = 0, NULL_PID = 0x1FFF };
+/* All records come on one input. */
+enum { INPUT = 0 };
 
-enum { CAPACITY = 4096, SECTION_BUFFERS = 64, LIMIT = 64, CELL_SIZE = 4096, CELLS = 1024, LONGEST_SECTION = 3 + 0xFFF };
+enum { CAPACITY = 4096, LIMIT = 64, CELL_SIZE = 4096, CELLS = 1024, LONGEST_SECTION = 3 + 0xFFF };
 
 /* ---- the stores: a struct of words and the arrays that it goes with */
 
@@ -26,12 +25,6 @@ struct gate {
     uint64_t watch[PETRIZOLU_WATCH_WORDS];
     uint32_t pat_slots[PETRIZOLU_PAT_SLOTS];
     uint8_t pat_cells[PETRIZOLU_PAT_CELLS];
-};
-
-struct streams {
-    petrizolu_streams state;
-    uint64_t pids[PETRIZOLU_PID_WORDS], places[PETRIZOLU_PLACES_WORDS];
-    uint8_t buffers[PETRIZOLU_BUFFERS(SECTION_BUFFERS)];
 };
 
 struct sets {
@@ -50,7 +43,6 @@ struct eit {
 
 struct monitor {
     struct gate gate;
-    struct streams streams;
     struct sets sets;
     struct eit eit;
     uint64_t unwatched, complete_sets, complete_schedules, refused;
@@ -60,7 +52,6 @@ struct monitor {
 #define LEND(array) (array), sizeof(array) / sizeof((array)[0])
 #define LEND_RECORD(g) LEND((g)->watch), LEND((g)->pat_slots), LEND((g)->pat_cells)
 #define LEND_GATE(g) LEND((g)->keys), LEND((g)->changes), LEND((g)->buckets), LEND((g)->links), LEND_RECORD(g)
-#define LEND_STREAMS(s) LEND((s)->pids), LEND((s)->buffers)
 #define LEND_SETS(s) LEND((s)->heads), LEND((s)->slots), LEND((s)->cells)
 #define LEND_EIT(e) LEND((e)->heads), LEND((e)->slots), LEND((e)->cells), LEND((e)->schedule_heads), LEND((e)->units)
 
@@ -68,7 +59,6 @@ static bool open_all(struct monitor *m)
 {
     static const uint16_t no_extra[1];
     return petrizolu_indexed_open(&m->gate.state, CAPACITY, PETRIZOLU_DEFAULT_SETTINGS, PETRIZOLU_DEFAULT_CHANGE_RULE, no_extra, 0, LEND_GATE(&m->gate)) == PETRIZOLU_DONE
-        && petrizolu_streams_open(&m->streams.state, SECTION_BUFFERS, LEND_STREAMS(&m->streams)) == PETRIZOLU_DONE
         && petrizolu_sets_open(&m->sets.state, LIMIT, CELL_SIZE, CELLS, LEND_SETS(&m->sets)) == PETRIZOLU_DONE
         && petrizolu_eit_open(&m->eit.state, LIMIT, CELL_SIZE, CELLS, LEND_EIT(&m->eit)) == PETRIZOLU_DONE;
 }
@@ -182,20 +172,24 @@ static void collect_set(struct monitor *m, uint32_t pid, const uint8_t *section,
     }
 }
 
-/* A section and the gate's answer to it; of a failure what is told. */
-static void judged(struct monitor *m, uint32_t pid, const uint8_t *section, size_t length, uint64_t answer, uint64_t stored, uint64_t worked)
+static void take(struct monitor *m, uint32_t pid, const uint8_t *section, size_t length)
 {
-    switch (answer) {
+    petrizolu_failure failure;
+    if (petrizolu_watch_ask(LEND(m->gate.watch), pid) != PETRIZOLU_YES) {
+        m->unwatched++;
+        return;
+    }
+    switch (petrizolu_indexed_offer(&m->gate.state, LEND_GATE(&m->gate), INPUT, pid, section, length, &failure)) {
     case PETRIZOLU_EMITTED:
         printf("new pid %04" PRIX32 " table %02X, %zu bytes\n", pid, section[0], length);
         break;
     case PETRIZOLU_SUPPRESSED:
         break;
     case PETRIZOLU_TOO_SHORT:
-        printf("short pid %04" PRIX32 ", %zu bytes\n", pid, length);
+        printf("short pid %04" PRIX32 ", %" PRIu64 " bytes\n", pid, failure.length);
         return;
     case PETRIZOLU_CRC_MISMATCH:
-        printf("mismatch pid %04" PRIX32 ", stored %08" PRIX64 ", worked %08" PRIX64 "\n", pid, stored, worked);
+        printf("mismatch pid %04" PRIX32 ", stored %08" PRIX64 ", worked %08" PRIX64 "\n", pid, failure.stored, failure.worked);
         return;
     default:
         return;
@@ -204,46 +198,6 @@ static void judged(struct monitor *m, uint32_t pid, const uint8_t *section, size
         collect_events(m, pid, section, length);
     else
         collect_set(m, pid, section, length);
-}
-
-static bool is_watched(struct monitor *m, uint32_t pid)
-{
-    return petrizolu_watch_ask(LEND(m->gate.watch), pid) == PETRIZOLU_YES;
-}
-
-static void take(struct monitor *m, uint32_t pid, const uint8_t *section, size_t length)
-{
-    petrizolu_failure failure = {0, 0, 0};
-    if (!is_watched(m, pid)) {
-        m->unwatched++;
-        return;
-    }
-    uint8_t answer = petrizolu_indexed_offer(&m->gate.state, LEND_GATE(&m->gate), INPUT, pid, section, length, &failure);
-    judged(m, pid, section, length, answer, failure.stored, failure.worked);
-}
-
-/* A packet, and each section that it finishes. Packets of PIDs that are not watched are counted, but null packets. */
-static void take_packet(struct monitor *m, const uint8_t *packet)
-{
-    uint32_t pid = (packet[1] & 0x1Fu) << 8 | packet[2];
-    bool watched = is_watched(m, pid);
-    uint64_t finished = 0;
-    switch (petrizolu_indexed_feed(&m->gate.state, &m->streams.state, LEND_GATE(&m->gate), LEND_STREAMS(&m->streams), INPUT, packet, PETRIZOLU_PACKET_BYTES, LEND(m->streams.places), &finished)) {
-    case PETRIZOLU_FED:
-        m->unwatched += !watched && pid != NULL_PID;
-        break;
-    case PETRIZOLU_NO_BUFFER:
-        printf("no buffer for pid %04" PRIX32 "\n", pid);
-        break;
-    default:
-        break;
-    }
-    for (uint64_t k = 0; k < finished; k++) {
-        const uint64_t *place = m->streams.places + k * PETRIZOLU_PLACE_WORDS;
-        const uint8_t *bytes = place[PETRIZOLU_PLACE_WHERE] == PETRIZOLU_IN_PACKET ? packet : m->streams.buffers;
-        judged(m, pid, bytes + place[PETRIZOLU_PLACE_START], place[PETRIZOLU_PLACE_LENGTH], place[PETRIZOLU_PLACE_ANSWER], place[PETRIZOLU_PLACE_STORED],
-               place[PETRIZOLU_PLACE_WORKED]);
-    }
 }
 
 /* ---- records */
@@ -267,45 +221,27 @@ static int read_record(FILE *in, uint32_t *pid, uint8_t *section, size_t *length
     return fread(section + 3, 1, rest, in) == rest ? 1 : -1;
 }
 
-static bool read_records(struct monitor *m, FILE *in)
-{
-    static uint8_t section[LONGEST_SECTION];
-    uint32_t pid;
-    size_t length;
-    int more;
-    while ((more = read_record(in, &pid, section, &length)) == 1)
-        take(m, pid, section, length);
-    return more == 0;
-}
-
-static bool read_packets(struct monitor *m, FILE *in)
-{
-    uint8_t packet[PETRIZOLU_PACKET_BYTES];
-    size_t n;
-    while ((n = fread(packet, 1, sizeof packet, in)) == sizeof packet)
-        take_packet(m, packet);
-    return n == 0;
-}
-
 int main(int argc, char **argv)
 {
     static struct monitor m;
-    bool packets = argc > 1 && strcmp(argv[1], "--ts") == 0;
-    const char *file = argv[packets ? 2 : 1];
-    FILE *in = file != NULL ? fopen(file, "rb") : stdin;
+    static uint8_t section[LONGEST_SECTION];
+    FILE *in = argc > 1 ? fopen(argv[1], "rb") : stdin;
+    uint32_t pid;
+    size_t length;
+    int more;
 
     if (in == NULL) {
-        perror(file);
+        perror(argv[1]);
         return 1;
     }
     if (!open_all(&m)) {
         fputs("monitor: the stores do not open\n", stderr);
         return 1;
     }
-    if (!(packets ? read_packets(&m, in) : read_records(&m, in)))
+    while ((more = read_record(in, &pid, section, &length)) == 1)
+        take(&m, pid, section, length);
+    if (more == -1)
         puts("cut");
-    if (packets)
-        printf("packets %" PRIu64 " malformed %" PRIu64 "\n", m.streams.state.packets, m.streams.state.malformed);
     printf("sections %" PRIu64 " new %" PRIu64 " repeats %" PRIu64 " crc %" PRIu64 " unwatched %" PRIu64 "\n", m.gate.state.completed, m.gate.state.emitted,
            m.gate.state.suppressed, m.gate.state.crc_failures, m.unwatched);
     printf("sets %" PRIu64 " schedules %" PRIu64 " refused %" PRIu64 " evicted %" PRIu64 "\n", m.complete_sets, m.complete_schedules, m.refused,

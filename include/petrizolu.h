@@ -54,11 +54,8 @@ enum petrizolu_answer {
     PETRIZOLU_NO_CELL = 21,          /* it would be kept, and no cell is free */
     PETRIZOLU_CONFLICT = 22,         /* other bytes under a section number that is held; its key is the newest now, else all is as before */
     PETRIZOLU_RANGE = 23,            /* EIT: complete, but its table_id is above the section's last_table_id; the section is kept */
-    PETRIZOLU_FED = 29,              /* a packet was taken; how many sections it finished is told, and each answer in the places */
-    PETRIZOLU_MALFORMED_PACKET = 30, /* not 188 bytes, no sync byte, or an adaptation field past the end */
     PETRIZOLU_TOO_SHORT = 31,        /* gate: too short to hold its CRC, or under 3 bytes; its length is told */
-    PETRIZOLU_BAD_INPUT = 37,        /* an input of 16 or more */
-    PETRIZOLU_NO_BUFFER = 43         /* its PID needs a section buffer, and none is free */
+    PETRIZOLU_BAD_INPUT = 37         /* an input of 16 or more */
 };
 
 /* ---- numbers */
@@ -109,27 +106,6 @@ enum petrizolu_answer {
 
 /* In the record of an input: how often the PAT of another transport_stream_id came in the place of the one that was held. A host may read it. */
 #define PETRIZOLU_WATCH_PAT_EVICTIONS 385u
-
-/* The transport stream. */
-#define PETRIZOLU_PACKET_BYTES 188u
-#define PETRIZOLU_PID_WORDS 32768u                                                    /* pids: uint64_t, 4 for each of 8,192 PIDs */
-#define PETRIZOLU_BUFFER_BYTES 4288u
-#define PETRIZOLU_BUFFERS(count) ((size_t)(count) * PETRIZOLU_BUFFER_BYTES)           /* buffers: uint8_t */
-#define PETRIZOLU_MOST_BUFFERS 8192u
-#define PETRIZOLU_DEFAULT_BUFFERS 256u
-#define PETRIZOLU_PLACES 64u
-#define PETRIZOLU_PLACE_WORDS 6u
-#define PETRIZOLU_PLACES_WORDS (PETRIZOLU_PLACES * PETRIZOLU_PLACE_WORDS)             /* places: uint64_t, 384; place k begins at k * PETRIZOLU_PLACE_WORDS */
-
-/* What a place says of a section that a packet finished. */
-#define PETRIZOLU_PLACE_ANSWER 0u    /* 1, 2, 3 or 31 */
-#define PETRIZOLU_PLACE_STORED 1u    /* with 3: the CRC that it carries, else 0 */
-#define PETRIZOLU_PLACE_WORKED 2u    /* with 3: the CRC of its bytes, else 0 */
-#define PETRIZOLU_PLACE_WHERE 3u     /* PETRIZOLU_IN_PACKET or PETRIZOLU_IN_BUFFERS */
-#define PETRIZOLU_PLACE_START 4u     /* its first byte there */
-#define PETRIZOLU_PLACE_LENGTH 5u
-#define PETRIZOLU_IN_PACKET 0u
-#define PETRIZOLU_IN_BUFFERS 1u
 
 /*
  * What a row's head says. heads + row * PETRIZOLU_HEAD_WORDS has these words; a host may read them of a row that was handed out, to name the
@@ -295,70 +271,6 @@ uint8_t petrizolu_indexed_offer(petrizolu_gate *gate, uint64_t *keys, size_t key
                                 uint64_t *buckets, size_t bucket_count, uint64_t *links, size_t link_count, uint64_t *watch,
                                 size_t watch_words, uint32_t *pat_slots, size_t pat_slot_words, uint8_t *pat_cells, size_t pat_cell_bytes,
                                 uint32_t input, uint32_t pid, const uint8_t *section, size_t section_length, petrizolu_failure *failure);
-
-/*
- * ---- the transport stream: packets in, the sections that they finish through the gate
- *
- * Open a gate, then for each input its watch record and its streams, and give every packet to petrizolu_feed with the memory of its input, watched or not: packets
- * of PIDs that are not watched cost little. A packet finishes 0 to 61 sections. Each is offered to the gate as petrizolu_gate_offer would; place k tells the answer,
- * and where the section's bytes are: the example below reads them. They stand there until the next petrizolu_feed: hand those that are sound (1 and 2) to a collector now.
- * A watched PID takes a section buffer with its first payload and gives it back when it leaves the watch. A lost packet drops the section under way on its PID; a
- * packet repeated once is ignored. Packets marked as damaged or scrambled count as lost. Whoever opens the gate anew opens the streams
- * anew. A PID that leaves the watch by petrizolu_gate_offer gives its buffer back with its next packet.
- */
-
-typedef struct petrizolu_streams {
-    uint64_t count;    /* section buffers, 1 to PETRIZOLU_MOST_BUFFERS */
-    uint64_t packets;
-    uint64_t malformed;
-} petrizolu_streams;
-
-/*
- * Opens the streams of one input. pids: PETRIZOLU_PID_WORDS, buffers: PETRIZOLU_BUFFERS(count) elements at least; buffers need not be written before and are not
- * written here.
- * 7: *streams and pids are written. 13: count is 0 or above PETRIZOLU_MOST_BUFFERS, or pids or buffers are too short; all as before.
- *
- *     enum { BUFFERS = 8 };
- *     static uint64_t pids[PETRIZOLU_PID_WORDS], places[PETRIZOLU_PLACES_WORDS];
- *     static uint8_t buffers[PETRIZOLU_BUFFERS(BUFFERS)];
- *     petrizolu_streams streams;
- *     if (petrizolu_streams_open(&streams, BUFFERS, pids, PETRIZOLU_PID_WORDS, buffers, sizeof buffers) != PETRIZOLU_DONE)
- *         return 1;
- */
-uint8_t petrizolu_streams_open(petrizolu_streams *streams, uint64_t count, uint64_t *pids, size_t pid_words, const uint8_t *buffers,
-                               size_t buffer_bytes);
-
-/*
- * Gives a packet that came on an input.
- * 29: *finished and the first places are written. 30 (packets and malformed count it), 43 (packets counts it; more buffers would help), 10 (also places of fewer than
- * PETRIZOLU_PLACES_WORDS words), 11 (a counter within 64 of its end), 37 (an input above 15): nothing else is written.
- *
- *     uint64_t finished = 0;
- *     if (petrizolu_feed(&gate, &streams, keys, 512, changes, 512, RECORD(input), pids, PETRIZOLU_PID_WORDS, buffers, sizeof buffers, input, packet,
- *                        sizeof packet, places, PETRIZOLU_PLACES_WORDS, &finished) == PETRIZOLU_FED)
- *         for (uint64_t k = 0; k < finished; k++) {
- *             const uint64_t *place = places + k * PETRIZOLU_PLACE_WORDS;
- *             const uint8_t *section = (place[PETRIZOLU_PLACE_WHERE] == PETRIZOLU_IN_PACKET ? packet : buffers) + place[PETRIZOLU_PLACE_START];
- *             printf("table %02X, answer %llu\n", section[0], (unsigned long long)place[PETRIZOLU_PLACE_ANSWER]);
- *         }
- */
-uint8_t petrizolu_feed(petrizolu_gate *gate, petrizolu_streams *streams, uint64_t *keys, size_t key_count, uint64_t *changes,
-                       size_t change_count, uint64_t *watch, size_t watch_words, uint32_t *pat_slots, size_t pat_slot_words, uint8_t *pat_cells,
-                       size_t pat_cell_bytes, uint64_t *pids, size_t pid_words, uint8_t *buffers, size_t buffer_bytes, uint32_t input,
-                       const uint8_t *packet, size_t packet_bytes, uint64_t *places, size_t place_words, uint64_t *finished);
-
-/*
- * As petrizolu_feed, through the gate with an index.
- *
- *     if (petrizolu_indexed_feed(&large, &streams, rows[0], ROWS, rows[1], ROWS, rows[2], ROWS, rows[3], ROWS, RECORD(input), pids, PETRIZOLU_PID_WORDS,
- *                                buffers, sizeof buffers, input, packet, sizeof packet, places, PETRIZOLU_PLACES_WORDS, &finished) == PETRIZOLU_FED)
- *         printf("%llu sections\n", (unsigned long long)finished);
- */
-uint8_t petrizolu_indexed_feed(petrizolu_gate *gate, petrizolu_streams *streams, uint64_t *keys, size_t key_count, uint64_t *changes,
-                               size_t change_count, uint64_t *buckets, size_t bucket_count, uint64_t *links, size_t link_count, uint64_t *watch,
-                               size_t watch_words, uint32_t *pat_slots, size_t pat_slot_words, uint8_t *pat_cells, size_t pat_cell_bytes,
-                               uint64_t *pids, size_t pid_words, uint8_t *buffers, size_t buffer_bytes, uint32_t input, const uint8_t *packet,
-                               size_t packet_bytes, uint64_t *places, size_t place_words, uint64_t *finished);
 
 /* ---- a section of a row */
 

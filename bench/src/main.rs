@@ -1,9 +1,7 @@
 //! bench [quick]: nanoseconds a section, the port beside the original on the same sections in the same scattered order. Times are the thread's
 //! processor time, the best of some rounds; the rounds of the port and of the original take turns, so that a busy machine slows both.
 
-mod packets;
 mod sections;
-mod ts;
 
 use broadcast_common::crc32_mpeg2::{EIGHT_TABLES, compute};
 use bytes::Bytes;
@@ -418,7 +416,6 @@ fn main() {
     gate(rounds);
     gate_new_keys(rounds);
     following(rounds);
-    packets::packets(rounds);
     sets(rounds);
     sets_new_keys(rounds);
     event_repeats(rounds, "EIT collector: a repeat of a held present/following set of one section", 0x4E);

@@ -29,11 +29,8 @@ impl Answer {
     pub const NO_CELL: Self = Self(21);
     pub const CONFLICT: Self = Self(22);
     pub const RANGE: Self = Self(23);
-    pub const FED: Self = Self(29);
-    pub const MALFORMED_PACKET: Self = Self(30);
     pub const TOO_SHORT: Self = Self(31);
     pub const BAD_INPUT: Self = Self(37);
-    pub const NO_BUFFER: Self = Self(43);
 
     /// `Ok` where the answer is 7.
     pub(crate) fn done(self) -> Result<(), Refused> {

@@ -31,15 +31,6 @@ pub struct Failure {
     pub worked: u64,
 }
 
-/// How many section buffers the streams of an input have, and how many packets came on it, and malformed ones.
-#[repr(C)]
-#[derive(Debug, Clone, Copy, Default, PartialEq, Eq)]
-pub struct StreamsState {
-    pub count: u64,
-    pub packets: u64,
-    pub malformed: u64,
-}
-
 /// A set collector's settings and counts.
 #[repr(C)]
 #[derive(Debug, Clone, Copy, Default, PartialEq, Eq)]
@@ -292,107 +283,6 @@ pub fn indexed_offer(
             section.as_ptr(),
             section.len(),
             failure,
-        )
-    })
-}
-
-// ---- the transport stream
-
-pub fn streams_open(streams: &mut StreamsState, count: u64, pids: &mut [u64], buffers: &[u8]) -> Answer {
-    // SAFETY: as above.
-    Answer(unsafe { raw::petrizolu_streams_open(streams, count, pids.as_mut_ptr(), pids.len(), buffers.as_ptr(), buffers.len()) })
-}
-
-pub fn feed(
-    gate: &mut GateState,
-    streams: &mut StreamsState,
-    keys: &mut [u64],
-    changes: &mut [u64],
-    watch: &mut [u64],
-    pat_slots: &mut [u32],
-    pat_cells: &mut [u8],
-    pids: &mut [u64],
-    buffers: &mut [u8],
-    input: u32,
-    packet: &[u8],
-    places: &mut [u64],
-    finished: &mut u64,
-) -> Answer {
-    // SAFETY: as above.
-    Answer(unsafe {
-        raw::petrizolu_feed(
-            gate,
-            streams,
-            keys.as_mut_ptr(),
-            keys.len(),
-            changes.as_mut_ptr(),
-            changes.len(),
-            watch.as_mut_ptr(),
-            watch.len(),
-            pat_slots.as_mut_ptr(),
-            pat_slots.len(),
-            pat_cells.as_mut_ptr(),
-            pat_cells.len(),
-            pids.as_mut_ptr(),
-            pids.len(),
-            buffers.as_mut_ptr(),
-            buffers.len(),
-            input,
-            packet.as_ptr(),
-            packet.len(),
-            places.as_mut_ptr(),
-            places.len(),
-            finished,
-        )
-    })
-}
-
-pub fn indexed_feed(
-    gate: &mut GateState,
-    streams: &mut StreamsState,
-    keys: &mut [u64],
-    changes: &mut [u64],
-    buckets: &mut [u64],
-    links: &mut [u64],
-    watch: &mut [u64],
-    pat_slots: &mut [u32],
-    pat_cells: &mut [u8],
-    pids: &mut [u64],
-    buffers: &mut [u8],
-    input: u32,
-    packet: &[u8],
-    places: &mut [u64],
-    finished: &mut u64,
-) -> Answer {
-    // SAFETY: as above.
-    Answer(unsafe {
-        raw::petrizolu_indexed_feed(
-            gate,
-            streams,
-            keys.as_mut_ptr(),
-            keys.len(),
-            changes.as_mut_ptr(),
-            changes.len(),
-            buckets.as_mut_ptr(),
-            buckets.len(),
-            links.as_mut_ptr(),
-            links.len(),
-            watch.as_mut_ptr(),
-            watch.len(),
-            pat_slots.as_mut_ptr(),
-            pat_slots.len(),
-            pat_cells.as_mut_ptr(),
-            pat_cells.len(),
-            pids.as_mut_ptr(),
-            pids.len(),
-            buffers.as_mut_ptr(),
-            buffers.len(),
-            input,
-            packet.as_ptr(),
-            packet.len(),
-            places.as_mut_ptr(),
-            places.len(),
-            finished,
         )
     })
 }

@@ -37,17 +37,17 @@ fn rows(capacity: usize) -> Box<[u64]> {
 const SET_WORDS: usize = 384;
 
 /// The watch record of each input, in equal parts. Who gives an input gets its own record, and no other.
-pub(crate) struct Watches {
+struct Watches {
     words: Box<[u64]>,
     pat_slots: Box<[u32]>,
     pat_cells: Box<[u8]>,
 }
 
 /// What is lent of one input.
-pub(crate) struct Record<'a> {
-    pub words: &'a mut [u64],
-    pub pat_slots: &'a mut [u32],
-    pub pat_cells: &'a mut [u8],
+struct Record<'a> {
+    words: &'a mut [u64],
+    pat_slots: &'a mut [u32],
+    pat_cells: &'a mut [u8],
 }
 
 impl Watches {
@@ -71,7 +71,7 @@ impl Watches {
     }
 
     /// What is lent to a call on an input. An input that there is not is refused whatever is lent (37).
-    pub fn of(&mut self, input: u8) -> Record<'_> {
+    fn of(&mut self, input: u8) -> Record<'_> {
         let at = usize::from(input) % INPUTS;
         Record {
             words: part_mut(&mut self.words, at),
@@ -178,12 +178,12 @@ impl SmallGate {
 
 /// The gate with an index over its rows.
 pub struct Gate {
-    pub(crate) state: GateState,
-    pub(crate) keys: Box<[u64]>,
-    pub(crate) changes: Box<[u64]>,
-    pub(crate) buckets: Box<[u64]>,
-    pub(crate) links: Box<[u64]>,
-    pub(crate) watches: Watches,
+    state: GateState,
+    keys: Box<[u64]>,
+    changes: Box<[u64]>,
+    buckets: Box<[u64]>,
+    links: Box<[u64]>,
+    watches: Watches,
 }
 
 impl Gate {

@@ -1,11 +1,10 @@
 //! The proved library for Rust hosts. include/petrizolu.h says what each call does.
 //!
-//! [`Gate`], [`SmallGate`], [`Demux`], [`Sets`] and [`Eit`] own the memory that they lend and tell answers as `Result`s: a host needs no more. Below them
+//! [`Gate`], [`SmallGate`], [`Sets`] and [`Eit`] own the memory that they lend and tell answers as `Result`s: a host needs no more. Below them
 //! [`calls`] has each function of the header over slices of the caller's own, for hosts that lend other memory and for tests that write over it.
 
 mod answer;
 pub mod calls;
-mod demux;
 mod eit;
 mod gate;
 mod raw;
@@ -13,8 +12,7 @@ mod rows;
 mod sets;
 
 pub use answer::{Answer, Refused};
-pub use calls::{EitState, Failure, Filter, GateState, Place, SetsState, StreamsState, crc};
-pub use demux::{Demux, Fed};
+pub use calls::{EitState, Failure, Filter, GateState, Place, SetsState, crc};
 pub use eit::{Complete, Eit};
 pub use gate::{Gate, Offered, SmallGate};
 pub use rows::{Name, Row, Section};
@@ -52,27 +50,6 @@ pub const WATCH_WORDS: usize = 398;
 pub const PAT_SLOTS: usize = 288;
 pub const PAT_CELLS: usize = 262_144;
 pub const WATCH_PAT_EVICTIONS: usize = 385;
-
-/// The transport stream: bytes of a packet, words of the PIDs (four for each of 8,192), bytes of a section buffer, how many of these there are at most and by default; places for
-/// the sections that a packet finishes, the words of one and of all.
-pub const PACKET_BYTES: usize = 188;
-pub const PID_WORDS: usize = 32_768;
-pub const BUFFER_BYTES: usize = 4288;
-pub const MOST_BUFFERS: usize = 8192;
-pub const DEFAULT_BUFFERS: usize = 256;
-pub const PLACES: usize = 64;
-pub const PLACE_WORDS: usize = 6;
-pub const PLACES_WORDS: usize = PLACES * PLACE_WORDS;
-
-/// The words of a place: the answer, with 3 the CRC stored and the CRC worked out, where the section's bytes are (in the packet 0, in the buffers 1), the first of them, how many.
-pub const PLACE_ANSWER: usize = 0;
-pub const PLACE_STORED: usize = 1;
-pub const PLACE_WORKED: usize = 2;
-pub const PLACE_WHERE: usize = 3;
-pub const PLACE_START: usize = 4;
-pub const PLACE_LENGTH: usize = 5;
-pub const IN_PACKET: u64 = 0;
-pub const IN_BUFFERS: u64 = 1;
 
 /// Words of a row's head, of a row's slots, and of a schedule's 16 tables.
 pub const HEAD_WORDS: usize = 12;

@@ -1,5 +1,5 @@
 //! The functions of include/petrizolu.h, argument for argument (tests/header.rs compares the two texts).
-use crate::calls::{EitState, Failure, Filter, GateState, Place, SetsState, StreamsState};
+use crate::calls::{EitState, Failure, Filter, GateState, Place, SetsState};
 
 unsafe extern "C" {
     pub fn petrizolu_crc(bytes: *const u8, byte_count: usize) -> u32;
@@ -94,66 +94,6 @@ unsafe extern "C" {
         section: *const u8,
         section_length: usize,
         failure: *mut Failure,
-    ) -> u8;
-    pub fn petrizolu_streams_open(
-        streams: *mut StreamsState,
-        count: u64,
-        pids: *mut u64,
-        pid_words: usize,
-        buffers: *const u8,
-        buffer_bytes: usize,
-    ) -> u8;
-    pub fn petrizolu_feed(
-        gate: *mut GateState,
-        streams: *mut StreamsState,
-        keys: *mut u64,
-        key_count: usize,
-        changes: *mut u64,
-        change_count: usize,
-        watch: *mut u64,
-        watch_words: usize,
-        pat_slots: *mut u32,
-        pat_slot_words: usize,
-        pat_cells: *mut u8,
-        pat_cell_bytes: usize,
-        pids: *mut u64,
-        pid_words: usize,
-        buffers: *mut u8,
-        buffer_bytes: usize,
-        input: u32,
-        packet: *const u8,
-        packet_bytes: usize,
-        places: *mut u64,
-        place_words: usize,
-        finished: *mut u64,
-    ) -> u8;
-    pub fn petrizolu_indexed_feed(
-        gate: *mut GateState,
-        streams: *mut StreamsState,
-        keys: *mut u64,
-        key_count: usize,
-        changes: *mut u64,
-        change_count: usize,
-        buckets: *mut u64,
-        bucket_count: usize,
-        links: *mut u64,
-        link_count: usize,
-        watch: *mut u64,
-        watch_words: usize,
-        pat_slots: *mut u32,
-        pat_slot_words: usize,
-        pat_cells: *mut u8,
-        pat_cell_bytes: usize,
-        pids: *mut u64,
-        pid_words: usize,
-        buffers: *mut u8,
-        buffer_bytes: usize,
-        input: u32,
-        packet: *const u8,
-        packet_bytes: usize,
-        places: *mut u64,
-        place_words: usize,
-        finished: *mut u64,
     ) -> u8;
     pub fn petrizolu_sets_open(
         sets: *mut SetsState,

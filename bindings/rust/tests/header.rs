@@ -36,7 +36,6 @@ fn rust_type(c: &str) -> String {
         "petrizolu_section" => "Place",
         "petrizolu_filter" => "Filter",
         "petrizolu_failure" => "Failure",
-        "petrizolu_streams" => "StreamsState",
         other => panic!("not known: {other}"),
     };
     name.into()
@@ -81,7 +80,7 @@ fn functions_of_raw() -> Said {
 #[test]
 fn functions() {
     assert_eq!(functions_of_raw(), functions_of_the_header());
-    assert_eq!(functions_of_raw().len(), 20);
+    assert_eq!(functions_of_raw().len(), 17);
 }
 
 /// The fields between the braces after `from`, in order; all are 64-bit words.
@@ -99,7 +98,6 @@ fn structs() {
         ("section", "Place"),
         ("filter", "Filter"),
         ("failure", "Failure"),
-        ("streams", "StreamsState"),
     ];
     for (c, rust) in pairs {
         let of_c = fields(&header(), &format!("typedef struct petrizolu_{c} {{"), |line| Some(line.strip_prefix("uint64_t ")?.into()));
@@ -119,7 +117,7 @@ fn answers() {
     };
     let of_rust: Vec<String> = ANSWER.lines().filter_map(constant).collect();
     assert_eq!(of_c, of_rust);
-    assert_eq!(of_c.len(), 28);
+    assert_eq!(of_c.len(), 25);
 }
 
 /// Constants that both texts give as a plain number: the name and the number, without its type.

@@ -85,7 +85,7 @@ pub fn is_apart(script: &[Command]) -> bool {
 
 /// Whether complete PATs are followed somewhere, which the original does not.
 pub fn follows_tables(script: &[Command]) -> bool {
-    script.iter().filter_map(Command::opening).any(|opening| opening.follow && opening.pats)
+    script.iter().any(|command| matches!(command, Command::GateOpen { follow: true, pats: true, .. }))
 }
 
 fn nothing_leaves(script: &[Command]) -> bool {

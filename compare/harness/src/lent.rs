@@ -3,9 +3,6 @@
 
 /// Rows of the gate.
 const GATE_ROWS: u32 = 65_536;
-/// Rows of the packet layer's gate, and section buffers of an input.
-const DEMUX_ROWS: u32 = 4096;
-const BUFFERS: u16 = 64;
 /// Rows of a collector, and schedules of the EIT collector.
 const KEYS: u16 = 64;
 /// Bytes of a collector's cells.
@@ -29,16 +26,6 @@ pub fn gate_opening(capacity: u32, rule: u64, extra: &[u16]) -> u8 {
         true if capacity > GATE_ROWS || !(1..=2).contains(&rule) => 13,
         true => 7,
     }
-}
-
-/// The same of the packet layer's gate.
-pub fn demux_opening(capacity: u32, rule: u64, extra: &[u16]) -> u8 {
-    gate_opening(if capacity > DEMUX_ROWS { u32::MAX } else { capacity }, rule, extra)
-}
-
-/// What opening the streams of an input answers: 13 or 7.
-pub fn streams_opening(buffers: u16) -> u8 {
-    if (1..=BUFFERS).contains(&buffers) { 7 } else { 13 }
 }
 
 /// What opening a collector answers: 13 or 7.

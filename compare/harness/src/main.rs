@@ -4,7 +4,6 @@ mod faults;
 mod lent;
 mod make;
 mod original;
-mod packets;
 mod pairs;
 mod pats;
 mod present;
@@ -13,8 +12,6 @@ mod report;
 mod second;
 mod split;
 mod store;
-mod stream;
-mod transport;
 mod watch;
 mod watch_pats;
 mod written;
@@ -22,32 +19,27 @@ mod written;
 use faults::Fault;
 use make::Domain;
 use pairs::{Found, Side, differing, differing_apart, differing_somehow, first_difference, smallest};
-use player::command::{Command, Part};
+use player::command::Command;
 use player::play::play;
 use player::port::Port;
 use player::tape::tape_of;
 use program::Program;
 use report::{Answered, Report};
-use std::io::{Read, Write};
+use std::io::Write;
 use std::path::{Path, PathBuf};
 use std::process::ExitCode;
 use std::time::Instant;
-use stream::Variant;
 use written::Written;
 
 const USAGE: &str = "usage: compare/run [SEEDS] [COMMANDS]             scripts inside the rules' domain, damaged and cell-bound
        compare/run --rule-2 [SEEDS] [COMMANDS]    the same by change rule 2: the port beside the second implementation, the original has none
        compare/run --inputs [SEEDS] [COMMANDS]    several inputs: each beside an original of its own where nothing leaves, else the port beside the second implementation
        compare/run --pats [SEEDS] [COMMANDS]      PATs in several sections: complete PATs followed, the port beside the second implementation
-       compare/run --packets [SEEDS] [PACKETS]    the packet layer, on streams by the standard beside the original, and on wild ones
        compare/run --faults [SEEDS] [COMMANDS]    the same, with each fault in turn in the second implementation
        compare/run --present [SEEDS] [COMMANDS]   two EIT collectors, one with a smaller limit: the third demand for present and following
        compare/run --split STREAM                 the PAT of a transport stream sent in two sections: which of its programmes are seen
        compare/run --script FILE                  a script of your own
        compare/run --tape DOMAIN SEED COMMANDS    writes the script of a seed as a tape (inside, damaged or cells; inputs or apart for several inputs; pats)
-       compare/run --sections                     what the program sections writes on the stream on standard input, by the second implementation
-       compare/run --listed                       such records as lines: a PID and a section each
-       compare/run --vary VARIANT SEED            a variant of the stream on standard input: guide, late, lost, copied, shuffled or swapped
        compare/run --store                        makes the tapes of tests/tapes and the output of examples_run anew";
 
 fn main() -> ExitCode {
@@ -68,10 +60,6 @@ fn main() -> ExitCode {
             (Some(seeds), Some(commands)) => pats::compare(&root, seeds, commands),
             _ => return usage(),
         },
-        Some(&"--packets") => match (number(1, 200), number(2, 20_000)) {
-            (Some(seeds), Some(packets)) => packets::compare(&root, seeds, packets),
-            _ => return usage(),
-        },
         Some(&"--faults") => match (number(1, 40), number(2, 2000)) {
             (Some(seeds), Some(commands)) => compare_faults(seeds, commands),
             _ => return usage(),
@@ -89,12 +77,6 @@ fn main() -> ExitCode {
             },
             _ => return usage(),
         },
-        Some(&"--vary") if words.len() == 3 => match (Variant::named(words[1]), number(2, 0)) {
-            (Some(variant), Some(seed)) => through(|stream| variant.of(seed as u64, &stream)),
-            _ => return usage(),
-        },
-        Some(&"--sections") if words.len() == 1 => through(|stream| transport::output(&stream).records),
-        Some(&"--listed") if words.len() == 1 => through(|records| transport::listed(&records).into_bytes()),
         Some(&"--store") if words.len() == 1 => store::store(&root),
         _ => match (number(0, 20), number(1, 5000)) {
             (Some(seeds), Some(commands)) => compare_seeds(&root, seeds, commands),
@@ -102,12 +84,6 @@ fn main() -> ExitCode {
         },
     };
     if good { ExitCode::SUCCESS } else { ExitCode::FAILURE }
-}
-
-/// From standard input to standard output.
-fn through(change: impl FnOnce(Vec<u8>) -> Vec<u8>) -> bool {
-    let mut input = Vec::new();
-    std::io::stdin().read_to_end(&mut input).is_ok() && std::io::stdout().write_all(&change(input)).is_ok()
 }
 
 fn usage() -> ExitCode {
@@ -249,7 +225,7 @@ fn played(tape: &[u8]) -> String {
 
 /// A tape that ends inside a command, at each place, and a command that there is not.
 fn compare_ends(root: &Path) -> bool {
-    let written = ["scripts", "inputs", "pats", "packets"].into_iter().flat_map(|folder| Written::all(root, folder));
+    let written = ["scripts", "inputs", "pats"].into_iter().flat_map(|folder| Written::all(root, folder));
     let script = &first_of_each_kind(written.flat_map(|script| script.commands))[..];
     let lines = Side::RULES.lines(script);
     let starts: Vec<usize> = (0..=script.len()).map(|whole| tape_of(&script[..whole]).len()).collect();
@@ -260,7 +236,7 @@ fn compare_ends(root: &Path) -> bool {
         lines[..whole].iter().map(|line| format!("{line}\n")).collect::<String>() + cut
     };
     let mut good = (0..=tape.len()).all(|end| played(&tape[..end]) == expected(end));
-    for bad in [0x00, 0x0F, 0x17, 0x1F, 0x23, 0x34, 0x3F, 0x45, 0x4F, 0x51, 0xFF] {
+    for bad in [0x00, 0x0F, 0x17, 0x1F, 0x23, 0x34, 0x4F, 0x51, 0xFF] {
         let output = played(&[&tape[..], &[bad, 0x14]].concat());
         good &= output == expected(tape.len()) + &format!("bad {}\n", tape.len());
     }
@@ -369,9 +345,6 @@ fn find_apart(fault: Fault, seed: u64, commands: usize) -> Option<Found> {
 }
 
 fn find_fault(fault: Fault, seeds: usize, commands: usize) -> Option<(u64, &'static str, Found)> {
-    if fault.part() == Part::Demux {
-        return packets::find_fault(fault, seeds, commands);
-    }
     let with = |as_original| Side::Second { as_original, fault: Some(fault) };
     for seed in 0..seeds as u64 {
         if fault.of_inputs()
@@ -395,9 +368,6 @@ fn find_fault(fault: Fault, seeds: usize, commands: usize) -> Option<(u64, &'sta
 /// Whether the fault shows where the second implementation is compared with the port.
 fn found_by_the_port(fault: Fault, seeds: usize, commands: usize) -> bool {
     let faulty = Side::Second { as_original: false, fault: Some(fault) };
-    if fault.part() == Part::Demux {
-        return packets::found_by_the_port(fault, seeds, commands);
-    }
     (0..seeds as u64).any(|seed| {
         let differs = |domain| first_difference([Side::Port, faulty], &script_for(fault, seed, commands, domain)).is_some();
         domains_of(fault).iter().any(|&(domain, _)| differs(domain))
@@ -406,12 +376,8 @@ fn found_by_the_port(fault: Fault, seeds: usize, commands: usize) -> bool {
 
 fn compare_file(path: &Path) -> bool {
     let script = Written::read(path).commands;
-    let original = if original::has_all(&script) { Side::Original.lines(&script) } else { Vec::new() };
-    for (at, (command, line)) in script.iter().zip(Side::RULES.lines(&script)).enumerate() {
+    for (command, line) in script.iter().zip(Side::RULES.lines(&script)) {
         println!("{command}\n    {line}");
-        if let Some(other) = original.get(at).filter(|other| **other != line) {
-            println!("    original: {other}");
-        }
     }
     match differing_somehow(&script) {
         None => true,

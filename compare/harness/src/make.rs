@@ -85,11 +85,11 @@ impl Dice {
         (self.next() % end as u64) as usize
     }
 
-    pub fn byte(&mut self) -> u8 {
+    fn byte(&mut self) -> u8 {
         self.next() as u8
     }
 
-    pub fn bytes(&mut self, count: usize) -> Vec<u8> {
+    fn bytes(&mut self, count: usize) -> Vec<u8> {
         (0..count).map(|_| self.byte()).collect()
     }
 
@@ -105,7 +105,7 @@ impl Dice {
 
 // ---- Sections
 
-pub fn sealed(mut bytes: Vec<u8>) -> Vec<u8> {
+fn sealed(mut bytes: Vec<u8>) -> Vec<u8> {
     bytes.extend(crc(&bytes).to_be_bytes());
     bytes
 }
@@ -224,7 +224,7 @@ pub fn damaged(dice: &mut Dice, mut bytes: Vec<u8>) -> Vec<u8> {
 // ---- The gate
 
 /// A PAT of a few programmes, over few PIDs, so that one PAT drops what another added.
-pub fn pat(dice: &mut Dice) -> Vec<u8> {
+fn pat(dice: &mut Dice) -> Vec<u8> {
     let mut body = Vec::new();
     for _ in 0..dice.below(5) {
         let pid = dice.of(&[0x0000, 0x0010, 0x0012, 0x0050, 0x0100, 0x0101, 0x0102, 0x0103, 0x1FFF]);
@@ -237,7 +237,7 @@ pub fn pat(dice: &mut Dice) -> Vec<u8> {
     long(Head { table_id: 0, extension: 1, version, current_next, number, last }, &body)
 }
 
-pub fn gate_section(dice: &mut Dice) -> Vec<u8> {
+fn gate_section(dice: &mut Dice) -> Vec<u8> {
     let few = dice.below(8);
     let body: Vec<u8> = (0..few).map(|_| dice.below(3) as u8).collect();
     match dice.below(10) {

@@ -1,13 +1,12 @@
 //! The original behind the commands.
-use crate::apart::follows_tables;
 use crate::{lent, second};
 use bytes::Bytes;
 use dvb_si::collect::{CollectError, CompleteSectionSet, CompletedEit, EitCollector, EitLogicalKey, SectionSetCollector};
 use dvb_si::demux::{SiDemux, Stats};
 use dvb_si::tables::eit::EitKind;
 use mpeg_ts::pid::Pid;
-use player::answer::{Answer, Fed, Finished, Held, Judgement, Out, Set};
-use player::command::{By, Command, Demux, Filter, Opening, Part};
+use player::answer::{Answer, Held, Judgement, Out, Set};
+use player::command::{By, Command, Filter, Part};
 
 pub struct Original {
     /// The input that its sets are said to be of. The original has no inputs: every command is on this one.
@@ -17,16 +16,13 @@ pub struct Original {
     eit: Option<EitCollector>,
     /// The original has one counter for both failures: how many it counts in all that were too short, and how many a mismatch, is told by their bytes.
     failures: [u64; 2],
-    /// The packet layer's: a gate of its own, and whether its streams are open. The two are one in the original, so they are opened together.
-    demux: Option<SiDemux>,
-    streams: bool,
     /// How many answers 23 came with a table_id below the first of its kind: a branch that no section takes.
     pub below: u64,
 }
 
 impl Original {
     pub fn new(input: u8) -> Original {
-        Original { input, gate: SiDemux::builder().build(), sets: None, eit: None, failures: [0; 2], demux: None, streams: false, below: 0 }
+        Original { input, gate: SiDemux::builder().build(), sets: None, eit: None, failures: [0; 2], below: 0 }
     }
 
     pub fn answer(&mut self, command: &Command) -> Answer {
@@ -36,7 +32,12 @@ impl Original {
             Command::GateOpen { capacity, repeats, follow, well_known, rule, extra, .. } => {
                 let answer = lent::gate_opening(*capacity, *rule, extra);
                 if answer == 7 {
-                    self.gate = built(*capacity, *repeats, *follow, *well_known, extra);
+                    let settings = SiDemux::builder()
+                        .gate_capacity(*capacity as usize)
+                        .emit_repeats(*repeats)
+                        .follow_pat(*follow)
+                        .dvb_si_pids(*well_known);
+                    self.gate = extra.iter().fold(settings, |all, &pid| all.pid(Pid::new(pid))).build();
                     self.failures = [0; 2];
                 }
                 Answer::Number(Part::Gate, answer)
@@ -48,7 +49,7 @@ impl Original {
                 usize::from(emitted)
             }),
             Command::Ask { pid } => Answer::Number(Part::Gate, if self.gate.watched().contains(pid) { 8 } else { 9 }),
-            Command::Watched => Answer::Watched(Part::Gate, self.gate.watched()),
+            Command::Watched => Answer::Watched(self.gate.watched()),
             Command::Counters => Answer::Counters(self.counters()),
             Command::Pats => Answer::Pats { evicted: 0, rows: 0 },
             Command::Open { part, limit, cells, size } => self.open(*part, *limit, *cells, *size),
@@ -56,56 +57,14 @@ impl Original {
             Command::Push { pid, section, .. } => self.push_set(*pid, section),
             Command::Clear { part } => self.clear(*part),
             Command::Drop(filter) => self.drop(filter),
-            Command::Demux(command) => self.demux(command),
         }
-    }
-
-    fn demux(&mut self, command: &Demux) -> Answer {
-        let number = match command {
-            Demux::Open(Opening { capacity, repeats, follow, well_known, rule, extra, .. }) => {
-                let answer = lent::demux_opening(*capacity, *rule, extra);
-                if answer == 7 {
-                    self.demux = Some(built(*capacity, *repeats, *follow, *well_known, extra));
-                }
-                answer
-            }
-            Demux::Streams(buffers) => {
-                let answer = lent::streams_opening(*buffers);
-                self.streams |= answer == 7;
-                answer
-            }
-            Demux::Packet(packet) => return self.feed(packet),
-            Demux::Ask(pid) if !lent::is_pid(*pid) => 12,
-            Demux::Ask(pid) => 9 - u8::from(self.demux.as_ref().is_some_and(|demux| demux.watched().contains(pid))),
-            Demux::Watched => return Answer::Watched(Part::Demux, self.demux.as_ref().map_or(Vec::new(), SiDemux::watched)),
-        };
-        Answer::Number(Part::Demux, number)
-    }
-
-    /// What the counters say, and the sections that come out: those that are emitted, and no others. Where they lie, and which failure it was, the original does not say.
-    fn feed(&mut self, packet: &[u8]) -> Answer {
-        let Some(demux) = self.demux.as_mut().filter(|_| self.streams) else { return Answer::Number(Part::Demux, 10) };
-        let before = demux.stats();
-        let pid = packet.get(1..3).map_or(0, |bytes| u16::from_be_bytes([bytes[0] & 0x1F, bytes[1]]));
-        let emitted = |event: dvb_si::demux::SectionEvent| {
-            assert_eq!(event.pid().value(), pid, "a section of the packet's own PID");
-            Finished { judgement: Judgement::Emitted, in_buffers: false, start: 0, bytes: event.bytes().to_vec() }
-        };
-        let sections = demux.feed(packet).map(emitted).collect();
-        let after = demux.stats();
-        let malformed = after.malformed_packets > before.malformed_packets;
-        Answer::Fed(Fed {
-            number: if malformed { 30 } else { 29 },
-            packets: [after.packets, after.malformed_packets],
-            counters: seven(&after, [0; 2]),
-            count: after.sections_completed - before.sections_completed,
-            sections,
-        })
     }
 
     /// The seven counters.
     pub fn counters(&self) -> [u64; 7] {
-        seven(&self.gate.stats(), self.failures)
+        let Stats { sections_completed, emitted, suppressed, crc_failures, gate_evictions, .. } = self.gate.stats();
+        let [short, mismatch] = self.failures;
+        [sections_completed, emitted, suppressed, crc_failures, short, mismatch, gate_evictions]
     }
 
     /// The answer by the counter that moved; `offer` says how many events came of it. Which failure it was the original does not say: that is told by the
@@ -233,38 +192,6 @@ impl Original {
             rows: [eit.section_set_len(), eit.schedule_len()],
         })
     }
-}
-
-/// Whether the original is a measure of a script: one input, change rule 1, each changed PAT section followed.
-pub fn has_all(script: &[Command]) -> bool {
-    let on_one = !script.iter().any(|command| matches!(command, Command::Input(_)));
-    let by_rule_1 = !script.iter().filter_map(Command::opening).any(|opening| opening.rule == 2);
-    on_one && by_rule_1 && !follows_tables(script) && opened_at_once(script)
-}
-
-/// Whether a script opens the packet layer's gate and its streams at once, as the original does: each opening that succeeds directly before the other's.
-fn opened_at_once(script: &[Command]) -> bool {
-    let opens = |command: Option<&Command>| match command {
-        Some(Command::Demux(Demux::Open(opening))) => lent::demux_opening(opening.capacity, opening.rule, &opening.extra) == 7,
-        _ => false,
-    };
-    let opens_streams = |command: Option<&Command>| match command {
-        Some(Command::Demux(Demux::Streams(buffers))) => lent::streams_opening(*buffers) == 7,
-        _ => false,
-    };
-    (0..=script.len()).all(|at| opens(at.checked_sub(1).and_then(|before| script.get(before))) == opens_streams(script.get(at)))
-}
-
-/// A gate with these settings.
-fn built(capacity: u32, repeats: bool, follow: bool, well_known: bool, extra: &[u16]) -> SiDemux {
-    let settings = SiDemux::builder().gate_capacity(capacity as usize).emit_repeats(repeats).follow_pat(follow).dvb_si_pids(well_known);
-    extra.iter().fold(settings, |all, &pid| all.pid(Pid::new(pid))).build()
-}
-
-/// The seven counters, with how many failures were too short and how many a mismatch.
-fn seven(stats: &Stats, [short, mismatch]: [u64; 2]) -> [u64; 7] {
-    let Stats { sections_completed, emitted, suppressed, crc_failures, gate_evictions, .. } = *stats;
-    [sections_completed, emitted, suppressed, crc_failures, short, mismatch, gate_evictions]
 }
 
 /// What a section that failed its CRC failed by.

@@ -1,10 +1,10 @@
 //! Which implementations are compared, and the smallest script that tells two apart.
-use crate::apart::{Apart, is_apart};
+use crate::apart::{Apart, follows_tables, is_apart};
 use crate::faults::Fault;
-use crate::original::{Original, has_all};
+use crate::original::Original;
 use crate::report::Report;
 use crate::second::{Reading, Second};
-use player::answer::{Answer, Fed, Finished, Held, Judgement};
+use player::answer::{Answer, Held};
 use player::command::Command;
 use player::port::Port;
 use std::fmt::{self, Display};
@@ -77,15 +77,6 @@ fn line(told: &Told) -> String {
     }
 }
 
-/// Of a packet the original tells the sections that are emitted, without their place, and not which failure another is.
-fn as_the_original_tells(answer: Answer) -> Answer {
-    let Answer::Fed(mut fed) = answer else { return answer };
-    fed.sections.retain(|section| section.judgement == Judgement::Emitted);
-    let sections = fed.sections.into_iter().map(|section| Finished { in_buffers: false, start: 0, ..section }).collect();
-    let [completed, emitted, suppressed, crc, _, _, evicted] = fed.counters;
-    Answer::Fed(Fed { counters: [completed, emitted, suppressed, crc, 0, 0, evicted], sections, ..fed })
-}
-
 /// A side in the middle of a script.
 enum Running {
     Original(Box<Original>),
@@ -146,10 +137,7 @@ impl Found {
 pub fn first_difference(sides: [Side; 2], script: &[Command]) -> Option<Found> {
     let mut running = sides.map(Side::begin);
     for (at, command) in script.iter().enumerate() {
-        let mut told = running.each_mut().map(|side| side.answer(command));
-        if sides.contains(&Side::Original) {
-            told = told.map(|told| told.map(as_the_original_tells));
-        }
+        let told = running.each_mut().map(|side| side.answer(command));
         if told[0] != told[1] {
             let [one, other] = apart_in_words([&told[0], &told[1]]);
             return Some(Found::at(script, at, [(sides[0], one), (sides[1], other)]));
@@ -166,9 +154,13 @@ pub fn differing(script: &[Command], report: &mut Report) -> Option<Found> {
     differing_beside(Side::Original, script, report)
 }
 
-/// The same of any script: where the original has not all that it asks, the port beside the second implementation.
+/// The same of any script: where there are several inputs, or complete PATs are followed, without the original.
 pub fn differing_somehow(script: &[Command]) -> Option<Found> {
-    if has_all(script) { differing(script, &mut Report::default()) } else { first_difference([Side::RULES, Side::Port], script) }
+    let on_inputs = script.iter().any(|command| matches!(command, Command::Input(_)));
+    if on_inputs || follows_tables(script) {
+        return first_difference([Side::RULES, Side::Port], script);
+    }
+    differing(script, &mut Report::default())
 }
 
 /// The same with one original for each input.
@@ -182,8 +174,7 @@ fn differing_beside(original: Side, script: &[Command], report: &mut Report) -> 
     let mut full_and_empty = 0;
     for (at, command) in script.iter().enumerate() {
         let entered = running[1].entered();
-        let [original, second, rules, port] = running.each_mut().map(|side| side.answer(command));
-        let told = [original, second.map(as_the_original_tells), rules, port];
+        let told = running.each_mut().map(|side| side.answer(command));
         full_and_empty += u64::from(running[1].entered() > entered && holds_no_schedule(&told[0]));
         for pair in [[0, 1], [2, 3]] {
             if told[pair[0]] != told[pair[1]] {
@@ -195,7 +186,6 @@ fn differing_beside(original: Side, script: &[Command], report: &mut Report) -> 
     }
     if let Running::Second(second) = &running[2] {
         report.met(second.reading.met);
-        report.seen(second.seen());
     }
     report.dead([running[0].below(), full_and_empty]);
     let end = running[3].end().err()?;
@@ -217,7 +207,6 @@ pub fn smallest(mut found: Found) -> Found {
             let mut shorter = found.script.clone();
             shorter.drain(from..(from + run).min(shorter.len()));
             let measured = !sides.contains(&Side::Apart) || is_apart(&shorter);
-            let measured = measured && (!sides.contains(&Side::Original) || has_all(&shorter));
             match first_difference(sides, &shorter).filter(|_| measured) {
                 Some(less) => found = less,
                 None => from += run,

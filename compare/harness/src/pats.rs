@@ -10,7 +10,7 @@ use player::command::{By, Command};
 use std::path::Path;
 
 /// The PAT of a multiplex, as it is sent: section after section of one version.
-pub struct Multiplex {
+struct Multiplex {
     stream: u16,
     version: u8,
     last: u8,
@@ -21,14 +21,14 @@ pub struct Multiplex {
 }
 
 impl Multiplex {
-    pub fn new(dice: &mut Dice, stream: u16, lasts: &[u8]) -> Multiplex {
+    fn new(dice: &mut Dice, stream: u16, lasts: &[u8]) -> Multiplex {
         let mut multiplex = Multiplex { stream, version: dice.below(32) as u8, last: 0, salt: 0, next: 0 };
         multiplex.renew(dice, lasts);
         multiplex
     }
 
     /// Another version, mostly, and mostly of another number of sections.
-    pub fn renew(&mut self, dice: &mut Dice, lasts: &[u8]) {
+    fn renew(&mut self, dice: &mut Dice, lasts: &[u8]) {
         if !dice.once_in(6) {
             self.version = (self.version + 1) % 32;
         }
@@ -50,7 +50,7 @@ impl Multiplex {
     }
 
     /// The next section of the carousel, or, more rarely, any other.
-    pub fn send(&mut self, dice: &mut Dice) -> Vec<u8> {
+    fn send(&mut self, dice: &mut Dice) -> Vec<u8> {
         let variant = if dice.once_in(25) { 1 } else { 0 };
         if dice.once_in(8) {
             return self.section(dice.below(usize::from(self.last) + 1) as u8, variant);

@@ -1,4 +1,4 @@
-//! A program of the project, run as a process.
+//! The program `watch`, run as a process.
 use std::io::Write;
 use std::path::{Path, PathBuf};
 use std::process::{Command, Stdio};
@@ -15,13 +15,8 @@ impl Program {
         Program { run: root.join("run"), name }
     }
 
-    /// What it writes on an input, in ASCII.
+    /// What it writes on an input.
     pub fn output(&self, input: &[u8]) -> String {
-        String::from_utf8(self.bytes(input)).expect("programs write ASCII")
-    }
-
-    /// The same in bytes.
-    pub fn bytes(&self, input: &[u8]) -> Vec<u8> {
         let mut started = Command::new(&self.run)
             .arg(self.name)
             .env("PETRIZOLU_BUILT", "1")
@@ -35,6 +30,6 @@ impl Program {
         let output = started.wait_with_output().expect("its output can be read");
         writer.join().expect("the writer does not panic").expect("it reads its whole input");
         assert!(output.status.success(), "the program {} failed", self.name);
-        output.stdout
+        String::from_utf8(output.stdout).expect("programs write ASCII")
     }
 }

@@ -1,11 +1,10 @@
-//! The stored tapes of tests/tapes with the lines that they print, the stored output of the program `examples_run`, and the stored input and output of the programs that read a
-//! transport stream.
+//! The stored tapes of tests/tapes with the lines that they print, and the stored output of the program `examples_run`.
 use crate::make::{self, Domain};
 use crate::pairs::{Side, differing_somehow, smallest};
+use crate::pats;
 use crate::second::{Reading, Second};
-use crate::stream::{self, Beyond};
+use crate::watch_pats;
 use crate::written::Written;
-use crate::{pats, transport, watch, watch_pats};
 use player::answer::{Answer, Out, hex};
 use player::command::Command;
 use player::tape::tape_of;
@@ -27,10 +26,8 @@ pub fn store(root: &Path) -> bool {
         && store_tape(root, "damaged", Side::RULES, &outside)
         && store_tape(root, "inputs", Side::RULES, &on_inputs(root))
         && store_tape(root, "pats", Side::RULES, &of_pats(root))
-        && store_tape(root, "packets", Side::RULES, &of_packets(root))
         && store_examples(root)
         && watch_pats::store(root)
-        && store_streams(root)
 }
 
 /// The written scripts of inputs/ and a seed of each domain.
@@ -45,13 +42,6 @@ fn on_inputs(root: &Path) -> Vec<Command> {
 fn of_pats(root: &Path) -> Vec<Command> {
     let by_hand = Written::all(root, "pats").into_iter().flat_map(|script| script.commands);
     by_hand.chain(pats::script(SEEDS.start, COMMANDS)).collect()
-}
-
-/// The written scripts of packets/, a stream by the standard, and a wild one.
-fn of_packets(root: &Path) -> Vec<Command> {
-    let by_hand = Written::all(root, "packets").into_iter().flat_map(|script| script.commands);
-    let streams = [stream::by_the_standard(SEEDS.start, 400), stream::wild(SEEDS.start, 800, Beyond::Port)];
-    by_hand.chain([Command::Input(0)]).chain(streams.into_iter().flatten()).collect()
 }
 
 /// Whether all sides agree on a script, the original too where it is a measure; says where they do not.
@@ -92,27 +82,6 @@ fn store_examples(root: &Path) -> bool {
     let text: String = script.iter().map(|command| example_lines(&second.answer(command))).collect();
     fs::write(root.join("crates/examples_run/stdout"), text).expect("the project's folder can be written");
     println!("crates/examples_run: {} commands, answered by {}", script.len(), Side::RULES);
-    true
-}
-
-/// The stream that `watch_ts` and `sections` are run on, and what they write. Of its sections `watch` prints the same lines.
-fn store_streams(root: &Path) -> bool {
-    let input = transport::example();
-    let output = transport::output(&input);
-    let mut second = Second::new(Reading::default());
-    let watched = watch::output(|command| second.answer(command), watch::BY_DEFAULT, &output.records);
-    let of_sections = |text: &str| -> Vec<String> {
-        let words = ["emitted ", "suppressed ", "mismatch ", "short "];
-        text.lines().filter(|line| words.iter().any(|word| line.starts_with(word))).map(String::from).collect()
-    };
-    assert_eq!(of_sections(&watched), of_sections(&output.lines), "watch on what sections writes");
-    for (program, stdout) in [("watch_ts", output.lines.as_bytes()), ("sections", &output.records)] {
-        let folder = root.join("crates").join(program);
-        fs::create_dir_all(&folder).expect("the project's folder can be written");
-        fs::write(folder.join("stdin"), &input).expect("the project's folder can be written");
-        fs::write(folder.join("stdout"), stdout).expect("the project's folder can be written");
-    }
-    println!("crates/watch_ts and crates/sections: {} bytes, answered by {}", input.len(), Side::RULES);
     true
 }
 

@@ -1,5 +1,5 @@
 //! The program `watch`, over the original and over the second implementation.
-use player::answer::Answer;
+use player::answer::{Answer, Judgement};
 use player::command::{By, Command};
 use std::fmt::Write as _;
 
@@ -56,7 +56,13 @@ pub fn output(mut answer: impl FnMut(&Command) -> Answer, manner: Manner, input:
             }
         };
         let Answer::Judged(judgement, counters) = told else { panic!("a section was offered") };
-        let _ = writeln!(text, "{} {pid:04X} {:02X} {}", judgement.word(), section[0], section.len());
+        let word = match judgement {
+            Judgement::Emitted => "emitted",
+            Judgement::Suppressed => "suppressed",
+            Judgement::Mismatch(..) => "mismatch",
+            Judgement::Short(_) => "short",
+        };
+        let _ = writeln!(text, "{word} {pid:04X} {:02X} {}", section[0], section.len());
         totals = counters;
     }
     let [completed, emitted, suppressed, crc, evicted] = totals;
@@ -65,7 +71,7 @@ pub fn output(mut answer: impl FnMut(&Command) -> Answer, manner: Manner, input:
 }
 
 /// A PID and a section, by its own section_length; `None` where the input is cut.
-pub fn record(input: &[u8]) -> Option<(u16, &[u8])> {
+fn record(input: &[u8]) -> Option<(u16, &[u8])> {
     let &[pid_high, pid_low, _, high, low, ..] = input else { return None };
     let length = 3 + usize::from(u16::from_be_bytes([high & 0x0F, low]));
     Some((u16::from_be_bytes([pid_high, pid_low]), input.get(2..2 + length)?))

@@ -1,20 +1,24 @@
 -- A packet over the gate without an index: the one answer and the one content that are left, whatever is given (docs/RULES.md, "Packets").
+use mathlib.Core.Path.{_≡_}
 use mathlib.Core.List.{List}
-use Prim.Native.Nat.{ℕ}
+use Prim.Native.Nat.{ℕ, _<_}
 use lib.ListN.{length}
 use Rattle.answers.specs.Answers.{refusalNo}
 use Rattle.pats.specs.Store.{Record}
 use Rattle.gate_pats.specs.Store.{Kept, keptOf}
 use Rattle.streams.specs.declared.Streams.{Streams}
-use Rattle.demux_state.specs.State.{plain, saidOf}
+use Rattle.streams.specs.Store.{InWords}
+use Rattle.demux_state.specs.State.{plain, saidOf, CanFeed}
 use Rattle.demux_state.specs.declared.Fed.{Fed}
 use Rattle.demux_packets.specs.declared.Reading.{Reading}
 use Rattle.demux_packets.specs.declared.Plan.{Plan}
+use Rattle.demux_packets.specs.declared.Plan.the-variants.{Malformed, Nothing, Unwatched, NoBuffer, Read}
+use Rattle.demux_packets.specs.Plans.{Reads}
 use Rattle.demux_judge.specs.declared.Verdict.{Verdict}
 use Rattle.demux_judge.specs.declared.Verdict.the-variants.{Refused, Goes}
 use Rattle.demux_judge.specs.Verdicts.{verdictOf}
 use Rattle.demux_steady.specs.Steady.{wordsIn, tells, acts, Steady}
-use Rattle.demux.specs.Carried.{StoreOf, LeftOf, left, readBy, plannedBy, ReadsWith, TakesWith}
+use Rattle.demux.specs.Carried.{StoreOf, LeftOf, left, readBy, plannedBy}
 use Rattle.demux.specs.Carried as carried
 
 abbrev pub Store : Type 0
@@ -51,8 +55,18 @@ fed s input packet = judgedIn s input packet (verdictIn s input packet)
 
 -- ---- what the functions ask
 
-abbrev pub ReadsOk : Store → List ℕ → Reading → Type 0
-ReadsOk s packet r = ReadsWith (Steady 64) s packet r
+pub record ReadsOk (s : Store) (packet : List ℕ) (r : Reading) : Type 0 where
+  pub reads : Reads (s .pids) (s .buffers) (s .places) r packet
+  pub steady : Steady 64 (s .gate)
+  pub counts : CanFeed (s .streams)
 
-abbrev pub TakesOk : Store → List ℕ → Plan → Type 0
-TakesOk s packet p = TakesWith (Steady 64) s packet p
+abbrev pub PlanOk : Store → List ℕ → Plan → Type 0
+PlanOk s packet Malformed = Unit {0}
+PlanOk s packet Nothing = Unit {0}
+PlanOk s packet (Unwatched pid) = InWords (s .pids) pid
+PlanOk s packet NoBuffer = Unit {0}
+PlanOk s packet (Read r) = ReadsOk s packet r
+
+pub record TakesOk (s : Store) (packet : List ℕ) (p : Plan) : Type 0 where
+  pub counts : CanFeed (s .streams)
+  pub plan : PlanOk s packet p

@@ -11,6 +11,7 @@ use lib.ListN.{length, take, drop, getD, set}
 use lib.Seq.{take-all, take-suc, take-suc-set, take-take, length-take-le, getD-take, getD-drop}
 use Rattle.laws.specs.Bits.{hasBit, less}
 use Rattle.laws.proofs.Bits.{has-less}
+use Rattle.section.specs.Facts.{Bytes}
 use Rattle.pat.specs.Pat.{readable}
 use Rattle.offers.specs.Offers.{verdictOf}
 use Rattle.offers.specs.declared.Verdict.{Verdict}
@@ -19,20 +20,20 @@ use Rattle.counters.specs.declared.Counters.{Counters}
 use Rattle.ring.specs.Store.{stampOf, seenOf}
 use Rattle.ring.specs.declared.Seen.{Seen}
 use Rattle.gate_state.specs.State.{Said, saidOf, bySections, byTables}
-use Rattle.gate_state.specs.declared.Follow.{Follow}
 use Rattle.gate_state.specs.declared.Gate.{Gate}
 use Rattle.gate_state.specs.declared.Offered.{Offered}
 use Rattle.gate.specs.Store.{Store, isWhole, followedPat, watchAfter, admittedTo, carried, offered}
 use Rattle.pats.specs.Store.{Record, recordOf, enters, enteredIn}
 use Rattle.gate_pats.specs.Store.{Kept, keptOf, sectionsIn, Offering, leftWith, soundBy, recordAfter, takenWith}
+use Rattle.assemble.proofs.Ties.{all-take, all-drop}
 use Rattle.streams.specs.Store.{leftOf, givenBack, four}
 use Rattle.demux_places.specs.Places.{placeAt, bytesAt, answered}
 use Rattle.demux_places.specs.declared.Place.{Place}
 use Rattle.demux_steady.specs.Steady.{wordsIn, tells, acts, Steady}
-use Rattle.demux_steady.proofs.Steady.{record-ready, words-there}
+use Rattle.demux_steady.proofs.Steady.{record-ready, words-there, steady-next}
 use Rattle.demux_offers.specs.declared.Held.{Held}
-use Rattle.demux_offers.specs.Offers.{Offers, heldOf, turned, OfferOk, TurnOk}
-use Rattle.demux_offers.proofs.Turns.{section-told, one-more}
+use Rattle.demux_offers.specs.Turns.{OffersOf, offersWith, offeredAt, turnedBy, turnsBy}
+use Rattle.demux_offers.specs.Offers.{Offers, heldOf, turned, offersFrom, OfferOk, TurnOk, Turns}
 
 -- ---- a set is copied
 
@@ -61,33 +62,28 @@ either-way : {A : Type 0} (b : Bool) (x : A) → cond b x x ≡ x
 either-way true x = refl
 either-way false x = refl
 
-module _ (section : List ℕ) (e : readable section ≡ false) where
-  pub same-followed : (f : Bool) (words : List ℕ) → watchAfter f words section ≡ words
-  unfolding followedPat
-  same-followed f words = rw e (either-way f words)
-
-  pub same-record : (f : Follow) (a : Said) (input pid : ℕ) (r : Record) → recordAfter f a input pid section r ≡ r
-  unfolding recordAfter enteredIn enters
-  same-record f a input pid r = rw e (either-way (byTables f && soundBy a && eqb pid 0) r)
-
 module _ (s : Kept) (input pid : ℕ) (section : List ℕ) (e : readable section ≡ false) where
   same-sections : (v : Verdict) → (carried (sectionsIn s) section v) .store .words ≡ s .watch .words
-  unfolding carried admittedTo
+  unfolding carried admittedTo followedPat
   same-sections (verdict.Refused r) = refl
   same-sections (verdict.Failed f) = refl
   same-sections (verdict.Arrived a) =
       let seen : Seen = seenOf (s .gate .ring) (s .keys) (s .changes) (a .key) (stampOf (a .version) (a .change)) in
-      same-followed section e (seen .changed && bySections (s .gate .follow)) (s .watch .words)
+      rw e (either-way (seen .changed && bySections (s .gate .follow)) (s .watch .words))
 
   same-words : (offered (sectionsIn s) input pid section) .store .words ≡ s .watch .words
   unfolding offered
   same-words = same-sections (verdictOf (isWhole (sectionsIn s)) (s .counters) (s .gate .«change_rule») input pid section)
 
+  same-record : (a : Said) (r : Record) → recordAfter (s .gate .follow) a input pid section r ≡ r
+  unfolding recordAfter enteredIn enters
+  same-record a r = rw e (either-way (byTables (s .gate .follow) && soundBy a && eqb pid 0) r)
+
   pub same-watch : wordsIn (acts s input pid section) ≡ s .watch .words
   unfolding takenWith
   same-watch =
       let x = offered (sectionsIn s) input pid section in
-      ap (λ (r : Record). r .words) (same-record section e (s .gate .follow) (x .answer) input pid (recordOf (x .store .words) (s .watch .slots) (s .watch .cells))) ∙ same-words
+      ap (λ (r : Record). r .words) (same-record (x .answer) (recordOf (x .store .words) (s .watch .slots) (s .watch .cells))) ∙ same-words
 
 -- no PID left
 none-left : (left pids : List ℕ) (n : ℕ) → ((q : ℕ) → q < n → hasBit left q ≡ false) → givenBack left n pids ≡ pids
@@ -105,29 +101,29 @@ nobody-left words pids h =
     let l : length (take 128 words) ≡ 128 = length-take-le 128 words h in
     none-left (leftOf words words) pids 8192 (λ q k. has-less (take 128 words) (take 128 words) q refl (omega arith) ∙ both (hasBit (take 128 words) q))
 
-pub stayed-back : (words ws pids : List ℕ) → ws ≡ words → 128 ≤ length words → pids ≡ givenBack (leftOf words ws) 8192 pids
-stayed-back words ws pids e h = sym (ap (λ (x : List ℕ). givenBack (leftOf words x) 8192 pids) e ∙ nobody-left words pids h)
-
 pub no-pat-back : (g : Gate) (c : Counters) (keys changes words slots cells : List ℕ) (input pid : ℕ) (section : List ℕ) (b : Bool) (o : Offered) (ks ms ws ss cs pids : List ℕ)
     → b ≡ readable section → b ≡ false → 128 ≤ length words
     → leftWith o ks ms (recordOf ws ss cs) ≡ takenWith (keptOf g c keys changes (recordOf words slots cells)) input pid section → pids ≡ givenBack (leftOf words ws) 8192 pids
 no-pat-back g c keys changes words slots cells input pid section b o ks ms ws ss cs pids e f h q =
-    stayed-back words ws pids (ap (λ (x : Offering). x .left .watch .words) q ∙ same-watch (keptOf g c keys changes (recordOf words slots cells)) input pid section (sym e ∙ f)) h
+    let s : Kept = keptOf g c keys changes (recordOf words slots cells) in
+    let w : ws ≡ words = ap (λ (x : Offering). x .left .watch .words) q ∙ same-watch s input pid section (sym e ∙ f) in
+    sym (ap (λ (x : List ℕ). givenBack (leftOf words x) 8192 pids) w ∙ nobody-left words pids h)
 
 -- ---- a turn
 
-module _ (h : Held) (keys changes words slots cells pids places : List ℕ) where
-  abbrev start : Kept
-  start = keptOf (h .gate) (h .counters) keys changes (recordOf words slots cells)
-
-  pub turn-done : (packet buffers : List ℕ) (input pid k : ℕ) (place : Place) (section : List ℕ) (o : Offered) (ks ms ws ss cs ps qs : List ℕ)
-      → place ≡ placeAt places k → section ≡ bytesAt packet buffers place → leftWith o ks ms (recordOf ws ss cs) ≡ takenWith start input pid section
-      → ps ≡ givenBack (leftOf words ws) 8192 pids → qs ≡ answered places k (saidOf (o .answer))
-      → heldOf (record { gate = o .gate; counters = o .counters }) ks ms (recordOf ws ss cs) ps qs
-      ≡ turned packet buffers input pid k (heldOf h keys changes (recordOf words slots cells) pids places)
-  turn-done packet buffers input pid k place section o ks ms ws ss cs ps qs e f q =
-      section-told wordsIn tells acts packet buffers input pid k start pids places place section (saidOf (o .answer)) (keptOf (o .gate) (o .counters) ks ms (recordOf ws ss cs)) ps qs e f
-      (ap (λ (x : Offering). x .answer) q) (ap (λ (x : Offering). x .left) q)
+pub turn-done : (packet buffers : List ℕ) (input pid k : ℕ) (h : Held) (keys changes words slots cells pids places : List ℕ) (place : Place) (section : List ℕ) (o : Offered)
+    (ks ms ws ss cs ps qs : List ℕ) → place ≡ placeAt places k → section ≡ bytesAt packet buffers place
+    → leftWith o ks ms (recordOf ws ss cs) ≡ takenWith (keptOf (h .gate) (h .counters) keys changes (recordOf words slots cells)) input pid section
+    → ps ≡ givenBack (leftOf words ws) 8192 pids → qs ≡ answered places k (saidOf (o .answer))
+    → heldOf (record { gate = o .gate; counters = o .counters }) ks ms (recordOf ws ss cs) ps qs
+    ≡ turned packet buffers input pid k (heldOf h keys changes (recordOf words slots cells) pids places)
+unfolding turnedBy
+turn-done packet buffers input pid k h keys changes words slots cells pids places place section o ks ms ws ss cs ps qs e f q p a =
+    let s : Kept = keptOf (h .gate) (h .counters) keys changes (recordOf words slots cells) in
+    let g : section ≡ bytesAt packet buffers (placeAt places k) = f ∙ ap (bytesAt packet buffers) e in
+    (λ i. offersWith (q i .left) (p i) (a i))
+    ∙ (λ i. offersWith ((takenWith s input pid section) .left) (givenBack (leftOf words (q i .left .watch .words)) 8192 pids) (answered places k (q i .answer)))
+    ∙ (λ i. offeredAt wordsIn tells acts input pid k (g i) (offersWith s pids places))
 
 -- ---- the loop
 
@@ -141,11 +137,45 @@ pub record Lengths (keys₀ changes₀ words₀ slots₀ cells₀ pids₀ places
   pub pids-long : length pids ≡ length pids₀
   pub places-long : length places ≡ length places₀
 
-pub turn-may : (count k : ℕ) (o : Offers) → k < count → Steady (count - k) (o .gate) → 32768 ≤ length (o .pids) → count * 6 ≤ length (o .places)
-    → TurnOk (o .gate .gate) (o .gate .watch) (o .pids) (o .places) k
-turn-may count k o h s l m =
-    let t : Steady (suc (count - (k + 1))) (o .gate) = one-more count k h Steady (o .gate) s in
-    record {
-      offer = record { ready = record-ready (count - (k + 1)) (o .gate) t; words = omega (arith, words-there (count - (k + 1)) (o .gate) t); long = l };
-      listed = omega arith;
-    }
+pub turns-none : (packet buffers : List ℕ) (input pid count : ℕ) (o : Offers) → offersFrom packet buffers input pid (count - 0) 0 o ≡ offersFrom packet buffers input pid count 0 o
+turns-none packet buffers input pid count o = let z : count - 0 ≡ count = omega arith in ap (λ (n : ℕ). offersFrom packet buffers input pid n 0 o) z
+
+pub steady-none : (count : ℕ) (s : Kept) → Steady count s → Steady (count - 0) s
+steady-none count s t = let z : count ≡ count - 0 = omega arith in subst (λ (n : ℕ). Steady n s) z t
+
+module _ (packet buffers : List ℕ) (input pid count k : ℕ) (o : Offers) (all : Offers) where
+  pub turns-more : (o' : Offers) → k < count → o' ≡ turned packet buffers input pid k o → offersFrom packet buffers input pid (count - k) k o ≡ all
+      → offersFrom packet buffers input pid (count - (k + 1)) (k + 1) o' ≡ all
+  unfolding turnsBy
+  turns-more o' h e q =
+      let z : count - k ≡ suc (count - (k + 1)) = omega arith in
+      ap (offersFrom packet buffers input pid (count - (k + 1)) (k + 1)) e ∙ rw z at q
+
+  pub turns-end : count ≤ k → offersFrom packet buffers input pid (count - k) k o ≡ all → o ≡ all
+  unfolding turnsBy
+  turns-end h q = let z : count - k ≡ 0 = omega arith in rw z at q
+
+  -- the bytes of a section are bytes
+  section-bytes : Bytes packet → Bytes buffers → (p : Place) → Bytes (bytesAt packet buffers p)
+  section-bytes a b p = all-take (p .size) (drop (p .first) (cond (eqb (p .whence) 0) packet buffers)) (all-drop (p .first) (cond (eqb (p .whence) 0) packet buffers) (one (eqb (p .whence) 0)))
+    where
+      one : (t : Bool) → Bytes (cond t packet buffers)
+      one true = a
+      one false = b
+
+  pub steady-then : (o' : Offers) → Bytes packet → Bytes buffers → k < count → o' ≡ turned packet buffers input pid k o → Steady (count - k) (o .gate) → Steady (count - (k + 1)) (o' .gate)
+  unfolding turnedBy
+  steady-then o' a b h e s =
+      let z : count - k ≡ suc (count - (k + 1)) = omega arith in
+      let p : Place = placeAt (o .places) k in
+      subst (λ (x : Offers). Steady (count - (k + 1)) (x .gate)) (sym e)
+      (steady-next (count - (k + 1)) (o .gate) (subst (λ (n : ℕ). Steady n (o .gate)) z s) input pid (bytesAt packet buffers p) (section-bytes a b p 7))
+
+  pub turn-may : k < count → Steady (count - k) (o .gate) → 32768 ≤ length (o .pids) → count * 6 ≤ length (o .places) → TurnOk (o .gate .gate) (o .gate .watch) (o .pids) (o .places) k
+  turn-may h s l m =
+      let z : count - k ≡ suc (count - (k + 1)) = omega arith in
+      let t : Steady (suc (count - (k + 1))) (o .gate) = subst (λ (n : ℕ). Steady n (o .gate)) z s in
+      record {
+        offer = record { ready = record-ready (count - (k + 1)) (o .gate) t; words = omega (arith, words-there (count - (k + 1)) (o .gate) t); long = l };
+        listed = omega arith;
+      }

@@ -7,7 +7,7 @@ use Rattle.pats.specs.Store.{Record}
 use Rattle.gate_pats.specs.Store.{Kept, keptOf, RecordReady}
 use Rattle.demux_steady.specs.Steady.{wordsIn, tells, acts, Steady}
 use Rattle.demux_offers.specs.declared.Held.{Held}
-use Rattle.demux_offers.specs.Turns.{OffersOf, offersWith, turnedBy, turnsBy, TurnsOf}
+use Rattle.demux_offers.specs.Turns.{OffersOf, offersWith, turnedBy, turnsBy}
 
 abbrev pub Offers : Type 0
 Offers = OffersOf Kept
@@ -32,5 +32,8 @@ pub record TurnOk (g : Gate) (r : Record) (pids places : List ℕ) (k : ℕ) : T
   pub offer : OfferOk g r pids
   pub listed : k * 6 + 5 < length places
 
-abbrev pub Turns : Offers → ℕ → Type 0
-Turns o n = TurnsOf Steady o n
+-- n more sections can be judged, and there are as many places
+pub record Turns (o : Offers) (n : ℕ) : Type 0 where
+  pub steady : Steady n (o .gate)
+  pub long : 32768 ≤ length (o .pids)
+  pub listed : n * 6 ≤ length (o .places)

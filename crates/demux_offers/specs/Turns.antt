@@ -1,8 +1,7 @@
 -- The sections that a packet finished, offered to the gate in the order of their places, for every content of the lent slices (docs/RULES.md, "Packets"). Open in
 -- the gate: what it keeps (S), the words of its watch, and what it answers and keeps after a section.
 use mathlib.Core.List.{List}
-use Prim.Native.Nat.{ℕ, zero, suc, _+_, _*_, _≤_}
-use lib.ListN.{length}
+use Prim.Native.Nat.{ℕ, zero, suc, _+_}
 use Rattle.gate_state.specs.State.{Said}
 use Rattle.streams.specs.Store.{leftOf, givenBack}
 use Rattle.demux_places.specs.Places.{placeAt, bytesAt, answered}
@@ -31,9 +30,3 @@ module _ {S : Type 0} (wordsIn : S → List ℕ) (tells : S → (input pid : ℕ
   unfoldable pub turnsBy : (packet buffers : List ℕ) → (input pid n k : ℕ) → OffersOf S → OffersOf S
   turnsBy packet buffers input pid zero k o = o
   turnsBy packet buffers input pid (suc n) k o = turnsBy packet buffers input pid n (k + 1) (turnedBy packet buffers input pid k o)
-
--- what the loop asks: n more sections can be judged, and there are as many places
-pub record TurnsOf {S : Type 0} (judges : ℕ → S → Type 0) (o : OffersOf S) (n : ℕ) : Type 0 where
-  pub steady : judges n (o .gate)
-  pub long : 32768 ≤ length (o .pids)
-  pub listed : n * 6 ≤ length (o .places)

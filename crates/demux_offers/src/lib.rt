@@ -20,7 +20,7 @@ pub struct Held {
 const SET_WORDS: usize = 128;
 
 // The watched PIDs.
-pub fn copy_set(set: &mut [u64], words: &[u64])
+fn copy_set(set: &mut [u64], words: &[u64])
     requires { ⌜ (length (now set) ≡ 128) × (128 ≤ length (now words)) ⌝ }
     ensures { λ _. ⌜ now (set .exit) ≡ take 128 (now (words .entry)) ⌝ }
 {

@@ -22,13 +22,13 @@ use Rattle.pat.proofs.Laws.{length-programs}
 use Rattle.watched.specs.Store.{following}
 use Rattle.watched.proofs.Meaning.{length-following}
 use Rattle.offers.specs.Offers.{isShort, verdictOf}
-use Rattle.offers.specs.declared.Failure.{Failure}
+use Rattle.offers.specs.declared.Arrival.{Arrival}
 use Rattle.offers.specs.declared.Verdict.{Verdict}
 use Rattle.offers.specs.declared.Verdict.the-variants as verdict
-use Rattle.gate_state.specs.State.{seenBy, failedBy, emitsOf, bySections}
+use Rattle.gate_state.specs.State.{seenBy, emitsOf, bySections}
 use Rattle.gate_state.specs.declared.Gate.{Gate}
 use Rattle.gate_state.specs.declared.Follow.{Follow}
-use Rattle.gate.specs.Store.{Store, storeOf, wholeOf, isWhole, Fits, leftBy, programsOf, followedPat, watchAfter, admittedTo, carried, offered}
+use Rattle.gate.specs.Store.{Store, storeOf, wholeOf, isWhole, Fits, programsOf, followedPat, watchAfter, admittedTo, carried, offered}
 use Rattle.gate.proofs.Laws.{fits}
 use Rattle.demux_state.specs.State.{Spare}
 
@@ -137,12 +137,9 @@ module _ (c : Counters) where
 -- ---- the ring
 
 module _ (g : Ring) (keys changes : List ℕ) (key number : ℕ) (w : Whole g (length keys) (length changes)) where
-  -- a key that is known or not, whatever its row
-  pub row-stays : (known : Bool) (row : ℕ)
-      → Whole ((cond known (renewed g changes row number) (arrived g)) .ring) (length (cond known keys (set keys (freeRow g) key)))
-      (length (set changes (cond known row (freeRow g)) number))
-  unfolding renewed arrived
-  row-stays = go
+  ring-stays : Whole ((seenOf g keys changes key number) .ring) (length (keysAfter g keys key)) (length (changesAfter g keys changes key number))
+  unfolding seenOf keysAfter changesAfter renewed arrived
+  ring-stays = go (isKnown g keys key)
     where
       free : (b : Bool) → hasFree g ≡ b
           → Whole (cond b (ringWith g (g .used + 1) (g .first)) (ringWith g (g .used) ((g .first + 1) % roomOf (g .capacity)))) (length (set keys (freeRow g) key)) (length (set changes (freeRow g) number))
@@ -158,15 +155,11 @@ module _ (g : Ring) (keys changes : List ℕ) (key number : ℕ) (w : Whole g (l
           let c = w .changes-long in
           rw (length-set keys (freeRow g) key, length-set changes (freeRow g) number) (record { used = a; first = mod-lt (g .first + 1) (omega arith); keys-long = b; changes-long = c })
 
-      go : (known : Bool) (row : ℕ)
-          → Whole ((cond known (renewed g changes row number) (arrived g)) .ring) (length (cond known keys (set keys (freeRow g) key)))
-          (length (set changes (cond known row (freeRow g)) number))
-      go true row = rw (length-set changes row number) w
-      go false row = free (hasFree g) refl
-
-  ring-stays : Whole ((seenOf g keys changes key number) .ring) (length (keysAfter g keys key)) (length (changesAfter g keys changes key number))
-  unfolding seenOf keysAfter changesAfter
-  ring-stays = row-stays (isKnown g keys key) (rowFor g keys key)
+      go : (b : Bool)
+          → Whole ((cond b (renewed g changes (rowFor g keys key) number) (arrived g)) .ring) (length (cond b keys (set keys (freeRow g) key)))
+          (length (set changes (cond b (rowFor g keys key) (freeRow g)) number))
+      go true = rw (length-set changes (rowFor g keys key) number) w
+      go false = free (hasFree g) refl
 
 -- ---- the words of the watch
 
@@ -192,37 +185,29 @@ module _ (n : ℕ) (s : Store) (w : isWhole s ≡ true) (c : Spare (suc n) (s .c
   fit : Fits (s .gate) (length (s .keys)) (length (s .changes)) (length (s .words))
   fit = fits (s .gate) (length (s .keys)) (length (s .changes)) (length (s .words)) (isWhole s) refl w
 
-  -- a section whose key was looked up
-  pub seen-stays : (seen : Seen) (keys changes : List ℕ) → Whole (seen .ring) (length keys) (length changes)
-      → Stays n s ((leftBy (seenBy (s .gate) (s .counters) seen) keys changes (watchAfter (seen .changed && bySections (s .gate .follow)) (s .words) section)) .store)
-  unfolding seenBy
-  seen-stays seen keys changes r =
+  admitted-stays : (a : Arrival) → Stays n s ((admittedTo s section a) .store)
+  unfolding admittedTo seenBy
+  admitted-stays a =
+      let number : ℕ = stampOf (a .version) (a .change) in
+      let seen : Seen = seenOf (s .gate .ring) (s .keys) (s .changes) (a .key) number in
       let f : Bool = seen .changed && bySections (s .gate .follow) in
       let l : length (watchAfter f (s .words) section) ≡ length (s .words) = watch-length f (s .words) section (fit .watch) in
+      let r : ringWhole (seen .ring) (length (keysAfter (s .gate .ring) (s .keys) (a .key))) (length (changesAfter (s .gate .ring) (s .keys) (s .changes) (a .key) number)) ≡ true =
+      whole-test (seen .ring) (length (keysAfter (s .gate .ring) (s .keys) (a .key))) (length (changesAfter (s .gate .ring) (s .keys) (s .changes) (a .key) number))
+      (ring-stays (s .gate .ring) (s .keys) (s .changes) (a .key) number (fit .rows)) in
       record {
-        whole = rw (whole-test (seen .ring) (length keys) (length changes) r, l, le-leb 384 (length (s .words)) (fit .watch)) (fit .rule);
+        whole = rw (r, l, le-leb 384 (length (s .words)) (fit .watch)) (fit .rule);
         spare = counted-spare n (s .counters) c (emitsOf (s .gate) seen) (seen .evicted);
         rises = counted-rises (s .counters) (emitsOf (s .gate) seen) (seen .evicted);
         follow = refl;
         words = l;
       }
 
-  -- a refusal, 31 and 3
-  pub same-stays : Stays n s s
-  same-stays = record { whole = w; spare = less-spare n (s .counters) c; rises = same-rises (s .counters); follow = refl; words = refl }
-
-  pub failed-stays : (f : Failure) → Stays n s ((leftBy (failedBy f (s .gate) (s .counters)) (s .keys) (s .changes) (s .words)) .store)
-  failed-stays f = record { whole = w; spare = failed-spare n (s .counters) c (isShort f); rises = failed-rises (s .counters) (isShort f); follow = refl; words = refl }
-
   carried-stays : (v : Verdict) → Stays n s ((carried s section v) .store)
-  unfolding carried admittedTo
-  carried-stays (verdict.Refused r) = same-stays
-  carried-stays (verdict.Failed f) = failed-stays f
-  carried-stays (verdict.Arrived a) =
-      let g : Ring = s .gate .ring in
-      let number : ℕ = stampOf (a .version) (a .change) in
-      seen-stays (seenOf g (s .keys) (s .changes) (a .key) number) (keysAfter g (s .keys) (a .key)) (changesAfter g (s .keys) (s .changes) (a .key) number)
-      (ring-stays g (s .keys) (s .changes) (a .key) number (fit .rows))
+  unfolding carried
+  carried-stays (verdict.Refused r) = record { whole = w; spare = less-spare n (s .counters) c; rises = same-rises (s .counters); follow = refl; words = refl }
+  carried-stays (verdict.Failed f) = record { whole = w; spare = failed-spare n (s .counters) c (isShort f); rises = failed-rises (s .counters) (isShort f); follow = refl; words = refl }
+  carried-stays (verdict.Arrived a) = admitted-stays a
 
   pub offered-stays : (input pid : ℕ) → Stays n s ((offered s input pid section) .store)
   unfolding offered

@@ -86,55 +86,47 @@ module _ (n : ℕ) (r : Record) (w : patsWhole r ≡ true) (e : getD (r .words) 
   }
   after-keeps false = record { long = refl; whole = w; evictions = omega arith; more = omega arith }
 
--- an offer leaves the gate of sections so, and the PAT store comes behind it
-module _ (n : ℕ) (s : Kept) (o : Steady (suc n) s) (input pid : ℕ) (section : List ℕ) (b : getD section 7 0 < 256) (answer : Said) (t : Store) where
-  abbrev before : Record
-  before = recordOf (t .words) (s .watch .slots) (s .watch .cells)
-
-  abbrev then : Record
-  then = recordAfter (s .gate .follow) answer input pid section before
-
-  module _ (stays : Stays n (sectionsIn s) t) (same-words : byTables (s .gate .follow) ≡ true → t .words ≡ s .watch .words) where
-    -- by complete PATs: the gate of sections writes no word
-    by-tables : byTables (s .gate .follow) ≡ true → Keeps n (s .watch) then
-    unfolding recordAfter
-    by-tables h =
-        subst (λ (w : List ℕ). Keeps n (s .watch) (cond (byTables (s .gate .follow) && soundBy answer && eqb pid 0) (enteredIn (recordOf w (s .watch .slots) (s .watch .cells)) input section) (recordOf w (s .watch .slots) (s .watch .cells))))
-        (sym (same-words h)) (after-keeps n (s .watch) (o .pats h) (o .evictions h) input section b (byTables (s .gate .follow) && soundBy answer && eqb pid 0))
-
-    -- else it is the gate's
-    not-tables : byTables (s .gate .follow) ≡ false → then ≡ before
-    unfolding recordAfter
-    not-tables f = rw f refl
-
-    as-long : (h : Bool) → byTables (s .gate .follow) ≡ h → length (then .words) ≡ length (t .words)
-    as-long true h = by-tables h .long ∙ ap length (sym (same-words h))
-    as-long false f = ap (λ (r : Record). length (r .words)) (not-tables f)
-
-    pub steady-after : Steady n (keptOf (t .gate) (t .counters) (t .keys) (t .changes) then)
-    steady-after =
-        let l : length (then .words) ≡ length (t .words) = as-long (byTables (s .gate .follow)) refl in
-        let same : byTables (t .gate .follow) ≡ byTables (s .gate .follow) = ap byTables (stays .follow) in
-        record {
-          whole = ap (wholeOf (t .gate) (length (t .keys)) (length (t .changes))) l ∙ stays .whole;
-          spare = stays .spare;
-          pats = λ h. by-tables (sym same ∙ h) .whole;
-          evictions = λ h. by-tables (sym same ∙ h) .evictions;
-        }
-
-    pub evictions-after : byTables (s .gate .follow) ≡ true → getD (s .watch .words) 385 0 ≤ getD (then .words) 385 0
-    evictions-after h = by-tables h .more
-
 module _ (n : ℕ) (s : Kept) (o : Steady (suc n) s) (input pid : ℕ) (section : List ℕ) (b : getD section 7 0 < 256) where
   abbrev x : Offering
   x = offered (sectionsIn s) input pid section
 
+  abbrev before : Record
+  before = recordOf (x .store .words) (s .watch .slots) (s .watch .cells)
+
+  abbrev then : Record
+  then = recordAfter (s .gate .follow) (x .answer) input pid section before
+
   stays : Stays n (sectionsIn s) (x .store)
   stays = offered-stays n (sectionsIn s) (o .whole) (o .spare) section input pid
 
+  -- by complete PATs: the gate of sections writes no word
+  by-tables : byTables (s .gate .follow) ≡ true → Keeps n (s .watch) then
+  unfolding recordAfter
+  by-tables t =
+      let z : x .store .words ≡ s .watch .words = words-kept (sectionsIn s) section t input pid in
+      subst (λ (w : List ℕ). Keeps n (s .watch) (cond (byTables (s .gate .follow) && soundBy (x .answer) && eqb pid 0) (enteredIn (recordOf w (s .watch .slots) (s .watch .cells)) input section) (recordOf w (s .watch .slots) (s .watch .cells))))
+      (sym z) (after-keeps n (s .watch) (o .pats t) (o .evictions t) input section b (byTables (s .gate .follow) && soundBy (x .answer) && eqb pid 0))
+
+  -- else it is the gate's
+  not-tables : byTables (s .gate .follow) ≡ false → then ≡ before
+  unfolding recordAfter
+  not-tables f = rw f refl
+
+  as-long : (t : Bool) → byTables (s .gate .follow) ≡ t → length (then .words) ≡ length (x .store .words)
+  as-long true t = by-tables t .long ∙ ap length (sym (words-kept (sectionsIn s) section t input pid))
+  as-long false f = ap (λ (r : Record). length (r .words)) (not-tables f)
+
   pub steady-next : Steady n (acts s input pid section)
   unfolding takenWith
-  steady-next = steady-after n s o input pid section b (x .answer) (x .store) stays (λ h. words-kept (sectionsIn s) section h input pid)
+  steady-next =
+      let l : length (then .words) ≡ length (x .store .words) = as-long (byTables (s .gate .follow)) refl in
+      let same : byTables (x .store .gate .follow) ≡ byTables (s .gate .follow) = ap byTables (stays .follow) in
+      record {
+        whole = ap (wholeOf (x .store .gate) (length (x .store .keys)) (length (x .store .changes))) l ∙ stays .whole;
+        spare = stays .spare;
+        pats = λ t. by-tables (sym same ∙ t) .whole;
+        evictions = λ t. by-tables (sym same ∙ t) .evictions;
+      }
 
   -- no counter falls, and the manner of following stays
   pub counters-rise : Rises (s .counters) ((acts s input pid section) .counters)
@@ -143,7 +135,7 @@ module _ (n : ℕ) (s : Kept) (o : Steady (suc n) s) (input pid : ℕ) (section 
 
   pub evictions-rise : byTables (s .gate .follow) ≡ true → getD (s .watch .words) 385 0 ≤ getD ((acts s input pid section) .watch .words) 385 0
   unfolding takenWith
-  evictions-rise t = evictions-after n s o input pid section b (x .answer) (x .store) stays (λ h. words-kept (sectionsIn s) section h input pid) t
+  evictions-rise t = by-tables t .more
 
   pub same-follow : (acts s input pid section) .gate .follow ≡ s .gate .follow
   unfolding takenWith

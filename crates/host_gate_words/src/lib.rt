@@ -160,7 +160,7 @@ fn write_where(words: &mut [u64; 13], answer: Outcome, gate: Gate, counters: Cou
 }
 
 // The rows in use and the counters: an offer never changes the settings.
-pub fn write_counts(words: &mut [u64; 13], gate: Gate, counters: Counters)
+fn write_counts(words: &mut [u64; 13], gate: Gate, counters: Counters)
     ensures { λ _. ⌜ now (words .exit) ≡ wordsAfter (now (words .entry)) gate counters ⌝ }
 {
     let ring = gate.ring;

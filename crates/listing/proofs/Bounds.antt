@@ -1,4 +1,4 @@
--- How many entries there can be: each takes two bytes or more. Where one that runs past its loop starts.
+-- How many entries there can be: each takes two bytes or more.
 -- Assumes nothing.
 use mathlib.Core.Path.{_≡_, refl, ap, _∙_}
 use mathlib.Core.Bool.{Bool, true, false, cond}
@@ -9,9 +9,7 @@ use lib.ListN.{length, getD, take, drop, length-drop}
 use lib.Dec.{ltb}
 use borrow.Author.Tests.{ltb-false}
 use Rattle.laws.specs.Entries.{counted}
-use Rattle.listing.specs.declared.Walked.{Walked}
-use Rattle.listing.specs.declared.Walked.the-variants.{Done, Past}
-use Rattle.listing.specs.Store.{Found, done, past, entry, descriptor, walk, foundFrom, wordsOf, endOf}
+use Rattle.listing.specs.Store.{Found, done, past, entry, descriptor, walk, foundFrom, wordsOf}
 
 module _ (network number n : ℕ) (p : 2 ≤ n) where
   abbrev few : Found → ℕ → Type 0
@@ -42,42 +40,7 @@ module _ (network number n : ℕ) (p : 2 ≤ n) where
       let y : getD t 0 0 ≤ suc left - 2 = ltb-false (suc left - 2) (getD t 0 0) d in
       let i = bounded t (1 + getD t 0 0) (suc left - 2 - getD t 0 0) (suc at) (omega arith) in omega arith))
 
-  -- twice the number of entries is at most the bytes walked, of which the first `left` are descriptors'
-  pub two-bytes-from : (s : List ℕ) (at left : ℕ) → at + left ≤ length s → 2 * length (wordsOf network number (foundFrom n s at left)) ≤ length s - at
-  unfolding foundFrom
-  two-bytes-from s at left h =
-      let l : length (drop at s) ≡ length s - at = length-drop at s in
-      let i = bounded (drop at s) 0 left at (omega arith) in
-      omega arith
-
+  -- twice the number of entries is at most the bytes walked
   pub two-bytes : (s : List ℕ) (at : ℕ) → 2 * length (wordsOf network number (foundFrom n s at 0)) ≤ length s - at
   unfolding foundFrom
   two-bytes s at = let i = bounded (drop at s) 0 0 at (omega arith) in let l : length (drop at s) ≡ length s - at = length-drop at s in omega arith
-
--- ---- the one that runs past its loop starts inside it
-
-abbrev pub Below : (limit : ℕ) → Walked → Type 0
-Below limit (Done count) = Unit {0}
-Below limit (Past at count) = at < limit
-
-module _ (n limit : ℕ) where
-  either-below : (b : Bool) (x y : Found) (k : ℕ) → Below limit (endOf k x) → Below limit (endOf k y) → Below limit (endOf k (cond b x y))
-  either-below true x y k p q = p
-  either-below false x y k p q = q
-
-  below : (r : List ℕ) (pass left at k : ℕ) → at + length r ≤ limit → Below limit (endOf k (walk n r pass left at))
-  unfolding walk endOf
-  below [] pass left at k h = tt
-  below (b ∷ t) (suc pass) left at k h = below t pass left (suc at) k (omega arith)
-  below (b ∷ t) zero zero at k h =
-      either-below (ltb (length (b ∷ t)) n) (past at) _ k (omega arith)
-      (either-below (ltb (length (b ∷ t) - n) (counted n (b ∷ t))) (past at) _ k (omega arith)
-      (below t (n - 1) (counted n (b ∷ t)) (suc at) (k + 1) (omega arith)))
-  below (b ∷ t) zero (suc left) at k h =
-      either-below (ltb (suc left) 2) (past at) _ k (omega arith)
-      (either-below (ltb (suc left - 2) (getD t 0 0)) (past at) _ k (omega arith)
-      (below t (1 + getD t 0 0) (suc left - 2 - getD t 0 0) (suc at) (k + 1) (omega arith)))
-
-  pub starts-below : (s : List ℕ) (at left k : ℕ) → at ≤ length s → length s ≤ limit → Below limit (endOf k (foundFrom n s at left))
-  unfolding foundFrom
-  starts-below s at left k h l = let e : length (drop at s) ≡ length s - at = length-drop at s in below (drop at s) 0 left at k (omega arith)

@@ -187,7 +187,7 @@ module _ (n : ℕ) (p : 2 ≤ n) where
 -- ---- the words of what is found, and how it ends
 
 module _ (network number : ℕ) where
-  pub words-parts : (ds : List Part) (at : ℕ) (f : Found) → wordsOf network number (foundParts at ds f) ≡ flatParts number at ds ++ wordsOf network number f
+  words-parts : (ds : List Part) (at : ℕ) (f : Found) → wordsOf network number (foundParts at ds f) ≡ flatParts number at ds ++ wordsOf network number f
   unfolding foundParts flatParts wordsOf
   words-parts [] at f = refl
   words-parts (d ∷ ds) at f = ap (λ (l : List (List ℕ)). descriptorWords number at (byteAt (d .header) 0) (byteAt (d .header) 1) ∷ l) (words-parts ds (at + 2 + length (d .body)) f)

@@ -5,9 +5,6 @@ ghost use mathlib.Core.Path.{_≡_};
 ghost use Rattle.crc.specs.Crc.{crcOf};
 ghost use Rattle.host_gate.specs.Calls.{begun, gateOpened, left, gateOffered, watchOpened, watchAsked};
 ghost use Rattle.host_indexed.specs.Calls as indexed;
-ghost use Rattle.host_streams.specs.Calls as streamCalls;
-ghost use Rattle.host_feed.specs.Calls as packets;
-ghost use Rattle.host_feed_indexed.specs.Calls as indexedPackets;
 ghost use Rattle.host_words.specs.Answers.{words};
 ghost use Rattle.pats.specs.Store.{recordOf};
 ghost use Rattle.host_sets.specs.Calls.{setsLeft, setsOpened, setsPushed, setsCleared, setsNext};
@@ -169,95 +166,6 @@ pub extern "C" fn petrizolu_indexed_offer(
         pid,
         section,
         failure,
-    )
-}
-
-// Opens the streams of one input: 7 or 13. A refusal writes nothing.
-#[no_mangle]
-pub extern "C" fn petrizolu_streams_open(
-    streams: &mut [u64; 3],
-    count: u64,
-    pids: &mut [u64],
-    buffers: &[u8],
-) -> u8
-    ensures { λ r. ⌜ streamCalls.begun r (now (streams .exit)) (now (pids .exit)) ≡ streamCalls.streamsOpened (now (streams .entry)) count (now (pids .entry)) (now (buffers .entry)) ⌝ }
-{
-    host_streams::open(streams, count, pids, buffers)
-}
-
-// Feeds a packet that came on an input, with the memory of that input: 29, 30, 43, 10, 11 or 37. `finished` is written with 29 only.
-#[no_mangle]
-pub extern "C" fn petrizolu_feed(
-    gate: &mut [u64; 13],
-    streams: &mut [u64; 3],
-    keys: &mut [u64],
-    changes: &mut [u64],
-    watch: &mut [u64],
-    pat_slots: &mut [u32],
-    pat_cells: &mut [u8],
-    pids: &mut [u64],
-    buffers: &mut [u8],
-    input: u32,
-    packet: &[u8],
-    places: &mut [u64],
-    finished: &mut [u64; 1],
-) -> u8
-    ensures { λ r. ⌜ packets.left r (now (gate .exit)) (now (streams .exit)) (now (keys .exit)) (now (changes .exit)) (recordOf (now (watch .exit)) (now («pat_slots» .exit)) (now («pat_cells» .exit))) (now (pids .exit)) (now (buffers .exit)) (now (places .exit)) (now (finished .exit)) ≡ packets.packetFed (now (gate .entry)) (now (streams .entry)) (now (keys .entry)) (now (changes .entry)) (recordOf (now (watch .entry)) (now («pat_slots» .entry)) (now («pat_cells» .entry))) (now (pids .entry)) (now (buffers .entry)) input (now (packet .entry)) (now (places .entry)) (now (finished .entry)) ⌝ }
-{
-    host_feed::feed(
-        gate,
-        streams,
-        keys,
-        changes,
-        watch,
-        pat_slots,
-        pat_cells,
-        pids,
-        buffers,
-        input,
-        packet,
-        places,
-        finished,
-    )
-}
-
-// `petrizolu_feed` through the index.
-#[no_mangle]
-pub extern "C" fn petrizolu_indexed_feed(
-    gate: &mut [u64; 13],
-    streams: &mut [u64; 3],
-    keys: &mut [u64],
-    changes: &mut [u64],
-    buckets: &mut [u64],
-    links: &mut [u64],
-    watch: &mut [u64],
-    pat_slots: &mut [u32],
-    pat_cells: &mut [u8],
-    pids: &mut [u64],
-    buffers: &mut [u8],
-    input: u32,
-    packet: &[u8],
-    places: &mut [u64],
-    finished: &mut [u64; 1],
-) -> u8
-    ensures { λ r. ⌜ indexedPackets.left r (now (gate .exit)) (now (streams .exit)) (now (keys .exit)) (now (changes .exit)) (now (buckets .exit)) (now (links .exit)) (recordOf (now (watch .exit)) (now («pat_slots» .exit)) (now («pat_cells» .exit))) (now (pids .exit)) (now (buffers .exit)) (now (places .exit)) (now (finished .exit)) ≡ indexedPackets.packetFed (now (gate .entry)) (now (streams .entry)) (now (keys .entry)) (now (changes .entry)) (now (buckets .entry)) (now (links .entry)) (recordOf (now (watch .entry)) (now («pat_slots» .entry)) (now («pat_cells» .entry))) (now (pids .entry)) (now (buffers .entry)) input (now (packet .entry)) (now (places .entry)) (now (finished .entry)) ⌝ }
-{
-    host_feed_indexed::feed(
-        gate,
-        streams,
-        keys,
-        changes,
-        buckets,
-        links,
-        watch,
-        pat_slots,
-        pat_cells,
-        pids,
-        buffers,
-        input,
-        packet,
-        places,
-        finished,
     )
 }
 

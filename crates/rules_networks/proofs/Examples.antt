@@ -7,9 +7,7 @@ use lib.ListN.{set}
 use Rattle.laws.specs.Lists.{any}
 use Rattle.entry_words.specs.Words.{streamWords, serviceWords, entryWords, descriptorWords}
 use Rattle.listing.specs.Store.{walk, foundFrom, wordsOf}
-use Rattle.rules_networks.specs.declared.Table.{Table}
-use Rattle.rules_networks.specs.declared.Table.the-variants.{Nit, Bat, Sdt, None}
-use Rattle.rules_networks.specs.Networks.{lengthWrong, brokenIn, nitBroken, sdtBroken, faultOf, placed, Told, other-table, broken-loop, entries, nitEntries, sdtEntries, readAs}
+use Rattle.rules_networks.specs.Networks.{Reader, nit, bat, sdt, no-reader, lengthWrong, brokenIn, nitBroken, sdtBroken, Told, other-table, broken-loop, entries, nitEntries, sdtEntries, readAs}
 
 -- network 0x3001, section 0: its name; stream 1 with a service list; stream 3
 abbrev network : List ℕ
@@ -30,41 +28,41 @@ nothing = 0x40 ∷ 0xF0 ∷ 0x0D ∷ 0x00 ∷ 0x01 ∷ 0xCB ∷ 0x00 ∷ 0x00 �
 abbrev byteAfter : List ℕ
 byteAfter = 0x40 ∷ 0xF0 ∷ 0x0E ∷ 0x00 ∷ 0x01 ∷ 0xCB ∷ 0x00 ∷ 0x00 ∷ 0xF0 ∷ 0x00 ∷ 0xF0 ∷ 0x00 ∷ 0x00 ∷ 0x17 ∷ 0x06 ∷ 0x55 ∷ 0xDE ∷ []
 
-unfoldable pub says : Table → List ℕ → Told
-unfolding any streamWords serviceWords entryWords descriptorWords walk foundFrom wordsOf lengthWrong brokenIn nitBroken sdtBroken faultOf placed nitEntries sdtEntries readAs
+unfoldable pub says : Reader → List ℕ → Told
+unfolding any streamWords serviceWords entryWords descriptorWords walk foundFrom wordsOf lengthWrong brokenIn nitBroken sdtBroken nitEntries sdtEntries readAs
 says r s = readAs r s
 
 pub record NetworkExamples : Type 0 where
-  pub of-network : says Nit network ≡ entries (
+  pub of-network : says nit network ≡ entries (
       (2 ∷ 0 ∷ 10 ∷ 0x40 ∷ 3 ∷ 0 ∷ 0 ∷ 0 ∷ 0 ∷ 0 ∷ 0 ∷ 0 ∷ [])
       ∷ (3 ∷ 0 ∷ 17 ∷ 1 ∷ 5 ∷ 0x2174 ∷ 0 ∷ 0 ∷ 0 ∷ 0 ∷ 0 ∷ 0 ∷ [])
       ∷ (2 ∷ 0 ∷ 23 ∷ 0x41 ∷ 3 ∷ 0 ∷ 0 ∷ 0 ∷ 0 ∷ 0 ∷ 0 ∷ 0 ∷ [])
       ∷ (3 ∷ 0 ∷ 28 ∷ 3 ∷ 0 ∷ 0x2174 ∷ 0 ∷ 0 ∷ 0 ∷ 0 ∷ 0 ∷ 0 ∷ [])
       ∷ [])
-  pub of-bouquet : says Bat bouquet ≡ entries ((3 ∷ 2 ∷ 12 ∷ 7 ∷ 0 ∷ 0x10 ∷ 0 ∷ 0 ∷ 0 ∷ 0 ∷ 0 ∷ 0 ∷ []) ∷ [])
-  pub of-services : says Sdt services ≡ entries (
+  pub of-bouquet : says bat bouquet ≡ entries ((3 ∷ 2 ∷ 12 ∷ 7 ∷ 0 ∷ 0x10 ∷ 0 ∷ 0 ∷ 0 ∷ 0 ∷ 0 ∷ 0 ∷ []) ∷ [])
+  pub of-services : says sdt services ≡ entries (
       (4 ∷ 4 ∷ 11 ∷ 1 ∷ 5 ∷ 0x2174 ∷ 0 ∷ 0 ∷ 0 ∷ 4 ∷ 0 ∷ 1 ∷ [])
       ∷ (2 ∷ 4 ∷ 16 ∷ 0x48 ∷ 3 ∷ 0 ∷ 0 ∷ 0 ∷ 0 ∷ 0 ∷ 0 ∷ 0 ∷ [])
       ∷ (4 ∷ 4 ∷ 21 ∷ 2 ∷ 0 ∷ 0x2174 ∷ 0 ∷ 0 ∷ 0 ∷ 4 ∷ 1 ∷ 2 ∷ [])
       ∷ [])
-  pub no-entry : says Nit nothing ≡ entries []
+  pub no-entry : says nit nothing ≡ entries []
   -- 36 at the second length, 10 + n
-  pub byte-after : says Nit byteAfter ≡ broken-loop 10
-  pub no-section : says Sdt (0x42 ∷ []) ≡ broken-loop 1
+  pub byte-after : says nit byteAfter ≡ broken-loop 10
+  pub no-section : says sdt (0x42 ∷ []) ≡ broken-loop 1
   -- a first loop of one byte less: the descriptor runs past it; of more than there is
-  pub first-less : says Nit (set network 9 4) ≡ broken-loop 10
-  pub first-more : says Nit (set network 9 200) ≡ broken-loop 8
+  pub first-less : says nit (set network 9 4) ≡ broken-loop 10
+  pub first-more : says nit (set network 9 200) ≡ broken-loop 8
   -- a descriptor and a transport stream that run past
-  pub descriptor-past : says Nit (set network 24 4) ≡ broken-loop 23
-  pub stream-past : says Nit (set network 33 1) ≡ broken-loop 28
-  pub service-past : says Sdt (set services 25 1) ≡ broken-loop 21
+  pub descriptor-past : says nit (set network 24 4) ≡ broken-loop 23
+  pub stream-past : says nit (set network 33 1) ≡ broken-loop 28
+  pub service-past : says sdt (set services 25 1) ≡ broken-loop 21
   -- 35
-  pub another : says Nit bouquet ≡ other-table
-  pub no-table : says None network ≡ other-table
+  pub another : says nit bouquet ≡ other-table
+  pub no-table : says no-reader network ≡ other-table
   -- 35 before 36: no byte but a table_id of another reader
-  pub other-first : says Nit (0x42 ∷ []) ≡ other-table
+  pub other-first : says nit (0x42 ∷ []) ≡ other-table
   -- service other is read as service actual
-  pub service-other : says Sdt (set services 0 0x46) ≡ says Sdt services
+  pub service-other : says sdt (set services 0 0x46) ≡ says sdt services
 
 pub network-examples : NetworkExamples
 unfolding says

@@ -3,5 +3,3 @@ pub mod Listed
 pub mod Sdt
 pub mod Nit
 pub mod Examples
-pub mod Broken
-pub mod Entries

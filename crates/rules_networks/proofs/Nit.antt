@@ -17,25 +17,28 @@ use Rattle.listing.specs.Rules.{Part, Item, Laid, Breaks, Whole}
 use Rattle.listing.specs.Store.{Found, done, past, walk, foundFrom}
 use Rattle.listing.proofs.Parts.{Judged, is-laid, is-broken, judged}
 use Rattle.listing.proofs.Listed.{foundParts, foundItems, whole-found, descriptors-laid, descriptors-broken}
-use Rattle.rules_networks.specs.Networks.{lengthWrong, crcAt, firstLength, secondAt, loopLength, firstLoop, networkFound, streamsFound, brokenIn, firstOf, nitBroken, NitWhole, nit-laid}
+use Rattle.rules_networks.specs.Networks.{lengthWrong, crcAt, firstLength, secondAt, loopLength, networkFound, streamsFound, brokenIn, firstOf, nitBroken, NitWhole, nit-laid}
 use Rattle.rules_networks.proofs.Listed.{streams-listed, parts-broken, items-broken}
 
 -- ---- the first loop
 
+unfoldable pub firstLoop : List ℕ → List ℕ
+firstLoop s = drop 10 (take (secondAt s) s)
+
 module _ (s : List ℕ) (h : secondAt s ≤ length s) where
-  pub first-long : length (firstLoop s) ≡ firstLength s
+  first-long : length (firstLoop s) ≡ firstLength s
   unfolding firstLoop
   first-long = length-drop 10 (take (secondAt s) s) ∙ ap (λ (n : ℕ). n - 10) (length-take-le (secondAt s) s h) ∙ omega arith
 
-  pub network-is : networkFound s ≡ walk 6 (firstLoop s ++ []) 0 (length (firstLoop s)) 10
+  network-is : networkFound s ≡ walk 6 (firstLoop s ++ []) 0 (length (firstLoop s)) 10
   unfolding foundFrom firstLoop
   network-is = ap₂ (λ (q : List ℕ) (n : ℕ). walk 6 q 0 n 10) (sym (append-nil (firstLoop s))) (sym first-long)
 
-  pub laid-found : (ds : List Part) → Laid 1 2 (firstLoop s) ds → brokenIn (networkFound s) ≡ 0
+  laid-found : (ds : List Part) → Laid 1 2 (firstLoop s) ds → brokenIn (networkFound s) ≡ 0
   unfolding brokenIn walk
   laid-found ds d = ap brokenIn (network-is ∙ descriptors-laid 6 d [] 10) ∙ parts-broken 10 ds done
 
-  pub broken-found : (ds : List Part) (place : ℕ) → Breaks 1 2 (firstLoop s) ds place → brokenIn (networkFound s) ≡ suc (10 + place)
+  broken-found : (ds : List Part) (place : ℕ) → Breaks 1 2 (firstLoop s) ds place → brokenIn (networkFound s) ≡ suc (10 + place)
   unfolding brokenIn
   broken-found ds place d = ap brokenIn (network-is ∙ descriptors-broken 6 d [] 10) ∙ parts-broken 10 ds (past (10 + place))
 
@@ -43,7 +46,7 @@ pub record FirstLaid (s : List ℕ) : Type 0 where
   pub parts : List Part
   pub laid : Laid 1 2 (firstLoop s) parts
 
-pub first-by : (s : List ℕ) → secondAt s ≤ length s → brokenIn (networkFound s) ≡ 0 → Judged 1 2 (firstLoop s) → FirstLaid s
+first-by : (s : List ℕ) → secondAt s ≤ length s → brokenIn (networkFound s) ≡ 0 → Judged 1 2 (firstLoop s) → FirstLaid s
 first-by s h e (is-laid ds d) = record { parts = ds; laid = d }
 first-by s h e (is-broken ds place d) = absurd (let q = broken-found s h ds place d in omega arith)
 
@@ -126,7 +129,7 @@ module _ (s : List ℕ) (p : Passed s) where
   passed-laid =
       let w = within in
       let f = first-by s (w .3) (p .first) (judged 1 2 (omega arith) (firstLoop s)) in
-      let t = streams-listed s 0 0 (p .second) in
+      let t = streams-listed s 0 (p .second) in
       subst NitWhole together
       (nit-laid (take 10 s) (drop 10 (take (secondAt s) s)) (drop (secondAt s) (take streamsAt s)) (drop streamsAt (take endAt s)) (drop endAt s) (f .parts) (t .items)
       (length-take-le 10 s (omega arith)) first-count (f .laid) (piece-long s (secondAt s) streamsAt (omega arith) (w .2) ∙ omega arith) second-count (t .whole)

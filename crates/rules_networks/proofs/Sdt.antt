@@ -30,15 +30,12 @@ together s h =
     let c : drop (crcAt s) s ≡ drop (crcAt s - 11) (drop 11 s) = ap (λ (n : ℕ). drop n s) (sym a) ∙ sym (drop-drop (crcAt s - 11) 11 s) in
     rw (b, c, take-append-drop (crcAt s - 11) (drop 11 s), take-append-drop 11 s)
 
-pub sdt-passed : (s : List ℕ) → sdtBroken s ≡ 0 → (lengthWrong s ≡ false) × (15 ≤ length s) × (brokenIn (servicesFound s) ≡ 0)
-unfolding sdtBroken
-sdt-passed s e = let p = parts-of (lengthWrong s) (ltb (length s) 15) (brokenIn (servicesFound s)) e in (p .0, ltb-false (length s) 15 (p .1), p .2)
-
 pub sdt-laid-out : (s : List ℕ) → sdtBroken s ≡ 0 → (lengthWrong s ≡ false) × SdtWhole s
+unfolding sdtBroken
 sdt-laid-out s e =
-    let p = sdt-passed s e in
-    let h = p .1 in
-    let w = services-listed s 0 0 (p .2) in
+    let p = parts-of (lengthWrong s) (ltb (length s) 15) (brokenIn (servicesFound s)) e in
+    let h : 15 ≤ length s = ltb-false (length s) 15 (p .1) in
+    let w = services-listed s 0 (p .2) in
     let l : length (drop (crcAt s) s) ≡ 4 = length-drop (crcAt s) s ∙ omega arith in
     (p .0, subst SdtWhole (together s h) (sdt-laid (take 11 s) (drop 11 (take (crcAt s) s)) (drop (crcAt s) s) (w .items) (length-take-le 11 s (omega arith)) l (w .whole)))
 

@@ -1,28 +1,32 @@
 -- NIT, BAT and SDT sections (EN 300 468, 5.2.1, 5.2.2, 5.2.3), with no memory: a section is the list of its bytes, from 0 at table_id; the CRC is its last four bytes.
 -- `cond test a b` is a where the test is true, else b.
 use mathlib.Core.Path.{_≡_}
-use mathlib.Core.Logic.{_≢_}
-use Prim.Native.Nat.{ℕ, suc, _+_, _*_, _-_, _%_, _<_}
+use Prim.Native.Nat.{ℕ, suc, _+_, _*_, _-_, _%_}
 use mathlib.Core.List.{List, [], _∷_, _++_}
 use mathlib.Core.Bool.{Bool, true, false, cond, not, _||_}
-use lib.ListN.{length, take, drop}
+use lib.ListN.{length, take}
 use lib.Dec.{ltb, eqb}
 use Rattle.laws.specs.Lists.{any}
 use Rattle.section.specs.Header.{byteAt, word16, sectionLength}
 use Rattle.laws.specs.Entries.{counted}
-use Rattle.listing.specs.Rules.{Part, Item, Laid, Breaks, Whole, RunsPast}
+use Rattle.listing.specs.Rules.{Part, Item, Laid, Whole}
 use Rattle.listing.specs.Store.{Found, done, past, entry, descriptor, foundFrom, wordsOf}
-use Rattle.rules_networks.specs.declared.Table.{Table}
-use Rattle.rules_networks.specs.declared.Table.the-variants.{Nit, Bat, Sdt, None}
+
+-- a reader, by its number: 1, 2, 3; any other number names none
+pub data Reader : Type 0 where
+  nit : Reader
+  bat : Reader
+  sdt : Reader
+  no-reader : Reader
 
 -- table_ids (EN 300 468, table 2): network actual and other, bouquet, service actual and other
-abbrev pub tableIds : Table → List ℕ
-tableIds Nit = 0x40 ∷ 0x41 ∷ []
-tableIds Bat = 0x4A ∷ []
-tableIds Sdt = 0x42 ∷ 0x46 ∷ []
-tableIds None = []
+abbrev pub tableIds : Reader → List ℕ
+tableIds nit = 0x40 ∷ 0x41 ∷ []
+tableIds bat = 0x4A ∷ []
+tableIds sdt = 0x42 ∷ 0x46 ∷ []
+tableIds no-reader = []
 
-abbrev pub isOf : Table → (tableId : ℕ) → Bool
+abbrev pub isOf : Reader → (tableId : ℕ) → Bool
 isOf r t = any (eqb t) (tableIds r)
 
 -- the place of the CRC
@@ -45,14 +49,7 @@ secondAt s = 10 + firstLength s
 abbrev pub loopLength : List ℕ → ℕ
 loopLength s = byteAt s (secondAt s) % 16 * 256 + byteAt s (secondAt s + 1)
 
--- the bytes of the first loop, and of the second
-unfoldable pub firstLoop : List ℕ → List ℕ
-firstLoop s = drop 10 (take (secondAt s) s)
-
-abbrev pub streamLoop : List ℕ → List ℕ
-streamLoop s = drop (secondAt s + 2) (take (secondAt s + 2 + loopLength s) s)
-
--- what is found in them
+-- what is found in the first loop, and in the second
 abbrev pub networkFound : List ℕ → Found
 networkFound s = foundFrom 6 (take (secondAt s) s) 10 (firstLength s)
 
@@ -63,9 +60,6 @@ streamsFound s = foundFrom 6 (take (secondAt s + 2 + loopLength s) s) (secondAt 
 
 abbrev pub networkOf : List ℕ → ℕ
 networkOf s = word16 (byteAt s 8) (byteAt s 9)
-
-abbrev pub serviceLoop : List ℕ → List ℕ
-serviceLoop s = drop 11 (take (crcAt s) s)
 
 abbrev pub servicesFound : List ℕ → Found
 servicesFound s = foundFrom 5 (take (crcAt s) s) 11 0
@@ -93,50 +87,31 @@ nitBroken s =
 unfoldable pub sdtBroken : List ℕ → ℕ
 sdtBroken s = cond (lengthWrong s) 2 (cond (ltb (length s) 15) 12 (brokenIn (servicesFound s)))
 
--- ---- why a reader refuses a section: 0 where it does not, else the place that it tells, and 1
-
-abbrev pub brokenOf : Table → List ℕ → ℕ
-brokenOf Nit s = nitBroken s
-brokenOf Bat s = nitBroken s
-brokenOf Sdt s = sdtBroken s
-brokenOf None s = 0
-
--- 35 before 36: its place is that of table_id, 0
-unfoldable pub faultOf : Table → List ℕ → ℕ
-faultOf r s = cond (isOf r (byteAt s 0)) (brokenOf r s) 1
-
--- ---- what a reader lists of a section that begins at byte `start` of what is lent and has this number
-
--- the same found `start` bytes further on
-unfoldable pub placed : (start : ℕ) → Found → Found
-placed start done = done
-placed start (past at) = past (start + at)
-placed start (entry at header f) = entry (start + at) header (placed start f)
-placed start (descriptor at tag size f) = descriptor (start + at) tag size (placed start f)
-
-unfoldable pub nitEntries : (start number : ℕ) → List ℕ → List (List ℕ)
-nitEntries start number s = wordsOf 0 number (placed start (networkFound s)) ++ wordsOf 0 number (placed start (streamsFound s))
-
-unfoldable pub sdtEntries : (start number : ℕ) → List ℕ → List (List ℕ)
-sdtEntries start number s = wordsOf (networkOf s) number (placed start (servicesFound s))
-
-abbrev pub entriesOf : Table → (start number : ℕ) → List ℕ → List (List ℕ)
-entriesOf Nit start number s = nitEntries start number s
-entriesOf Bat start number s = nitEntries start number s
-entriesOf Sdt start number s = sdtEntries start number s
-entriesOf None start number s = []
+-- ---- what a reader says of a section
 
 pub data Told : Type 0 where
   other-table : Told
   broken-loop : (place : ℕ) → Told
   entries : List (List ℕ) → Told
 
-abbrev pub toldBy : (fault : ℕ) → List (List ℕ) → Told
-toldBy fault es = cond (eqb fault 0) (entries es) (cond (eqb fault 1) other-table (broken-loop (fault - 1)))
+unfoldable pub nitEntries : List ℕ → List (List ℕ)
+nitEntries s = wordsOf 0 (byteAt s 6) (networkFound s) ++ wordsOf 0 (byteAt s 6) (streamsFound s)
 
--- a section by itself: its number is byte 6
-unfoldable pub readAs : Table → List ℕ → Told
-readAs r s = toldBy (faultOf r s) (entriesOf r 0 (byteAt s 6) s)
+unfoldable pub sdtEntries : List ℕ → List (List ℕ)
+sdtEntries s = wordsOf (networkOf s) (byteAt s 6) (servicesFound s)
+
+abbrev pub toldBy : (broken : ℕ) → List (List ℕ) → Told
+toldBy broken es = cond (eqb broken 0) (entries es) (broken-loop (broken - 1))
+
+abbrev pub toldAs : Reader → List ℕ → Told
+toldAs nit s = toldBy (nitBroken s) (nitEntries s)
+toldAs bat s = toldBy (nitBroken s) (nitEntries s)
+toldAs sdt s = toldBy (sdtBroken s) (sdtEntries s)
+toldAs no-reader s = other-table
+
+-- 35 before 36
+unfoldable pub readAs : Reader → List ℕ → Told
+readAs r s = cond (isOf r (byteAt s 0)) (toldAs r s) other-table
 
 -- ---- an SDT section as the concatenation of its parts: 11 bytes, whole services with whole descriptor loops, and the four bytes of the CRC, with nothing between
 
@@ -149,19 +124,3 @@ pub data SdtWhole : List ℕ → Type 0 where
 pub data NitWhole : List ℕ → Type 0 where
   nit-laid : (head first second loop crc : List ℕ) (ds : List Part) (items : List Item) → length head ≡ 10 → length first ≡ counted 10 head → Laid 1 2 first ds
       → length second ≡ 2 → length loop ≡ counted 2 second → Whole 6 loop items → length crc ≡ 4 → NitWhole (head ++ (first ++ (second ++ (loop ++ crc))))
-
--- ---- every place where something does not end where its length says
-
-pub data NitBreaks (s : List ℕ) : (place : ℕ) → Type 0 where
-  nit-length : lengthWrong s ≡ true → NitBreaks s 1
-  -- no room for the two lengths and the CRC; the first loop or the second length runs into the CRC
-  no-lengths : length s < 16 → NitBreaks s 8
-  no-second : crcAt s < secondAt s + 2 → NitBreaks s 8
-  first-past : {parts : List Part} {place : ℕ} → Breaks 1 2 (firstLoop s) parts place → NitBreaks s (10 + place)
-  second-ends : secondAt s + 2 + loopLength s ≢ crcAt s → NitBreaks s (secondAt s)
-  stream-past : {items : List Item} {place : ℕ} → RunsPast 6 (streamLoop s) items place → NitBreaks s (secondAt s + 2 + place)
-
-pub data SdtBreaks (s : List ℕ) : (place : ℕ) → Type 0 where
-  sdt-length : lengthWrong s ≡ true → SdtBreaks s 1
-  no-services : length s < 15 → SdtBreaks s 11
-  service-past : {items : List Item} {place : ℕ} → RunsPast 5 (serviceLoop s) items place → SdtBreaks s (11 + place)

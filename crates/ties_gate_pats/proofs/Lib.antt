@@ -4,4 +4,3 @@ pub mod Indexed
 pub mod Answers
 pub mod Entered
 pub mod Watch
-pub mod One

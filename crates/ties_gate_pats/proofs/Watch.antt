@@ -69,8 +69,8 @@ module _ (s : Kept) (o : Offer) (k : OpenedWith s) (b : Bytes (o .section)) (i :
       subst (λ (l : Offering). InStep (l .left .watch .words)) (sym (old-manner s (o .input) (o .pid) (o .section) h))
       (below.offer-kept (sectionsIn s) o (record { room = k .sections .watch; step = i }) .step)
 
-  pub in-step-one : InStep ((keptActs s o) .watch .words)
-  in-step-one = go (byTables (s .gate .follow)) refl
+  one : InStep ((keptActs s o) .watch .words)
+  one = go (byTables (s .gate .follow)) refl
     where
       go : (t : Bool) → byTables (s .gate .follow) ≡ t → InStep ((keptActs s o) .watch .words)
       go true h = by-tables h
@@ -79,7 +79,7 @@ module _ (s : Kept) (o : Offer) (k : OpenedWith s) (b : Bytes (o .section)) (i :
 pub watch-always : (os : List Offer) (s : Kept) → OpenedWith s → OfBytes os → InStep (s .watch .words) → InStep ((storeAfter keptActs s os) .watch .words)
 unfolding storeAfter keptActs
 watch-always [] s k b i = i
-watch-always (o ∷ os) s k b i = watch-always os (keptActs s o) (follows-with s o k (b .0) .opened) (b .1) (in-step-one s o k (b .0) i)
+watch-always (o ∷ os) s k b i = watch-always os (keptActs s o) (follows-with s o k (b .0) .opened) (b .1) (one s o k (b .0) i)
 
 -- ---- by the rules
 

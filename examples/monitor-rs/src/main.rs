@@ -1,18 +1,16 @@
 //! A guide monitor in Rust over the proved library: reads records from standard input or from the file named, a PID (two bytes, high byte
-//! first) and a section each, or with --ts a transport stream, and prints each new section, each complete set and schedule, and totals, as
-//! examples/monitor.c does.
+//! first) and a section each, and prints each new section, each complete set and schedule, and totals, as examples/monitor.c does.
 
-use petrizolu::{Answer, Complete, Demux, Eit, Gate, GateState, Name, Offered, PACKET_BYTES, Refused, Section, Sets};
+use petrizolu::{Answer, Complete, Eit, Gate, Name, Offered, Refused, Section, Sets};
 use std::io::{self, BufReader, Read};
 
 const SCHEDULE_ACTUAL: u8 = 2;
 
-/// All records, and all packets, come on one input.
+/// All records come on one input.
 const INPUT: u8 = 0;
-const NULL_PID: u16 = 0x1FFF;
 
-/// What stands behind the gate.
 struct Monitor {
+    gate: Gate,
     sets: Sets,
     eit: Eit,
     unwatched: u64,
@@ -34,6 +32,7 @@ fn show_sections(sections: &[Section]) {
 impl Monitor {
     fn open() -> Result<Self, Refused> {
         Ok(Self {
+            gate: Gate::open(4096, &[])?,
             sets: Sets::open(64, 4096, 1024)?,
             eit: Eit::open(64, 4096, 1024)?,
             unwatched: 0,
@@ -43,17 +42,25 @@ impl Monitor {
         })
     }
 
-    /// A section and the gate's answer to it. A repeat goes on too: it completes a set that was evicted between two of its sections, or found no cell.
-    fn judged(&mut self, pid: u16, offered: Offered, section: &[u8]) {
-        match offered {
-            Offered::Emitted => println!("new pid {pid:04X} table {:02X}, {} bytes", section[0], section.len()),
-            Offered::Suppressed => {}
-            Offered::TooShort(length) => return println!("short pid {pid:04X}, {length} bytes"),
-            Offered::Mismatch { stored, worked } => {
+    fn take(&mut self, pid: u16, section: &[u8]) {
+        if !self.gate.watches(INPUT, pid) {
+            self.unwatched += 1;
+            return;
+        }
+        // A repeat goes on too: it completes a set that was evicted between two of its sections, or found no cell.
+        let table_id = match self.gate.offer(INPUT, pid, section) {
+            Ok(Offered::Emitted) => {
+                println!("new pid {pid:04X} table {:02X}, {} bytes", section[0], section.len());
+                section[0]
+            }
+            Ok(Offered::Suppressed) => section[0],
+            Ok(Offered::TooShort(length)) => return println!("short pid {pid:04X}, {length} bytes"),
+            Ok(Offered::Mismatch { stored, worked }) => {
                 return println!("mismatch pid {pid:04X}, stored {stored:08X}, worked {worked:08X}");
             }
-        }
-        if (0x4E..=0x6F).contains(&section[0]) {
+            Err(_) => return,
+        };
+        if (0x4E..=0x6F).contains(&table_id) {
             self.collect_events(pid, section);
         } else {
             self.collect_set(pid, section);
@@ -102,7 +109,8 @@ impl Monitor {
         println!("refused {answer}");
     }
 
-    fn show_totals(&self, gate: GateState) {
+    fn show_totals(&self) {
+        let gate = self.gate.state();
         println!(
             "sections {} new {} repeats {} crc {} unwatched {}",
             gate.completed, gate.emitted, gate.suppressed, gate.crc_failures, self.unwatched
@@ -133,76 +141,27 @@ fn read_record(input: &mut impl Read, section: &mut Vec<u8>) -> io::Result<Optio
     Ok(Some(u16::from_be_bytes([head[0], head[1]])))
 }
 
-/// What is read, until the input ends; whether it ends where it may.
-fn until_the_end(mut read: impl FnMut() -> io::Result<bool>) -> io::Result<()> {
+fn run(mut input: impl Read) -> io::Result<()> {
+    let mut monitor = Monitor::open().map_err(|Refused(answer)| io::Error::other(format!("the stores do not open: {answer}")))?;
+    let mut section = Vec::new();
     loop {
-        match read() {
-            Ok(true) => {}
-            Ok(false) => return Ok(()),
+        match read_record(&mut input, &mut section) {
+            Ok(Some(pid)) => monitor.take(pid, &section),
+            Ok(None) => break,
             Err(error) if error.kind() == io::ErrorKind::UnexpectedEof => {
                 println!("cut");
-                return Ok(());
+                break;
             }
             Err(error) => return Err(error),
         }
     }
-}
-
-fn not_open(Refused(answer): Refused) -> io::Error {
-    io::Error::other(format!("the stores do not open: {answer}"))
-}
-
-fn read_records(mut input: impl Read) -> io::Result<()> {
-    let mut monitor = Monitor::open().map_err(not_open)?;
-    let mut gate = Gate::open(4096, &[]).map_err(not_open)?;
-    let mut section = Vec::new();
-    until_the_end(|| {
-        let Some(pid) = read_record(&mut input, &mut section)? else { return Ok(false) };
-        if !gate.watches(INPUT, pid) {
-            monitor.unwatched += 1;
-        } else if let Ok(offered) = gate.offer(INPUT, pid, &section) {
-            monitor.judged(pid, offered, &section);
-        }
-        Ok(true)
-    })?;
-    monitor.show_totals(gate.state());
-    Ok(())
-}
-
-/// Packets one after another. Those of PIDs that are not watched are counted, but null packets.
-fn read_packets(mut input: impl Read) -> io::Result<()> {
-    let mut monitor = Monitor::open().map_err(not_open)?;
-    let mut demux = Demux::open(1, 4096, 64, &[]).map_err(not_open)?;
-    let mut packet = [0; PACKET_BYTES];
-    until_the_end(|| {
-        if input.read(&mut packet[..1])? == 0 {
-            return Ok(false);
-        }
-        input.read_exact(&mut packet[1..])?;
-        let pid = u16::from_be_bytes([packet[1] & 0x1F, packet[2]]);
-        let watched = demux.watches(INPUT, pid);
-        match demux.feed(INPUT, &packet) {
-            Ok(fed) => {
-                monitor.unwatched += u64::from(!watched && pid != NULL_PID);
-                fed.for_each(|(offered, section)| monitor.judged(pid, offered, section));
-            }
-            Err(Refused(Answer::NO_BUFFER)) => println!("no buffer for pid {pid:04X}"),
-            Err(_) => {}
-        }
-        Ok(true)
-    })?;
-    let streams = demux.streams(INPUT);
-    println!("packets {} malformed {}", streams.packets, streams.malformed);
-    monitor.show_totals(demux.state());
+    monitor.show_totals();
     Ok(())
 }
 
 fn main() -> io::Result<()> {
-    let words: Vec<_> = std::env::args_os().skip(1).collect();
-    let packets = words.first().is_some_and(|word| word == "--ts");
-    let input: Box<dyn Read> = match words.get(usize::from(packets)) {
-        Some(file) => Box::new(BufReader::new(std::fs::File::open(file)?)),
-        None => Box::new(io::stdin().lock()),
-    };
-    if packets { read_packets(input) } else { read_records(input) }
+    match std::env::args_os().nth(1) {
+        Some(file) => run(BufReader::new(std::fs::File::open(file)?)),
+        None => run(io::stdin().lock()),
+    }
 }

@@ -50,39 +50,6 @@ impl Judgement {
             Judgement::Short(_) => 31,
         }
     }
-
-    /// The word that the programs print.
-    pub fn word(self) -> &'static str {
-        match self {
-            Judgement::Emitted => "emitted",
-            Judgement::Suppressed => "suppressed",
-            Judgement::Mismatch(..) => "mismatch",
-            Judgement::Short(_) => "short",
-        }
-    }
-}
-
-/// A section that a packet finished.
-#[derive(Clone, Debug, PartialEq, Eq)]
-pub struct Finished {
-    pub judgement: Judgement,
-    /// Where its bytes are: in the section buffers, or in the packet; and its first byte there. Compared, but not told.
-    pub in_buffers: bool,
-    pub start: u64,
-    pub bytes: Vec<u8>,
-}
-
-/// What the packet layer says of a packet that it counted: 29, 30 or 43.
-#[derive(Clone, Debug, PartialEq, Eq)]
-pub struct Fed {
-    pub number: u8,
-    /// Packets and malformed packets of the input.
-    pub packets: [u64; 2],
-    /// The seven counters of the gate.
-    pub counters: [u64; 7],
-    /// How many sections were finished, and each of them.
-    pub count: u64,
-    pub sections: Vec<Finished>,
 }
 
 #[derive(Debug, PartialEq, Eq)]
@@ -104,10 +71,9 @@ pub enum Answer {
     Unwatched,
     /// No packets bring these bytes as one section.
     Undeliverable,
-    Watched(Part, Vec<u16>),
+    Watched(Vec<u16>),
     /// A collector's answer to a section or a filter.
     Collected(u8, Held, Out),
-    Fed(Fed),
 }
 
 impl Answer {
@@ -118,8 +84,7 @@ impl Answer {
             Answer::Judged(judgement, _) => Some((Part::Gate, judgement.number())),
             Answer::Collected(n, Held::Sets { .. }, _) => Some((Part::Sets, *n)),
             Answer::Collected(n, Held::Eit { .. }, _) => Some((Part::Eit, *n)),
-            Answer::Fed(fed) => Some((Part::Demux, fed.number)),
-            Answer::Input(_) | Answer::Unwatched | Answer::Undeliverable | Answer::Watched(..) => None,
+            Answer::Input(_) | Answer::Unwatched | Answer::Undeliverable | Answer::Watched(_) => None,
             Answer::Counters(_) | Answer::Pats { .. } => None,
         }
     }
@@ -155,31 +120,6 @@ impl Display for Out {
     }
 }
 
-/// With 29 how many sections were finished comes first, and the gate's counters and each section stand behind.
-impl Display for Fed {
-    fn fmt(&self, f: &mut fmt::Formatter<'_>) -> fmt::Result {
-        let [packets, malformed] = self.packets;
-        if self.number != 29 {
-            return write!(f, "demux {} {packets} {malformed}", self.number);
-        }
-        write!(f, "demux 29 {} {packets} {malformed}", self.count)?;
-        self.counters.iter().try_for_each(|count| write!(f, " {count}"))?;
-        self.sections.iter().try_for_each(|section| write!(f, "{section}"))
-    }
-}
-
-impl Display for Finished {
-    fn fmt(&self, f: &mut fmt::Formatter<'_>) -> fmt::Result {
-        write!(f, " [{}", self.judgement.number())?;
-        match self.judgement {
-            Judgement::Emitted | Judgement::Suppressed => {}
-            Judgement::Mismatch(stored, worked) => write!(f, " {stored:08X} {worked:08X}")?,
-            Judgement::Short(length) => write!(f, " {length}")?,
-        }
-        write!(f, " {}]", hex(&self.bytes))
-    }
-}
-
 impl Display for Answer {
     fn fmt(&self, f: &mut fmt::Formatter<'_>) -> fmt::Result {
         match self {
@@ -200,15 +140,14 @@ impl Display for Answer {
             Answer::Pats { evicted, rows } => write!(f, "gate pats ev={evicted} rows={rows}"),
             Answer::Unwatched => f.write_str("gate unwatched"),
             Answer::Undeliverable => f.write_str("gate undeliverable"),
-            Answer::Watched(part, pids) => {
-                write!(f, "{part} watched")?;
+            Answer::Watched(pids) => {
+                f.write_str("gate watched")?;
                 pids.iter().try_for_each(|pid| write!(f, " {pid:04X}"))
             }
             Answer::Collected(n, Held::Sets { evicted, rows }, out) => write!(f, "sets {n} ev={evicted} rows={rows}{out}"),
             Answer::Collected(n, Held::Eit { evicted: [e, s], rows: [r, t] }, out) => {
                 write!(f, "eit {n} ev={e}/{s} rows={r}/{t}{out}")
             }
-            Answer::Fed(fed) => write!(f, "{fed}"),
         }
     }
 }

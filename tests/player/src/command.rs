@@ -5,8 +5,6 @@ pub enum Part {
     Gate,
     Sets,
     Eit,
-    /// The packet layer, with a gate of its own.
-    Demux,
 }
 
 impl Part {
@@ -16,42 +14,8 @@ impl Part {
             Part::Gate => "gate",
             Part::Sets => "sets",
             Part::Eit => "eit",
-            Part::Demux => "demux",
         }
     }
-}
-
-/// What a gate and the watch of an input are opened with.
-#[derive(Clone, Debug)]
-pub struct Opening {
-    pub capacity: u32,
-    pub repeats: bool,
-    pub follow: bool,
-    pub well_known: bool,
-    pub rule: u64,
-    /// Complete PATs are followed, in place of each changed section; nothing where following is off.
-    pub pats: bool,
-    pub extra: Vec<u16>,
-}
-
-impl Opening {
-    /// As a command of the gate.
-    pub fn gate(self) -> Command {
-        let Opening { capacity, repeats, follow, well_known, rule, pats, extra } = self;
-        Command::GateOpen { capacity, repeats, follow, well_known, rule, pats, extra }
-    }
-}
-
-/// The commands of the packet layer.
-#[derive(Clone, Debug)]
-pub enum Demux {
-    /// The gate, and the watch of the input.
-    Open(Opening),
-    /// The streams of the input, with so many section buffers.
-    Streams(u16),
-    Packet(Vec<u8>),
-    Ask(u16),
-    Watched,
 }
 
 /// The filter of `eit drop`: what is `None` is free. A PID may be asked to be none. A kind above 3 or a current_next above 1 matches nothing.
@@ -115,7 +79,6 @@ pub enum Command {
         part: Part,
     },
     Drop(Filter),
-    Demux(Demux),
 }
 
 impl Command {
@@ -127,24 +90,6 @@ impl Command {
             Command::Watched | Command::Counters | Command::Pats => Some(Part::Gate),
             Command::Open { part, .. } | Command::Push { part, .. } | Command::Clear { part } => Some(*part),
             Command::Drop(_) => Some(Part::Eit),
-            Command::Demux(_) => Some(Part::Demux),
-        }
-    }
-
-    /// What an opening of a gate opens it with.
-    pub fn opening(&self) -> Option<Opening> {
-        match self {
-            Command::GateOpen { capacity, repeats, follow, well_known, rule, pats, extra } => Some(Opening {
-                capacity: *capacity,
-                repeats: *repeats,
-                follow: *follow,
-                well_known: *well_known,
-                rule: *rule,
-                pats: *pats,
-                extra: extra.clone(),
-            }),
-            Command::Demux(Demux::Open(opening)) => Some(opening.clone()),
-            _ => None,
         }
     }
 
@@ -166,11 +111,6 @@ impl Command {
             Command::Clear { part: Part::Eit } => "eit clear",
             Command::Clear { .. } => "sets clear",
             Command::Drop(_) => "eit drop",
-            Command::Demux(Demux::Open(_)) => "demux open",
-            Command::Demux(Demux::Streams(_)) => "demux streams",
-            Command::Demux(Demux::Packet(_)) => "demux packet",
-            Command::Demux(Demux::Ask(_)) => "demux ask",
-            Command::Demux(Demux::Watched) => "demux watched",
         }
     }
 }

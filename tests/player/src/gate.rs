@@ -1,6 +1,6 @@
 //! The gate over lent memory, in both its forms, and the two beside each other.
 use crate::answer::{Answer, Judgement};
-use crate::command::{By, Command, Opening, Part};
+use crate::command::{By, Command, Part};
 use crate::lent::{Lent, halves, words};
 use petrizolu::{
     Answer as Number, CHANGE_AS_THE_RUST, DEFAULT_CAPACITY, DEFAULT_SETTINGS, FOLLOW, FOLLOW_SECTIONS, Failure, GateState, INPUTS,
@@ -191,7 +191,7 @@ fn deliverable(section: &[u8]) -> bool {
 const UNTOLD: Failure = Failure { length: u64::MAX, stored: u64::MAX, worked: u64::MAX };
 
 /// A CRC has 32 bits.
-pub fn small(crc: u64) -> u32 {
+fn small(crc: u64) -> u32 {
     u32::try_from(crc).expect("a CRC has 32 bits")
 }
 
@@ -217,40 +217,31 @@ impl Gates {
         gates
     }
 
-    /// No gate is open, and no record: none watches a PID.
-    pub fn unopened(rows: usize, byte: u8) -> Self {
-        let mut gates = Self { plain: Plain::lend(rows, byte), indexed: Indexed::lend(rows, byte) };
-        gates.plain.watch.iter_mut().chain(&mut gates.indexed.watch).for_each(|record| record.words.fill(0));
-        gates
-    }
-
     /// Carries out a command of the gate on an input.
     pub fn answer(&mut self, input: u8, command: &Command) -> Result<Answer, Differs> {
         let input = u32::from(input);
         match command {
-            Command::GateOpen { .. } => {
-                let number = self.open(input, &command.opening().expect("an opening"))?;
-                Ok(Answer::Number(Part::Gate, number.0))
+            Command::GateOpen { capacity, repeats, follow, well_known, rule, pats, extra } => {
+                let flags = [(*repeats, REPEATS), (*follow, FOLLOW), (*well_known, WELL_KNOWN), (!pats, FOLLOW_SECTIONS)];
+                let settings = flags.iter().filter(|(on, _)| *on).map(|(_, flag)| flag).sum();
+                self.open(input, (*capacity).into(), settings, *rule, extra)
             }
             Command::Gate { by: By::Packets, pid, section } => self.deliver(input, *pid, section),
             Command::Gate { by: By::Offer, pid, section } => self.offer(input, *pid, section),
             Command::Ask { pid } => Ok(Answer::Number(Part::Gate, self.ask(input, *pid)?.0)),
-            Command::Watched => Ok(Answer::Watched(Part::Gate, self.watched(input)?)),
+            Command::Watched => self.watched(input),
             Command::Counters => self.counters(input),
             Command::Pats => self.pats(input),
             other => panic!("no command of the gate: {other}"),
         }
     }
 
-    pub fn open(&mut self, input: u32, opening: &Opening) -> Result<Number, Differs> {
-        let Opening { capacity, repeats, follow, well_known, rule, pats, extra } = opening;
-        let flags = [(*repeats, REPEATS), (*follow, FOLLOW), (*well_known, WELL_KNOWN), (!pats, FOLLOW_SECTIONS)];
-        let settings = flags.iter().filter(|(on, _)| *on).map(|(_, flag)| flag).sum();
-        let plain = self.plain.open(input, (*capacity).into(), settings, *rule, extra);
-        let indexed = self.indexed.open(input, (*capacity).into(), settings, *rule, extra);
+    fn open(&mut self, input: u32, capacity: u64, settings: u32, rule: u64, extra: &[u16]) -> Result<Answer, Differs> {
+        let plain = self.plain.open(input, capacity, settings, rule, extra);
+        let indexed = self.indexed.open(input, capacity, settings, rule, extra);
         let number = self.same(input, plain, indexed)?;
         self.same_rows()?;
-        Ok(number)
+        Ok(Answer::Number(Part::Gate, number.0))
     }
 
     fn offer(&mut self, input: u32, pid: u16, section: &[u8]) -> Result<Answer, Differs> {
@@ -274,7 +265,7 @@ impl Gates {
         Ok(Answer::Judged(judgement, [completed, emitted, suppressed, crc_failures, evictions]))
     }
 
-    pub fn all_counters(&self) -> [u64; 7] {
+    fn all_counters(&self) -> [u64; 7] {
         let GateState { completed, emitted, suppressed, crc_failures, short_sections, crc_mismatches, evictions, .. } = self.plain.state;
         [completed, emitted, suppressed, crc_failures, short_sections, crc_mismatches, evictions]
     }
@@ -291,7 +282,7 @@ impl Gates {
         Ok(Answer::Pats { evicted: words[WATCH_PAT_EVICTIONS], rows: words[PAT_ROWS] })
     }
 
-    pub fn ask(&self, input: u32, pid: u16) -> Result<Number, Differs> {
+    fn ask(&self, input: u32, pid: u16) -> Result<Number, Differs> {
         self.same(input, self.plain.ask(input, pid.into()), self.indexed.ask(input, pid.into()))
     }
 
@@ -304,16 +295,14 @@ impl Gates {
         }
     }
 
-    /// The watched PIDs of an input, each asked for that its words do not rule out.
-    pub fn watched(&self, input: u32) -> Result<Vec<u16>, Differs> {
+    /// The watched PIDs of an input, each of the 8,192 asked for.
+    fn watched(&self, input: u32) -> Result<Answer, Differs> {
         self.same_state(input)?;
-        let words = &self.plain.watch[record(input)].words;
-        let asked = (0..8192).filter(|&pid| words[usize::from(pid) / 64] != 0);
-        Ok(asked.filter(|&pid| self.plain.ask(input, pid.into()) == Number::YES).collect())
+        Ok(Answer::Watched((0..8192).filter(|&pid| self.plain.ask(input, pid.into()) == Number::YES).collect()))
     }
 
     /// What both forms answered.
-    pub fn same(&self, input: u32, plain: Number, indexed: Number) -> Result<Number, Differs> {
+    fn same(&self, input: u32, plain: Number, indexed: Number) -> Result<Number, Differs> {
         self.same_state(input)?;
         if plain == indexed { Ok(plain) } else { Err(Differs(format!("plain {plain}, indexed {indexed}"))) }
     }
@@ -342,7 +331,7 @@ fn same_record(plain: &Record, indexed: &Record) -> Result<(), Differs> {
     same_words("PAT slots", &plain.pat_slots, &indexed.pat_slots)
 }
 
-pub fn same_words<T: PartialEq>(what: &str, plain: &[T], indexed: &[T]) -> Result<(), Differs> {
+fn same_words<T: PartialEq>(what: &str, plain: &[T], indexed: &[T]) -> Result<(), Differs> {
     if plain == indexed {
         return Ok(());
     }

@@ -1,7 +1,6 @@
 //! The library behind the commands.
 use crate::answer::Answer;
 use crate::command::{Command, Part};
-use crate::demux::Demuxes;
 use crate::eit::Eit;
 use crate::gate::{Differs, Gates};
 use crate::sets::Sets;
@@ -16,9 +15,6 @@ pub struct Port {
     pub gates: Gates,
     pub sets: Sets,
     pub eit: Eit,
-    /// The packet layer, from its first command on.
-    demux: Option<Box<Demuxes>>,
-    byte: u8,
 }
 
 impl Port {
@@ -30,14 +26,7 @@ impl Port {
 
     /// The same on memory whose bytes were all `byte` before: what it held is not to matter.
     pub fn on_bytes(byte: u8) -> Self {
-        Self {
-            input: 0,
-            gates: Gates::begin(byte),
-            sets: Sets::lend(ROWS, CELLS, byte),
-            eit: Eit::lend(ROWS, CELLS, byte),
-            demux: None,
-            byte,
-        }
+        Self { input: 0, gates: Gates::begin(byte), sets: Sets::lend(ROWS, CELLS, byte), eit: Eit::lend(ROWS, CELLS, byte) }
     }
 
     pub fn answer(&mut self, command: &Command) -> Result<Answer, Differs> {
@@ -49,22 +38,11 @@ impl Port {
             Some(Part::Gate) => self.gates.answer(self.input, command),
             Some(Part::Sets) => Ok(self.sets.answer(self.input, command)),
             Some(Part::Eit) => Ok(self.eit.answer(self.input, command)),
-            Some(Part::Demux) => {
-                let Command::Demux(command) = command else { panic!("no command of the packet layer: {command}") };
-                let input = self.input;
-                self.demux().answer(input, command)
-            }
         }
-    }
-
-    /// The packet layer; nothing of it is open before its first command.
-    pub fn demux(&mut self) -> &mut Demuxes {
-        self.demux.get_or_insert_with(|| Box::new(Demuxes::lend(self.byte)))
     }
 
     /// What is compared only once no command follows.
     pub fn end(&self) -> Result<(), Differs> {
-        self.gates.same_rows()?;
-        self.demux.as_ref().map_or(Ok(()), |demux| demux.same_rows())
+        self.gates.same_rows()
     }
 }

@@ -1,25 +1,23 @@
 //! Commands as text, one a line (compare/README.md, "Scripts").
 use crate::answer::{hex, pid_text};
-use crate::command::{By, Command, Demux, Filter, Opening, Part};
+use crate::command::{By, Command, Filter, Part};
 use std::fmt::{self, Display};
 
 /// The command as a line of a script, which `parse` reads.
 impl Display for Command {
     fn fmt(&self, f: &mut fmt::Formatter<'_>) -> fmt::Result {
         write!(f, "{}", self.kind())?;
-        if let Some(opening) = self.opening() {
-            return write!(f, "{opening}");
-        }
         match self {
             Command::Input(input) => write!(f, " {input}"),
+            Command::GateOpen { capacity, repeats, follow, well_known, rule, pats, extra } => {
+                let extra: Vec<String> = extra.iter().map(|pid| format!("{pid:04X}")).collect();
+                write!(f, " cap={capacity} repeats={} follow={}", u8::from(*repeats), u8::from(*follow))?;
+                write!(f, " wellknown={} rule={rule} pats={} extra={}", u8::from(*well_known), u8::from(*pats), extra.join(","))
+            }
             Command::Gate { pid, section, .. } => write!(f, " {pid:04X} {}", hex(section)),
             Command::Ask { pid } => write!(f, " {pid:04X}"),
             Command::Open { limit, cells, size, .. } => write!(f, " limit={limit} cells={cells} size={size}"),
             Command::Push { pid, section, .. } => write!(f, " {} {}", pid_text(*pid), hex(section)),
-            Command::Demux(Demux::Streams(buffers)) => write!(f, " {buffers}"),
-            Command::Demux(Demux::Packet(packet)) => write!(f, " {}", hex(packet)),
-            Command::Demux(Demux::Ask(pid)) => write!(f, " {pid:04X}"),
-            Command::Demux(Demux::Open(_) | Demux::Watched) | Command::GateOpen { .. } => Ok(()),
             Command::Watched | Command::Counters | Command::Pats | Command::Clear { .. } => Ok(()),
             Command::Drop(filter) => {
                 if let Some(pid) = filter.pid {
@@ -43,15 +41,6 @@ impl Display for Command {
     }
 }
 
-impl Display for Opening {
-    fn fmt(&self, f: &mut fmt::Formatter<'_>) -> fmt::Result {
-        let extra: Vec<String> = self.extra.iter().map(|pid| format!("{pid:04X}")).collect();
-        write!(f, " cap={} repeats={} follow={}", self.capacity, u8::from(self.repeats), u8::from(self.follow))?;
-        write!(f, " wellknown={} rule={} pats={}", u8::from(self.well_known), self.rule, u8::from(self.pats))?;
-        write!(f, " extra={}", extra.join(","))
-    }
-}
-
 /// A line of a script; `None` where it is none.
 pub fn parse(line: &str) -> Option<Command> {
     let words: Vec<&str> = line.split_whitespace().collect();
@@ -65,9 +54,16 @@ pub fn parse(line: &str) -> Option<Command> {
         None => Some(None),
         Some(text) => hex16(text).map(Some),
     };
-    let opening = |capacity| {
-        Some(Opening {
-            capacity: number("cap", capacity)?,
+    let part = match *words.first()? {
+        "input" => return words.get(1)?.parse().ok().map(Command::Input),
+        "gate" => Part::Gate,
+        "sets" => Part::Sets,
+        "eit" => Part::Eit,
+        _ => return None,
+    };
+    Some(match (part, *words.get(1)?) {
+        (Part::Gate, "open") => Command::GateOpen {
+            capacity: number("cap", 65_536)?,
             repeats: flag("repeats", false),
             follow: flag("follow", true),
             well_known: flag("wellknown", true),
@@ -77,23 +73,7 @@ pub fn parse(line: &str) -> Option<Command> {
                 "" => Vec::new(),
                 list => list.split(',').map(hex16).collect::<Option<_>>()?,
             },
-        })
-    };
-    let part = match *words.first()? {
-        "input" => return words.get(1)?.parse().ok().map(Command::Input),
-        "gate" => Part::Gate,
-        "sets" => Part::Sets,
-        "eit" => Part::Eit,
-        "demux" => Part::Demux,
-        _ => return None,
-    };
-    Some(match (part, *words.get(1)?) {
-        (Part::Demux, "open") => Command::Demux(Demux::Open(opening(4096)?)),
-        (Part::Demux, "streams") => Command::Demux(Demux::Streams(words.get(2)?.parse().ok()?)),
-        (Part::Demux, "packet") => Command::Demux(Demux::Packet(unhex(words.get(2)?)?)),
-        (Part::Demux, "ask") => Command::Demux(Demux::Ask(hex16(words.get(2)?)?)),
-        (Part::Demux, "watched") => Command::Demux(Demux::Watched),
-        (Part::Gate, "open") => opening(65_536)?.gate(),
+        },
         (Part::Gate, how @ ("section" | "offer")) => Command::Gate {
             by: if how == "section" { By::Packets } else { By::Offer },
             pid: hex16(words.get(2)?)?,

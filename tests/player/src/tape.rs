@@ -17,14 +17,9 @@
 //! 33 eit drop      mask u8 (1 PID, 2 kind, 4 service_id, 8 transport_stream_id, 10 original_network_id, 20 current_next, 40 the input that is
 //!                  current), PID u16 (FFFF none), kind u8 (0 and 1 present/following actual and other, 2 and 3 schedule actual and other),
 //!                  service_id u16, transport_stream_id u16, original_network_id u16, current_next u8
-//! 40 demux open    as 10 of the packet layer's own gate, and of flags 20 with 2: complete PATs are followed
-//! 41 demux streams section buffers u16
-//! 42 demux packet  length u16, the bytes
-//! 43 demux ask     PID u16
-//! 44 demux watched
 //! 50 input         u8: the commands after it are on this input, until the next one; a tape begins on input 0
 //! ```
-use crate::command::{By, Command, Demux, Filter, Opening, Part};
+use crate::command::{By, Command, Filter, Part};
 use std::io::{self, ErrorKind, Read};
 
 /// Stands on a tape for "no PID".
@@ -76,7 +71,7 @@ impl<R: Read> Tape<R> {
         };
         let part = if first < 0x30 { Part::Sets } else { Part::Eit };
         Ok(match first {
-            0x10 => self.opening()?.gate(),
+            0x10 => self.gate_open()?,
             0x11 => Command::Gate { by: By::Packets, pid: self.short()?, section: self.section()? },
             0x12 => Command::Gate { by: By::Offer, pid: self.short()?, section: self.section()? },
             0x13 => Command::Ask { pid: self.short()? },
@@ -87,7 +82,6 @@ impl<R: Read> Tape<R> {
             0x21 | 0x31 => Command::Push { part, pid: self.maybe_pid()?, section: self.section()? },
             0x22 | 0x32 => Command::Clear { part },
             0x33 => self.filter()?,
-            0x40..=0x44 => Command::Demux(self.demux(first)?),
             0x50 => Command::Input(self.byte()?),
             _ => return Err(Stop::Bad),
         })
@@ -119,23 +113,13 @@ impl<R: Read> Tape<R> {
         Ok(section)
     }
 
-    fn opening(&mut self) -> Result<Opening, Stop> {
+    fn gate_open(&mut self) -> Result<Command, Stop> {
         let capacity = self.bytes().map(u32::from_be_bytes)?;
         let flags = self.byte()?;
         let extra = (0..self.byte()?).map(|_| self.short()).collect::<Result<_, _>>()?;
         let rule = RULES[usize::from(flags >> 3 & 3)];
         let on = |flag: u8| flags & flag != 0;
-        Ok(Opening { capacity, repeats: on(1), follow: on(2), well_known: on(4), rule, pats: on(0x20), extra })
-    }
-
-    fn demux(&mut self, first: u8) -> Result<Demux, Stop> {
-        Ok(match first {
-            0x40 => Demux::Open(self.opening()?),
-            0x41 => Demux::Streams(self.short()?),
-            0x42 => Demux::Packet(self.section()?),
-            0x43 => Demux::Ask(self.short()?),
-            _ => Demux::Watched,
-        })
+        Ok(Command::GateOpen { capacity, repeats: on(1), follow: on(2), well_known: on(4), rule, pats: on(0x20), extra })
     }
 
     fn filter(&mut self) -> Result<Command, Stop> {
@@ -165,7 +149,14 @@ fn write_command(command: &Command, tape: &mut Vec<u8>) {
     let collector = |part: &Part, command: u8| if *part == Part::Eit { 0x30 + command } else { 0x20 + command };
     match command {
         Command::Input(input) => tape.extend([0x50, *input]),
-        Command::GateOpen { .. } => write_opening(command, 0x10, tape),
+        Command::GateOpen { capacity, repeats, follow, well_known, rule, pats, extra } => {
+            tape.push(0x10);
+            tape.extend(capacity.to_be_bytes());
+            let by = RULES.iter().position(|known| known == rule).expect("a rule that a tape can name") as u8;
+            tape.push(u8::from(*repeats) | u8::from(*follow) << 1 | u8::from(*well_known) << 2 | by << 3 | u8::from(*pats) << 5);
+            tape.push(u8::try_from(extra.len()).expect("at most 255 extra PIDs"));
+            tape.extend(extra.iter().flat_map(|pid| pid.to_be_bytes()));
+        }
         Command::Gate { by, pid, section } => {
             tape.push(if *by == By::Packets { 0x11 } else { 0x12 });
             write_section(tape, *pid, section);
@@ -190,41 +181,13 @@ fn write_command(command: &Command, tape: &mut Vec<u8>) {
             tape.push(0x33);
             write_filter(tape, filter);
         }
-        Command::Demux(Demux::Open(_)) => write_opening(command, 0x40, tape),
-        Command::Demux(Demux::Streams(buffers)) => {
-            tape.push(0x41);
-            tape.extend(buffers.to_be_bytes());
-        }
-        Command::Demux(Demux::Packet(packet)) => {
-            tape.push(0x42);
-            write_bytes(tape, packet);
-        }
-        Command::Demux(Demux::Ask(pid)) => {
-            tape.push(0x43);
-            tape.extend(pid.to_be_bytes());
-        }
-        Command::Demux(Demux::Watched) => tape.push(0x44),
     }
-}
-
-fn write_opening(command: &Command, first: u8, tape: &mut Vec<u8>) {
-    let Opening { capacity, repeats, follow, well_known, rule, pats, extra } = command.opening().expect("an opening");
-    tape.push(first);
-    tape.extend(capacity.to_be_bytes());
-    let by = RULES.iter().position(|&known| known == rule).expect("a rule that a tape can name") as u8;
-    tape.push(u8::from(repeats) | u8::from(follow) << 1 | u8::from(well_known) << 2 | by << 3 | u8::from(pats) << 5);
-    tape.push(u8::try_from(extra.len()).expect("at most 255 extra PIDs"));
-    tape.extend(extra.iter().flat_map(|pid| pid.to_be_bytes()));
 }
 
 fn write_section(tape: &mut Vec<u8>, pid: u16, section: &[u8]) {
     tape.extend(pid.to_be_bytes());
-    write_bytes(tape, section);
-}
-
-fn write_bytes(tape: &mut Vec<u8>, bytes: &[u8]) {
-    tape.extend(u16::try_from(bytes.len()).expect("at most 65,535 bytes").to_be_bytes());
-    tape.extend(bytes);
+    tape.extend(u16::try_from(section.len()).expect("at most 65,535 bytes").to_be_bytes());
+    tape.extend(section);
 }
 
 fn write_filter(tape: &mut Vec<u8>, filter: &Filter) {

@@ -113,32 +113,8 @@ fn there_is_no_input_16() {
 #[test]
 fn what_memory_held_does_not_matter() {
     let pats: (&[u8], &str) = (include_bytes!("../../tapes/pats.tape"), include_str!("../../tapes/pats.txt"));
-    let packets: (&[u8], &str) = (include_bytes!("../../tapes/packets.tape"), include_str!("../../tapes/packets.txt"));
-    for (tape, expected) in [TAPES[1], pats, packets] {
+    for (tape, expected) in [TAPES[1], pats] {
         assert!(lines(tape, Port::on_bytes(0xA5)) == expected);
         assert!(lines(tape, Port::on_bytes(0xFF)) == expected);
     }
-}
-
-/// Open, streams of one buffer, a packet of PID 0x14 in which the first half of a section is.
-fn half() -> Vec<u8> {
-    let mut tape = b"\x40\0\0\0\x08\x06\0\x41\0\x01\x42\0\xBC".to_vec();
-    let packet = [&b"\x47\x40\x14\x10\0\x72\x71\0"[..], &[0; 180]].concat();
-    tape.extend(packet);
-    tape
-}
-
-#[test]
-fn what_the_packet_layer_holds_differs() {
-    let told = "demux 7\ndemux 7\ndemux 29 0 1 0 0 0 0 0 0 0 0\n";
-    assert_eq!(lines(&half(), Port::begin()), told);
-    let mut port = Port::begin();
-    port.demux().plain.places[7] ^= 1;
-    assert_eq!(lines(&half(), port), "demux 7\ndemux 7\ndiffers 10\n");
-    let mut port = Port::begin();
-    port.demux().gates.plain.keys[4000] = 1;
-    assert_eq!(lines(&half(), port), "differs 0\ndiffers 0\n");
-    let mut port = Port::begin();
-    port.demux().indexed.streams[9].buffers[0] = 1;
-    assert_eq!(lines(&half(), port), format!("{told}differs 201\n"));
 }

@@ -76,11 +76,6 @@ impl Watch {
         Watch { watched: protected.clone(), protected, followed: BTreeSet::new(), pats: pat_store(reading) }
     }
 
-    /// A record that nobody opened: it watches nothing.
-    pub fn unopened(reading: &Reading) -> Watch {
-        Watch { watched: BTreeSet::new(), protected: BTreeSet::new(), followed: BTreeSet::new(), pats: pat_store(reading) }
-    }
-
     /// The PAT store is emptied where complete PATs are followed, and else left alone.
     pub fn open(&mut self, reading: &Reading, well_known: bool, extra: &[u16], follow: Follow) {
         self.protected = BTreeSet::from_iter(extra.iter().copied());
@@ -191,11 +186,6 @@ pub struct Origin {
 impl Gate {
     pub fn open(capacity: usize, repeats: bool, follow: Follow, rule: u64) -> Gate {
         Gate { capacity, repeats, follow, rule, keys: Vec::new(), counters: [0; 7] }
-    }
-
-    /// Whether complete PATs are followed.
-    pub fn follows_tables(&self) -> bool {
-        self.follow == Follow::Tables
     }
 
     /// A PAT changes the watch of its own input.

@@ -2,15 +2,12 @@
 //! the original differ, `Reading` says whose side is taken, and each place is named as in docs/DIFFERENCES.md.
 mod collector;
 mod gate;
-mod packets;
 mod section;
 
 use crate::faults::Fault;
 use crate::lent;
 use collector::Collector;
 use gate::{Follow, Gate, Origin, Watch};
-use packets::Packets;
-pub use packets::{Seen, StreamWatcher};
 use player::answer::{Answer, Held, Out};
 use player::command::{By, Command, Filter, Part};
 pub use section::crc;
@@ -24,26 +21,10 @@ pub enum Difference {
     ShortAndNoEit,
     /// D3: a section of 4,097 or 4,098 bytes fits no cell, 20; the original keeps it. D5: the original has no cells, so 21 neither.
     Cells,
-    /// D6: a payload whose counter does not follow drops the section under way, or is a repeat; the original looks at no counter.
-    Continuity,
-    /// D7: a packet marked as damaged or scrambled counts as lost; the original reads it.
-    Marks,
-    /// D8: a packet without a payload changes nothing; the original reads a payload of no bytes.
-    EmptyPayload,
-    /// D9: no section buffer is free, 43; the original has one for every PID.
-    Buffers,
 }
 
 impl Difference {
-    pub const ALL: [Difference; 7] = [
-        Difference::ShortFormPat,
-        Difference::ShortAndNoEit,
-        Difference::Cells,
-        Difference::Continuity,
-        Difference::Marks,
-        Difference::EmptyPayload,
-        Difference::Buffers,
-    ];
+    pub const ALL: [Difference; 3] = [Difference::ShortFormPat, Difference::ShortAndNoEit, Difference::Cells];
 
     /// Its name in docs/DIFFERENCES.md.
     pub fn name(self) -> &'static str {
@@ -51,10 +32,6 @@ impl Difference {
             Difference::ShortFormPat => "D1 (short-form PAT)",
             Difference::ShortAndNoEit => "D2 (short and no EIT)",
             Difference::Cells => "D3 and D5 (cells)",
-            Difference::Continuity => "D6 (continuity)",
-            Difference::Marks => "D7 (error and scrambling bits)",
-            Difference::EmptyPayload => "D8 (no payload)",
-            Difference::Buffers => "D9 (buffers)",
         }
     }
 }
@@ -66,7 +43,7 @@ pub struct Reading {
     pub as_original: bool,
     pub fault: Option<Fault>,
     /// How often each difference of `Difference::ALL` decided something.
-    pub met: [u64; Difference::ALL.len()],
+    pub met: [u64; 3],
 }
 
 impl Reading {
@@ -90,24 +67,17 @@ pub struct Second {
     watches: Vec<Watch>,
     sets: Option<Collector>,
     eit: Option<Collector>,
-    packets: Packets,
 }
 
 impl Second {
     pub fn new(reading: Reading) -> Second {
         let watches = (0..lent::INPUTS).map(|_| Watch::new(&reading)).collect();
-        let packets = Packets::new(&reading);
-        Second { reading, input: 0, gate: Gate::open(65_536, false, Follow::Sections, 1), watches, sets: None, eit: None, packets }
+        Second { reading, input: 0, gate: Gate::open(65_536, false, Follow::Sections, 1), watches, sets: None, eit: None }
     }
 
     /// How many sets went on into a schedule since the EIT collector was opened.
     pub fn entered(&self) -> u64 {
         self.eit.as_ref().map_or(0, |eit| eit.entered)
-    }
-
-    /// What the packets of the script had so far.
-    pub fn seen(&self) -> Seen {
-        self.packets.seen
     }
 
     pub fn answer(&mut self, command: &Command) -> Answer {
@@ -140,7 +110,7 @@ impl Second {
                 Answer::Judged(judgement, [completed, emitted, suppressed, crc, evicted])
             }
             Command::Ask { pid } => Answer::Number(Part::Gate, if self.watch().watches(*pid) { 8 } else { 9 }),
-            Command::Watched => Answer::Watched(Part::Gate, self.watch().watched.iter().copied().collect()),
+            Command::Watched => Answer::Watched(self.watch().watched.iter().copied().collect()),
             Command::Counters => Answer::Counters(self.gate.counters),
             Command::Pats => {
                 let pats = &self.watch().pats.rows;
@@ -174,7 +144,6 @@ impl Second {
                 let number = self.drop(filter);
                 Answer::Collected(number, self.held(Part::Eit), Out::Nothing)
             }
-            Command::Demux(command) => self.packets.answer(&mut self.reading, input, command),
         }
     }
 

@@ -1,13 +1,11 @@
-use Rattle.demux_offers.proofs.Turns.{turns-none, steady-none, turns-more, turns-end, steady-then}
-use Rattle.demux_offers.proofs.Laws.{Lengths, turn-may}
+use Rattle.demux_offers.proofs.Laws.{Lengths, turns-none, steady-none, turns-more, turns-end, steady-then, turn-may}
 use mathlib.Core.Path.{_≡_, refl, _∙_}
 use Prim.Native.Nat.{_≤_, _-_, _+_, _*_}
 use native.Mathlib.Omega.{arith}
 use lib.ListN.{length}
 use Rattle.pats.specs.Store.{recordOf}
 use Rattle.gate_pats.specs.Store.{keptOf}
-use Rattle.demux_steady.specs.Steady.{wordsIn, tells, acts, Steady}
-use Rattle.demux_steady.proofs.Steady.{steady-next}
+use Rattle.demux_steady.specs.Steady.{Steady}
 use Rattle.demux_offers.specs.Offers.{heldOf, offersFrom}
 use borrow.Author.Needs.{needs}
 use Rattle.demux_offers.proofs.offers.Statement.{statement}
@@ -28,15 +26,15 @@ loop-holds c = let a = c .before .before .before .before .before .before .before
     let o = heldOf (a .held) (a .keys .now) (a .changes .now) (recordOf (a .words .now) (a .pat-slots .now) (a .pat-cells .now)) (a .pids .now) (a .places .now) in (
       omega arith,
       record { keys-long = refl; changes-long = refl; words-long = refl; slots-long = refl; cells-long = refl; pids-long = refl; places-long = refl },
-      steady-none Steady (a .count) (o .gate) (c .before .before .before .before .before .before .before .before .before .pre .steady),
-      turns-none wordsIn tells acts (a .packet .now) (a .buffers .now) (a .input) (a .pid) (a .count) o,
+      steady-none (a .count) (o .gate) (c .before .before .before .before .before .before .before .before .before .pre .steady),
+      turns-none (a .packet .now) (a .buffers .now) (a .input) (a .pid) (a .count) o,
     )
 
 turn-requires : tie.Need-turn-requires Inv-loop μ-loop
 turn-requires c κs = let a = c .before .before .before .before .before .before .before .before .before .before .before .before .before .before .before .before .before .before .args in
     let l = c .before .before .before .before .before .before .before .before .loop in
     let o = heldOf (l .now) (l .keys) (l .changes) (recordOf (l .words) (l .pat-slots) (l .pat-cells)) (l .pids) (l .places) in
-    turn-may (a .count) (l .k) o (c .before .before .before .before .before .before .before .loop-test .taken) (l .inv .2) (omega (arith, l .inv .1 .pids-long, c .before .before .before .before .before .before .before .before .before .before .before .before .before .before .before .before .before .before .pre .long)) (omega (arith, l .inv .1 .places-long, c .before .before .before .before .before .before .before .before .before .before .before .before .before .before .before .before .before .before .pre .listed))
+    turn-may (a .packet .now) (a .buffers .now) (a .input) (a .pid) (a .count) (l .k) o o (c .before .before .before .before .before .before .before .loop-test .taken) (l .inv .2) (omega (arith, l .inv .1 .pids-long, c .before .before .before .before .before .before .before .before .before .before .before .before .before .before .before .before .before .before .pre .long)) (omega (arith, l .inv .1 .places-long, c .before .before .before .before .before .before .before .before .before .before .before .before .before .before .before .before .before .before .pre .listed))
 
 add-k : tie.Need-add-k Inv-loop μ-loop
 add-k c = omega (arith, c .before .before .before .before .before .before .before .before .before .before .before .before .before .before .before .before .before .before .before .before .before .before .loop-test .taken, c .before .before .before .before .before .before .before .before .before .before .before .before .before .before .before .before .before .before .before .before .before .before .before .before .before .before .before .before .before .before .before .before .before .fits .count)
@@ -66,8 +64,8 @@ loop-again c = let a = c .before .before .before .before .before .before .before
         pids-long = y .1 .1 .1 .1 .1 .0 ∙ n .pids-long;
         places-long = y .1 .1 .1 .1 .1 .1 .1 .1 .1 .1 .0 ∙ n .places-long;
       },
-      steady-then wordsIn tells acts (a .packet .now) (a .buffers .now) (a .input) (a .pid) (a .count) (l .k) o Steady steady-next then (λ i. c .before .before .before .before .before .before .before .before .before .before .before .before .before .before .before .before .before .before .before .before .before .before .before .before .before .shared-slice-known2 .given i .fits) (λ i. c .before .before .before .before .before .before .before .before .before .before .before .before .before .before .before .before .before .before .before .before .before .before .before .before .before .before .shared-slice-known .given i .fits) h (t .ensures) (l .inv .2),
-      turns-more wordsIn tells acts (a .packet .now) (a .buffers .now) (a .input) (a .pid) (a .count) (l .k) o all then h (t .ensures) (l .inv .3),
+      steady-then (a .packet .now) (a .buffers .now) (a .input) (a .pid) (a .count) (l .k) o all then (λ i. c .before .before .before .before .before .before .before .before .before .before .before .before .before .before .before .before .before .before .before .before .before .before .before .before .before .shared-slice-known2 .given i .fits) (λ i. c .before .before .before .before .before .before .before .before .before .before .before .before .before .before .before .before .before .before .before .before .before .before .before .before .before .before .shared-slice-known .given i .fits) h (t .ensures) (l .inv .2),
+      turns-more (a .packet .now) (a .buffers .now) (a .input) (a .pid) (a .count) (l .k) o all then h (t .ensures) (l .inv .3),
     )
 
 same-length : tie.Need-same-length Inv-loop μ-loop
@@ -96,7 +94,7 @@ returns c = let a = c .before .before .before .before .before .before .before .b
     let l = c .before .loop in
     let o = heldOf (l .now) (l .keys) (l .changes) (recordOf (l .words) (l .pat-slots) (l .pat-cells)) (l .pids) (l .places) in
     let start = heldOf (a .held) (a .keys .now) (a .changes .now) (recordOf (a .words .now) (a .pat-slots .now) (a .pat-cells .now)) (a .pids .now) (a .places .now) in
-    turns-end wordsIn tells acts (a .packet .now) (a .buffers .now) (a .input) (a .pid) (a .count) (l .k) o (offersFrom (a .packet .now) (a .buffers .now) (a .input) (a .pid) (a .count) 0 start) (c .loop-test .left) (l .inv .3)
+    turns-end (a .packet .now) (a .buffers .now) (a .input) (a .pid) (a .count) (l .k) o (offersFrom (a .packet .now) (a .buffers .now) (a .input) (a .pid) (a .count) 0 start) (c .loop-test .left) (l .inv .3)
 
 pub offers-spec : {M : Type 1} → statement M
 offers-spec =

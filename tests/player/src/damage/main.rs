@@ -1,4 +1,4 @@
-//! `damage gate`, `damage sets`, `damage eit`, `damage packets`: what a tape cannot reach. Lent memory is written over, less of it is lent or a count is preset, one
+//! `damage gate`, `damage sets`, `damage eit`: what a tape cannot reach. Lent memory is written over, less of it is lent or a count is preset, one
 //! thing at a time, and each call is made on it: a line says what it answers, and whether every word, lent or kept by value, is as it was. 10, 11, 12,
 //! 13 and 37 leave all as before.
 use petrizolu::{Answer, Place};
@@ -7,7 +7,6 @@ use std::process::ExitCode;
 
 mod eit;
 mod gate;
-mod packets;
 mod sets;
 
 /// What is damaged: a store, and what the calls are given. Two are equal where every word is.
@@ -21,11 +20,6 @@ trait Store: Clone + PartialEq {
     fn name(call: Self::Call) -> &'static str;
 
     fn call(&mut self, call: Self::Call) -> Answer;
-
-    /// What is left, against what was there before.
-    fn left(&self, before: &Self) -> String {
-        if self == before { "as before".into() } else { "CHANGED".into() }
-    }
 }
 
 /// A damage, and the calls that are made after it, each on a store of its own.
@@ -55,7 +49,8 @@ fn run<S: Store>(cases: &[Case<S>], out: &mut impl Write) -> io::Result<()> {
             (case.damage)(&mut store);
             let before = store.clone();
             let answer = store.call(call);
-            writeln!(out, "{}: {} {answer} {}", case.name, S::name(call), store.left(&before))?;
+            let left = if store == before { "as before" } else { "CHANGED" };
+            writeln!(out, "{}: {} {answer} {left}", case.name, S::name(call))?;
         }
     }
     Ok(())
@@ -68,12 +63,8 @@ fn main() -> io::Result<ExitCode> {
         "gate" => run(gate::CASES, &mut out)?,
         "sets" => run(sets::CASES, &mut out)?,
         "eit" => run(eit::CASES, &mut out)?,
-        "packets" => {
-            run(packets::CASES, &mut out)?;
-            run(&packets::counters(), &mut out)?;
-        }
         _ => {
-            eprintln!("usage: damage gate|sets|eit|packets");
+            eprintln!("usage: damage gate|sets|eit");
             return Ok(ExitCode::from(2));
         }
     }

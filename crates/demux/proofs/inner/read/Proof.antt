@@ -2,10 +2,7 @@ use mathlib.Core.Path.{_∙_}
 use Rattle.pats.specs.Store.{recordOf}
 use Rattle.gate_pats.specs.Store.{keptOf}
 use Rattle.demux.specs.Store.{storeOf}
-use Rattle.demux_steady.specs.Steady.{wordsIn, tells, acts, Steady}
-use Rattle.demux_steady.proofs.Steady.{fewer}
-use Rattle.demux_offers.specs.Offers.{heldOf}
-use Rattle.demux.proofs.Carried.{turns-ok, payload-read}
+use Rattle.demux.proofs.Laws.{turns-ok, read-done}
 use borrow.Author.Needs.{needs}
 use Rattle.demux.proofs.inner.read.Statement.{statement}
 use Rattle.demux.proofs.inner.read.Tie as tie
@@ -16,7 +13,7 @@ read-requires c κs = search needs
 offers-requires : tie.Need-offers-requires
 offers-requires c κs = let a = c .before .before .before .before .before .before .before .before .before .before .before .before .before .before .before .before .before .before .before .before .before .before .before .before .before .before .before .before .before .args in
     let r = c .before .before .before .before .before .before .before .before .before .before .before .before .before .before .read in
-    turns-ok Steady fewer (storeOf (keptOf (a .gate) (a .counters) (a .keys .now) (a .changes .now) (recordOf (a .words .now) (a .pat-slots .now) (a .pat-cells .now))) (a .streams) (a .pids .now) (a .buffers .now) (a .places .now)) (a .packet .now) (a .reading) (c .before .before .before .before .before .before .before .before .before .before .before .before .before .before .before .before .before .before .before .before .before .before .before .before .before .before .before .before .before .pre) (r .result) (r .last .0) (r .last .1 .1 .0) (r .ensures .0) (r .kept .0) (r .kept .1 .1 .0)
+    turns-ok (storeOf (keptOf (a .gate) (a .counters) (a .keys .now) (a .changes .now) (recordOf (a .words .now) (a .pat-slots .now) (a .pat-cells .now))) (a .streams) (a .pids .now) (a .buffers .now) (a .places .now)) (a .packet .now) (a .reading) (c .before .before .before .before .before .before .before .before .before .before .before .before .before .before .before .before .before .before .before .before .before .before .before .before .before .before .before .before .before .pre) (r .result) (r .last .0) (r .last .1 .1 .0) (r .ensures .0) (r .kept .0) (r .kept .1 .1 .0)
 
 count-requires : tie.Need-count-requires
 count-requires c κs = c .before .before .before .before .before .before .before .before .before .before .before .before .before .before .before .before .before .before .before .before .before .before .before .before .before .before .before .before .before .before .before .before .before .before .before .before .before .before .before .before .before .before .before .before .before .before .pre .counts
@@ -50,8 +47,8 @@ returns c = let a = c .before .before .before .before .before .before .before .b
     let r = c .before .before .before .before .before .before .before .before .before .before .before .before .before .before .before .before .before .before .before .before .before .before .before .before .before .before .before .before .before .before .before .before .read in
     let o = c .before .before .before .before .before .before .before .before .before .before .before .before .before .before .before .before .before .offers in
     let l = o .last .1 in
-    payload-read wordsIn tells acts (storeOf (keptOf (a .gate) (a .counters) (a .keys .now) (a .changes .now) (recordOf (a .words .now) (a .pat-slots .now) (a .pat-cells .now))) (a .streams) (a .pids .now) (a .buffers .now) (a .places .now)) (a .input) (a .packet .now) (a .reading) (r .result) (r .last .0) (r .last .1 .0) (r .last .1 .1 .0) (heldOf (o .result) (l .0) (l .1 .0) (recordOf (l .1 .1 .0) (l .1 .1 .1 .0) (l .1 .1 .1 .1 .0)) (l .1 .1 .1 .1 .1 .0) (l .1 .1 .1 .1 .1 .1 .1 .1 .1 .1 .0))
-    (c .count .result) (r .ensures .0) (r .ensures .1 .0) (r .ensures .1 .1 .0) (r .ensures .1 .1 .1) (o .ensures) (c .count .ensures)
+    read-done (storeOf (keptOf (a .gate) (a .counters) (a .keys .now) (a .changes .now) (recordOf (a .words .now) (a .pat-slots .now) (a .pat-cells .now))) (a .streams) (a .pids .now) (a .buffers .now) (a .places .now)) (a .input) (a .packet .now) (a .reading) (r .result) (r .last .0) (r .last .1 .0) (r .last .1 .1 .0) (o .result) (l .0) (l .1 .0) (recordOf (l .1 .1 .0) (l .1 .1 .1 .0) (l .1 .1 .1 .1 .0))
+    (l .1 .1 .1 .1 .1 .0) (l .1 .1 .1 .1 .1 .1 .1 .1 .1 .1 .0) (c .count .result) (r .ensures .0) (r .ensures .1 .0) (r .ensures .1 .1 .0) (r .ensures .1 .1 .1) (o .ensures) (c .count .ensures)
 
 pub read-spec : {M : Type 1} → statement M
 read-spec =

@@ -1,8 +1,7 @@
 use Rattle.pats.specs.Store.{recordOf}
 use Rattle.gate_pats.specs.Store.{keptOf}
 use Rattle.demux.specs.Store.{storeOf, fedBy}
-use Rattle.demux_steady.specs.Steady.{wordsIn, tells, acts, Steady}
-use Rattle.demux.proofs.Carried.{plan-forgets, plan-reads, planned-malformed, planned-nothing, planned-unwatched, planned-none, planned-read}
+use Rattle.demux.proofs.Laws.{plan-forgets, plan-reads, planned-malformed, planned-nothing, planned-unwatched, planned-none, planned-read}
 use borrow.Author.Needs.{needs}
 use Rattle.demux.proofs.inner.take.Statement.{statement}
 use Rattle.demux.proofs.inner.take.Tie as tie
@@ -23,7 +22,7 @@ enum-known-plan : tie.Need-enum-known-plan
 enum-known-plan c = search needs
 
 forget-requires : tie.Need-forget-requires
-forget-requires c κs = let a = c .before .before .before .before .before .before .before .before .before .before .before .before .before .args in let x = c .before .before .plan .given in plan-forgets (Steady 64) (storeOf (keptOf (a .gate) (a .counters) (a .keys .now) (a .changes .now) (recordOf (a .words .now) (a .pat-slots .now) (a .pat-cells .now))) (a .streams) (a .pids .now) (a .buffers .now) (a .places .now)) (a .packet .now) (a .plan) (c .before .before .before .before .before .before .before .before .before .before .before .before .before .pre) (x .0 .0) (x .1)
+forget-requires c κs = let a = c .before .before .before .before .before .before .before .before .before .before .before .before .before .args in let x = c .before .before .plan .given in plan-forgets (storeOf (keptOf (a .gate) (a .counters) (a .keys .now) (a .changes .now) (recordOf (a .words .now) (a .pat-slots .now) (a .pat-cells .now))) (a .streams) (a .pids .now) (a .buffers .now) (a .places .now)) (a .input) (a .packet .now) (a .plan) (c .before .before .before .before .before .before .before .before .before .before .before .before .before .pre) (x .0 .0) (x .1)
 
 count-requires-2 : tie.Need-count-requires-2
 count-requires-2 c κs = search needs
@@ -38,22 +37,22 @@ enum-known-plan-2 : tie.Need-enum-known-plan-2
 enum-known-plan-2 c = search needs
 
 read-requires : tie.Need-read-requires
-read-requires c κs = let a = c .before .before .before .before .before .before .before .before .before .before .before .before .before .before .before .before .before .before .before .before .args in let x = c .before .before .before .before .before .before .before .before .before .plan2 .given in plan-reads (Steady 64) (storeOf (keptOf (a .gate) (a .counters) (a .keys .now) (a .changes .now) (recordOf (a .words .now) (a .pat-slots .now) (a .pat-cells .now))) (a .streams) (a .pids .now) (a .buffers .now) (a .places .now)) (a .packet .now) (a .plan) (c .before .before .before .before .before .before .before .before .before .before .before .before .before .before .before .before .before .before .before .before .pre) (x .0 .0) (x .1)
+read-requires c κs = let a = c .before .before .before .before .before .before .before .before .before .before .before .before .before .before .before .before .before .before .before .before .args in let x = c .before .before .before .before .before .before .before .before .before .plan2 .given in plan-reads (storeOf (keptOf (a .gate) (a .counters) (a .keys .now) (a .changes .now) (recordOf (a .words .now) (a .pat-slots .now) (a .pat-cells .now))) (a .streams) (a .pids .now) (a .buffers .now) (a .places .now)) (a .input) (a .packet .now) (a .plan) (c .before .before .before .before .before .before .before .before .before .before .before .before .before .before .before .before .before .before .before .before .pre) (x .0 .0) (x .1)
 
 returns : tie.Need-returns
-returns c = let a = c .before .before .before .before .before .before .before .before .before .before .before .before .args in planned-malformed wordsIn tells acts (storeOf (keptOf (a .gate) (a .counters) (a .keys .now) (a .changes .now) (recordOf (a .words .now) (a .pat-slots .now) (a .pat-cells .now))) (a .streams) (a .pids .now) (a .buffers .now) (a .places .now)) (a .input) (a .packet .now) (a .plan) (c .count-malformed .result) (c .before .enum-told .given .1) (c .count-malformed .ensures)
+returns c = let a = c .before .before .before .before .before .before .before .before .before .before .before .before .args in planned-malformed (storeOf (keptOf (a .gate) (a .counters) (a .keys .now) (a .changes .now) (recordOf (a .words .now) (a .pat-slots .now) (a .pat-cells .now))) (a .streams) (a .pids .now) (a .buffers .now) (a .places .now)) (a .input) (a .packet .now) (a .plan) (c .count-malformed .result) (c .before .enum-told .given .1) (c .count-malformed .ensures)
 
 returns-2 : tie.Need-returns-2
-returns-2 c = let a = c .before .before .before .before .before .before .before .before .before .before .before .before .args in planned-nothing wordsIn tells acts (storeOf (keptOf (a .gate) (a .counters) (a .keys .now) (a .changes .now) (recordOf (a .words .now) (a .pat-slots .now) (a .pat-cells .now))) (a .streams) (a .pids .now) (a .buffers .now) (a .places .now)) (a .input) (a .packet .now) (a .plan) (c .count .result) (c .before .enum-told2 .given .1) (c .count .ensures)
+returns-2 c = let a = c .before .before .before .before .before .before .before .before .before .before .before .before .args in planned-nothing (storeOf (keptOf (a .gate) (a .counters) (a .keys .now) (a .changes .now) (recordOf (a .words .now) (a .pat-slots .now) (a .pat-cells .now))) (a .streams) (a .pids .now) (a .buffers .now) (a .places .now)) (a .input) (a .packet .now) (a .plan) (c .count .result) (c .before .enum-told2 .given .1) (c .count .ensures)
 
 same-length : tie.Need-same-length
 same-length c = search needs
 
 returns-3 : tie.Need-returns-3
-returns-3 c = let a = c .before .before .before .before .before .before .before .before .before .before .before .before .before .before .before .before .before .args in let x = c .before .before .before .before .before .before .plan .given in planned-unwatched wordsIn tells acts (storeOf (keptOf (a .gate) (a .counters) (a .keys .now) (a .changes .now) (recordOf (a .words .now) (a .pat-slots .now) (a .pat-cells .now))) (a .streams) (a .pids .now) (a .buffers .now) (a .places .now)) (a .input) (a .packet .now) (a .plan) (c .count2 .result) (x .0 .0) (c .before .before .before .forget .last .0) (x .1) (c .before .before .before .forget .ensures) (c .count2 .ensures)
+returns-3 c = let a = c .before .before .before .before .before .before .before .before .before .before .before .before .before .before .before .before .before .args in let x = c .before .before .before .before .before .before .plan .given in planned-unwatched (storeOf (keptOf (a .gate) (a .counters) (a .keys .now) (a .changes .now) (recordOf (a .words .now) (a .pat-slots .now) (a .pat-cells .now))) (a .streams) (a .pids .now) (a .buffers .now) (a .places .now)) (a .input) (a .packet .now) (a .plan) (c .count2 .result) (x .0 .0) (c .before .before .before .forget .last .0) (x .1) (c .before .before .before .forget .ensures) (c .count2 .ensures)
 
 returns-4 : tie.Need-returns-4
-returns-4 c = let a = c .before .before .before .before .before .before .before .before .before .before .before .before .args in planned-none wordsIn tells acts (storeOf (keptOf (a .gate) (a .counters) (a .keys .now) (a .changes .now) (recordOf (a .words .now) (a .pat-slots .now) (a .pat-cells .now))) (a .streams) (a .pids .now) (a .buffers .now) (a .places .now)) (a .input) (a .packet .now) (a .plan) (c .count3 .result) (c .before .enum-told3 .given .1) (c .count3 .ensures)
+returns-4 c = let a = c .before .before .before .before .before .before .before .before .before .before .before .before .args in planned-none (storeOf (keptOf (a .gate) (a .counters) (a .keys .now) (a .changes .now) (recordOf (a .words .now) (a .pat-slots .now) (a .pat-cells .now))) (a .streams) (a .pids .now) (a .buffers .now) (a .places .now)) (a .input) (a .packet .now) (a .plan) (c .count3 .result) (c .before .enum-told3 .given .1) (c .count3 .ensures)
 
 same-length-2 : tie.Need-same-length-2
 same-length-2 c = search needs
@@ -84,7 +83,7 @@ returns-5 c = let a = c .before .before .before .before .before .before .before 
     let x = c .before .before .before .before .before .before .before .before .before .before .before .before .before .before .before .before .before .before .before .before .before .before .before .before .before .before .plan2 .given in
     let r = c .before .before .before .before .before .before .before .before .before .before .before .before .before .before .before .before .read in
     let l = r .last .1 .1 .1 in
-    planned-read wordsIn tells acts (storeOf (keptOf (a .gate) (a .counters) (a .keys .now) (a .changes .now) (recordOf (a .words .now) (a .pat-slots .now) (a .pat-cells .now))) (a .streams) (a .pids .now) (a .buffers .now) (a .places .now)) (a .input) (a .packet .now) (a .plan) (x .0 .0)
+    planned-read (storeOf (keptOf (a .gate) (a .counters) (a .keys .now) (a .changes .now) (recordOf (a .words .now) (a .pat-slots .now) (a .pat-cells .now))) (a .streams) (a .pids .now) (a .buffers .now) (a .places .now)) (a .input) (a .packet .now) (a .plan) (x .0 .0)
     (fedBy (r .result) (l .0) (l .1 .0) (recordOf (l .1 .1 .0) (l .1 .1 .1 .0) (l .1 .1 .1 .1 .0)) (l .1 .1 .1 .1 .1 .0) (l .1 .1 .1 .1 .1 .1 .0) (l .1 .1 .1 .1 .1 .1 .1 .1 .1 .0)) (x .1) (r .ensures)
 
 pub take-spec : {M : Type 1} → statement M

@@ -1,4 +1,0 @@
-pub mod Laws
-pub mod Same
-pub mod Unique
-pub mod Refusals
