@@ -10,7 +10,7 @@ use streams::Streams;
 ghost use mathlib.Core.Path.{_≡_};
 ghost use Rattle.pats.specs.Store.{recordOf};
 ghost use Rattle.gate_pats.specs.Store.{keptOf};
-ghost use Rattle.demux.specs.Store.{storeOf, fedBy, fed};
+ghost use Rattle.demux_store.specs.Store.{storeOf, fedBy, fed};
 
 pub mod inner;
 

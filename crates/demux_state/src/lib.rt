@@ -42,6 +42,12 @@ impl Answer {
     }
 }
 
+// The gate by value, between two sections of a packet.
+pub struct Held {
+    pub gate: Gate,
+    pub counters: Counters,
+}
+
 pub struct Fed {
     pub answer: Answer,
     pub gate: Gate,

@@ -1,4 +1,4 @@
-use Rattle.demux_offers.proofs.Laws.{Lengths, turns-none, steady-none, turns-more, turns-end, steady-then, turn-may}
+use Rattle.demux_turns.proofs.Laws.{Lengths, turns-none, steady-none, turns-more, turns-end, steady-then, turn-may}
 use mathlib.Core.Path.{_≡_, refl, _∙_}
 use Prim.Native.Nat.{_≤_, _-_, _+_, _*_}
 use native.Mathlib.Omega.{arith}
@@ -6,7 +6,7 @@ use lib.ListN.{length}
 use Rattle.pats.specs.Store.{recordOf}
 use Rattle.gate_pats.specs.Store.{keptOf}
 use Rattle.demux_steady.specs.Steady.{Steady}
-use Rattle.demux_offers.specs.Offers.{heldOf, offersFrom}
+use Rattle.demux_turns.specs.Offers.{heldOf, offersFrom}
 use borrow.Author.Needs.{needs}
 use Rattle.demux_offers.proofs.offers.Statement.{statement}
 use Rattle.demux_offers.proofs.offers.Tie as tie

@@ -1,7 +1,7 @@
 use Rattle.pats.specs.Store.{recordOf}
 use Rattle.gate_pats.specs.Store.{keptOf}
-use Rattle.demux.specs.Store.{storeOf, fedBy}
-use Rattle.demux.proofs.Laws.{plan-forgets, plan-reads, planned-malformed, planned-nothing, planned-unwatched, planned-none, planned-read}
+use Rattle.demux_store.specs.Store.{storeOf, fedBy}
+use Rattle.demux_store.proofs.Laws.{plan-forgets, plan-reads, planned-malformed, planned-nothing, planned-unwatched, planned-none, planned-read}
 use borrow.Author.Needs.{needs}
 use Rattle.demux.proofs.inner.take.Statement.{statement}
 use Rattle.demux.proofs.inner.take.Tie as tie

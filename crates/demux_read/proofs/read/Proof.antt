@@ -1,11 +1,11 @@
 use mathlib.Core.Path.{_∙_}
 use Rattle.pats.specs.Store.{recordOf}
 use Rattle.gate_pats.specs.Store.{keptOf}
-use Rattle.demux.specs.Store.{storeOf}
-use Rattle.demux.proofs.Laws.{turns-ok, read-done}
+use Rattle.demux_store.specs.Store.{storeOf}
+use Rattle.demux_store.proofs.Laws.{turns-ok, read-done}
 use borrow.Author.Needs.{needs}
-use Rattle.demux.proofs.inner.read.Statement.{statement}
-use Rattle.demux.proofs.inner.read.Tie as tie
+use Rattle.demux_read.proofs.read.Statement.{statement}
+use Rattle.demux_read.proofs.read.Tie as tie
 
 read-requires : tie.Need-read-requires
 read-requires c κs = search needs

@@ -1,11 +1,11 @@
-use Rattle.demux_offers.proofs.Laws.{copy-turn, copy-end}
+use Rattle.demux_turns.proofs.Laws.{copy-turn, copy-end}
 use mathlib.Core.Path.{_≡_, refl}
 use Prim.Native.Nat.{_≤_, _-_}
 use native.Mathlib.Omega.{arith}
 use lib.ListN.{length, take, length-set}
 use borrow.Author.Needs.{needs}
-use Rattle.demux_offers.proofs.copy_set.Statement.{statement}
-use Rattle.demux_offers.proofs.copy_set.Tie as tie
+use Rattle.demux_offer.proofs.copy_set.Statement.{statement}
+use Rattle.demux_offer.proofs.copy_set.Tie as tie
 
 abbrev Inv-loop : tie.InvT-loop
 Inv-loop set₀ words i₀ set i = (i ≤ 128) × (length set ≡ 128) × (take i set ≡ take i words)

@@ -1,8 +1,8 @@
 use native.Mathlib.Omega.{arith}
-use Rattle.demux_offers.proofs.Laws.{copied-long, pat-back}
+use Rattle.demux_turns.proofs.Laws.{copied-long, pat-back}
 use borrow.Author.Needs.{needs}
-use Rattle.demux_offers.proofs.offer_pat.Statement.{statement}
-use Rattle.demux_offers.proofs.offer_pat.Tie as tie
+use Rattle.demux_offer.proofs.offer_pat.Statement.{statement}
+use Rattle.demux_offer.proofs.offer_pat.Tie as tie
 
 slice-aggregate-copy-set : tie.Need-slice-aggregate-copy-set
 slice-aggregate-copy-set c = search needs

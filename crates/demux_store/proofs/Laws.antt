@@ -38,11 +38,11 @@ use Rattle.demux_judge.specs.Verdicts.{patEvictions}
 use Rattle.demux_judge.proofs.Laws.{Goings, goings}
 use Rattle.demux_steady.specs.Steady.{wordsIn, tells, acts, Steady}
 use Rattle.demux_steady.proofs.Steady.{fewer}
-use Rattle.demux_offers.specs.declared.Held.{Held}
-use Rattle.demux_offers.specs.Turns.{OffersOf, offersWith}
-use Rattle.demux_offers.specs.Offers.{Offers, heldOf, offersFrom, Turns}
-use Rattle.demux.specs.Carried.{left, withStreams, forgotten, readBy, plannedBy}
-use Rattle.demux.specs.Store.{Store, Left, storeOf, fedBy, readIn, plannedIn, judgedIn, verdictIn, fed, ReadsOk, PlanOk, TakesOk}
+use Rattle.demux_state.specs.declared.Held.{Held}
+use Rattle.demux_turns.specs.Turns.{OffersOf, offersWith}
+use Rattle.demux_turns.specs.Offers.{Offers, heldOf, offersFrom, Turns}
+use Rattle.demux_store.specs.Carried.{left, withStreams, forgotten, readBy, plannedBy}
+use Rattle.demux_store.specs.Store.{Store, Left, storeOf, fedBy, readIn, plannedIn, judgedIn, verdictIn, fed, ReadsOk, PlanOk, TakesOk}
 
 -- ---- the payload
 

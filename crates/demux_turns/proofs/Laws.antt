@@ -31,9 +31,9 @@ use Rattle.demux_places.specs.Places.{placeAt, bytesAt, answered}
 use Rattle.demux_places.specs.declared.Place.{Place}
 use Rattle.demux_steady.specs.Steady.{wordsIn, tells, acts, Steady}
 use Rattle.demux_steady.proofs.Steady.{record-ready, words-there, steady-next}
-use Rattle.demux_offers.specs.declared.Held.{Held}
-use Rattle.demux_offers.specs.Turns.{OffersOf, offersWith, offeredAt, turnedBy, turnsBy}
-use Rattle.demux_offers.specs.Offers.{Offers, heldOf, turned, offersFrom, OfferOk, TurnOk, Turns}
+use Rattle.demux_state.specs.declared.Held.{Held}
+use Rattle.demux_turns.specs.Turns.{OffersOf, offersWith, offeredAt, turnedBy, turnsBy}
+use Rattle.demux_turns.specs.Offers.{Offers, heldOf, turned, offersFrom, OfferOk, TurnOk, Turns}
 
 -- ---- a set is copied
 

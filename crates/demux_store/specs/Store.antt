@@ -18,8 +18,8 @@ use Rattle.demux_judge.specs.declared.Verdict.{Verdict}
 use Rattle.demux_judge.specs.declared.Verdict.the-variants.{Refused, Goes}
 use Rattle.demux_judge.specs.Verdicts.{verdictOf}
 use Rattle.demux_steady.specs.Steady.{wordsIn, tells, acts, Steady}
-use Rattle.demux.specs.Carried.{StoreOf, LeftOf, left, readBy, plannedBy}
-use Rattle.demux.specs.Carried as carried
+use Rattle.demux_store.specs.Carried.{StoreOf, LeftOf, left, readBy, plannedBy}
+use Rattle.demux_store.specs.Carried as carried
 
 abbrev pub Store : Type 0
 Store = StoreOf Kept

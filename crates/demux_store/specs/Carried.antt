@@ -12,7 +12,7 @@ use Rattle.demux_packets.specs.declared.Reading.{Reading}
 use Rattle.demux_packets.specs.declared.Plan.{Plan}
 use Rattle.demux_packets.specs.declared.Plan.the-variants.{Malformed, Nothing, Unwatched, NoBuffer, Read}
 use Rattle.demux_packets.specs.Plans.{noWords}
-use Rattle.demux_offers.specs.Turns.{OffersOf, offersWith, turnsBy}
+use Rattle.demux_turns.specs.Turns.{OffersOf, offersWith, turnsBy}
 
 -- the gate, and of one input its streams, the words of its PIDs, its buffers; and the places
 pub record StoreOf (S : Type 0) : Type 0 where

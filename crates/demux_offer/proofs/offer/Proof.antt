@@ -1,7 +1,7 @@
-use Rattle.demux_offers.proofs.Laws.{no-pat-back}
+use Rattle.demux_turns.proofs.Laws.{no-pat-back}
 use borrow.Author.Needs.{needs}
-use Rattle.demux_offers.proofs.offer.Statement.{statement}
-use Rattle.demux_offers.proofs.offer.Tie as tie
+use Rattle.demux_offer.proofs.offer.Statement.{statement}
+use Rattle.demux_offer.proofs.offer.Tie as tie
 
 is-readable-requires : tie.Need-is-readable-requires
 is-readable-requires c κs = search needs

@@ -6,8 +6,8 @@ use Rattle.gate_state.specs.declared.Gate.{Gate}
 use Rattle.pats.specs.Store.{Record}
 use Rattle.gate_pats.specs.Store.{Kept, keptOf, RecordReady}
 use Rattle.demux_steady.specs.Steady.{wordsIn, tells, acts, Steady}
-use Rattle.demux_offers.specs.declared.Held.{Held}
-use Rattle.demux_offers.specs.Turns.{OffersOf, offersWith, turnedBy, turnsBy}
+use Rattle.demux_state.specs.declared.Held.{Held}
+use Rattle.demux_turns.specs.Turns.{OffersOf, offersWith, turnedBy, turnsBy}
 
 abbrev pub Offers : Type 0
 Offers = OffersOf Kept
