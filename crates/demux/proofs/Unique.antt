@@ -7,7 +7,7 @@ use Rattle.laws.proofs.Unique.{one-result}
 use Rattle.pats.specs.Store.{Record}
 use Rattle.demux_state.specs.declared.Fed.{Fed}
 use Rattle.demux_state.proofs.Unique.{answer-one}
-use Rattle.demux.specs.Store.{Store, Left, fedBy, fed}
+use Rattle.demux_store.specs.Store.{Store, Left, fedBy, fed}
 
 pub feed-unique :
     (s : Store) (input : ℕ) (packet : List ℕ) (a b : Fed) (ks ls ms ns : List ℕ) (v w : Record) (ps qs bs cs xs ys : List ℕ) →

@@ -8,8 +8,8 @@ use Rattle.ring_index.specs.Store.{Index}
 use Rattle.pats.specs.Store.{Record}
 use Rattle.demux_state.specs.declared.Fed.{Fed}
 use Rattle.demux_state.proofs.Unique.{answer-one}
-use Rattle.demux_indexed_carry.specs.Store.{Store, Left, fedBy}
-use Rattle.demux_indexed.specs.Store.{fed}
+use Rattle.demux_indexed_store.specs.Carried.{Store, Left, fedBy}
+use Rattle.demux_indexed_store.specs.Store.{fed}
 
 pub feed-unique :
     (s : Store) (input : ℕ) (packet : List ℕ) (a b : Fed) (ks ls ms ns : List ℕ) (x y : Index) (v w : Record) (ps qs bs cs ts us : List ℕ) →

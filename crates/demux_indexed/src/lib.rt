@@ -1,6 +1,5 @@
 // The transport stream through the gate with an index over its rows (docs/RULES.md, "Packets"): as without an index (crate demux), and a section's key is
 // looked up, held and given up in a time that does not grow with the capacity.
-use answers::Refusal;
 use counters::Counters;
 use demux_judge::Verdict;
 use demux_state::Answer;
@@ -11,48 +10,8 @@ ghost use mathlib.Core.Path.{_≡_};
 ghost use Rattle.pats.specs.Store.{recordOf};
 ghost use Rattle.ring_index.specs.Store.{indexOf};
 ghost use Rattle.gate_pats_indexed.specs.Store.{keptBy};
-ghost use Rattle.demux_indexed_carry.specs.Store.{storeOf, fedBy};
-ghost use Rattle.demux_indexed.specs.Store.{verdictBy, fed};
-
-// 10 also where a row has no bucket or no link; else as without an index.
-fn judge(
-    gate: Gate,
-    counters: Counters,
-    streams: Streams,
-    keys: usize,
-    changes: usize,
-    buckets: usize,
-    links: usize,
-    words: &[u64],
-    pat_slots: &[u32],
-    pat_cells: &[u8],
-    pids: &[u64],
-    buffers: usize,
-    input: u8,
-    packet: &[u8],
-    places: usize,
-) -> Verdict
-    ensures { λ r. ⌜ r ≡ verdictBy gate counters streams keys changes buckets links (recordOf (now (words .entry)) (now («pat_slots» .entry)) (now («pat_cells» .entry))) (now (pids .entry)) buffers input (now (packet .entry)) places ⌝ }
-{
-    if gate_indexed::inner::is_whole(gate, keys, changes, buckets, links, words.len()) {
-        return demux_judge::judge(
-            gate,
-            counters,
-            streams,
-            keys,
-            changes,
-            words,
-            pat_slots,
-            pat_cells,
-            pids,
-            buffers,
-            input,
-            packet,
-            places,
-        );
-    }
-    Verdict::Refused(Refusal::NotWhole)
-}
+ghost use Rattle.demux_indexed_store.specs.Carried.{storeOf, fedBy};
+ghost use Rattle.demux_indexed_store.specs.Store.{fed};
 
 // Feeds a packet that came on an input, with the watch record, the streams, the PID words and the buffers of that input. Every content of what is given has one
 // answer: 10, 11 and 37 change nothing at all, 30 and 43 only count.
@@ -75,7 +34,7 @@ pub fn feed(
 ) -> Fed
     ensures { λ r. ⌜ fedBy r (now (keys .exit)) (now (changes .exit)) (indexOf (now (buckets .exit)) (now (links .exit))) (recordOf (now (words .exit)) (now («pat_slots» .exit)) (now («pat_cells» .exit))) (now (pids .exit)) (now (buffers .exit)) (now (places .exit)) ≡ fed (storeOf (keptBy gate counters (now (keys .entry)) (now (changes .entry)) (indexOf (now (buckets .entry)) (now (links .entry))) (recordOf (now (words .entry)) (now («pat_slots» .entry)) (now («pat_cells» .entry)))) streams (now (pids .entry)) (now (buffers .entry)) (now (places .entry))) input (now (packet .entry)) ⌝ }
 {
-    match judge(
+    match demux_indexed_judge::judge(
         gate,
         counters,
         streams,

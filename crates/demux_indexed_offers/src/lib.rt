@@ -1,10 +1,10 @@
 // The sections that a packet finished, offered one after another to the gate with an index over its rows: as without an index (crate demux_offers).
-use demux_offers::Held;
+use demux_turns::Held;
 ghost use mathlib.Core.Path.{_≡_};
 ghost use Rattle.ring_index.specs.Store.{indexOf};
 ghost use Rattle.pats.specs.Store.{recordOf};
-ghost use Rattle.demux_offers.specs.Offers.{TurnOk};
-ghost use Rattle.demux_indexed_offers.specs.Offers.{heldBy, turned, offersFrom, Turns};
+ghost use Rattle.demux_turns.specs.Offers.{TurnOk};
+ghost use Rattle.demux_indexed_turns.specs.Offers.{heldBy, turned, offersFrom, Turns};
 
 // The section of place k.
 fn turn<'a>(

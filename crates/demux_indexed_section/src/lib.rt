@@ -1,4 +1,4 @@
-// A section that a packet finished, offered to the gate with an index over its rows: as without an index (crate demux_offers). After it, PIDs that left the watch
+// A section that a packet finished, offered to the gate with an index over its rows: as without an index (crate demux_offer). After it, PIDs that left the watch
 // give their buffers back.
 use counters::Counters;
 use gate_state::Gate;
@@ -8,7 +8,7 @@ ghost use Rattle.ring_index.specs.Store.{indexOf};
 ghost use Rattle.streams.specs.Store.{leftOf, givenBack};
 ghost use Rattle.pats.specs.Store.{recordOf};
 ghost use Rattle.gate_pats_indexed.specs.Store.{keptBy, leftWith, takenBy};
-ghost use Rattle.demux_offers.specs.Offers.{OfferOk};
+ghost use Rattle.demux_turns.specs.Offers.{OfferOk};
 
 // A PAT: it may change the watch, so the PIDs watched before it are compared with those after it.
 fn offer_pat(
@@ -31,7 +31,7 @@ fn offer_pat(
     ensures { λ _. ⌜ now (pids .exit) ≡ givenBack (leftOf (now (words .entry)) (now (words .exit))) 8192 (now (pids .entry)) ⌝ }
 {
     let mut before = [0u64; 128];
-    demux_offers::copy_set(&mut before, words);
+    demux_offer::copy_set(&mut before, words);
     let offered = gate_pats_indexed::inner::take(
         gate,
         counters,

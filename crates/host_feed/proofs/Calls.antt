@@ -7,7 +7,7 @@ use Rattle.pats.specs.Store.{Record}
 use Rattle.gate_pats.specs.Store.{keptOf}
 use Rattle.streams.specs.declared.Streams.{Streams}
 use Rattle.demux_state.specs.declared.Fed.{Fed}
-use Rattle.demux.specs.Store.{storeOf, fedBy, fed}
+use Rattle.demux_store.specs.Store.{storeOf, fedBy, fed}
 use Rattle.host_words.specs.Inputs.{inputNumber}
 use Rattle.host_gate_words.specs.Words.{heldIn}
 use Rattle.host_gate_words.specs.declared.Held.{Held}

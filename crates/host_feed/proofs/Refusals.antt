@@ -7,9 +7,9 @@ use mathlib.Core.List.{List}
 use lib.ListN.{length}
 use Rattle.pats.specs.Store.{Record}
 use Rattle.demux_state.specs.State.{plain, numberOf}
-use Rattle.demux.specs.Carried.{withStreams, countedBy}
-use Rattle.demux.specs.Store.{Store, Left, fed}
-use Rattle.demux.proofs.Before.{Before, as-before}
+use Rattle.demux_store.specs.Carried.{withStreams, countedBy}
+use Rattle.demux_store.specs.Store.{Store, Left, fed}
+use Rattle.demux_store.proofs.Before.{Before, as-before}
 use Rattle.host_words.specs.Inputs.{inputNumber}
 use Rattle.host_gate_words.specs.Words.{gateOf, countersOf}
 use Rattle.host_gate_words.specs.Words as gate

@@ -4,7 +4,7 @@ use mathlib.Core.List.{List}
 use Rattle.pats.specs.Store.{Record}
 use Rattle.gate_pats.specs.Store.{keptOf}
 use Rattle.demux_state.specs.State.{numberOf}
-use Rattle.demux.specs.Store.{Store, Left, storeOf, fed}
+use Rattle.demux_store.specs.Store.{Store, Left, storeOf, fed}
 use Rattle.host_words.specs.Inputs.{inputNumber}
 use Rattle.host_gate_words.specs.Words.{gateOf, countersOf}
 use Rattle.host_gate_words.specs.Words as gate

@@ -1,7 +1,7 @@
 // The transport stream through the gate with an index for a host in another language: `host_feed` with a bucket and a link for each row.
 ghost use mathlib.Core.Path.{_≡_};
 ghost use Rattle.pats.specs.Store.{recordOf};
-ghost use Rattle.host_feed_indexed.specs.Calls.{left, packetFed};
+ghost use Rattle.host_feed_indexed_calls.specs.Calls.{left, packetFed};
 
 // `petrizolu_feed` through the index.
 pub fn feed(

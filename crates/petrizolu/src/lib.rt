@@ -7,7 +7,7 @@ ghost use Rattle.host_gate.specs.Calls.{begun, gateOpened, left, gateOffered, w
 ghost use Rattle.host_indexed.specs.Calls as indexed;
 ghost use Rattle.host_streams.specs.Calls as streamCalls;
 ghost use Rattle.host_feed.specs.Calls as packets;
-ghost use Rattle.host_feed_indexed.specs.Calls as indexedPackets;
+ghost use Rattle.host_feed_indexed_calls.specs.Calls as indexedPackets;
 ghost use Rattle.host_words.specs.Answers.{words};
 ghost use Rattle.pats.specs.Store.{recordOf};
 ghost use Rattle.host_sets.specs.Calls.{setsLeft, setsOpened, setsPushed, setsCleared, setsNext};

@@ -19,8 +19,8 @@ use Rattle.demux_judge.specs.declared.Verdict.{Verdict}
 use Rattle.demux_judge.specs.declared.Verdict.the-variants.{Refused, Goes}
 use Rattle.demux_judge.specs.Verdicts.{wholeWith, patEvictions, verdictOf}
 use Rattle.demux_steady.specs.Steady.{wordsIn, tells, acts}
-use Rattle.demux.specs.Carried.{left, withStreams, readBy, plannedBy}
-use Rattle.demux.specs.Store.{Store, Left, judgedIn, fed}
+use Rattle.demux_store.specs.Carried.{left, withStreams, readBy, plannedBy}
+use Rattle.demux_store.specs.Store.{Store, Left, judgedIn, fed}
 
 -- what a packet left, by its answer
 abbrev Leaves : Store → Left → Type 0

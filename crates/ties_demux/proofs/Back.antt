@@ -28,7 +28,7 @@ use Rattle.gate_pats.specs.Store.{Kept, sectionsIn}
 use Rattle.streams.specs.declared.Streams.{Streams as Counted}
 use Rattle.ties_streams.specs.View.{heldBy}
 use Rattle.demux_judge.specs.Verdicts.{Wholes}
-use Rattle.demux.specs.Store.{Store}
+use Rattle.demux_store.specs.Store.{Store}
 use Rattle.ties_demux.specs.Rules.{Held, countsWith}
 use Rattle.ties_demux.specs.Card.{Gates, Input, Card, keptOn, gatesWith, lentOn, inputOf, backFrom, shownOf, shownBy, Stands, AllStand}
 use Rattle.ties_demux.proofs.Numbers.{withInput}

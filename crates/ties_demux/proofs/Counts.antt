@@ -15,7 +15,7 @@ use Rattle.gate.specs.View.{storeTells, storeActs}
 use Rattle.gate_pats.specs.Store.{Kept, sectionsIn, takenWith}
 use Rattle.ties_gate.proofs.Counts.{counts}
 use Rattle.demux_steady.specs.Steady.{wordsIn, tells, acts}
-use Rattle.demux_offers.specs.Turns.{OffersOf, offeredAt}
+use Rattle.demux_turns.specs.Turns.{OffersOf, offeredAt}
 use Rattle.ties_demux.proofs.Turns.{offersOf, answersTo}
 
 pub no-sums : (c : Counters) → Sums [] c c

@@ -54,10 +54,10 @@ use Rattle.answers.specs.declared.Refusal.the-variants.{NotWhole, CounterFull, 
 use Rattle.demux_steady.specs.Steady.{wordsIn, tells, acts, Steady}
 use Rattle.demux_steady.proofs.Steady.{fewer}
 use Rattle.demux_steady.proofs.Sections.{Rises, same-rises}
-use Rattle.demux_offers.specs.Turns.{OffersOf, offersWith, turnsBy}
-use Rattle.demux.specs.Carried.{left, withStreams, forgotten, plannedBy}
-use Rattle.demux.specs.Carried as carried
-use Rattle.demux.specs.Store.{Store, Left, storeOf, judgedIn, fed}
+use Rattle.demux_turns.specs.Turns.{OffersOf, offersWith, turnsBy}
+use Rattle.demux_store.specs.Carried.{left, withStreams, forgotten, plannedBy}
+use Rattle.demux_store.specs.Carried as carried
+use Rattle.demux_store.specs.Store.{Store, Left, storeOf, judgedIn, fed}
 use Rattle.ties_demux.specs.Rules.{onCard, Held, Fed, freeIn, numbered, countsWith, answersIn, payloadFed, onlyCounted, packetFed, refused, fedBy}
 use Rattle.ties_demux.specs.Card.{Gates, Input, Card, keptOn, gatesWith, watchedOn, tellsOn, actsOn, gateNear, patsNear, lentOn, inputOf, backFrom, callOn, sectionsTold, outcomesTold, Told, toldBy, shownOf, shownBy, Stands, AllStand}
 use Rattle.ties_demux.proofs.Numbers.{its-input, its-pid, withInput, put-input}

@@ -23,7 +23,7 @@ use Rattle.pats.specs.Store.{Record}
 use Rattle.demux_state.specs.State.{anyNear, isNear}
 use Rattle.demux_judge.specs.Verdicts.{patEvictions}
 use Rattle.demux_steady.proofs.Sections.{Rises}
-use Rattle.demux.specs.Store.{Store}
+use Rattle.demux_store.specs.Store.{Store}
 use Rattle.ties_demux.specs.Rules.{onCard, Held, refused, packetFed, nearIn, fedBy}
 use Rattle.ties_demux.specs.Card.{Gates, Card, watchedOn, tellsOn, actsOn, gateNear, patsNear, inputOf, callOn, cardActs, shownBy, AllStand}
 use Rattle.ties_demux.specs.History.{Given, OfBytes, acts, rulesAct, arrivalIn, arrivalOf, arrivals}

@@ -29,7 +29,7 @@ use Rattle.ties_streams.proofs.Packets.{gives-back, apart-back}
 use Rattle.demux_steady.specs.Steady.{wordsIn, tells, acts, Steady}
 use Rattle.demux_steady.proofs.Steady.{words-whole, words-there, steady-next, same-follow, counters-rise}
 use Rattle.demux_steady.proofs.Sections.{Rises, rises-on}
-use Rattle.demux_offers.specs.Turns.{OffersOf, offersWith, offeredAt}
+use Rattle.demux_turns.specs.Turns.{OffersOf, offersWith, offeredAt}
 use Rattle.ties_demux.specs.Rules.{onCard, answersIn}
 use Rattle.ties_demux.specs.Card.{Gates, keptOn, gatesWith, watchedOn, tellsOn, actsOn, gateNear, patsNear}
 use Rattle.ties_demux.proofs.Numbers.{its-input, its-pid, withInput}

@@ -14,7 +14,7 @@ use Rattle.gate_state.specs.State.{Said}
 use Rattle.demux_places.specs.declared.Place.{Place}
 use Rattle.demux_places.specs.declared.Outcome.{Outcome}
 use Rattle.demux_places.specs.Places.{placeAt, bytesAt, outcome, outcomeOf, putOutcome, answered}
-use Rattle.demux_offers.specs.Turns.{OffersOf, offeredAt, turnedBy, turnsBy}
+use Rattle.demux_turns.specs.Turns.{OffersOf, offeredAt, turnedBy, turnsBy}
 use Rattle.ties_demux.specs.Card.{sectionsTold, outcomesTold}
 
 -- ---- a place that is told an answer

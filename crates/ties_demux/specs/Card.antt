@@ -24,7 +24,7 @@ use Rattle.demux_places.specs.declared.Outcome.{Outcome}
 use Rattle.demux_places.specs.Places.{placeAt, bytesAt, outcome}
 use Rattle.demux_judge.specs.Verdicts.{patEvictions, Wholes}
 use Rattle.demux_steady.specs.Steady as steady
-use Rattle.demux.specs.Store.{Store, Left, storeOf, fed}
+use Rattle.demux_store.specs.Store.{Store, Left, storeOf, fed}
 use Rattle.ties_demux.specs.Rules.{Held, onCard}
 
 -- what the gate keeps

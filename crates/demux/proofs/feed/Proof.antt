@@ -1,7 +1,7 @@
 use Rattle.pats.specs.Store.{recordOf}
 use Rattle.gate_pats.specs.Store.{keptOf}
-use Rattle.demux.specs.Store.{storeOf, fedBy}
-use Rattle.demux.proofs.Laws.{feed-refused, feed-goes, feed-takes}
+use Rattle.demux_store.specs.Store.{storeOf, fedBy}
+use Rattle.demux_store.proofs.Laws.{feed-refused, feed-goes, feed-takes}
 use borrow.Author.Needs.{needs}
 use Rattle.demux.proofs.feed.Statement.{statement}
 use Rattle.demux.proofs.feed.Tie as tie

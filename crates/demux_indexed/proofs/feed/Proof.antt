@@ -1,8 +1,8 @@
 use Rattle.ring_index.specs.Store.{indexOf}
 use Rattle.pats.specs.Store.{recordOf}
 use Rattle.gate_pats_indexed.specs.Store.{keptBy}
-use Rattle.demux_indexed_carry.specs.Store.{storeOf, fedBy}
-use Rattle.demux_indexed.proofs.Laws.{feed-refused, feed-goes, feed-takes}
+use Rattle.demux_indexed_store.specs.Carried.{storeOf, fedBy}
+use Rattle.demux_indexed_store.proofs.Laws.{feed-refused, feed-goes, feed-takes}
 use borrow.Author.Needs.{needs}
 use Rattle.demux_indexed.proofs.feed.Statement.{statement}
 use Rattle.demux_indexed.proofs.feed.Tie as tie

@@ -1,10 +1,10 @@
 use Rattle.ring_index.specs.Store.{indexOf}
 use Rattle.pats.specs.Store.{recordOf}
 use Rattle.gate_pats_indexed.specs.Store.{keptBy}
-use Rattle.demux_indexed_section.specs.Acts.{wordsBy, tellsBy, actsBy}
-use Rattle.demux_indexed_offers.specs.Offers.{SteadyBy}
-use Rattle.demux.proofs.Carried.{plan-forgets, plan-reads, planned-malformed, planned-nothing, planned-unwatched, planned-none, planned-read}
-use Rattle.demux_indexed_carry.specs.Store.{storeOf, fedBy}
+use Rattle.demux_indexed_turns.specs.Acts.{wordsBy, tellsBy, actsBy}
+use Rattle.demux_indexed_turns.specs.Offers.{SteadyBy}
+use Rattle.demux_store.proofs.Carried.{plan-forgets, plan-reads, planned-malformed, planned-nothing, planned-unwatched, planned-none, planned-read}
+use Rattle.demux_indexed_store.specs.Carried.{storeOf, fedBy}
 use borrow.Author.Needs.{needs}
 use Rattle.demux_indexed_carry.proofs.take.Statement.{statement}
 use Rattle.demux_indexed_carry.proofs.take.Tie as tie

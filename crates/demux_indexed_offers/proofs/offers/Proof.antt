@@ -4,11 +4,11 @@ use native.Mathlib.Omega.{arith}
 use Rattle.ring_index.specs.Store.{indexOf}
 use Rattle.pats.specs.Store.{recordOf}
 use Rattle.gate_pats_indexed.specs.Store.{keptBy}
-use Rattle.demux_offers.proofs.Turns.{turns-none, steady-none, turns-more, turns-end, steady-then}
-use Rattle.demux_indexed_section.specs.Acts.{wordsBy, tellsBy, actsBy}
-use Rattle.demux_indexed_offers.specs.Offers.{heldBy, offersFrom, SteadyBy}
-use Rattle.demux_indexed_offers.proofs.Steady.{steady-next}
-use Rattle.demux_indexed_offers.proofs.Laws.{Lengths, turn-may}
+use Rattle.demux_turns.proofs.Turns.{turns-none, steady-none, turns-more, turns-end, steady-then}
+use Rattle.demux_indexed_turns.specs.Acts.{wordsBy, tellsBy, actsBy}
+use Rattle.demux_indexed_turns.specs.Offers.{heldBy, offersFrom, SteadyBy}
+use Rattle.demux_indexed_turns.proofs.Steady.{steady-next}
+use Rattle.demux_indexed_turns.proofs.Laws.{Lengths, turn-may}
 use borrow.Author.Needs.{needs}
 use Rattle.demux_indexed_offers.proofs.offers.Statement.{statement}
 use Rattle.demux_indexed_offers.proofs.offers.Tie as tie

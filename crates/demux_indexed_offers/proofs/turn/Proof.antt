@@ -1,6 +1,6 @@
 use native.Mathlib.Omega.{arith}
 use Rattle.ring_index.specs.Store.{indexOf}
-use Rattle.demux_indexed_offers.proofs.Laws.{turn-done}
+use Rattle.demux_indexed_turns.proofs.Laws.{turn-done}
 use borrow.Author.Needs.{needs}
 use Rattle.demux_indexed_offers.proofs.turn.Statement.{statement}
 use Rattle.demux_indexed_offers.proofs.turn.Tie as tie

@@ -1,5 +1,5 @@
 use Rattle.ring_index.specs.Store.{indexOf}
-use Rattle.demux_indexed_section.proofs.Laws.{no-pat-back}
+use Rattle.demux_indexed_turns.proofs.Section.{no-pat-back}
 use borrow.Author.Needs.{needs}
 use Rattle.demux_indexed_section.proofs.offer.Statement.{statement}
 use Rattle.demux_indexed_section.proofs.offer.Tie as tie

@@ -1,5 +1,5 @@
 use native.Mathlib.Omega.{arith}
-use Rattle.demux_offers.proofs.Laws.{copied-long, pat-back}
+use Rattle.demux_turns.proofs.Laws.{copied-long, pat-back}
 use borrow.Author.Needs.{needs}
 use Rattle.demux_indexed_section.proofs.offer_pat.Statement.{statement}
 use Rattle.demux_indexed_section.proofs.offer_pat.Tie as tie

@@ -1,5 +1,5 @@
-use Rattle.demux_offers.proofs.Turns.{turns-none, steady-none, turns-more, turns-end, steady-then}
-use Rattle.demux_offers.proofs.Laws.{Lengths, turn-may}
+use Rattle.demux_turns.proofs.Turns.{turns-none, steady-none, turns-more, turns-end, steady-then}
+use Rattle.demux_turns.proofs.Laws.{Lengths, turn-may}
 use mathlib.Core.Path.{_≡_, refl, _∙_}
 use Prim.Native.Nat.{_≤_, _-_, _+_, _*_}
 use native.Mathlib.Omega.{arith}
@@ -8,7 +8,7 @@ use Rattle.pats.specs.Store.{recordOf}
 use Rattle.gate_pats.specs.Store.{keptOf}
 use Rattle.demux_steady.specs.Steady.{wordsIn, tells, acts, Steady}
 use Rattle.demux_steady.proofs.Steady.{steady-next}
-use Rattle.demux_offers.specs.Offers.{heldOf, offersFrom}
+use Rattle.demux_turns.specs.Offers.{heldOf, offersFrom}
 use borrow.Author.Needs.{needs}
 use Rattle.demux_offers.proofs.offers.Statement.{statement}
 use Rattle.demux_offers.proofs.offers.Tie as tie

@@ -1,5 +1,5 @@
 use native.Mathlib.Omega.{arith}
-use Rattle.demux_offers.proofs.Laws.{turn-done}
+use Rattle.demux_turns.proofs.Laws.{turn-done}
 use borrow.Author.Needs.{needs}
 use Rattle.demux_offers.proofs.turn.Statement.{statement}
 use Rattle.demux_offers.proofs.turn.Tie as tie

@@ -1,6 +1,6 @@
 use Rattle.ring_index.specs.Store.{indexOf}
 use Rattle.pats.specs.Store.{recordOf}
-use Rattle.host_feed_indexed.proofs.Calls.{packet-fed}
+use Rattle.host_feed_indexed_calls.proofs.Calls.{packet-fed}
 use borrow.Author.Needs.{needs}
 use Rattle.host_feed_indexed.proofs.feed.Statement.{statement}
 use Rattle.host_feed_indexed.proofs.feed.Tie as tie
