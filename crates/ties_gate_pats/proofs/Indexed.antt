@@ -46,16 +46,16 @@ pub record Same (l : indexed.Offering) (k : Offering) : Type 0 where
   pub kept : l .left .kept ≡ k .left
   pub index : Sound (memoryOf (sectionsIn (k .left))) (l .left .index)
 
-module _ (s : KeptBy) (r : OpenedBy s) (input pid : ℕ) (section : List ℕ) (b : Bytes section) where
-  -- the gates of sections in them
-  below : low.OpenedBy (sectionsBy s)
-  below = record { opened = r .opened .sections; kept = r .index }
+-- the gate of sections in it, which is all that an offer asks of
+pub below : (s : KeptBy) → OpenedBy s → low.OpenedBy (sectionsBy s)
+below s r = record { opened = r .opened .sections; kept = r .index }
 
+module _ (s : KeptBy) (r : low.OpenedBy (sectionsBy s)) (input pid : ℕ) (section : List ℕ) (b : Bytes section) where
   same-below : low.Same (lower.offeredBy (sectionsBy s) input pid section) (sections.offered (sectionsIn (s .kept)) input pid section)
-  same-below = low.offer-same (sectionsBy s) below input pid section b
+  same-below = low.offer-same (sectionsBy s) r input pid section b
 
   -- the PAT store behind them
-  taken-same : Same (takenBy s input pid section) (takenWith (s .kept) input pid section)
+  pub taken-same : Same (takenBy s input pid section) (takenWith (s .kept) input pid section)
   unfolding takenBy takenWith
   taken-same = record {
     answer = same-below .answer;
@@ -67,11 +67,11 @@ module _ (s : KeptBy) (r : OpenedBy s) (input pid : ℕ) (section : List ℕ) (b
 
   by-state : (x : State) → Same (offeredAs s input pid section x) (offeredBy (s .kept) input pid section x)
   unfolding offeredAs offeredBy
-  by-state NotWhole = record { answer = refl; kept = refl; index = r .index }
+  by-state NotWhole = record { answer = refl; kept = refl; index = r .kept }
   by-state Full = record {
-    answer = ap (λ (w : Bool). plain (fullNo w)) (low.opened-whole-by (sectionsBy s) below ∙ sym (opened-whole (sectionsIn (s .kept)) (r .opened .sections)));
+    answer = ap (λ (w : Bool). plain (fullNo w)) (low.opened-whole-by (sectionsBy s) r ∙ sym (opened-whole (sectionsIn (s .kept)) (r .opened)));
     kept = refl;
-    index = r .index;
+    index = r .kept;
   }
   by-state Ready = taken-same
 
@@ -84,7 +84,7 @@ module _ (s : KeptBy) (r : OpenedBy s) (input pid : ℕ) (section : List ℕ) (b
 next : (s : KeptBy) (o : Offer) → OpenedBy s → Bytes (o .section) → OpenedBy (keptActsBy s o)
 unfolding keptActsBy
 next s o r b =
-    let e = offer-same s r (o .input) (o .pid) (o .section) b in
+    let e = offer-same s (below s r) (o .input) (o .pid) (o .section) b in
     record {
       opened = subst OpenedWith (sym (e .kept)) (follows-with (s .kept) o (r .opened) b .opened);
       index = subst (λ (k : Kept). Sound (memoryOf (sectionsIn k)) (indexed.offeredWith s (o .input) (o .pid) (o .section) .left .index)) (sym (e .kept)) (e .index);
@@ -95,7 +95,7 @@ pub same-answers : (s : KeptBy) (os : List Offer) → OpenedBy s → OfBytes os 
 unfolding answers keptTellsBy keptTells keptActsBy keptActs
 same-answers s [] r b = refl
 same-answers s (o ∷ os) r b =
-    let e = offer-same s r (o .input) (o .pid) (o .section) (b .0) in
+    let e = offer-same s (below s r) (o .input) (o .pid) (o .section) (b .0) in
     let ih = same-answers (indexed.offeredWith s (o .input) (o .pid) (o .section) .left) os (next s o r (b .0)) (b .1) ∙ ap (λ (k : Kept). answers keptTells keptActs k os) (e .kept) in
     λ i. e .answer i ∷ ih i
 
@@ -103,7 +103,7 @@ pub same-kept : (s : KeptBy) (os : List Offer) → OpenedBy s → OfBytes os →
 unfolding storeAfter keptActsBy keptActs
 same-kept s [] r b = refl
 same-kept s (o ∷ os) r b =
-    let e = offer-same s r (o .input) (o .pid) (o .section) (b .0) in
+    let e = offer-same s (below s r) (o .input) (o .pid) (o .section) (b .0) in
     same-kept (indexed.offeredWith s (o .input) (o .pid) (o .section) .left) os (next s o r (b .0)) (b .1) ∙ ap (λ (k : Kept). storeAfter keptActs k os) (e .kept)
 
 -- ---- opening
