@@ -2,15 +2,15 @@ use borrow.Author.Tests.{ltb-true}
 use Rattle.laws.proofs.Tests.{and-true}
 use native.Mathlib.Omega.{arith}
 use borrow.Author.Needs.{needs}
-use Rattle.stream_reader.specs.Cursor.{Inside}
+use Rattle.stream_cursor.specs.Cursor.{Inside}
 use Rattle.stream_reader.proofs.all.Statement.{statement}
 use Rattle.stream_reader.proofs.all.Tie as tie
 use Rattle.stream_reader.proofs.all.Reads as reads
 use Rattle.stream_reader.proofs.all.Lts as lts
 use Rattle.gate_pats_indexed.proofs.open.Reads as open-reads
 use Rattle.gate_state.proofs.Settings.by_default.Reads as by-default-reads
-use Rattle.stream_reader.proofs.finish.Reads as finish-reads
-use Rattle.stream_reader.proofs.step.Reads as step-reads
+use Rattle.stream_cursor.proofs.finish.Reads as finish-reads
+use Rattle.stream_step.proofs.step.Reads as step-reads
 use Rattle.streams.proofs.open.Reads as open-reads′
 
 abbrev Inv-loop : tie.InvT-loop

@@ -1,9 +1,9 @@
-use Rattle.stream_reader.proofs.Laws.{step-ok}
+use Rattle.stream_cursor.proofs.Laws.{step-ok}
 use borrow.Author.Needs.{needs}
-use Rattle.stream_reader.proofs.look.Statement.{statement}
-use Rattle.stream_reader.proofs.look.Tie as tie
-use Rattle.stream_reader.proofs.look.Reads as reads
-use Rattle.stream_reader.proofs.look.Lts as lts
+use Rattle.stream_cursor.proofs.look.Statement.{statement}
+use Rattle.stream_cursor.proofs.look.Tie as tie
+use Rattle.stream_cursor.proofs.look.Reads as reads
+use Rattle.stream_cursor.proofs.look.Lts as lts
 use Rattle.alignment.proofs.look.Reads as look-reads
 
 -- src/lib.rt:62:21

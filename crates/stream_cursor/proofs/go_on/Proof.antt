@@ -1,13 +1,13 @@
-use Rattle.stream_reader.proofs.Laws.{more-few}
+use Rattle.stream_cursor.proofs.Laws.{more-few}
 use borrow.Author.Needs.{needs}
-use Rattle.stream_reader.proofs.go_on.Statement.{statement}
-use Rattle.stream_reader.proofs.go_on.Tie as tie
-use Rattle.stream_reader.proofs.go_on.Reads as reads
-use Rattle.stream_reader.proofs.go_on.Lts as lts
-use Rattle.stream_reader.proofs.cut.Reads as cut-reads
-use Rattle.stream_reader.proofs.filled.Reads as filled-reads
-use Rattle.stream_reader.proofs.found.Reads as found-reads
-use Rattle.stream_reader.proofs.refill.Reads as refill-reads
+use Rattle.stream_cursor.proofs.go_on.Statement.{statement}
+use Rattle.stream_cursor.proofs.go_on.Tie as tie
+use Rattle.stream_cursor.proofs.go_on.Reads as reads
+use Rattle.stream_cursor.proofs.go_on.Lts as lts
+use Rattle.stream_cursor.proofs.cut.Reads as cut-reads
+use Rattle.stream_cursor.proofs.filled.Reads as filled-reads
+use Rattle.stream_cursor.proofs.found.Reads as found-reads
+use Rattle.stream_cursor.proofs.refill.Reads as refill-reads
 
 -- src/lib.rt:204:25
 enum-told : tie.Need-enum-told

@@ -1,14 +1,14 @@
-use Rattle.stream_reader.proofs.Laws.{packet-long}
+use Rattle.stream_cursor.proofs.Laws.{packet-long}
 use native.Mathlib.Omega.{arith}
 use borrow.Author.Needs.{needs}
-use Rattle.stream_reader.proofs.feed.Statement.{statement}
-use Rattle.stream_reader.proofs.feed.Tie as tie
-use Rattle.stream_reader.proofs.feed.Reads as reads
-use Rattle.stream_reader.proofs.feed.Lts as lts
+use Rattle.stream_step.proofs.feed.Statement.{statement}
+use Rattle.stream_step.proofs.feed.Tie as tie
+use Rattle.stream_step.proofs.feed.Reads as reads
+use Rattle.stream_step.proofs.feed.Lts as lts
 use Rattle.demux_indexed.proofs.feed.Reads as feed-reads
-use Rattle.stream_reader.proofs.behind.Reads as behind-reads
-use Rattle.stream_reader.proofs.filled.Reads as filled-reads
-use Rattle.stream_reader.proofs.tell.Reads as tell-reads
+use Rattle.stream_cursor.proofs.behind.Reads as behind-reads
+use Rattle.stream_cursor.proofs.filled.Reads as filled-reads
+use Rattle.stream_cursor.proofs.tell.Reads as tell-reads
 
 -- src/lib.rt:293:31
 add-packet : tie.Need-add-packet

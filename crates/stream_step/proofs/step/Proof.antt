@@ -1,14 +1,14 @@
-use Rattle.stream_reader.proofs.Laws.{packet-there}
+use Rattle.stream_cursor.proofs.Laws.{packet-there}
 use native.Mathlib.Omega.{arith}
 use borrow.Author.Needs.{needs}
-use Rattle.stream_reader.proofs.step.Statement.{statement}
-use Rattle.stream_reader.proofs.step.Tie as tie
-use Rattle.stream_reader.proofs.step.Reads as reads
-use Rattle.stream_reader.proofs.step.Lts as lts
-use Rattle.stream_reader.proofs.feed.Reads as feed-reads
-use Rattle.stream_reader.proofs.go_on.Reads as go-on-reads
-use Rattle.stream_reader.proofs.is_packet.Reads as is-packet-reads
-use Rattle.stream_reader.proofs.look.Reads as look-reads
+use Rattle.stream_step.proofs.step.Statement.{statement}
+use Rattle.stream_step.proofs.step.Tie as tie
+use Rattle.stream_step.proofs.step.Reads as reads
+use Rattle.stream_step.proofs.step.Lts as lts
+use Rattle.stream_step.proofs.feed.Reads as feed-reads
+use Rattle.stream_cursor.proofs.go_on.Reads as go-on-reads
+use Rattle.stream_cursor.proofs.is_packet.Reads as is-packet-reads
+use Rattle.stream_cursor.proofs.look.Reads as look-reads
 
 -- src/lib.rt:349:9
 look-requires : tie.Need-look-requires

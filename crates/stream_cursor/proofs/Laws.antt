@@ -16,8 +16,8 @@ use Rattle.alignment.specs.declared.Step.{Step}
 use Rattle.alignment.specs.declared.Next.{Next}
 use Rattle.alignment.specs.declared.Next.the-variants.{Packet, Loose, Found, More, Cut, Over}
 use Rattle.alignment.proofs.Windows.{used-inside, few-left}
-use Rattle.stream_reader.specs.Cursor.{Inside, NextOk, StepOk, isPacket}
-use Rattle.stream_reader.specs.declared.Cursor.{Cursor}
+use Rattle.stream_cursor.specs.Cursor.{Inside, NextOk, StepOk, isPacket}
+use Rattle.stream_cursor.specs.declared.Cursor.{Cursor}
 
 module _ (w : List ℕ) where
   -- a packet has 188 bytes

@@ -5,7 +5,7 @@ use Prim.Native.Nat.{ℕ, _+_, _-_, _≤_}
 use Rattle.alignment.specs.declared.Step.{Step}
 use Rattle.alignment.specs.declared.Next.{Next}
 use Rattle.alignment.specs.declared.Next.the-variants.{Packet, Loose, Found, More, Cut, Over}
-use Rattle.stream_reader.specs.declared.Cursor.{Cursor}
+use Rattle.stream_cursor.specs.declared.Cursor.{Cursor}
 
 pub record Inside (c : Cursor) : Type 0 where
   pub ordered : c .from ≤ c .to
