@@ -32,7 +32,7 @@ use Rattle.gate_pats.specs.View.{keptTells, keptActs}
 use Rattle.gate_pats.specs.declared.inner.State.the-variants.{Ready}
 use Rattle.gate_pats.proofs.Laws.{words-kept, follow-kept}
 use Rattle.gate_pats.proofs.Manner.{beside, old-manner, ready-taken}
-use Rattle.ties_gate_pats.specs.Rules.{ToldWith, atEnd, watchWith, enteredWith, behind, toldWith, tellsWith, actsWith}
+use Rattle.ties_gate_pats.specs.Rules.{ToldWith, atEnd, watchWith, enteredWith, entersFrom, behind, toldWith, tellsWith, actsWith}
 use Rattle.ties_gate_pats.specs.View.{patsOf, holding, shownWith}
 
 -- nothing is asked of the sections but that they are bytes
@@ -167,13 +167,12 @@ module _
     split-up true false = stays-out
     split-up false zero = stays-out
 
-    -- the rules, where complete PATs are followed
+    -- the rules: a sound section of PID 0 that is a current PAT enters
+    enters-is : entersFrom (s .gate .follow) (lo .answer) o ≡ soundBy (lo .answer) && (eqb (o .pid) 0 && enters (o .section))
+    enters-is = ap (λ (t : Bool). t && soundBy (lo .answer) && entersOn (o .pid) (o .section)) h
+
     behind-is : behind (s .gate .follow) (holding s) o (shownBy lo) ≡ goal (soundBy (lo .answer)) (eqb (o .pid) 0) (enters (o .section))
-    behind-is = at (byTables (s .gate .follow)) refl h
-      where
-        at : (t : Bool) → byTables (s .gate .follow) ≡ t → t ≡ true → behind (s .gate .follow) (holding s) o (shownBy lo) ≡ goal (soundBy (lo .answer)) (eqb (o .pid) 0) (enters (o .section))
-        at true e q = ap (λ (t : Bool). told-if (t && soundBy (lo .answer) && entersOn (o .pid) (o .section))) e
-        at false e q = absurd (true≢false (sym q))
+    behind-is = ap told-if enters-is
 
     taken-same : shownWith (takenWith s (o .input) (o .pid) (o .section)) ≡ behind (s .gate .follow) (holding s) o (shownBy lo)
     unfolding takenWith
