@@ -2,7 +2,7 @@
  * A guide monitor in C over the proved library. It reads records from standard input or from the file named: a PID (two bytes, high byte first)
  * and a section; with --ts a transport stream, packets of 188 bytes one after another, whose sections the library gathers. Sections of watched PIDs go through the gate; those that are sound, new or not, go on to the set collector, EIT sections to the EIT
  * collector: a set that was evicted between two of its sections, or found no cell, is completed by repeats. It prints what a monitor shows: each new
- * section, each complete set with its sections, each complete schedule table by table, and totals.
+ * section, each complete set with its sections, each complete schedule table by table, the events of both, and totals.
  */
 #include "../include/petrizolu.h"
 
@@ -15,7 +15,7 @@
 /* All records, and all packets, come on one input. */
 enum { INPUT = 0, NULL_PID = 0x1FFF };
 
-enum { CAPACITY = 4096, SECTION_BUFFERS = 64, LIMIT = 64, CELL_SIZE = 4096, CELLS = 1024, LONGEST_SECTION = 3 + 0xFFF };
+enum { CAPACITY = 4096, SECTION_BUFFERS = 64, LIMIT = 64, CELL_SIZE = 4096, CELLS = 1024, LONGEST_SECTION = 3 + 0xFFF, PAGE = 2048 };
 
 /* ---- the stores: a struct of words and the arrays that it goes with */
 
@@ -53,6 +53,7 @@ struct monitor {
     struct streams streams;
     struct sets sets;
     struct eit eit;
+    petrizolu_entry page[PAGE];
     uint64_t unwatched, complete_sets, complete_schedules, refused;
 };
 
@@ -86,6 +87,62 @@ static void show_section(const petrizolu_section *part)
     printf("  section %" PRIu64 ", %" PRIu64 " bytes\n", part->number, part->length);
 }
 
+static void show_seconds(uint32_t seconds)
+{
+    if (seconds == PETRIZOLU_UNDEFINED)
+        printf("undefined");
+    else
+        printf("%02" PRIu32 ":%02" PRIu32 ":%02" PRIu32, seconds / 3600, seconds / 60 % 60, seconds % 60);
+}
+
+static void show_event(const petrizolu_entry *event)
+{
+    uint32_t date = petrizolu_date(event->day);
+
+    printf("  event %04" PRIX32 " on ", event->id);
+    if (date == 0)
+        printf("day %" PRIu32, event->day);
+    else
+        printf("%04" PRIu32 "-%02" PRIu32 "-%02" PRIu32, date / 10000, date / 100 % 100, date % 100);
+    printf(" at ");
+    show_seconds(event->time);
+    printf(" for ");
+    show_seconds(event->duration);
+    printf("\n");
+}
+
+/* What is listed: a set, or a table of a schedule. */
+struct listed_row {
+    uint64_t row;
+    bool of_a_schedule;
+    uint64_t table;
+};
+
+static uint8_t list_page(const struct eit *e, struct listed_row of, uint64_t skip, petrizolu_entry *page, petrizolu_listed *listed)
+{
+    if (of.of_a_schedule)
+        return petrizolu_eit_events_in_schedule(&e->state, LEND_EIT(e), of.row, of.table, skip, page, PETRIZOLU_LIST_WORDS(PAGE), listed);
+    return petrizolu_eit_events(&e->state, LEND_EIT(e), of.row, skip, page, PETRIZOLU_LIST_WORDS(PAGE), listed);
+}
+
+/* The events of all pages, and where a descriptor runs past its loop. */
+static void show_events(const struct eit *e, struct listed_row of, petrizolu_entry *page)
+{
+    petrizolu_listed listed = {0, 0, 0};
+    uint64_t skip = 0;
+    uint8_t answer;
+
+    do {
+        answer = list_page(e, of, skip, page, &listed);
+        for (uint64_t i = 0; i < PAGE && skip + i < listed.count; i++)
+            if (page[i].kind == PETRIZOLU_EVENT)
+                show_event(&page[i]);
+        skip += PAGE;
+    } while (skip < listed.count);
+    if (answer == PETRIZOLU_PAST_LOOP)
+        printf("  broken at byte %" PRIu64 " of section %" PRIu64 "\n", listed.place, listed.section);
+}
+
 static void show_set(const struct sets *s, uint64_t row)
 {
     const uint64_t *head = s->heads + row * PETRIZOLU_HEAD_WORDS;
@@ -102,7 +159,7 @@ static void show_set(const struct sets *s, uint64_t row)
     }
 }
 
-static void show_event_set(const struct eit *e, uint64_t row)
+static void show_event_set(const struct eit *e, uint64_t row, petrizolu_entry *page)
 {
     const uint64_t *head = e->heads + row * PETRIZOLU_HEAD_WORDS;
     petrizolu_section part;
@@ -115,9 +172,10 @@ static void show_event_set(const struct eit *e, uint64_t row)
         show_section(&part);
         from = part.number + 1;
     }
+    show_events(e, (struct listed_row){row, false, 0}, page);
 }
 
-static void show_schedule(const struct eit *e, uint64_t row)
+static void show_schedule(const struct eit *e, uint64_t row, petrizolu_entry *page)
 {
     const uint64_t *head = e->schedule_heads + row * PETRIZOLU_HEAD_WORDS;
     uint64_t first = head[PETRIZOLU_HEAD_TABLE_ID] == PETRIZOLU_SCHEDULE_ACTUAL ? 0x50 : 0x60;
@@ -133,6 +191,7 @@ static void show_schedule(const struct eit *e, uint64_t row)
             show_section(&part);
             from = part.number + 1;
         }
+        show_events(e, (struct listed_row){row, true, table}, page);
     }
 }
 
@@ -152,11 +211,11 @@ static void collect_events(struct monitor *m, uint32_t pid, const uint8_t *secti
         break;
     case PETRIZOLU_SET:
         m->complete_sets++;
-        show_event_set(&m->eit, row);
+        show_event_set(&m->eit, row, m->page);
         break;
     case PETRIZOLU_SCHEDULE:
         m->complete_schedules++;
-        show_schedule(&m->eit, row);
+        show_schedule(&m->eit, row, m->page);
         break;
     default:
         m->refused++;

@@ -57,6 +57,7 @@ enum petrizolu_answer {
     PETRIZOLU_FED = 29,              /* a packet was taken; how many sections it finished is told, and each answer in the places */
     PETRIZOLU_MALFORMED_PACKET = 30, /* not 188 bytes, no sync byte, or an adaptation field past the end */
     PETRIZOLU_TOO_SHORT = 31,        /* gate: too short to hold its CRC, or under 3 bytes; its length is told */
+    PETRIZOLU_PAST_LOOP = 32,        /* events: a descriptor runs past its loop; the entries before it are listed, and its place is told */
     PETRIZOLU_BAD_INPUT = 37,        /* an input of 16 or more */
     PETRIZOLU_NO_BUFFER = 43         /* its PID needs a section buffer, and none is free */
 };
@@ -130,6 +131,14 @@ enum petrizolu_answer {
 #define PETRIZOLU_PLACE_LENGTH 5u
 #define PETRIZOLU_IN_PACKET 0u
 #define PETRIZOLU_IN_BUFFERS 1u
+
+/* The events of a guide, entry by entry. */
+#define PETRIZOLU_ENTRY_WORDS 12u                                                     /* the words of a petrizolu_entry */
+#define PETRIZOLU_LIST_WORDS(entries) ((size_t)(entries) * PETRIZOLU_ENTRY_WORDS)     /* list: a petrizolu_entry has so many words of 32 bits */
+#define PETRIZOLU_MOST_ENTRIES(size) ((size_t)(size) / 2)                             /* that a section of so many bytes can have */
+#define PETRIZOLU_EVENT 1u                                                            /* kinds of an entry */
+#define PETRIZOLU_DESCRIPTOR 2u
+#define PETRIZOLU_UNDEFINED UINT32_MAX                                                /* a time or a duration with a digit above 9 */
 
 /*
  * What a row's head says. heads + row * PETRIZOLU_HEAD_WORDS has these words; a host may read them of a row that was handed out, to name the
@@ -531,6 +540,89 @@ uint8_t petrizolu_eit_next_in_schedule(const petrizolu_eit *eit, const uint64_t 
                                        size_t slot_words, const uint8_t *cells, size_t cell_bytes, const uint64_t *schedule_heads,
                                        size_t schedule_head_words, const uint32_t *units, size_t unit_words, uint64_t row, uint64_t table,
                                        uint64_t from, petrizolu_section *next);
+
+/*
+ * ---- what a guide says: events and their descriptors, entry by entry
+ *
+ * An entry is an event (EN 300 468, 5.2.4) or a descriptor: twelve words of 32 bits, those that a kind does not use are 0. Entries stand in section order
+ * and then byte order, an event before its descriptors, each once. Nothing is copied: the bytes of a descriptor are the `length` bytes from at + 2 on.
+ */
+
+typedef struct petrizolu_entry {
+    uint32_t kind;                   /* PETRIZOLU_EVENT or PETRIZOLU_DESCRIPTOR */
+    uint32_t section;                /* section_number; of petrizolu_events byte 6, 0 where there is none */
+    uint32_t at;                     /* its first byte, in cells; of petrizolu_events in the section */
+    uint32_t id;                     /* event_id; descriptor_tag */
+    uint32_t length;                 /* how many bytes of descriptors follow; descriptor_length */
+    uint32_t original_network_id;    /* 0 */
+    uint32_t day;                    /* the modified Julian day, as petrizolu_date takes it */
+    uint32_t time;                   /* seconds since midnight (UTC), the digits as they are, or PETRIZOLU_UNDEFINED */
+    uint32_t duration;               /* seconds, likewise */
+    uint32_t running_status;         /* 0 to 7 */
+    uint32_t free_ca_mode;           /* 0 or 1 */
+    uint32_t eit_flags;              /* 0 */
+} petrizolu_entry;
+
+/* How many entries there are; with 18, 19 and 32 up to `place`, the byte of section number `section` where the listing ended, else both are 0. */
+typedef struct petrizolu_listed {
+    uint64_t count;
+    uint64_t section;
+    uint64_t place;
+} petrizolu_listed;
+
+/*
+ * Lists a page of the entries of one section, which need not have come through a collector: form bit and CRC are not judged here. list_words counts words of
+ * 32 bits: PETRIZOLU_LIST_WORDS(n) of them have room for n entries, and number `skip` (from 0) to skip + n - 1 are written; what is behind the last of
+ * them stays as it was. A list without room is good for counting.
+ * 8: there is an entry at or behind skip; 9: there is none. 32: a descriptor runs past its loop (or one byte is left there); the entries before it stand.
+ * 18, 19: no EIT, or its events do not end at its CRC; nothing is listed. 14: list and *listed as before; every other answer writes *listed.
+ *
+ *     static petrizolu_entry page[64];
+ *     petrizolu_listed told = {0, 0, 0};
+ *     uint64_t skip = 0;
+ *     while (petrizolu_events(section, length, skip, page, PETRIZOLU_LIST_WORDS(64), &told) == PETRIZOLU_YES) {
+ *         for (uint64_t i = 0; i < 64 && skip + i < told.count; i++)
+ *             if (page[i].kind == PETRIZOLU_EVENT)
+ *                 printf("event %04X of %u\n", (unsigned)page[i].id, (unsigned)petrizolu_date(page[i].day));
+ *         skip += 64;
+ *     }
+ */
+uint8_t petrizolu_events(const uint8_t *section, size_t section_length, uint64_t skip, petrizolu_entry *list, size_t list_words,
+                         petrizolu_listed *listed);
+
+/*
+ * The same of the set in a row that was handed out, its sections one after another by rising number: at the first 18, 19 or 32 the listing ends, and nothing
+ * of later sections is listed. 18 and 19 do not come from a store that was opened. 9, with a count of 0, also where the row is not in use, or where its set
+ * was not handed out or has changed since. 10: list and *listed as before.
+ *
+ *     uint8_t shown = petrizolu_eit_events(&eit, heads, sizeof heads / 8, slots, sizeof slots / 4, cells, sizeof cells, schedule_heads,
+ *                                          sizeof schedule_heads / 8, units, sizeof units / 4, row, 0, page, PETRIZOLU_LIST_WORDS(64), &told);
+ *     if (shown == PETRIZOLU_PAST_LOOP)
+ *         printf("broken at byte %llu of section %llu\n", (unsigned long long)told.place, (unsigned long long)told.section);
+ */
+uint8_t petrizolu_eit_events(const petrizolu_eit *eit, const uint64_t *heads, size_t head_words, const uint32_t *slots, size_t slot_words,
+                             const uint8_t *cells, size_t cell_bytes, const uint64_t *schedule_heads, size_t schedule_head_words,
+                             const uint32_t *units, size_t unit_words, uint64_t row, uint64_t skip, petrizolu_entry *list, size_t list_words,
+                             petrizolu_listed *listed);
+
+/*
+ * The same of one table of the schedule in a row, counted as petrizolu_eit_next_in_schedule does. 9 also where the schedule has not that table, or not every
+ * table from its first to last_table_id.
+ *
+ *     shown = petrizolu_eit_events_in_schedule(&eit, heads, sizeof heads / 8, slots, sizeof slots / 4, cells, sizeof cells, schedule_heads,
+ *                                              sizeof schedule_heads / 8, units, sizeof units / 4, row, table, 0, page, PETRIZOLU_LIST_WORDS(64), &told);
+ */
+uint8_t petrizolu_eit_events_in_schedule(const petrizolu_eit *eit, const uint64_t *heads, size_t head_words, const uint32_t *slots,
+                                         size_t slot_words, const uint8_t *cells, size_t cell_bytes, const uint64_t *schedule_heads,
+                                         size_t schedule_head_words, const uint32_t *units, size_t unit_words, uint64_t row, uint64_t table,
+                                         uint64_t skip, petrizolu_entry *list, size_t list_words, petrizolu_listed *listed);
+
+/*
+ * The calendar date of a modified Julian day (EN 300 468, Annex C) in decimal digits, year, month, day; 0 for a day before 1900-03-01 and for a number above 65535.
+ *
+ *     uint32_t date = petrizolu_date(49273);     // 19931013
+ */
+uint32_t petrizolu_date(uint32_t day);
 
 #ifdef __cplusplus
 }

@@ -6,7 +6,8 @@
  * Each lent array stands right against a page that may not be touched, after it or before it, so that a single byte out of bounds ends the run; with
  * `heap` it is a block of the heap of exactly its length, for a memory checker. Each call's answer must be one that the header names for it, and after
  * a refusal every lent byte must be as before. The gate with an index is run beside the one without on the same sections. Where complete PATs are
- * followed, whether the PAT store is whole is worked out here too; where they are not, or where a section enters nothing, it must be as before.
+ * followed, whether the PAT store is whole is worked out here too; where they are not, or where a section enters nothing, it must be as before. What a
+ * section says is worked out here too, entry by entry; of a row the entries must be in the cells, the words behind the page as before.
  * Prints the calls by function and answer.
  */
 #include "../include/petrizolu.h"
@@ -143,7 +144,7 @@ static void damage(struct array *a)
 
 /* ---- what must hold */
 
-enum call { GATE_OPEN, GATE_OFFER, WATCH_OPEN, WATCH_ASK, INDEXED_OPEN, INDEXED_OFFER, SETS_OPEN, SETS_PUSH, SETS_CLEAR, SETS_NEXT, EIT_OPEN, EIT_PUSH, EIT_CLEAR, EIT_DROP, EIT_NEXT, EIT_NEXT_IN_SCHEDULE, STREAMS_OPEN, FEED, INDEXED_FEED, CALLS };
+enum call { GATE_OPEN, GATE_OFFER, WATCH_OPEN, WATCH_ASK, INDEXED_OPEN, INDEXED_OFFER, SETS_OPEN, SETS_PUSH, SETS_CLEAR, SETS_NEXT, EIT_OPEN, EIT_PUSH, EIT_CLEAR, EIT_DROP, EIT_NEXT, EIT_NEXT_IN_SCHEDULE, STREAMS_OPEN, FEED, INDEXED_FEED, EVENTS, EIT_EVENTS, EIT_EVENTS_IN_SCHEDULE, DATE, CALLS };
 
 #define ANSWERS 44
 #define ONE(n) ((uint64_t)1 << (n))
@@ -171,9 +172,13 @@ static const struct {
     {"streams_open", ONE(7) | ONE(13)},
     {"feed", ONE(10) | ONE(11) | ONE(29) | ONE(30) | ONE(37) | ONE(43)},
     {"indexed_feed", ONE(10) | ONE(11) | ONE(29) | ONE(30) | ONE(37) | ONE(43)},
+    {"events", ONE(8) | ONE(9) | ONE(14) | ONE(18) | ONE(19) | ONE(32)},
+    {"eit_events", ONE(8) | ONE(9) | ONE(10) | ONE(18) | ONE(19) | ONE(32)},
+    {"eit_events_in_schedule", ONE(8) | ONE(9) | ONE(10) | ONE(18) | ONE(19) | ONE(32)},
+    {"date", ONE(8) | ONE(9)},
 };
 
-/* Refusals that leave all as before: 10 to 21, and 37. */
+/* Refusals that leave all as before: 10 to 21, and 37; of a question every answer does. */
 #define REFUSALS (0x3FFC00u | ONE(37))
 
 static uint64_t answered[CALLS][ANSWERS];
@@ -275,21 +280,50 @@ static size_t draw_long(uint8_t *b, uint8_t table_id)
     return n;
 }
 
+/* Up to three descriptors of up to three bytes; now and then one that runs past the loop, or one byte. */
+static size_t draw_descriptors(uint8_t *b)
+{
+    size_t n = 0;
+    for (uint64_t i = below(4); i > 0; i--) {
+        size_t length = below(4);
+        b[n] = (uint8_t)(0x40 + below(3));
+        b[n + 1] = (uint8_t)(once_in(30) ? length + 1 + below(250) : length);
+        memset(b + n + 2, (int)below(256), length);
+        n += 2 + length;
+    }
+    if (once_in(30))
+        b[n++] = (uint8_t)draw();
+    return n;
+}
+
+static size_t draw_event(uint8_t *b)
+{
+    size_t n = draw_descriptors(b + 12);
+    memset(b, 0, 12);
+    b[1] = (uint8_t)below(2);
+    for (int i = 2; i < 10; i++)
+        b[i] = (uint8_t)(once_in(8) ? draw() : below(10));
+    b[10] = (uint8_t)(below(16) << 4 | n >> 8);
+    b[11] = (uint8_t)n;
+    return 12 + n;
+}
+
 static size_t draw_eit(uint8_t *b)
 {
     static const uint8_t tables[] = {0x4E, 0x4F, 0x50, 0x50, 0x51, 0x51, 0x52, 0x5F, 0x60, 0x61, 0x6F};
     uint8_t table_id = tables[below(sizeof tables)];
-    size_t events = below(3), n = 18 + 12 * events;
+    size_t events = below(3), n = 14;
     draw_long(b, table_id);
+    memset(b + 8, 0, 6);
+    for (size_t i = 0; i < events; i++)
+        n += draw_event(b + n);
+    n += 4;
     set_length(b, n);
-    memset(b + 8, 0, n - 8);
     b[9] = (uint8_t)below(2);
     b[12] = once_in(3) ? b[7] : (uint8_t)below(8);
     b[13] = once_in(10) ? (uint8_t)draw() : (uint8_t)((table_id & 0xF0) + below(3));
-    for (size_t i = 0; i < events; i++)
-        b[14 + 12 * i] = (uint8_t)below(2);
-    if (once_in(20))
-        b[n - 5] = (uint8_t)below(40);
+    if (once_in(20) && events > 0)
+        b[14 + below(n - 18)] = (uint8_t)below(40);
     return n;
 }
 
@@ -785,7 +819,7 @@ static void sets_open(uint64_t limit, uint64_t size, uint64_t count)
     judge(SETS_OPEN, &sets, petrizolu_sets_open((petrizolu_sets *)sets.words, limit, size, count, SETS(&sets)));
 }
 
-static void eit_push(uint32_t pid)
+static unsigned eit_push(uint32_t pid, uint64_t *told)
 {
     uint64_t row[1] = {77};
     unsigned answer;
@@ -795,6 +829,8 @@ static void eit_push(uint32_t pid)
     if (answer == PETRIZOLU_CONFLICT)
         check_conflict(EIT_PUSH, &eit);
     check_row(EIT_PUSH, row[0], answer, answer == PETRIZOLU_SET ? eit.words[3] : eit.words[5]);
+    *told = row[0];
+    return answer;
 }
 
 static void eit_next(uint64_t row, uint64_t from)
@@ -815,6 +851,178 @@ static void eit_next_in_schedule(uint64_t row, uint64_t table, uint64_t from)
     answer = petrizolu_eit_next_in_schedule((const petrizolu_eit *)eit.words, EIT(&eit), row, table, from, (petrizolu_section *)next);
     judge_question(EIT_NEXT_IN_SCHEDULE, &eit, answer);
     check_part(EIT_NEXT_IN_SCHEDULE, &eit, next, answer);
+}
+
+/* ---- the entries of sections and rows */
+
+static struct array list;
+
+/* What is told before a question. */
+static const petrizolu_listed untold = {UINT64_MAX, UINT64_MAX - 1, UINT64_MAX - 2};
+
+static uint32_t seconds_of(const uint8_t *b)
+{
+    uint32_t unit[3] = {3600, 60, 1}, sum = 0;
+    for (int i = 0; i < 3; i++) {
+        if (b[i] >> 4 > 9 || (b[i] & 15) > 9)
+            return PETRIZOLU_UNDEFINED;
+        sum += unit[i] * (uint32_t)((b[i] >> 4) * 10 + (b[i] & 15));
+    }
+    return sum;
+}
+
+/* The entry at a place: an event, or a descriptor. */
+static petrizolu_entry entry_at(uint32_t kind, uint32_t number, const uint8_t *bytes, size_t at)
+{
+    const uint8_t *b = bytes + at;
+    petrizolu_entry entry = {.kind = kind, .section = number, .at = (uint32_t)at, .id = b[0], .length = b[1]};
+    if (kind == PETRIZOLU_EVENT) {
+        entry.id = (uint32_t)b[0] << 8 | b[1];
+        entry.length = (uint32_t)(b[10] & 15) << 8 | b[11];
+        entry.day = (uint32_t)b[2] << 8 | b[3];
+        entry.time = seconds_of(b + 4);
+        entry.duration = seconds_of(b + 7);
+        entry.running_status = b[10] >> 5;
+        entry.free_ca_mode = b[10] >> 4 & 1;
+    }
+    return entry;
+}
+
+static void lend_list(void)
+{
+    lend(&list, once_in(3) ? below(40) : PETRIZOLU_LIST_WORDS(below(6)));
+    scramble(&list);
+    memcpy(list.before, list.data, size_of(&list));
+}
+
+static uint64_t draw_skip(void)
+{
+    return once_in(8) ? any_word() : below(4);
+}
+
+/* How many entries the page shows. */
+static uint64_t on_page(const petrizolu_listed *listed, uint64_t skip)
+{
+    uint64_t room = list.count / PETRIZOLU_ENTRY_WORDS, left = listed->count > skip ? listed->count - skip : 0;
+    return left < room ? left : room;
+}
+
+/* 10 and 14 write nothing; else 8 and 9 by the count, a place only where the listing ended early, and what is behind the page as before. */
+static void check_listed(enum call call, unsigned answer, const petrizolu_listed *listed, uint64_t skip)
+{
+    size_t shown;
+    if (answer == PETRIZOLU_NOT_WHOLE || answer == PETRIZOLU_MALFORMED) {
+        if (memcmp(listed, &untold, sizeof untold) != 0 || !array_as_before(&list))
+            fail(call, answer, "a refusal that wrote");
+        return;
+    }
+    shown = on_page(listed, skip) * sizeof(petrizolu_entry);
+    if (memcmp(list.before + shown, list.data + shown, size_of(&list) - shown) != 0)
+        fail(call, answer, "words behind the page were written");
+    if (answer <= PETRIZOLU_NO && ((answer == PETRIZOLU_YES) != (listed->count > skip) || listed->section != 0 || listed->place != 0))
+        fail(call, answer, "what is told of a whole listing");
+    if (answer > PETRIZOLU_NO && (listed->section > 255 || (answer != PETRIZOLU_PAST_LOOP && listed->place != 0)))
+        fail(call, answer, "what is told of a listing that ended early");
+}
+
+/* What a section says, worked out here. */
+static unsigned expected(const uint8_t *b, size_t n, petrizolu_listed *listed, petrizolu_entry *entries)
+{
+    uint32_t number = n > 6 ? b[6] : 0;
+    size_t end, at = 14;
+    if (n < 3 || n != 3 + ((size_t)(b[1] & 15) << 8 | b[2]) || (b[1] & 0x80 && n < 12))
+        return PETRIZOLU_MALFORMED;
+    *listed = (petrizolu_listed){0, number, 0};
+    if (b[0] < 0x4E || b[0] > 0x6F)
+        return PETRIZOLU_NOT_EIT;
+    if (n < 18)
+        return PETRIZOLU_BROKEN_EIT;
+    for (end = n - 4; at < end; at += 12 + ((size_t)(b[at + 10] & 15) << 8 | b[at + 11]))
+        if (end - at < 12)
+            return PETRIZOLU_BROKEN_EIT;
+    if (at != end)
+        return PETRIZOLU_BROKEN_EIT;
+    for (at = 14; at < end;) {
+        size_t stop = at + 12 + ((size_t)(b[at + 10] & 15) << 8 | b[at + 11]);
+        entries[listed->count++] = entry_at(PETRIZOLU_EVENT, number, b, at);
+        for (at += 12; at < stop; at += 2 + (size_t)b[at + 1]) {
+            if (stop - at < 2 || stop - at - 2 < b[at + 1]) {
+                listed->place = at;
+                return PETRIZOLU_PAST_LOOP;
+            }
+            entries[listed->count++] = entry_at(PETRIZOLU_DESCRIPTOR, number, b, at);
+        }
+    }
+    listed->section = 0;
+    return 0;
+}
+
+static void section_events(void)
+{
+    static petrizolu_entry entries[8192 / 2];
+    petrizolu_listed listed = untold, known = untold;
+    uint64_t skip = draw_skip();
+    unsigned answer, should;
+    lend_list();
+    memcpy(section.before, section.data, section.count);
+    answer = petrizolu_events(SECTION, skip, (petrizolu_entry *)list.data, list.count, &listed);
+    should = expected(section.data, section.count, &known, entries);
+    if (should == 0)
+        should = known.count > skip ? PETRIZOLU_YES : PETRIZOLU_NO;
+    if (answer >= ANSWERS || !(calls[EVENTS].answers & ONE(answer)) || answer != should)
+        fail(EVENTS, answer, "not the answer of this section");
+    answered[EVENTS][answer]++;
+    check_listed(EVENTS, answer, &listed, skip);
+    if (memcmp(&listed, &known, sizeof known) != 0 || !array_as_before(&section))
+        fail(EVENTS, answer, "what is told of the section");
+    if (answer != PETRIZOLU_MALFORMED && on_page(&listed, skip) > 0 && memcmp(list.data, entries + skip, on_page(&listed, skip) * sizeof entries[0]) != 0)
+        fail(EVENTS, answer, "not the entries of the section");
+}
+
+/* The entries of a row say what stands in the cells. */
+static void check_entries(enum call call, unsigned answer, const petrizolu_listed *listed, uint64_t skip)
+{
+    const struct array *cells = &eit.arrays[CELLS];
+    for (uint64_t i = 0; i < on_page(listed, skip); i++) {
+        petrizolu_entry entry, known;
+        size_t least;
+        memcpy(&entry, list.data + i * sizeof entry, sizeof entry);
+        least = entry.kind == PETRIZOLU_EVENT ? 12 : 2;
+        if ((entry.kind != PETRIZOLU_EVENT && entry.kind != PETRIZOLU_DESCRIPTOR) || entry.section > 255 || entry.at + least + entry.length > cells->count)
+            fail(call, answer, "an entry that is not in the cells");
+        known = entry_at(entry.kind, entry.section, cells->data, entry.at);
+        if (memcmp(&entry, &known, sizeof known) != 0)
+            fail(call, answer, "an entry that says something else");
+    }
+}
+
+static void eit_events(bool in_schedule, uint64_t row, uint64_t table)
+{
+    enum call call = in_schedule ? EIT_EVENTS_IN_SCHEDULE : EIT_EVENTS;
+    petrizolu_listed listed = untold;
+    uint64_t skip = draw_skip();
+    unsigned answer;
+    lend_list();
+    remember(&eit);
+    if (in_schedule)
+        answer = petrizolu_eit_events_in_schedule((const petrizolu_eit *)eit.words, EIT(&eit), row, table, skip, (petrizolu_entry *)list.data, list.count, &listed);
+    else
+        answer = petrizolu_eit_events((const petrizolu_eit *)eit.words, EIT(&eit), row, skip, (petrizolu_entry *)list.data, list.count, &listed);
+    judge_question(call, &eit, answer);
+    check_listed(call, answer, &listed, skip);
+    if (answer != PETRIZOLU_NOT_WHOLE)
+        check_entries(call, answer, &listed, skip);
+}
+
+/* A date of any number: counted as 8, none as 9. */
+static void date(void)
+{
+    uint32_t day = (uint32_t)(once_in(2) ? below(70000) : any_word()), told = petrizolu_date(day);
+    uint32_t year = told / 10000, month = told / 100 % 100, in_month = told % 100;
+    bool there = day >= 15079 && day <= 65535;
+    if (there != (told != 0) || (there && (year < 1900 || year > 2038 || month < 1 || month > 12 || in_month < 1 || in_month > 31)))
+        fail(DATE, there ? PETRIZOLU_YES : PETRIZOLU_NO, "no date");
+    answered[DATE][there ? PETRIZOLU_YES : PETRIZOLU_NO]++;
 }
 
 static void eit_clear(void)
@@ -865,12 +1073,24 @@ static void use_sets(int times)
 static void use_eit(int times)
 {
     while (times-- > 0) {
+        uint64_t row;
+        unsigned answer;
         draw_section();
-        eit_push(draw_pid());
+        answer = eit_push(draw_pid(), &row);
+        if (answer == PETRIZOLU_SET || answer == PETRIZOLU_SCHEDULE)
+            eit_events(answer == PETRIZOLU_SCHEDULE, row, below(2));
         if (once_in(2))
             eit_next(once_in(8) ? any_word() : below(4), once_in(8) ? any_word() : below(4));
         if (once_in(2))
             eit_next_in_schedule(once_in(8) ? any_word() : below(4), once_in(8) ? any_word() : below(3), once_in(8) ? any_word() : below(4));
+        if (once_in(2))
+            eit_events(false, once_in(8) ? any_word() : below(4), 0);
+        if (once_in(2))
+            eit_events(true, once_in(8) ? any_word() : below(4), once_in(8) ? any_word() : below(3));
+        if (once_in(2))
+            section_events();
+        if (once_in(20))
+            date();
         if (once_in(20))
             eit_drop();
         if (once_in(40))
@@ -878,8 +1098,24 @@ static void use_eit(int times)
     }
 }
 
+/* Bytes of sections that are kept, among them their table_ids, counts and lengths. */
+static void damage_sections(struct array *cells, size_t size, size_t count)
+{
+    for (size_t i = 0; i < count && cells->count == size * count; i++)
+        if (once_in(2))
+            cells->data[i * size + (once_in(3) ? 0 : below(size))] = (uint8_t)below(96);
+}
+
 static void damage_part(struct part *p, size_t word_count, size_t limit, size_t size, size_t count)
 {
+    if (p == &eit && once_in(3)) {
+        damage_sections(&p->arrays[CELLS], size, count);
+        for (uint64_t row = 0; row < 4; row++) {
+            eit_events(false, row, 0);
+            eit_events(true, row, below(2));
+        }
+        return;
+    }
     switch (below(4)) {
     case 0:
         p->words[below(word_count)] = any_word();
@@ -1442,6 +1678,7 @@ int main(int argc, char **argv)
     on_heap = argc > 3 && strcmp(argv[3], "heap") == 0;
     page = (size_t)sysconf(_SC_PAGESIZE);
     make(&section, 1);
+    make(&list, 4);
     gate.array_count = indexed.array_count = GATE_ARRAYS;
     for (int i = 0; i < GATE_ARRAYS; i++) {
         size_t element = i == PAT_SLOTS ? 4 : i == PAT_CELLS ? 1 : 8;

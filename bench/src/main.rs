@@ -1,5 +1,6 @@
-//! bench [quick]: nanoseconds a section, the port beside the original on the same sections in the same scattered order. Times are the thread's
+//! bench [quick] [entries]: nanoseconds a section, the port beside the original on the same sections in the same scattered order. Times are the thread's
 //! processor time, the best of some rounds; the rounds of the port and of the original take turns, so that a busy machine slows both.
+//! With `entries` only the listing of a section's entries, which the original has not, is measured.
 
 mod packets;
 mod sections;
@@ -10,7 +11,7 @@ use bytes::Bytes;
 use dvb_si::collect::{EitCollector, SectionSetCollector};
 use dvb_si::demux::SiDemux;
 use mpeg_ts::pid::Pid;
-use petrizolu::{DEFAULT_SETTINGS, Eit, FOLLOW_SECTIONS, Gate, Offered, Refused, Sets, SmallGate};
+use petrizolu::{Answer, DEFAULT_SETTINGS, ENTRY_WORDS, Eit, FOLLOW_SECTIONS, Gate, Listed, Offered, Refused, Sets, SmallGate, calls};
 use sections::{eit, long, of_version};
 use std::hint::black_box;
 use std::sync::atomic::Ordering;
@@ -409,11 +410,54 @@ fn check_of_the_store(rounds: usize) {
     }
 }
 
+/// An EIT section of a present/following table with these events.
+fn guide(events: &[u8]) -> Vec<u8> {
+    long(0x4E, 1, 0, 0, &[&[0, 1, 0, 1, 0, 0x4E], events].concat())
+}
+
+/// An event of EN 300 468, 5.2.4, with these descriptors.
+fn event(descriptors: &[u8]) -> Vec<u8> {
+    let [high, low] = (descriptors.len() as u16).to_be_bytes();
+    [&[0, 1, 0xC0, 0x79, 0x12, 0x45, 0, 1, 0x45, 0x30, 0x80 | high, low], descriptors].concat()
+}
+
+/// What it costs to list the entries of one section, all of them into a list with room.
+fn listings(rounds: usize) {
+    println!("\nThe entries of one section, listed\n");
+    println!("| section | bytes | entries | a section | an entry |");
+    println!("|---|---|---|---|---|");
+    type Body = fn(usize) -> Vec<u8>;
+    let kinds: [(&str, Body); 3] = [
+        ("events without descriptors", |room| event(&[]).repeat(room / 12)),
+        ("short events with one descriptor", |room| event(b"\x4D\x08eng\x03abc\x00").repeat(room / 22)),
+        ("one event, all descriptors empty", |room| event(&[0x40, 0].repeat((room - 12) / 2))),
+    ];
+    for (name, body) in kinds {
+        for size in [184, 1000, 4000] {
+            let section = guide(&body(size - 18));
+            let mut list = vec![0; section.len() / 2 * ENTRY_WORDS];
+            let mut listed = Listed::default();
+            let turns = 200_000 / size;
+            let mut side: [Side; 1] = [Box::new(|| {
+                for _ in 0..turns {
+                    assert_eq!(black_box(calls::events(black_box(&section), 0, &mut list, &mut listed)), Answer::YES);
+                }
+            })];
+            let took = best(turns, 3 * rounds, &mut side)[0];
+            drop(side);
+            println!("| {name} | {} | {} | {took:.0} | {:.1} |", section.len(), listed.count, took / listed.count as f64);
+        }
+    }
+}
+
 fn main() {
     let rounds = if std::env::args().any(|a| a == "quick") { 3 } else { 9 };
     println!(
         "Nanoseconds a section, best of {rounds} rounds (two at thousands of rows). Ratios: to the original over one table, then over eight."
     );
+    if std::env::args().any(|a| a == "entries") {
+        return listings(rounds);
+    }
     crc(rounds);
     gate(rounds);
     gate_new_keys(rounds);
@@ -425,4 +469,5 @@ fn main() {
     event_repeats(rounds, "EIT collector: a repeat of a held schedule of one table of one section", 0x50);
     full_guide(rounds);
     check_of_the_store(rounds);
+    listings(rounds);
 }

@@ -32,6 +32,7 @@ impl Answer {
     pub const FED: Self = Self(29);
     pub const MALFORMED_PACKET: Self = Self(30);
     pub const TOO_SHORT: Self = Self(31);
+    pub const PAST_LOOP: Self = Self(32);
     pub const BAD_INPUT: Self = Self(37);
     pub const NO_BUFFER: Self = Self(43);
 

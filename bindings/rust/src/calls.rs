@@ -1,7 +1,7 @@
 //! Each function of the header, with a slice for each pointer and its length. A slice points to as many elements as it says, and two `&mut` do
 //! not overlap: that is all that the header asks of a caller, so these are safe for any content of what is lent, and answer for any.
 #![allow(clippy::too_many_arguments)]
-use crate::{ANY, Answer, raw, rows};
+use crate::{ANY, Answer, ENTRY_WORDS, raw, rows};
 
 /// A gate's settings and counters.
 #[repr(C)]
@@ -111,6 +111,46 @@ impl Filter {
     pub fn service_id(self, service_id: u16) -> Self {
         Self { service_id: service_id.into(), ..self }
     }
+}
+
+/// An event or a descriptor (EN 300 468, 5.2.4 and 6.1); include/petrizolu.h says what each word is.
+#[repr(C)]
+#[derive(Debug, Clone, Copy, Default, PartialEq, Eq)]
+pub struct Entry {
+    pub kind: u32,
+    pub section: u32,
+    pub at: u32,
+    pub id: u32,
+    pub length: u32,
+    pub original_network_id: u32,
+    pub day: u32,
+    pub time: u32,
+    pub duration: u32,
+    pub running_status: u32,
+    pub free_ca_mode: u32,
+    pub eit_flags: u32,
+}
+
+impl Entry {
+    /// The entry of these words, in the order of the fields.
+    pub fn of(words: &[u32; ENTRY_WORDS]) -> Self {
+        let &[kind, section, at, id, length, original_network_id, day, time, duration, running_status, free_ca_mode, eit_flags] = words;
+        Self { kind, section, at, id, length, original_network_id, day, time, duration, running_status, free_ca_mode, eit_flags }
+    }
+
+    /// A descriptor's bytes, behind its tag and its length, in the section or the cells that the entry was listed from.
+    pub fn bytes<'a>(&self, from: &'a [u8]) -> &'a [u8] {
+        &from[self.at as usize + 2..][..self.length as usize]
+    }
+}
+
+/// How many entries there are; with 18, 19 and 32 the section's number and the place in it where the listing ended. 10 and 14 leave it as it was.
+#[repr(C)]
+#[derive(Debug, Clone, Copy, Default, PartialEq, Eq)]
+pub struct Listed {
+    pub count: u64,
+    pub section: u64,
+    pub place: u64,
 }
 
 /// The CRC of ISO/IEC 13818-1, Annex A.
@@ -653,4 +693,89 @@ pub fn eit_next_in_schedule(
             next,
         )
     })
+}
+
+// ---- events. A list is lent as the words of its entries, so that it need not end with a whole one.
+
+pub fn events(section: &[u8], skip: u64, list: &mut [u32], listed: &mut Listed) -> Answer {
+    // SAFETY: as above; an entry is twelve words, and `list` has as many words as are told.
+    Answer(unsafe { raw::petrizolu_events(section.as_ptr(), section.len(), skip, list.as_mut_ptr().cast(), list.len(), listed) })
+}
+
+pub fn eit_events(
+    eit: &EitState,
+    heads: &[u64],
+    slots: &[u32],
+    cells: &[u8],
+    schedule_heads: &[u64],
+    units: &[u32],
+    row: u64,
+    skip: u64,
+    list: &mut [u32],
+    listed: &mut Listed,
+) -> Answer {
+    // SAFETY: as above.
+    Answer(unsafe {
+        raw::petrizolu_eit_events(
+            eit,
+            heads.as_ptr(),
+            heads.len(),
+            slots.as_ptr(),
+            slots.len(),
+            cells.as_ptr(),
+            cells.len(),
+            schedule_heads.as_ptr(),
+            schedule_heads.len(),
+            units.as_ptr(),
+            units.len(),
+            row,
+            skip,
+            list.as_mut_ptr().cast(),
+            list.len(),
+            listed,
+        )
+    })
+}
+
+pub fn eit_events_in_schedule(
+    eit: &EitState,
+    heads: &[u64],
+    slots: &[u32],
+    cells: &[u8],
+    schedule_heads: &[u64],
+    units: &[u32],
+    row: u64,
+    table: u64,
+    skip: u64,
+    list: &mut [u32],
+    listed: &mut Listed,
+) -> Answer {
+    // SAFETY: as above.
+    Answer(unsafe {
+        raw::petrizolu_eit_events_in_schedule(
+            eit,
+            heads.as_ptr(),
+            heads.len(),
+            slots.as_ptr(),
+            slots.len(),
+            cells.as_ptr(),
+            cells.len(),
+            schedule_heads.as_ptr(),
+            schedule_heads.len(),
+            units.as_ptr(),
+            units.len(),
+            row,
+            table,
+            skip,
+            list.as_mut_ptr().cast(),
+            list.len(),
+            listed,
+        )
+    })
+}
+
+/// The calendar date of a modified Julian day in decimal digits, year, month and day; 0 where there is none.
+pub fn date(day: u32) -> u32 {
+    // SAFETY: a number comes and a number goes.
+    unsafe { raw::petrizolu_date(day) }
 }

@@ -1,5 +1,6 @@
 //! The EIT collector.
-use crate::calls::{self, EitState, Filter};
+use crate::calls::{self, EitState, Entry, Filter};
+use crate::events::{self, Listing};
 use crate::rows::{self, Name, Row, Section, pid_word};
 use crate::{Answer, HEAD_WORDS, Refused, SLOT_WORDS, UNIT_WORDS};
 
@@ -105,6 +106,37 @@ impl Eit {
                 place,
             )
         })
+    }
+
+    /// What the set in a row says.
+    pub fn events(&self, row: &Row) -> Result<Listing, Refused> {
+        events::listing(|list, listed| {
+            calls::eit_events(&self.state, &self.heads, &self.slots, &self.cells, &self.schedule_heads, &self.units, row.0, 0, list, listed)
+        })
+    }
+
+    /// What one table of a schedule says.
+    pub fn table_events(&self, row: &Row, table: u8) -> Result<Listing, Refused> {
+        events::listing(|list, listed| {
+            calls::eit_events_in_schedule(
+                &self.state,
+                &self.heads,
+                &self.slots,
+                &self.cells,
+                &self.schedule_heads,
+                &self.units,
+                row.0,
+                table.into(),
+                0,
+                list,
+                listed,
+            )
+        })
+    }
+
+    /// The bytes of a descriptor of one of its rows, until the next call that changes the collector.
+    pub fn bytes(&self, descriptor: &Entry) -> &[u8] {
+        descriptor.bytes(&self.cells)
     }
 
     pub fn state(&self) -> EitState {

@@ -7,15 +7,17 @@ mod answer;
 pub mod calls;
 mod demux;
 mod eit;
+mod events;
 mod gate;
 mod raw;
 mod rows;
 mod sets;
 
 pub use answer::{Answer, Refused};
-pub use calls::{EitState, Failure, Filter, GateState, Place, SetsState, StreamsState, crc};
+pub use calls::{EitState, Entry, Failure, Filter, GateState, Listed, Place, SetsState, StreamsState, crc, date};
 pub use demux::{Demux, Fed};
 pub use eit::{Complete, Eit};
+pub use events::{Ended, Listing, events};
 pub use gate::{Gate, Offered, SmallGate};
 pub use rows::{Name, Row, Section};
 pub use sets::Sets;
@@ -78,3 +80,9 @@ pub const IN_BUFFERS: u64 = 1;
 pub const HEAD_WORDS: usize = 12;
 pub const SLOT_WORDS: usize = 288;
 pub const UNIT_WORDS: usize = 16 * SLOT_WORDS;
+
+/// Words of an entry, its kinds, and the second count of a time with a digit above 9.
+pub const ENTRY_WORDS: usize = 12;
+pub const EVENT: u32 = 1;
+pub const DESCRIPTOR: u32 = 2;
+pub const UNDEFINED: u32 = u32::MAX;

@@ -1,5 +1,5 @@
 //! The functions of include/petrizolu.h, argument for argument (tests/header.rs compares the two texts).
-use crate::calls::{EitState, Failure, Filter, GateState, Place, SetsState, StreamsState};
+use crate::calls::{EitState, Entry, Failure, Filter, GateState, Listed, Place, SetsState, StreamsState};
 
 unsafe extern "C" {
     pub fn petrizolu_crc(bytes: *const u8, byte_count: usize) -> u32;
@@ -296,4 +296,50 @@ unsafe extern "C" {
         from: u64,
         next: *mut Place,
     ) -> u8;
+    pub fn petrizolu_events(
+        section: *const u8,
+        section_length: usize,
+        skip: u64,
+        list: *mut Entry,
+        list_words: usize,
+        listed: *mut Listed,
+    ) -> u8;
+    pub fn petrizolu_eit_events(
+        eit: *const EitState,
+        heads: *const u64,
+        head_words: usize,
+        slots: *const u32,
+        slot_words: usize,
+        cells: *const u8,
+        cell_bytes: usize,
+        schedule_heads: *const u64,
+        schedule_head_words: usize,
+        units: *const u32,
+        unit_words: usize,
+        row: u64,
+        skip: u64,
+        list: *mut Entry,
+        list_words: usize,
+        listed: *mut Listed,
+    ) -> u8;
+    pub fn petrizolu_eit_events_in_schedule(
+        eit: *const EitState,
+        heads: *const u64,
+        head_words: usize,
+        slots: *const u32,
+        slot_words: usize,
+        cells: *const u8,
+        cell_bytes: usize,
+        schedule_heads: *const u64,
+        schedule_head_words: usize,
+        units: *const u32,
+        unit_words: usize,
+        row: u64,
+        table: u64,
+        skip: u64,
+        list: *mut Entry,
+        list_words: usize,
+        listed: *mut Listed,
+    ) -> u8;
+    pub fn petrizolu_date(day: u32) -> u32;
 }

@@ -37,6 +37,8 @@ fn rust_type(c: &str) -> String {
         "petrizolu_filter" => "Filter",
         "petrizolu_failure" => "Failure",
         "petrizolu_streams" => "StreamsState",
+        "petrizolu_entry" => "Entry",
+        "petrizolu_listed" => "Listed",
         other => panic!("not known: {other}"),
     };
     name.into()
@@ -81,10 +83,10 @@ fn functions_of_raw() -> Said {
 #[test]
 fn functions() {
     assert_eq!(functions_of_raw(), functions_of_the_header());
-    assert_eq!(functions_of_raw().len(), 20);
+    assert_eq!(functions_of_raw().len(), 24);
 }
 
-/// The fields between the braces after `from`, in order; all are 64-bit words.
+/// The fields between the braces after `from`, in order.
 fn fields(text: &str, from: &str, field: impl Fn(&str) -> Option<String>) -> Vec<String> {
     let body = text.split_once(from).expect("the struct").1.split_once('}').expect("its end").0;
     body.split([';', ',']).map(words).filter_map(|line| field(&line)).collect()
@@ -93,18 +95,23 @@ fn fields(text: &str, from: &str, field: impl Fn(&str) -> Option<String>) -> Vec
 #[test]
 fn structs() {
     let pairs = [
-        ("gate", "GateState"),
-        ("sets", "SetsState"),
-        ("eit", "EitState"),
-        ("section", "Place"),
-        ("filter", "Filter"),
-        ("failure", "Failure"),
-        ("streams", "StreamsState"),
+        ("gate", "GateState", 64),
+        ("sets", "SetsState", 64),
+        ("eit", "EitState", 64),
+        ("section", "Place", 64),
+        ("filter", "Filter", 64),
+        ("failure", "Failure", 64),
+        ("streams", "StreamsState", 64),
+        ("entry", "Entry", 32),
+        ("listed", "Listed", 64),
     ];
-    for (c, rust) in pairs {
-        let of_c = fields(&header(), &format!("typedef struct petrizolu_{c} {{"), |line| Some(line.strip_prefix("uint64_t ")?.into()));
-        let of_rust =
-            fields(CALLS, &format!("pub struct {rust} {{"), |line| Some(line.strip_prefix("pub ")?.strip_suffix(": u64")?.into()));
+    for (c, rust, bits) in pairs {
+        let of_c = fields(&header(), &format!("typedef struct petrizolu_{c} {{"), |line| {
+            Some(line.strip_prefix(&format!("uint{bits}_t "))?.into())
+        });
+        let of_rust = fields(CALLS, &format!("pub struct {rust} {{"), |line| {
+            Some(line.strip_prefix("pub ")?.strip_suffix(&format!(": u{bits}"))?.into())
+        });
         assert!(!of_c.is_empty());
         assert_eq!(of_c, of_rust, "{c}");
     }
@@ -119,7 +126,7 @@ fn answers() {
     };
     let of_rust: Vec<String> = ANSWER.lines().filter_map(constant).collect();
     assert_eq!(of_c, of_rust);
-    assert_eq!(of_c.len(), 28);
+    assert_eq!(of_c.len(), 29);
 }
 
 /// Constants that both texts give as a plain number: the name and the number, without its type.
@@ -138,9 +145,20 @@ fn constants() {
     let of_rust = numbers(LIB, "pub const ", " = ", ';');
     let both: Vec<&String> = of_rust.keys().filter(|name| of_c.contains_key(*name)).collect();
     both.iter().for_each(|name| assert_eq!(of_c[*name], of_rust[*name], "{name}"));
-    for name in
-        ["INPUTS", "FOLLOW", "FOLLOW_SECTIONS", "WATCH_WORDS", "PAT_SLOTS", "PAT_CELLS", "WATCH_PAT_EVICTIONS", "HEAD_WORDS", "SLOT_WORDS"]
-    {
+    for name in [
+        "INPUTS",
+        "FOLLOW",
+        "FOLLOW_SECTIONS",
+        "WATCH_WORDS",
+        "PAT_SLOTS",
+        "PAT_CELLS",
+        "WATCH_PAT_EVICTIONS",
+        "HEAD_WORDS",
+        "SLOT_WORDS",
+        "ENTRY_WORDS",
+        "EVENT",
+        "DESCRIPTOR",
+    ] {
         assert!(both.iter().any(|known| *known == name), "{name}");
     }
 }

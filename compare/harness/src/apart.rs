@@ -83,6 +83,11 @@ pub fn is_apart(script: &[Command]) -> bool {
     !follows_tables(script) && nothing_leaves(script) && opened_together(script)
 }
 
+/// Whether entries are asked for somewhere, which the original does not list.
+pub fn asks_for_entries(script: &[Command]) -> bool {
+    script.iter().any(|command| matches!(command, Command::Events { .. } | Command::Read { .. } | Command::Date(_)))
+}
+
 /// Whether complete PATs are followed somewhere, which the original does not.
 pub fn follows_tables(script: &[Command]) -> bool {
     script.iter().filter_map(Command::opening).any(|opening| opening.follow && opening.pats)

@@ -34,6 +34,11 @@ impl Fault {
         (first..=last).contains(&(self as usize))
     }
 
+    /// Whether it shows where entries are listed alone.
+    pub fn of_events(self) -> bool {
+        self as usize >= Fault::DigitOfTen as usize
+    }
+
     /// Whether it shows where there are several inputs alone.
     pub fn of_inputs(self) -> bool {
         let of_gate = matches!(self, Fault::InputNotInKey | Fault::InputBeforePid | Fault::PatOfAnotherInput);
@@ -169,4 +174,27 @@ faults! {
     OpeningEmptiesStreams Demux "an opening of the gate empties the streams",
     GatheredToldInPacket Demux "a section that was under way is told to be in the packet",
     PlaceInPayload Demux "the place of a section is counted from the packet's fifth byte",
+
+    DigitOfTen Eit "a digit of 10 is taken",
+    MinutesOf100 Eit "a minute has 100 seconds",
+    DayBehindTime Eit "day and time are exchanged",
+    LengthWithItsBytes Eit "a descriptor's length counts its tag and its length byte",
+    OneByteLeft Eit "one byte left in a loop is passed over",
+    UndefinedUnlisted Eit "an event is not listed where its time is undefined",
+    HandsBackLate Eit "a descriptor may end one byte behind its loop",
+    PlaceOfTheEvent Eit "the place of the event is told for that of its descriptor",
+    LaterSectionsListed Eit "later sections are listed after a 32",
+    WindowOffByOne Eit "the page begins one entry late",
+    RunningTwoBits Eit "running_status has two bits",
+    CaOfTheNextBit Eit "free_CA_mode is the next bit",
+    LastSectionFirst Eit "the last section is listed first",
+    NotWholeUnasked Eit "a collector that is not open answers 9",
+    UnmarkedListed Eit "a row is listed whose mark is 0",
+    DateWithoutK Eit "January and February are counted as months 13 and 14",
+    FirstDayLeftOut Eit "1900-03-01 has no date",
+    PlaceInTheCells Eit "the place is told in the cells",
+    CountOfThePage Eit "only the entries of the page are counted",
+    NumberFromLast Eit "the number of a section read by itself is last_section_number",
+    PartOfAScheduleListed Eit "a table is listed though another of its schedule is missing",
+    RowsClosedUp Eit "a row that leaves by a drop makes those behind it move up",
 }

@@ -531,7 +531,7 @@ fn table_ids(dice: &mut Dice, eit: bool) -> Vec<(u8, u8)> {
     }
 }
 
-fn collector_run(dice: &mut Dice, length: usize, domain: Domain, part: Part) -> Vec<Command> {
+pub fn collector_run(dice: &mut Dice, length: usize, domain: Domain, part: Part) -> Vec<Command> {
     let eit = part == Part::Eit;
     let limit = dice.of(&[0, 1, 1, 2, 2, 3, 4, 5, 8, 16, 64]);
     let (cells, size) = match domain {

@@ -1,5 +1,5 @@
 //! The original behind the commands.
-use crate::apart::follows_tables;
+use crate::apart::{asks_for_entries, follows_tables};
 use crate::{lent, second};
 use bytes::Bytes;
 use dvb_si::collect::{CollectError, CompleteSectionSet, CompletedEit, EitCollector, EitLogicalKey, SectionSetCollector};
@@ -57,6 +57,7 @@ impl Original {
             Command::Clear { part } => self.clear(*part),
             Command::Drop(filter) => self.drop(filter),
             Command::Demux(command) => self.demux(command),
+            Command::Events { .. } | Command::Read { .. } | Command::Date(_) => panic!("the original lists no entries"),
         }
     }
 
@@ -235,11 +236,11 @@ impl Original {
     }
 }
 
-/// Whether the original is a measure of a script: one input, change rule 1, each changed PAT section followed.
+/// Whether the original is a measure of a script: one input, change rule 1, each changed PAT section followed, no entries asked for.
 pub fn has_all(script: &[Command]) -> bool {
     let on_one = !script.iter().any(|command| matches!(command, Command::Input(_)));
     let by_rule_1 = !script.iter().filter_map(Command::opening).any(|opening| opening.rule == 2);
-    on_one && by_rule_1 && !follows_tables(script) && opened_at_once(script)
+    on_one && by_rule_1 && !follows_tables(script) && !asks_for_entries(script) && opened_at_once(script)
 }
 
 /// Whether a script opens the packet layer's gate and its streams at once, as the original does: each opening that succeeds directly before the other's.

@@ -1,5 +1,6 @@
 //! The stored tapes of tests/tapes with the lines that they print, the stored output of the program `examples_run`, and the stored input and output of the programs that read a
 //! transport stream.
+use crate::events;
 use crate::make::{self, Domain};
 use crate::pairs::{Side, differing_somehow, smallest};
 use crate::second::{Reading, Second};
@@ -17,7 +18,8 @@ const SEEDS: std::ops::Range<u64> = 1000..1004;
 const COMMANDS: usize = 2500;
 
 /// `domain` has the written scripts and some seeds inside the domain, without what a named difference decides, answered by the original; `damaged` has
-/// damaged and cell-bound seeds, `inputs` seeds of each domain on several inputs, and `pats` seeds of PATs in several sections, answered by the second implementation.
+/// damaged and cell-bound seeds, `inputs` seeds of each domain on several inputs, `pats` seeds of PATs in several sections, and
+/// `events` seeds that ask for entries, answered by the second implementation.
 pub fn store(root: &Path) -> bool {
     let seeds = |domain| SEEDS.flat_map(move |seed| make::script(seed, COMMANDS, domain));
     let by_hand = Written::all(root, "scripts").into_iter().flat_map(|script| script.commands);
@@ -28,6 +30,7 @@ pub fn store(root: &Path) -> bool {
         && store_tape(root, "inputs", Side::RULES, &on_inputs(root))
         && store_tape(root, "pats", Side::RULES, &of_pats(root))
         && store_tape(root, "packets", Side::RULES, &of_packets(root))
+        && store_tape(root, "events", Side::RULES, &of_events(root))
         && store_examples(root)
         && watch_pats::store(root)
         && store_streams(root)
@@ -52,6 +55,12 @@ fn of_packets(root: &Path) -> Vec<Command> {
     let by_hand = Written::all(root, "packets").into_iter().flat_map(|script| script.commands);
     let streams = [stream::by_the_standard(SEEDS.start, 400), stream::wild(SEEDS.start, 800, Beyond::Port)];
     by_hand.chain([Command::Input(0)]).chain(streams.into_iter().flatten()).collect()
+}
+
+/// The written scripts of events/ and a seed.
+fn of_events(root: &Path) -> Vec<Command> {
+    let by_hand = Written::all(root, "events").into_iter().flat_map(|script| script.commands);
+    by_hand.chain(events::script(SEEDS.start, COMMANDS)).collect()
 }
 
 /// Whether all sides agree on a script, the original too where it is a measure; says where they do not.

@@ -7,9 +7,9 @@ use native.Mathlib.Omega.{arith}
 use mathlib.Core.List.{List, [], _∷_, _++_}
 use lib.ListN.{length, drop, length-append}
 use lib.Seq.{drop-append-add, drop-append-seam}
-use Rattle.laws.specs.Entries.{counted, entrySize, wholeEntries}
+use Rattle.laws.specs.Entries.{counted, entrySize, wholeEntries, countedBy}
 use Rattle.laws.proofs.Entries.{entries-short, entries-past, entries-more}
-use Rattle.listing.specs.Rules.{countedBy, Part, Item, RunsPast, past-short, past-entry, past-descriptor, past-later, DescriptorPast, past-here, past-further}
+use Rattle.listing.specs.Rules.{Part, Item, RunsPast, past-short, past-entry, past-descriptor, past-later, DescriptorPast, past-here, past-further}
 use Rattle.listing.proofs.Parts.{count-front}
 
 clash : {b : Bool} {A : Type 0} → b ≡ true → b ≡ false → A

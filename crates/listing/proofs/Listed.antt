@@ -12,14 +12,14 @@ use lib.ListN.{length, getD, take, drop, length-append, length-drop, take-append
 use lib.Seq.{take-at, drop-at, length-take-le, drop-append-add, drop-append-seam}
 use borrow.Author.Tests.{ne-eqb}
 use lib.Dec.{ltb}
-use Rattle.laws.specs.Entries.{counted, Entries, none, entry as one}
+use Rattle.laws.specs.Entries.{counted, Entries, none, entry as one, countedBy}
 use Rattle.laws.proofs.Tests.{lt-or-le}
 use Rattle.section.specs.Header.{byteAt}
 use Rattle.entry_words.specs.Words.{entryWords, descriptorWords}
 use Rattle.listing.specs.declared.Loop.{Loop}
 use Rattle.listing.specs.declared.Walked.{Walked}
 use Rattle.listing.specs.declared.Walked.the-variants.{Done, Past}
-use Rattle.listing.specs.Rules.{countedBy, Part, part, Laid, laid-none, laid-more, Breaks, breaks-short, breaks-past, breaks-later, partsIn, partsOf}
+use Rattle.listing.specs.Rules.{Part, part, Laid, laid-none, laid-more, Breaks, breaks-short, breaks-past, breaks-later, partsIn, partsOf}
 use Rattle.listing.specs.Rules.{Item, item, Whole, whole-none, whole-more, RunsPast, past-short, past-entry, past-descriptor, past-later, itemsOf, flatParts, sizeOf, flat}
 use Rattle.listing.specs.Store.{Found, done, past, entry, descriptor, walk, foundFrom, putAll, wordsOf, endOf, listing}
 use Rattle.listing.proofs.Walk.{walk-end, walk-short, walk-past, walk-entry, walk-one, walk-over, walk-descriptor}

@@ -8,13 +8,9 @@ use mathlib.Core.List.{List, [], _∷_, _++_}
 use lib.ListN.{length, take, drop, length-append, length-drop, take-append-drop, List·getD-append}
 use lib.Seq.{drop-drop, drop-append-add, drop-append-seam, take-at, drop-at, length-take-le, getD-take}
 use borrow.Author.Tests.{eq-eqb, ne-eqb}
-use Rattle.laws.specs.Entries.{counted}
+use Rattle.laws.specs.Entries.{counted, countedBy}
 use Rattle.laws.proofs.Tests.{lt-or-le}
-use Rattle.listing.specs.Rules.{countedBy, Part, part, Laid, laid-none, laid-more, Breaks, breaks-short, breaks-past, breaks-later, partsIn, partsOf}
-
--- a count of 12 bits is that of the loops of `laws`
-pub counted-by-16 : (n : ℕ) (s : List ℕ) → countedBy 16 n s ≡ counted n s
-counted-by-16 n s = refl
+use Rattle.listing.specs.Rules.{Part, part, Laid, laid-none, laid-more, Breaks, breaks-short, breaks-past, breaks-later, partsIn, partsOf}
 
 -- laid out, or broken
 pub data Judged (m n : ℕ) (s : List ℕ) : Type 0 where

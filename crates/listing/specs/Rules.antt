@@ -1,17 +1,14 @@
 -- A loop of entries with descriptors (EN 300 468: events 5.2.4, services 5.2.3, transport streams 5.2.1 and 5.2.2; descriptors 6.1), for any length of an entry's
 -- header. A descriptor loop is a loop too: its headers are a tag and a count of 8 bits. No memory here: a loop is the list of its bytes.
 use mathlib.Core.Path.{_≡_}
-use Prim.Native.Nat.{ℕ, zero, suc, _+_, _*_, _%_, _-_, _<_}
+use Prim.Native.Nat.{ℕ, zero, suc, _+_, _<_}
 use mathlib.Core.List.{List, [], _∷_, _++_, map}
 use mathlib.Core.Bool.{Bool, cond}
-use lib.ListN.{length, getD, take, drop}
+use lib.ListN.{length, take, drop}
 use lib.Dec.{eqb}
+use Rattle.laws.specs.Entries.{countedBy}
 use Rattle.section.specs.Header.{byteAt}
 use Rattle.entry_words.specs.Words.{entryWords, descriptorWords}
-
--- how many bytes follow the header of n bytes that s starts with: its last byte, and the byte before it modulo m (16 where the count has 12 bits, 1 where it has 8)
-abbrev pub countedBy : (m n : ℕ) → List ℕ → ℕ
-countedBy m n s = getD s (n - 2) 0 % m * 256 + getD s (n - 1) 0
 
 -- a header and the bytes that follow it
 pub record Part : Type 0 where

@@ -11,6 +11,7 @@ ghost use Rattle.host_feed_indexed_calls.specs.Calls as indexedPackets;
 ghost use Rattle.host_words.specs.Answers.{words};
 ghost use Rattle.pats.specs.Store.{recordOf};
 ghost use Rattle.host_sets.specs.Calls.{setsLeft, setsOpened, setsPushed, setsCleared, setsNext};
+ghost use Rattle.host_showing.specs.Calls.{listing, sectionListed, setListed, tableListed, dateNumber};
 ghost use Rattle.host_eit.specs.Calls.{eitOpened, eitLeft, eitPushed, eitCleared, eitDroppedTo, eitDropped, eitNext, eitNextIn};
 
 // The CRC of ISO/IEC 13818-1, Annex A.
@@ -469,4 +470,88 @@ pub extern "C" fn petrizolu_eit_next_in_schedule(
         from,
         next,
     )
+}
+
+// The events of a section, entry by entry: 8, 9, 14, 18, 19 or 32. The list is a page: it shows entries from `skip` on as far as there is room. `listed` tells how many there
+// are and, with 18, 19 and 32, the section's number and the place in it; 14 leaves all.
+#[no_mangle]
+pub extern "C" fn petrizolu_events(
+    section: &[u8],
+    skip: u64,
+    list: &mut [u32],
+    listed: &mut [u64; 3],
+) -> u8
+    ensures { λ r. ⌜ listing r (now (listed .exit)) (now (list .exit)) ≡ sectionListed (now (section .entry)) skip (now (list .entry)) (now (listed .entry)) ⌝ }
+{
+    host_showing::events(section, skip, list, listed)
+}
+
+// The same of the set in a row that was handed out: 8, 9, 10, 18, 19 or 32. 10 leaves all.
+#[no_mangle]
+pub extern "C" fn petrizolu_eit_events(
+    eit: &[u64; 7],
+    heads: &[u64],
+    slots: &[u32],
+    cells: &[u8],
+    schedule_heads: &[u64],
+    units: &[u32],
+    row: u64,
+    skip: u64,
+    list: &mut [u32],
+    listed: &mut [u64; 3],
+) -> u8
+    ensures { λ r. ⌜ listing r (now (listed .exit)) (now (list .exit)) ≡ setListed (now (eit .entry)) (now (heads .entry)) (now (slots .entry)) (now (cells .entry)) (now («schedule_heads» .entry)) (now (units .entry)) row skip (now (list .entry)) (now (listed .entry)) ⌝ }
+{
+    host_showing::eit_events(
+        eit,
+        heads,
+        slots,
+        cells,
+        schedule_heads,
+        units,
+        row,
+        skip,
+        list,
+        listed,
+    )
+}
+
+// The same of a table of the schedule in a row. Tables count from the first of the kind, 0x50 or 0x60, on.
+#[no_mangle]
+pub extern "C" fn petrizolu_eit_events_in_schedule(
+    eit: &[u64; 7],
+    heads: &[u64],
+    slots: &[u32],
+    cells: &[u8],
+    schedule_heads: &[u64],
+    units: &[u32],
+    row: u64,
+    table: u64,
+    skip: u64,
+    list: &mut [u32],
+    listed: &mut [u64; 3],
+) -> u8
+    ensures { λ r. ⌜ listing r (now (listed .exit)) (now (list .exit)) ≡ tableListed (now (eit .entry)) (now (heads .entry)) (now (slots .entry)) (now (cells .entry)) (now («schedule_heads» .entry)) (now (units .entry)) row table skip (now (list .entry)) (now (listed .entry)) ⌝ }
+{
+    host_showing::eit_events_in_schedule(
+        eit,
+        heads,
+        slots,
+        cells,
+        schedule_heads,
+        units,
+        row,
+        table,
+        skip,
+        list,
+        listed,
+    )
+}
+
+// The calendar date of a modified Julian day in eight decimal digits; 0 where there is none.
+#[no_mangle]
+pub extern "C" fn petrizolu_date(day: u32) -> u32
+    ensures { λ r. ⌜ r ≡ dateNumber day ⌝ }
+{
+    host_showing::date(day)
 }

@@ -10,9 +10,8 @@ use lib.ListN.{length, List·getD-eq-default}
 use lib.Dec.{ltb, eqb}
 use borrow.Author.Tests.{lt-ltb, le-ltb, eqb-true}
 use Rattle.answers.specs.declared.Refusal.the-variants as refusal
-use Rattle.section.specs.Header.{byteAt, longForm, sectionLength}
-use Rattle.section.specs.Judged.{malformed}
-use Rattle.section.proofs.Laws.{malformed-short, malformed-other, formed}
+use Rattle.section.specs.Header.{byteAt}
+use Rattle.section.specs.Judged.{malformed, AtMost4098}
 use Rattle.rows.specs.Rows.{keyAt, rowSlots, lastOf, markOf}
 use Rattle.rows.specs.declared.Key.{Key}
 use Rattle.units.specs.Units.{unitSlots}
@@ -21,22 +20,7 @@ use Rattle.eit_state.specs.State.{Store, store, wholeOf}
 use Rattle.shown_sections.specs.Shown.{Show, nothingShown, sectionShow, slotsShow, reachedAs, shownFrom, toldBy, laid, Kept}
 use Rattle.shown_sections.specs.declared.Shown.{Shown}
 use Rattle.shown_sections.specs.declared.ShowAnswer.the-variants.{No, Refused}
-use Rattle.showing.specs.Store.{Short, shownSection, setOut, shownSet, headEntry, scheduleWhole, tableOut, shownTable}
-
--- ---- 14
-
-module _ (s : List ℕ) where
-  pub formed-short : length s < 3 → (true ≡ malformed s) × Short true (length s)
-  formed-short h = (malformed-short s h, λ (e : true ≡ false). omega arith)
-
-  pub formed-other : (n : ℕ) (l : Bool) → 3 ≤ length s → n ≡ sectionLength s → n < 4096 → l ≡ longForm s
-      → ((not (eqb (length s) (3 + n)) || (l && ltb (length s) 12)) ≡ malformed s) × Short (not (eqb (length s) (3 + n)) || (l && ltb (length s) 12)) (length s)
-  formed-other n l h e k g =
-      let m = malformed-other s n l h e g in (
-        m,
-        λ (z : (not (eqb (length s) (3 + n)) || (l && ltb (length s) 12)) ≡ false).
-            let f : length s ≡ 3 + sectionLength s = eqb-true _ _ (formed s (sym m ∙ z) h .0) in omega arith,
-      )
+use Rattle.showing.specs.Store.{shownSection, setOut, shownSet, headEntry, scheduleWhole, tableOut, shownTable}
 
 -- section_number, and 0 past the end
 pub number-none : (s : List ℕ) → length s ≤ 6 → (0 ≡ byteAt s 6) × (0 < 256)
@@ -45,7 +29,7 @@ number-none s h = (sym (List·getD-eq-default s 0 h), omega arith)
 -- ---- a section
 
 -- what the listing of a section asks: it is all that is lent
-pub section-kept : (s : List ℕ) (number : ℕ) (m : Bool) → m ≡ false → Short m (length s) → number < 256 → Kept (length s) 0 (length s) number 0
+pub section-kept : (s : List ℕ) (number : ℕ) (m : Bool) → m ≡ false → AtMost4098 m (length s) → number < 256 → Kept (length s) 0 (length s) number 0
 section-kept s number m t f h = let l = f t in record { within = omega arith; short = omega arith; numbered = h; few = omega arith }
 
 module _ (section : List ℕ) (skip : ℕ) (list : List ℕ) (m : Bool) (e : m ≡ malformed section) where

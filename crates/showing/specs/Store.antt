@@ -23,10 +23,6 @@ unfoldable pub shownSection : (section : List ℕ) → (skip : ℕ) → (list : 
 shownSection section skip list =
     cond (malformed section) (nothingShown (Refused refusal.Malformed), list) (laid skip (sectionShow section 0 (length section) (byteAt section 6)) list)
 
--- what is not malformed has at most 3 + 4,095 bytes
-abbrev pub Short : (malformed : Bool) → (size : ℕ) → Type 0
-Short malformed size = malformed ≡ false → size ≤ 4098
-
 -- ---- a set: 10 first, then 9 where it is not one that was handed out
 
 -- a row in use whose mark is not 0

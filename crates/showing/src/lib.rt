@@ -5,26 +5,16 @@ use answers::Refusal;
 use eit_state::Eit;
 use rows::Entry;
 use section::bytes;
+use section::header;
 use shown_sections::ShowAnswer;
 use shown_sections::Shown;
 ghost use mathlib.Core.Path.{_≡_};
 ghost use Prim.Native.Nat.{_+_, _*_, _<_, _≤_};
 ghost use lib.ListN.{length};
 ghost use Rattle.section.specs.Header.{byteAt};
-ghost use Rattle.section.specs.Judged.{malformed};
 ghost use Rattle.eit_state.specs.State.{store};
 ghost use Rattle.schedules.specs.Schedules.{tablesOf};
-ghost use Rattle.showing.specs.Store.{Short, setOut, scheduleWhole, tableOut, shownSection, shownSet, shownTable};
-
-// Whether the bytes are no section: under 3 bytes, a total that is not 3 + section_length, or a long form under 12 bytes (14).
-fn is_malformed(s: &[u8]) -> bool
-    ensures { λ r. ⌜ (r ≡ malformed (now (s .entry))) × Short r (length (now (s .entry))) ⌝ }
-{
-    if s.len() < 3 {
-        return true;
-    }
-    (s.len() != 3 + bytes::section_length(s)) | (bytes::long_form(s) & (s.len() < 12))
-}
+ghost use Rattle.showing.specs.Store.{setOut, scheduleWhole, tableOut, shownSection, shownSet, shownTable};
 
 // section_number, and 0 where there is none.
 fn section_number(s: &[u8]) -> usize
@@ -40,7 +30,7 @@ fn section_number(s: &[u8]) -> usize
 pub fn events(section: &[u8], skip: usize, list: &mut [u32]) -> Shown
     ensures { λ r. ⌜ (r, now (list .exit)) ≡ shownSection (now (section .entry)) skip (now (list .entry)) ⌝ }
 {
-    if is_malformed(section) {
+    if header::is_malformed(section) {
         return shown_sections::nothing(ShowAnswer::Refused(Refusal::Malformed));
     }
     let number = section_number(section);

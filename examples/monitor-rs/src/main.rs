@@ -1,8 +1,10 @@
 //! A guide monitor in Rust over the proved library: reads records from standard input or from the file named, a PID (two bytes, high byte
-//! first) and a section each, or with --ts a transport stream, and prints each new section, each complete set and schedule, and totals, as
-//! examples/monitor.c does.
+//! first) and a section each, or with --ts a transport stream, and prints each new section, each complete set and schedule with their events, and
+//! totals, as examples/monitor.c does.
 
-use petrizolu::{Answer, Complete, Demux, Eit, Gate, GateState, Name, Offered, PACKET_BYTES, Refused, Section, Sets};
+use petrizolu::{
+    Answer, Complete, Demux, EVENT, Eit, Ended, Entry, Gate, GateState, Listing, Name, Offered, PACKET_BYTES, Refused, Section, Sets, UNDEFINED, date,
+};
 use std::io::{self, BufReader, Read};
 
 const SCHEDULE_ACTUAL: u8 = 2;
@@ -28,6 +30,30 @@ fn pid_text(pid: Option<u16>) -> String {
 fn show_sections(sections: &[Section]) {
     for section in sections {
         println!("  section {}, {} bytes", section.number, section.bytes.len());
+    }
+}
+
+fn date_text(day: u32) -> String {
+    match date(day) {
+        0 => format!("day {day}"),
+        date => format!("{:04}-{:02}-{:02}", date / 10000, date / 100 % 100, date % 100),
+    }
+}
+
+fn seconds_text(seconds: u32) -> String {
+    match seconds {
+        UNDEFINED => "undefined".into(),
+        _ => format!("{:02}:{:02}:{:02}", seconds / 3600, seconds / 60 % 60, seconds % 60),
+    }
+}
+
+fn show_events(listing: Result<Listing, Refused>) {
+    let Ok(Listing { entries, ended }) = listing else { return };
+    for Entry { id, day, time, duration, .. } in entries.into_iter().filter(|entry| entry.kind == EVENT) {
+        println!("  event {id:04X} on {} at {} for {}", date_text(day), seconds_text(time), seconds_text(duration));
+    }
+    if let Some(Ended { section, place, .. }) = ended {
+        println!("  broken at byte {place} of section {section}");
     }
 }
 
@@ -82,6 +108,7 @@ impl Monitor {
                 let Name { pid, extension, version, .. } = self.eit.name(&row);
                 println!("present/following{} service {extension:04X} version {version}", pid_text(pid));
                 show_sections(&self.eit.sections(&row));
+                show_events(self.eit.events(&row));
             }
             Ok(Some(Complete::Schedule(row))) => {
                 self.complete_schedules += 1;
@@ -91,6 +118,7 @@ impl Monitor {
                 for table_id in first..=last {
                     println!(" table {table_id:02X}");
                     show_sections(&self.eit.table_sections(&row, table_id - first));
+                    show_events(self.eit.table_events(&row, table_id - first));
                 }
             }
             Err(Refused(answer)) => self.refuse(answer),

@@ -116,6 +116,26 @@ pub enum Command {
     },
     Drop(Filter),
     Demux(Demux),
+    /// What the set in a row says, or, with a table, that table of the schedule in a row.
+    Events {
+        row: u16,
+        table: Option<u8>,
+        page: Page,
+    },
+    /// What one section says.
+    Read {
+        section: Vec<u8>,
+        page: Page,
+    },
+    /// The calendar date of a day.
+    Date(u32),
+}
+
+/// Entries from `skip` on, as many as there is room for.
+#[derive(Clone, Copy, Debug)]
+pub struct Page {
+    pub skip: u16,
+    pub room: u16,
 }
 
 impl Command {
@@ -126,7 +146,7 @@ impl Command {
             Command::GateOpen { .. } | Command::Gate { .. } | Command::Ask { .. } => Some(Part::Gate),
             Command::Watched | Command::Counters | Command::Pats => Some(Part::Gate),
             Command::Open { part, .. } | Command::Push { part, .. } | Command::Clear { part } => Some(*part),
-            Command::Drop(_) => Some(Part::Eit),
+            Command::Drop(_) | Command::Events { .. } | Command::Read { .. } | Command::Date(_) => Some(Part::Eit),
             Command::Demux(_) => Some(Part::Demux),
         }
     }
@@ -171,6 +191,10 @@ impl Command {
             Command::Demux(Demux::Packet(_)) => "demux packet",
             Command::Demux(Demux::Ask(_)) => "demux ask",
             Command::Demux(Demux::Watched) => "demux watched",
+            Command::Events { table: None, .. } => "eit events",
+            Command::Events { .. } => "eit table",
+            Command::Read { .. } => "eit read",
+            Command::Date(_) => "eit date",
         }
     }
 }

@@ -1,6 +1,6 @@
 //! Commands as text, one a line (compare/README.md, "Scripts").
 use crate::answer::{hex, pid_text};
-use crate::command::{By, Command, Demux, Filter, Opening, Part};
+use crate::command::{By, Command, Demux, Filter, Opening, Page, Part};
 use std::fmt::{self, Display};
 
 /// The command as a line of a script, which `parse` reads.
@@ -39,6 +39,15 @@ impl Display for Command {
                 }
                 if filter.this_input { write!(f, " input=this") } else { Ok(()) }
             }
+            Command::Events { row, table, page } => {
+                write!(f, " row={row}")?;
+                if let Some(table) = table {
+                    write!(f, " table={table}")?;
+                }
+                write!(f, "{page}")
+            }
+            Command::Read { section, page } => write!(f, " {}{page}", hex(section)),
+            Command::Date(day) => write!(f, " {day}"),
         }
     }
 }
@@ -52,6 +61,12 @@ impl Display for Opening {
     }
 }
 
+impl Display for Page {
+    fn fmt(&self, f: &mut fmt::Formatter<'_>) -> fmt::Result {
+        write!(f, " skip={} room={}", self.skip, self.room)
+    }
+}
+
 /// A line of a script; `None` where it is none.
 pub fn parse(line: &str) -> Option<Command> {
     let words: Vec<&str> = line.split_whitespace().collect();
@@ -60,6 +75,7 @@ pub fn parse(line: &str) -> Option<Command> {
     let maybe_pid = |text: &str| if text == "-" { Some(None) } else { hex16(text).map(Some) };
     let number = |name: &str, default: u32| field(name).map_or(Some(default), |text| text.parse().ok());
     let small = |name: &str, default: u16| number(name, default.into()).and_then(|n| u16::try_from(n).ok());
+    let page = || Some(Page { skip: small("skip", 0)?, room: small("room", 64)? });
     let flag = |name: &str, default: bool| field(name).map_or(default, |text| text == "1");
     let exact = |name: &str| match field(name) {
         None => Some(None),
@@ -127,6 +143,12 @@ pub fn parse(line: &str) -> Option<Command> {
                 Some(_) => return None,
             },
         }),
+        (Part::Eit, "events") => Command::Events { row: small("row", 0)?, table: None, page: page()? },
+        (Part::Eit, "table") => {
+            Command::Events { row: small("row", 0)?, table: Some(u8::try_from(small("table", 0)?).ok()?), page: page()? }
+        }
+        (Part::Eit, "read") => Command::Read { section: unhex(words.get(2)?)?, page: page()? },
+        (Part::Eit, "date") => Command::Date(words.get(2)?.parse().ok()?),
         _ => return None,
     })
 }

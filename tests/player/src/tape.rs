@@ -17,6 +17,10 @@
 //! 33 eit drop      mask u8 (1 PID, 2 kind, 4 service_id, 8 transport_stream_id, 10 original_network_id, 20 current_next, 40 the input that is
 //!                  current), PID u16 (FFFF none), kind u8 (0 and 1 present/following actual and other, 2 and 3 schedule actual and other),
 //!                  service_id u16, transport_stream_id u16, original_network_id u16, current_next u8
+//! 34 eit events    row u16, skip u16, room u16: the entries of a set
+//! 35 eit table     row u16, table u8, skip u16, room u16: those of a table of a schedule
+//! 36 eit read      skip u16, room u16, length u16, the bytes: those of a section
+//! 37 eit date      day u32
 //! 40 demux open    as 10 of the packet layer's own gate, and of flags 20 with 2: complete PATs are followed
 //! 41 demux streams section buffers u16
 //! 42 demux packet  length u16, the bytes
@@ -24,7 +28,7 @@
 //! 44 demux watched
 //! 50 input         u8: the commands after it are on this input, until the next one; a tape begins on input 0
 //! ```
-use crate::command::{By, Command, Demux, Filter, Opening, Part};
+use crate::command::{By, Command, Demux, Filter, Opening, Page, Part};
 use std::io::{self, ErrorKind, Read};
 
 /// Stands on a tape for "no PID".
@@ -87,6 +91,13 @@ impl<R: Read> Tape<R> {
             0x21 | 0x31 => Command::Push { part, pid: self.maybe_pid()?, section: self.section()? },
             0x22 | 0x32 => Command::Clear { part },
             0x33 => self.filter()?,
+            0x34 => Command::Events { row: self.short()?, table: None, page: self.page()? },
+            0x35 => Command::Events { row: self.short()?, table: Some(self.byte()?), page: self.page()? },
+            0x36 => {
+                let page = self.page()?;
+                Command::Read { section: self.section()?, page }
+            }
+            0x37 => Command::Date(self.bytes().map(u32::from_be_bytes)?),
             0x40..=0x44 => Command::Demux(self.demux(first)?),
             0x50 => Command::Input(self.byte()?),
             _ => return Err(Stop::Bad),
@@ -117,6 +128,10 @@ impl<R: Read> Tape<R> {
         self.input.read_exact(&mut section)?;
         self.read += section.len() as u64;
         Ok(section)
+    }
+
+    fn page(&mut self) -> Result<Page, Stop> {
+        Ok(Page { skip: self.short()?, room: self.short()? })
     }
 
     fn opening(&mut self) -> Result<Opening, Stop> {
@@ -190,6 +205,21 @@ fn write_command(command: &Command, tape: &mut Vec<u8>) {
             tape.push(0x33);
             write_filter(tape, filter);
         }
+        Command::Events { row, table, page } => {
+            tape.push(if table.is_none() { 0x34 } else { 0x35 });
+            tape.extend(row.to_be_bytes());
+            tape.extend(table);
+            write_page(tape, page);
+        }
+        Command::Read { section, page } => {
+            tape.push(0x36);
+            write_page(tape, page);
+            write_bytes(tape, section);
+        }
+        Command::Date(day) => {
+            tape.push(0x37);
+            tape.extend(day.to_be_bytes());
+        }
         Command::Demux(Demux::Open(_)) => write_opening(command, 0x40, tape),
         Command::Demux(Demux::Streams(buffers)) => {
             tape.push(0x41);
@@ -225,6 +255,11 @@ fn write_section(tape: &mut Vec<u8>, pid: u16, section: &[u8]) {
 fn write_bytes(tape: &mut Vec<u8>, bytes: &[u8]) {
     tape.extend(u16::try_from(bytes.len()).expect("at most 65,535 bytes").to_be_bytes());
     tape.extend(bytes);
+}
+
+fn write_page(tape: &mut Vec<u8>, page: &Page) {
+    tape.extend(page.skip.to_be_bytes());
+    tape.extend(page.room.to_be_bytes());
 }
 
 fn write_filter(tape: &mut Vec<u8>, filter: &Filter) {

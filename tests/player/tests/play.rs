@@ -114,7 +114,8 @@ fn there_is_no_input_16() {
 fn what_memory_held_does_not_matter() {
     let pats: (&[u8], &str) = (include_bytes!("../../tapes/pats.tape"), include_str!("../../tapes/pats.txt"));
     let packets: (&[u8], &str) = (include_bytes!("../../tapes/packets.tape"), include_str!("../../tapes/packets.txt"));
-    for (tape, expected) in [TAPES[1], pats, packets] {
+    let events: (&[u8], &str) = (include_bytes!("../../tapes/events.tape"), include_str!("../../tapes/events.txt"));
+    for (tape, expected) in [TAPES[1], pats, packets, events] {
         assert!(lines(tape, Port::on_bytes(0xA5)) == expected);
         assert!(lines(tape, Port::on_bytes(0xFF)) == expected);
     }

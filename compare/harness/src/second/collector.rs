@@ -1,4 +1,5 @@
 //! docs/RULES.md, "Collectors" and "Cells": the set collector, and the EIT collector, which is one with schedules.
+use super::events::Part;
 use super::section::{Kind, kind, refused_by_a_collector, refused_by_the_eit, version, word};
 use super::{Difference, Reading};
 use crate::faults::Fault;
@@ -19,6 +20,8 @@ struct Key {
 
 pub struct Row {
     key: Key,
+    /// Where it stands in the lent memory (docs/RULES.md, "Lent memory").
+    place: usize,
     version: u8,
     last: u8,
     marked: bool,
@@ -38,6 +41,7 @@ struct Copied {
 
 pub struct Schedule {
     key: Key,
+    place: usize,
     last_table_id: u8,
     copies: Vec<Copied>,
 }
@@ -46,6 +50,43 @@ pub struct Schedule {
 pub struct Touched<R> {
     pub held: Vec<R>,
     pub evictions: u64,
+}
+
+/// What stands at a place in the lent memory.
+pub trait Placed {
+    fn place(&mut self) -> &mut usize;
+}
+
+impl Placed for Row {
+    fn place(&mut self) -> &mut usize {
+        &mut self.place
+    }
+}
+
+impl Placed for Schedule {
+    fn place(&mut self) -> &mut usize {
+        &mut self.place
+    }
+}
+
+impl<R: Placed> Touched<R> {
+    /// From the last place in use down: what goes is replaced by the last one in use.
+    fn drop(&mut self, reading: &Reading, goes: impl Fn(&R) -> bool) {
+        for place in (0..self.held.len()).rev() {
+            let at = self.held.iter_mut().position(|row| *row.place() == place).expect("each place is taken once");
+            if goes(&self.held[at]) {
+                self.held.remove(at);
+                let last = self.held.len();
+                for row in &mut self.held {
+                    if reading.has(Fault::RowsClosedUp) && *row.place() > place {
+                        *row.place() -= 1;
+                    } else if !reading.has(Fault::RowsClosedUp) && *row.place() == last {
+                        *row.place() = place;
+                    }
+                }
+            }
+        }
+    }
 }
 
 impl<R> Touched<R> {
@@ -96,12 +137,12 @@ impl Collector {
         let asked = (filter.this_input && !reading.has(Fault::InputNotInFilter)).then_some(input);
         let matches = |key: &Key| asked.is_none_or(|input| input == key.input) && matches(filter, key);
         let before = self.rows.held.len();
-        self.rows.held.retain(|row| !matches(&row.key));
+        self.rows.drop(reading, |row| matches(&row.key));
         if reading.has(Fault::DropCountsEvictions) {
             self.rows.evictions += (before - self.rows.held.len()) as u64;
         }
         if !reading.has(Fault::DropKeepsSchedules) {
-            self.schedules.held.retain(|schedule| !matches(&schedule.key));
+            self.schedules.drop(reading, |schedule| matches(&schedule.key));
         }
     }
 
@@ -166,15 +207,18 @@ impl Collector {
         let evicted = full.then_some(if reading.has(Fault::NewestLeaves) { self.rows.held.len() - 1 } else { 0 });
         let emptied = known.filter(|_| same.is_none());
         let Some(cell) = self.free_cell(reading, evicted.or(emptied)) else { return Err(21) };
+        let mut place = self.rows.held.len();
         if let Some(at) = evicted {
             let gone = self.rows.held.remove(at);
+            place = gone.place;
             self.rows.evictions += 1;
             if reading.has(Fault::EvictedLeavesSchedule) {
                 self.forget(gone.key);
             }
         }
         let found = known.map(|at| self.rows.held.remove(at));
-        let mut row = found.filter(|_| same.is_some()).unwrap_or_else(|| fresh(key, version, last));
+        place = found.as_ref().map_or(place, |row| row.place);
+        let mut row = found.filter(|_| same.is_some()).unwrap_or_else(|| fresh(key, place, version, last));
         self.cells[cell] = section.to_vec();
         row.slots[number] = Some(cell);
         row.marked &= reading.has(Fault::NewSectionKeepsMark);
@@ -300,11 +344,12 @@ impl Collector {
         let mut schedule = match known {
             Some(at) => self.schedules.held.remove(at),
             None => {
+                let mut place = self.schedules.held.len();
                 if self.schedules.held.len() >= self.limit {
-                    self.schedules.held.remove(0);
+                    place = self.schedules.held.remove(0).place;
                     self.schedules.evictions += 1;
                 }
-                Schedule { key, last_table_id, copies: Vec::new() }
+                Schedule { key, place, last_table_id, copies: Vec::new() }
             }
         };
         if schedule.last_table_id != last_table_id || (known.is_none() && reading.has(Fault::NewScheduleFilled)) {
@@ -322,6 +367,22 @@ impl Collector {
         schedule
     }
 
+    /// The sections of the set that was handed out and stands at a place, or of a table of the schedule that does; none where there is none, where the set changed since, or where
+    /// a table of the schedule is missing.
+    pub fn listed(&self, reading: &Reading, place: usize, table: Option<u8>) -> Option<Vec<Part<'_>>> {
+        let part = |&cell: &usize| Part { number: self.cells[cell][6], start: cell * self.size, bytes: &self.cells[cell] };
+        let Some(table) = table else {
+            let row = self.rows.held.iter().find(|row| row.place == place)?;
+            return (row.marked || reading.has(Fault::UnmarkedListed)).then(|| cells(row).iter().map(part).collect());
+        };
+        let schedule = self.schedules.held.iter().find(|schedule| schedule.place == place)?;
+        let range = schedule.key.table_id..=schedule.last_table_id;
+        let all = range.eq(schedule.copies.iter().map(|copy| copy.table_id)) || reading.has(Fault::PartOfAScheduleListed);
+        let wanted = schedule.key.table_id.checked_add(table)?;
+        let copy = schedule.copies.iter().find(|copy| copy.table_id == wanted)?;
+        all.then(|| copy.cells.iter().map(part).collect())
+    }
+
     fn set(&self, key: Key, version: u8, last: u8, cells: &[usize]) -> Set {
         Set {
             input: key.input,
@@ -336,8 +397,8 @@ impl Collector {
     }
 }
 
-fn fresh(key: Key, version: u8, last: u8) -> Row {
-    Row { key, version, last, marked: false, slots: vec![None; 256], segments: [None; 32] }
+fn fresh(key: Key, place: usize, version: u8, last: u8) -> Row {
+    Row { key, place, version, last, marked: false, slots: vec![None; 256], segments: [None; 32] }
 }
 
 fn cells(row: &Row) -> Vec<usize> {

@@ -1,6 +1,7 @@
 //! A second implementation, written from docs/RULES.md and the standards alone: no table, no cleverness, rows in plain order. Where the rules and
 //! the original differ, `Reading` says whose side is taken, and each place is named as in docs/DIFFERENCES.md.
 mod collector;
+mod events;
 mod gate;
 mod packets;
 mod section;
@@ -100,6 +101,11 @@ impl Second {
         Second { reading, input: 0, gate: Gate::open(65_536, false, Follow::Sections, 1), watches, sets: None, eit: None, packets }
     }
 
+    /// Opens the EIT collector with whatever room it asks for.
+    pub fn open_eit(&mut self, limit: u16, cells: u16, size: u16) {
+        self.eit = Some(Collector::open(true, limit, cells, size));
+    }
+
     /// How many sets went on into a schedule since the EIT collector was opened.
     pub fn entered(&self) -> u64 {
         self.eit.as_ref().map_or(0, |eit| eit.entered)
@@ -170,6 +176,16 @@ impl Second {
                 let cleared = self.collector(*part).as_mut().map(|collector| collector.clear(fault));
                 Answer::Number(*part, if cleared.is_some() { 7 } else { 10 })
             }
+            Command::Events { row, table, page } => match &self.eit {
+                None if self.reading.has(Fault::NotWholeUnasked) => Answer::Entries(9, Some(([0; 3], Vec::new()))),
+                None => Answer::Entries(10, None),
+                Some(eit) => match eit.listed(&self.reading, (*row).into(), *table) {
+                    None => Answer::Entries(9, Some(([0; 3], Vec::new()))),
+                    Some(parts) => events::list(&mut self.reading, parts, page),
+                },
+            },
+            Command::Read { section, page } => events::read(&mut self.reading, section, page),
+            Command::Date(day) => Answer::Date(events::date(&self.reading, *day)),
             Command::Drop(filter) => {
                 let number = self.drop(filter);
                 Answer::Collected(number, self.held(Part::Eit), Out::Nothing)

@@ -4,7 +4,7 @@ use Rattle.showing.proofs.events.Statement.{statement}
 use Rattle.showing.proofs.events.Tie as tie
 use Rattle.showing.proofs.events.Reads as reads
 use Rattle.showing.proofs.events.Lts as lts
-use Rattle.showing.proofs.is_malformed.Reads as is-malformed-reads
+use Rattle.section.proofs.header.is_malformed.Reads as is-malformed-reads
 use Rattle.showing.proofs.section_number.Reads as section-number-reads
 use Rattle.shown_sections.proofs.nothing.Reads as nothing-reads
 use Rattle.shown_sections.proofs.show_section.Reads as show-section-reads

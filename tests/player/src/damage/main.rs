@@ -1,4 +1,4 @@
-//! `damage gate`, `damage sets`, `damage eit`, `damage packets`: what a tape cannot reach. Lent memory is written over, less of it is lent or a count is preset, one
+//! `damage gate`, `damage sets`, `damage eit`, `damage packets`, `damage events`: what a tape cannot reach. Lent memory is written over, less of it is lent or a count is preset, one
 //! thing at a time, and each call is made on it: a line says what it answers, and whether every word, lent or kept by value, is as it was. 10, 11, 12,
 //! 13 and 37 leave all as before.
 use petrizolu::{Answer, Place};
@@ -6,6 +6,7 @@ use std::io::{self, BufWriter, Write};
 use std::process::ExitCode;
 
 mod eit;
+mod events;
 mod gate;
 mod packets;
 mod sets;
@@ -25,6 +26,11 @@ trait Store: Clone + PartialEq {
     /// What is left, against what was there before.
     fn left(&self, before: &Self) -> String {
         if self == before { "as before".into() } else { "CHANGED".into() }
+    }
+
+    /// What else there is to say after a call.
+    fn says(&self) -> String {
+        String::new()
     }
 }
 
@@ -55,7 +61,7 @@ fn run<S: Store>(cases: &[Case<S>], out: &mut impl Write) -> io::Result<()> {
             (case.damage)(&mut store);
             let before = store.clone();
             let answer = store.call(call);
-            writeln!(out, "{}: {} {answer} {}", case.name, S::name(call), store.left(&before))?;
+            writeln!(out, "{}: {} {answer} {}{}", case.name, S::name(call), store.left(&before), store.says())?;
         }
     }
     Ok(())
@@ -72,8 +78,9 @@ fn main() -> io::Result<ExitCode> {
             run(packets::CASES, &mut out)?;
             run(&packets::counters(), &mut out)?;
         }
+        "events" => run(events::CASES, &mut out)?,
         _ => {
-            eprintln!("usage: damage gate|sets|eit|packets");
+            eprintln!("usage: damage gate|sets|eit|packets|events");
             return Ok(ExitCode::from(2));
         }
     }
