@@ -61,7 +61,8 @@ use Rattle.shown_sections.specs.declared.ShowAnswer.the-variants.{Yes, No, Refu
 use Rattle.shown_sections.specs.declared.Shown.{Shown}
 use Rattle.shown_sections.specs.Shown as shown
 use Rattle.shown_sections.specs.Shown.{Show, End, finished, no-eit, past-loop, endBy, goodShow, showBy, sectionShow, andThen, endThen, slotShow, slotsShow, showNumber, nothingShown, reachedAs, toldBy, laid}
-use Rattle.showing.specs.Store.{setOut, tableOut, shownSet, shownTable}
+use Rattle.handed.specs.Handed.{setOut}
+use Rattle.showing.specs.Store.{tableOut, shownSet, shownTable}
 use Rattle.showing.proofs.Held.{in-use, there, tables-few, table-present, table-whole}
 use Rattle.ties_showing.proofs.Kept.{okIn, Sound, GoodCall, opened-sound, always-sound}
 

@@ -1,9 +1,9 @@
-use Rattle.showing.proofs.Ways.{set-past, set-in}
+use Rattle.handed.proofs.Ways.{set-past, set-in}
 use borrow.Author.Needs.{needs}
-use Rattle.showing.proofs.is_set_out.Statement.{statement}
-use Rattle.showing.proofs.is_set_out.Tie as tie
-use Rattle.showing.proofs.is_set_out.Reads as reads
-use Rattle.showing.proofs.is_set_out.Lts as lts
+use Rattle.handed.proofs.is_set_out.Statement.{statement}
+use Rattle.handed.proofs.is_set_out.Tie as tie
+use Rattle.handed.proofs.is_set_out.Reads as reads
+use Rattle.handed.proofs.is_set_out.Lts as lts
 use Rattle.rows.proofs.mark.Reads as mark-reads
 
 -- src/lib.rt:57:16
