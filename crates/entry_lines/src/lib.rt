@@ -1,4 +1,4 @@
-// The lines that `events` prints. Each says whether it could be written. Words are byte strings; hexadecimal has upper-case digits, all else is decimal.
+// The lines that `events` and `tables` print. Each says whether it could be written. Words are byte strings; hexadecimal has upper-case digits, all else is decimal.
 use libc::STDOUT_FILENO;
 use times::Date;
 use times::Day;
@@ -58,6 +58,13 @@ pub fn say_hex4(word: &[u8], v: u16) -> bool
     io::write_all(STDOUT_FILENO, &line[0..b])
 }
 
+// The same of a word of an entry.
+fn say_low16(word: &[u8], v: u32) -> bool
+    requires { ⌜ length (now word) ≤ 20 ⌝ }
+{
+    say_hex4(word, (v % 65536) as u16)
+}
+
 // Two decimal digits in one byte.
 fn bcd(v: u16) -> u8 {
     (v % 100 / 10 * 16 + v % 10) as u8
@@ -101,13 +108,39 @@ pub fn say_event(words: &[u32], digits: &[u8]) -> bool
     requires { ⌜ (length (now words) ≡ 12) × (length (now digits) ≡ 6) ⌝ }
 {
     say_word(b"event ", words[1]);
-    say_hex4(b" ", (words[3] % 65536) as u16);
+    say_low16(b" ", words[3]);
     say_word(b" day ", words[6]);
     say_date(words[6]);
     say_seconds(b" time ", words[7]);
     say_digits(digits, 0);
     say_seconds(b" duration ", words[8]);
     say_digits(digits, 3);
+    say_word(b" running ", words[9]);
+    say_word(b" ca ", words[10]);
+    say_word(b" descriptors ", words[4]);
+    say(b"\n")
+}
+
+// The line of a transport stream, by its words.
+pub fn say_stream(words: &[u32]) -> bool
+    requires { ⌜ length (now words) ≡ 12 ⌝ }
+{
+    say_word(b"stream ", words[1]);
+    say_low16(b" ", words[3]);
+    say_low16(b" network ", words[5]);
+    say_word(b" descriptors ", words[4]);
+    say(b"\n")
+}
+
+// The line of a service, by its words.
+pub fn say_service(words: &[u32]) -> bool
+    requires { ⌜ length (now words) ≡ 12 ⌝ }
+{
+    say_word(b"service ", words[1]);
+    say_low16(b" ", words[3]);
+    say_low16(b" network ", words[5]);
+    say_word(b" schedule ", words[11] / 2);
+    say_word(b" following ", words[11] % 2);
     say_word(b" running ", words[9]);
     say_word(b" ca ", words[10]);
     say_word(b" descriptors ", words[4]);

@@ -2,8 +2,8 @@
 use native.Mathlib.Omega.{arith}
 use Rattle.text.proofs.Laws.{length-u64}
 use borrow.Author.Needs.{needs}
-use Rattle.event_lines.proofs.put_number.Statement.{statement}
-use Rattle.event_lines.proofs.put_number.Tie as tie
+use Rattle.entry_lines.proofs.put_number.Statement.{statement}
+use Rattle.entry_lines.proofs.put_number.Tie as tie
 
 put-dec-requires : tie.Need-put-dec-requires
 put-dec-requires c κs = omega (arith, length-u64 (c .before .before .args .v) (omega arith))

@@ -2,10 +2,10 @@ use borrow.Author.Needs.{needs}
 use mathlib.Core.Path.{_≡_}
 use Prim.Native.Nat.{_≤_, _-_}
 use lib.ListN.{length}
-use Rattle.event_lines.proofs.put_bytes.Statement.{statement}
-use Rattle.event_lines.proofs.put_bytes.Tie as tie
-use Rattle.event_lines.proofs.put_bytes.Reads as reads
-use Rattle.event_lines.proofs.put_bytes.Lts as lts
+use Rattle.entry_lines.proofs.put_bytes.Statement.{statement}
+use Rattle.entry_lines.proofs.put_bytes.Tie as tie
+use Rattle.entry_lines.proofs.put_bytes.Reads as reads
+use Rattle.entry_lines.proofs.put_bytes.Lts as lts
 use Rattle.text.proofs.put_hex2.Reads as put-hex2-reads
 
 abbrev Inv-loop : tie.InvT-loop

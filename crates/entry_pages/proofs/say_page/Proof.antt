@@ -2,11 +2,11 @@ use borrow.Author.Needs.{needs}
 use mathlib.Core.Path.{_≡_}
 use Prim.Native.Nat.{_≤_, _-_}
 use lib.ListN.{length}
-use Rattle.event_sets.proofs.say_page.Statement.{statement}
-use Rattle.event_sets.proofs.say_page.Tie as tie
-use Rattle.event_sets.proofs.say_page.Reads as reads
-use Rattle.event_sets.proofs.say_page.Lts as lts
-use Rattle.event_sets.proofs.say_entry.Reads as say-entry-reads
+use Rattle.entry_pages.proofs.say_page.Statement.{statement}
+use Rattle.entry_pages.proofs.say_page.Tie as tie
+use Rattle.entry_pages.proofs.say_page.Reads as reads
+use Rattle.entry_pages.proofs.say_page.Lts as lts
+use Rattle.entry_pages.proofs.say_entry.Reads as say-entry-reads
 
 abbrev Inv-loop : tie.InvT-loop
 Inv-loop list n cells t₀ i₀ t i = i ≤ n

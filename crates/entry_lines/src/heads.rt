@@ -1,4 +1,4 @@
-// The lines above a set's or a table's events, the one that ends them early, and those of sections that are refused.
+// The lines above the entries of a set or of a table of a schedule, the one that ends them early, and those of sections that are refused.
 use crate::say;
 use crate::say_hex2;
 use crate::say_hex4;
@@ -13,6 +13,8 @@ pub struct Totals {
     pub sets: u64,
     pub schedules: u64,
     pub events: u64,
+    pub streams: u64,
+    pub services: u64,
     pub descriptors: u64,
     pub refused: u64,
     pub other: u64,
@@ -43,6 +45,18 @@ pub fn say_set(key: Key, version: u64, last: u64) -> bool {
     say_low16(b"set ", from.pid);
     say_low8(b" ", key.table_id);
     say_service(key);
+    say_number(b" version ", version);
+    say_number(b" last ", last);
+    say(b"\n")
+}
+
+// A set of the set collector: a table of a PID, now or next.
+pub fn say_table_set(key: Key, version: u64, last: u64) -> bool {
+    let from = key.from;
+    say_low16(b"set ", from.pid);
+    say_low8(b" ", key.table_id);
+    say_low16(b" ", key.extension);
+    say_number(b" current ", key.current_next);
     say_number(b" version ", version);
     say_number(b" last ", last);
     say(b"\n")
@@ -86,13 +100,26 @@ pub fn say_refused(number: u8, pid: u16, table_id: u8, size: usize) -> bool {
     say(b"\n")
 }
 
-pub fn say_totals(t: Totals) -> bool {
-    say_number(b"sections ", t.sections);
-    say_number(b" sets ", t.sets);
-    say_number(b" schedules ", t.schedules);
-    say_number(b" events ", t.events);
+// Descriptors, and what was not taken.
+fn say_rest(t: Totals) -> bool {
     say_number(b" descriptors ", t.descriptors);
     say_number(b" refused ", t.refused);
     say_number(b" other ", t.other);
     say(b"\n")
+}
+
+pub fn say_event_totals(t: Totals) -> bool {
+    say_number(b"sections ", t.sections);
+    say_number(b" sets ", t.sets);
+    say_number(b" schedules ", t.schedules);
+    say_number(b" events ", t.events);
+    say_rest(t)
+}
+
+pub fn say_table_totals(t: Totals) -> bool {
+    say_number(b"sections ", t.sections);
+    say_number(b" sets ", t.sets);
+    say_number(b" streams ", t.streams);
+    say_number(b" services ", t.services);
+    say_rest(t)
 }
