@@ -2,7 +2,7 @@
  * A guide monitor in C over the proved library. It reads records from standard input or from the file named: a PID (two bytes, high byte first)
  * and a section; with --ts a transport stream, packets of 188 bytes one after another, whose sections the library gathers. Sections of watched PIDs go through the gate; those that are sound, new or not, go on to the set collector, EIT sections to the EIT
  * collector: a set that was evicted between two of its sections, or found no cell, is completed by repeats. It prints what a monitor shows: each new
- * section, each complete set with its sections, each complete schedule table by table, the events of both, and totals.
+ * section, each complete set with its sections, each complete schedule table by table, the events of both, the transport streams of networks and bouquets, the services, and totals.
  */
 #include "../include/petrizolu.h"
 
@@ -143,7 +143,50 @@ static void show_events(const struct eit *e, struct listed_row of, petrizolu_ent
         printf("  broken at byte %" PRIu64 " of section %" PRIu64 "\n", listed.place, listed.section);
 }
 
-static void show_set(const struct sets *s, uint64_t row)
+/* The reader of a table_id (EN 300 468, table 2), or 0. */
+static uint32_t reader_of(uint64_t table_id)
+{
+    switch (table_id) {
+    case 0x40:
+    case 0x41:
+        return PETRIZOLU_NIT;
+    case 0x4A:
+        return PETRIZOLU_BAT;
+    case 0x42:
+    case 0x46:
+        return PETRIZOLU_SDT;
+    default:
+        return 0;
+    }
+}
+
+static void show_entry(const petrizolu_entry *entry)
+{
+    if (entry->kind == PETRIZOLU_TRANSPORT_STREAM)
+        printf("  stream %04" PRIX32 " of network %04" PRIX32 "\n", entry->id, entry->original_network_id);
+    if (entry->kind == PETRIZOLU_SERVICE)
+        printf("  service %04" PRIX32 " of network %04" PRIX32 ", running status %" PRIu32 "%s\n", entry->id, entry->original_network_id,
+               entry->running_status, entry->free_ca_mode ? ", scrambled" : "");
+}
+
+/* The transport streams or services of all pages, or where a loop does not end where its length says. */
+static void show_entries(const struct sets *s, uint32_t reader, uint64_t row, petrizolu_entry *page)
+{
+    petrizolu_listed listed = {0, 0, 0};
+    uint64_t skip = 0;
+    uint8_t answer;
+
+    do {
+        answer = petrizolu_sets_entries(reader, &s->state, LEND_SETS(s), row, skip, page, PETRIZOLU_LIST_WORDS(PAGE), &listed);
+        for (uint64_t i = 0; i < PAGE && skip + i < listed.count; i++)
+            show_entry(&page[i]);
+        skip += PAGE;
+    } while (skip < listed.count);
+    if (answer == PETRIZOLU_BROKEN_LOOP)
+        printf("  broken at byte %" PRIu64 " of section %" PRIu64 "\n", listed.place, listed.section);
+}
+
+static void show_set(const struct sets *s, uint64_t row, petrizolu_entry *page)
 {
     const uint64_t *head = s->heads + row * PETRIZOLU_HEAD_WORDS;
     petrizolu_section part;
@@ -157,6 +200,8 @@ static void show_set(const struct sets *s, uint64_t row)
         show_section(&part);
         from = part.number + 1;
     }
+    if (reader_of(head[PETRIZOLU_HEAD_TABLE_ID]) != 0)
+        show_entries(s, reader_of(head[PETRIZOLU_HEAD_TABLE_ID]), row, page);
 }
 
 static void show_event_set(const struct eit *e, uint64_t row, petrizolu_entry *page)
@@ -233,7 +278,7 @@ static void collect_set(struct monitor *m, uint32_t pid, const uint8_t *section,
         break;
     case PETRIZOLU_SET:
         m->complete_sets++;
-        show_set(&m->sets, row);
+        show_set(&m->sets, row, m->page);
         break;
     default:
         m->refused++;

@@ -58,6 +58,8 @@ enum petrizolu_answer {
     PETRIZOLU_MALFORMED_PACKET = 30, /* not 188 bytes, no sync byte, or an adaptation field past the end */
     PETRIZOLU_TOO_SHORT = 31,        /* gate: too short to hold its CRC, or under 3 bytes; its length is told */
     PETRIZOLU_PAST_LOOP = 32,        /* events: a descriptor runs past its loop; the entries before it are listed, and its place is told */
+    PETRIZOLU_OTHER_TABLE = 35,      /* entries: a table_id that is none of the reader's, or a number that names no reader; nothing is listed */
+    PETRIZOLU_BROKEN_LOOP = 36,      /* entries: a loop does not end where its length says; nothing is listed, and the place is told */
     PETRIZOLU_BAD_INPUT = 37,        /* an input of 16 or more */
     PETRIZOLU_NO_BUFFER = 43         /* its PID needs a section buffer, and none is free */
 };
@@ -132,13 +134,18 @@ enum petrizolu_answer {
 #define PETRIZOLU_IN_PACKET 0u
 #define PETRIZOLU_IN_BUFFERS 1u
 
-/* The events of a guide, entry by entry. */
+/* What a guide says, entry by entry. */
 #define PETRIZOLU_ENTRY_WORDS 12u                                                     /* the words of a petrizolu_entry */
 #define PETRIZOLU_LIST_WORDS(entries) ((size_t)(entries) * PETRIZOLU_ENTRY_WORDS)     /* list: a petrizolu_entry has so many words of 32 bits */
 #define PETRIZOLU_MOST_ENTRIES(size) ((size_t)(size) / 2)                             /* that a section of so many bytes can have */
 #define PETRIZOLU_EVENT 1u                                                            /* kinds of an entry */
 #define PETRIZOLU_DESCRIPTOR 2u
+#define PETRIZOLU_TRANSPORT_STREAM 3u
+#define PETRIZOLU_SERVICE 4u
 #define PETRIZOLU_UNDEFINED UINT32_MAX                                                /* a time or a duration with a digit above 9 */
+#define PETRIZOLU_NIT 1u                                                              /* readers: networks' (table_id 0x40, 0x41) */
+#define PETRIZOLU_BAT 2u                                                              /* bouquets' (0x4A) */
+#define PETRIZOLU_SDT 3u                                                              /* services' (0x42, 0x46) */
 
 /*
  * What a row's head says. heads + row * PETRIZOLU_HEAD_WORDS has these words; a host may read them of a row that was handed out, to name the
@@ -542,28 +549,32 @@ uint8_t petrizolu_eit_next_in_schedule(const petrizolu_eit *eit, const uint64_t 
                                        uint64_t from, petrizolu_section *next);
 
 /*
- * ---- what a guide says: events and their descriptors, entry by entry
+ * ---- what a guide says: events, transport streams, services and their descriptors, entry by entry
  *
- * An entry is an event (EN 300 468, 5.2.4) or a descriptor: twelve words of 32 bits, those that a kind does not use are 0. Entries stand in section order
- * and then byte order, an event before its descriptors, each once. Nothing is copied: the bytes of a descriptor are the `length` bytes from at + 2 on.
+ * An entry is an event (EN 300 468, 5.2.4), a transport stream of a network or bouquet (5.2.1, 5.2.2), a service (5.2.3) or a descriptor: twelve words of 32 bits,
+ * those that a kind does not use are 0. Entries stand in section order and then byte order, each before its descriptors and each once; descriptors before the first
+ * transport stream of a section are the network's or bouquet's. Nothing is copied: the bytes of a descriptor are the `length` bytes from at + 2 on.
  */
 
 typedef struct petrizolu_entry {
-    uint32_t kind;                   /* PETRIZOLU_EVENT or PETRIZOLU_DESCRIPTOR */
-    uint32_t section;                /* section_number; of petrizolu_events byte 6, 0 where there is none */
-    uint32_t at;                     /* its first byte, in cells; of petrizolu_events in the section */
-    uint32_t id;                     /* event_id; descriptor_tag */
+    uint32_t kind;                   /* PETRIZOLU_EVENT, PETRIZOLU_DESCRIPTOR, PETRIZOLU_TRANSPORT_STREAM or PETRIZOLU_SERVICE */
+    uint32_t section;                /* section_number; of petrizolu_events and petrizolu_entries byte 6, 0 where there is none */
+    uint32_t at;                     /* its first byte, in cells; of petrizolu_events and petrizolu_entries in the section */
+    uint32_t id;                     /* event_id; descriptor_tag; transport_stream_id; service_id */
     uint32_t length;                 /* how many bytes of descriptors follow; descriptor_length */
-    uint32_t original_network_id;    /* 0 */
+    uint32_t original_network_id;    /* of a transport stream its own, of a service its section's; else 0 */
     uint32_t day;                    /* the modified Julian day, as petrizolu_date takes it */
     uint32_t time;                   /* seconds since midnight (UTC), the digits as they are, or PETRIZOLU_UNDEFINED */
     uint32_t duration;               /* seconds, likewise */
-    uint32_t running_status;         /* 0 to 7 */
-    uint32_t free_ca_mode;           /* 0 or 1 */
-    uint32_t eit_flags;              /* 0 */
+    uint32_t running_status;         /* of an event or a service: 0 to 7 */
+    uint32_t free_ca_mode;           /* likewise: 0 or 1 */
+    uint32_t eit_flags;              /* of a service: 2 EIT_schedule_flag + EIT_present_following_flag; else 0 */
 } petrizolu_entry;
 
-/* How many entries there are; with 18, 19 and 32 up to `place`, the byte of section number `section` where the listing ended, else both are 0. */
+/*
+ * How many entries there are; with 18, 19 and 32 up to `place`, the byte of section number `section` where the listing ended; with 35 and 36 none, and `section` and
+ * `place` say where; else both are 0.
+ */
 typedef struct petrizolu_listed {
     uint64_t count;
     uint64_t section;
@@ -623,6 +634,30 @@ uint8_t petrizolu_eit_events_in_schedule(const petrizolu_eit *eit, const uint64_
  *     uint32_t date = petrizolu_date(49273);     // 19931013
  */
 uint32_t petrizolu_date(uint32_t day);
+
+/*
+ * Lists a page of the entries of one NIT, BAT or SDT section, as petrizolu_events does of an EIT: by the reader PETRIZOLU_NIT, PETRIZOLU_BAT or PETRIZOLU_SDT.
+ * 8: there is an entry at or behind skip; 9: there is none. 35: the table_id is none of the reader's, or the number names no reader. 36: a loop does not end where its
+ * length says; *listed tells the first place, from 0 at table_id: the length that does not hold (1 section_length, 8 the first loop's, 11 of an SDT too short for
+ * services), the transport stream or service, or the tag of the descriptor that runs past. 35 and 36 leave the list as before.
+ *
+ *     uint8_t read = petrizolu_entries(PETRIZOLU_SDT, section, length, 0, page, PETRIZOLU_LIST_WORDS(64), &told);
+ *     if (read == PETRIZOLU_BROKEN_LOOP)
+ *         printf("broken at byte %llu\n", (unsigned long long)told.place);
+ */
+uint8_t petrizolu_entries(uint32_t reader, const uint8_t *section, size_t section_length, uint64_t skip, petrizolu_entry *list, size_t list_words,
+                          petrizolu_listed *listed);
+
+/*
+ * The same of the set in a row that was handed out, its sections one after another by rising number. All are judged first: the first that has a 35 or a 36 decides, and
+ * nothing is listed. 9, with a count of 0, also where the row is not in use, or where its set was not handed out or has changed since. 10: list and *listed as before.
+ *
+ *     read = petrizolu_sets_entries(PETRIZOLU_SDT, &sets, heads, sizeof heads / 8, slots, sizeof slots / 4, cells, sizeof cells, row, 0, page,
+ *                                   PETRIZOLU_LIST_WORDS(64), &told);
+ */
+uint8_t petrizolu_sets_entries(uint32_t reader, const petrizolu_sets *sets, const uint64_t *heads, size_t head_words, const uint32_t *slots,
+                               size_t slot_words, const uint8_t *cells, size_t cell_bytes, uint64_t row, uint64_t skip, petrizolu_entry *list,
+                               size_t list_words, petrizolu_listed *listed);
 
 #ifdef __cplusplus
 }

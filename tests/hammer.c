@@ -144,7 +144,7 @@ static void damage(struct array *a)
 
 /* ---- what must hold */
 
-enum call { GATE_OPEN, GATE_OFFER, WATCH_OPEN, WATCH_ASK, INDEXED_OPEN, INDEXED_OFFER, SETS_OPEN, SETS_PUSH, SETS_CLEAR, SETS_NEXT, EIT_OPEN, EIT_PUSH, EIT_CLEAR, EIT_DROP, EIT_NEXT, EIT_NEXT_IN_SCHEDULE, STREAMS_OPEN, FEED, INDEXED_FEED, EVENTS, EIT_EVENTS, EIT_EVENTS_IN_SCHEDULE, DATE, CALLS };
+enum call { GATE_OPEN, GATE_OFFER, WATCH_OPEN, WATCH_ASK, INDEXED_OPEN, INDEXED_OFFER, SETS_OPEN, SETS_PUSH, SETS_CLEAR, SETS_NEXT, EIT_OPEN, EIT_PUSH, EIT_CLEAR, EIT_DROP, EIT_NEXT, EIT_NEXT_IN_SCHEDULE, STREAMS_OPEN, FEED, INDEXED_FEED, EVENTS, EIT_EVENTS, EIT_EVENTS_IN_SCHEDULE, DATE, ENTRIES, SETS_ENTRIES, CALLS };
 
 #define ANSWERS 44
 #define ONE(n) ((uint64_t)1 << (n))
@@ -176,6 +176,8 @@ static const struct {
     {"eit_events", ONE(8) | ONE(9) | ONE(10) | ONE(18) | ONE(19) | ONE(32)},
     {"eit_events_in_schedule", ONE(8) | ONE(9) | ONE(10) | ONE(18) | ONE(19) | ONE(32)},
     {"date", ONE(8) | ONE(9)},
+    {"entries", ONE(8) | ONE(9) | ONE(35) | ONE(36)},
+    {"sets_entries", ONE(8) | ONE(9) | ONE(10) | ONE(35) | ONE(36)},
 };
 
 /* Refusals that leave all as before: 10 to 21, and 37; of a question every answer does. */
@@ -327,6 +329,43 @@ static size_t draw_eit(uint8_t *b)
     return n;
 }
 
+/* A NIT, BAT or SDT section; now and then with a wrong count. */
+static size_t draw_table(uint8_t *b)
+{
+    static const uint8_t tables[] = {0x40, 0x41, 0x42, 0x46, 0x4A};
+    uint8_t table_id = tables[below(sizeof tables)];
+    bool services = table_id == 0x42 || table_id == 0x46;
+    size_t header = services ? 5 : 6, n = 10, second = 0;
+    draw_long(b, table_id);
+    memset(b + 8, 0, 4);
+    if (services) {
+        b[9] = (uint8_t)below(3);
+        n = 11;
+    } else {
+        size_t first = draw_descriptors(b + 10);
+        b[9] = (uint8_t)first;
+        second = 10 + first;
+        n = second + 2;
+    }
+    for (uint64_t i = below(4); i > 0; i--) {
+        size_t loop = draw_descriptors(b + n + header);
+        for (size_t j = 0; j < header; j++)
+            b[n + j] = (uint8_t)draw();
+        b[n + header - 2] = (uint8_t)(below(16) << 4);
+        b[n + header - 1] = (uint8_t)loop;
+        n += header + loop;
+    }
+    if (!services) {
+        b[second] = (uint8_t)(below(16) << 4 | (n - second - 2) >> 8);
+        b[second + 1] = (uint8_t)(n - second - 2);
+    }
+    n += 4;
+    set_length(b, n);
+    if (once_in(6))
+        b[8 + below(n - 8)] = (uint8_t)(once_in(2) ? draw() : below(16));
+    return n;
+}
+
 static size_t draw_pat(uint8_t *b)
 {
     size_t programs = once_in(40) ? 252 + below(3) : below(4), n = 12 + 4 * programs + (once_in(20) ? 1 : 0);
@@ -356,6 +395,10 @@ static void draw_section(void)
         break;
     case 2:
         n = draw_long(b, (uint8_t)draw());
+        break;
+    case 4:
+    case 5:
+        n = draw_table(b);
         break;
     case 3: /* any bytes */
         n = below(40);
@@ -1025,6 +1068,158 @@ static void date(void)
     answered[DATE][there ? PETRIZOLU_YES : PETRIZOLU_NO]++;
 }
 
+/* What a NIT, BAT or SDT section says, worked out here. */
+static unsigned expected_descriptors(const uint8_t *b, size_t at, size_t stop, petrizolu_listed *listed, petrizolu_entry *entries)
+{
+    while (at < stop) {
+        if (stop - at < 2 || stop - at - 2 < b[at + 1]) {
+            listed->place = at;
+            return PETRIZOLU_BROKEN_LOOP;
+        }
+        entries[listed->count++] = entry_at(PETRIZOLU_DESCRIPTOR, (uint32_t)listed->section, b, at);
+        at += 2 + (size_t)b[at + 1];
+    }
+    return 0;
+}
+
+static petrizolu_entry table_entry_at(uint32_t kind, uint32_t number, const uint8_t *bytes, size_t at, uint32_t network)
+{
+    const uint8_t *b = bytes + at;
+    petrizolu_entry entry = {.kind = kind, .section = number, .at = (uint32_t)at, .id = (uint32_t)b[0] << 8 | b[1]};
+    if (kind == PETRIZOLU_SERVICE) {
+        entry.length = (uint32_t)(b[3] & 15) << 8 | b[4];
+        entry.original_network_id = network;
+        entry.running_status = b[3] >> 5;
+        entry.free_ca_mode = b[3] >> 4 & 1;
+        entry.eit_flags = b[2] & 3;
+    } else {
+        entry.length = (uint32_t)(b[4] & 15) << 8 | b[5];
+        entry.original_network_id = (uint32_t)b[2] << 8 | b[3];
+    }
+    return entry;
+}
+
+static unsigned expected_table(uint32_t reader, const uint8_t *b, size_t n, petrizolu_listed *listed, petrizolu_entry *entries)
+{
+    uint8_t table_id = n > 0 ? b[0] : 0;
+    bool services = reader == PETRIZOLU_SDT;
+    size_t header = services ? 5 : 6, end = n - 4, at = 11;
+    uint32_t network = 0;
+    *listed = (petrizolu_listed){0, n > 6 ? b[6] : 0, 0};
+    if (!((reader == PETRIZOLU_NIT && (table_id == 0x40 || table_id == 0x41)) || (reader == PETRIZOLU_BAT && table_id == 0x4A) ||
+          (services && (table_id == 0x42 || table_id == 0x46))))
+        return PETRIZOLU_OTHER_TABLE;
+    listed->place = 1;
+    if (n < 3 || n != 3 + ((size_t)(b[1] & 15) << 8 | b[2]))
+        return PETRIZOLU_BROKEN_LOOP;
+    listed->place = services ? 11 : 8;
+    if (n < (services ? 15u : 16u))
+        return PETRIZOLU_BROKEN_LOOP;
+    if (services) {
+        network = (uint32_t)b[8] << 8 | b[9];
+    } else {
+        size_t second = 10 + ((size_t)(b[8] & 15) << 8 | b[9]);
+        if (second + 2 > end)
+            return PETRIZOLU_BROKEN_LOOP;
+        if (expected_descriptors(b, 10, second, listed, entries) != 0)
+            return PETRIZOLU_BROKEN_LOOP;
+        at = second + 2;
+        listed->place = second;
+        if (at + ((size_t)(b[second] & 15) << 8 | b[second + 1]) != end)
+            return PETRIZOLU_BROKEN_LOOP;
+    }
+    while (at < end) {
+        size_t stop;
+        listed->place = at;
+        if (end - at < header)
+            return PETRIZOLU_BROKEN_LOOP;
+        stop = at + header + ((size_t)(b[at + header - 2] & 15) << 8 | b[at + header - 1]);
+        if (stop > end)
+            return PETRIZOLU_BROKEN_LOOP;
+        entries[listed->count++] = table_entry_at(services ? PETRIZOLU_SERVICE : PETRIZOLU_TRANSPORT_STREAM, (uint32_t)listed->section, b, at, network);
+        if (expected_descriptors(b, at + header, stop, listed, entries) != 0)
+            return PETRIZOLU_BROKEN_LOOP;
+        at = stop;
+    }
+    listed->section = listed->place = 0;
+    return 0;
+}
+
+static uint32_t draw_reader(void)
+{
+    return once_in(8) ? (uint32_t)any_word() : 1 + (uint32_t)below(3);
+}
+
+/* 35 and 36 count nothing and leave the list; they tell a section, 35 at its first byte. */
+static void check_refused_listing(enum call call, unsigned answer, const petrizolu_listed *listed)
+{
+    if (answer != PETRIZOLU_OTHER_TABLE && answer != PETRIZOLU_BROKEN_LOOP)
+        return;
+    if (listed->count != 0 || listed->section > 255 || !array_as_before(&list) || (answer == PETRIZOLU_OTHER_TABLE) != (listed->place == 0))
+        fail(call, answer, "a refusal that listed something");
+}
+
+static void section_entries(void)
+{
+    static petrizolu_entry entries[8192 / 2];
+    petrizolu_listed listed = untold, known = untold;
+    uint64_t skip = draw_skip();
+    uint32_t reader = draw_reader();
+    unsigned answer, should;
+    lend_list();
+    memcpy(section.before, section.data, section.count);
+    answer = petrizolu_entries(reader, SECTION, skip, (petrizolu_entry *)list.data, list.count, &listed);
+    should = expected_table(reader, section.data, section.count, &known, entries);
+    if (should == 0)
+        should = known.count > skip ? PETRIZOLU_YES : PETRIZOLU_NO;
+    else
+        known.count = 0;
+    if (answer >= ANSWERS || !(calls[ENTRIES].answers & ONE(answer)) || answer != should)
+        fail(ENTRIES, answer, "not the answer of this section");
+    answered[ENTRIES][answer]++;
+    check_refused_listing(ENTRIES, answer, &listed);
+    if (answer <= PETRIZOLU_NO)
+        check_listed(ENTRIES, answer, &listed, skip);
+    if (memcmp(&listed, &known, sizeof known) != 0 || !array_as_before(&section))
+        fail(ENTRIES, answer, "what is told of the section");
+    if (on_page(&listed, skip) > 0 && memcmp(list.data, entries + skip, on_page(&listed, skip) * sizeof entries[0]) != 0)
+        fail(ENTRIES, answer, "not the entries of the section");
+}
+
+/* The entries of a row say what stands in the cells; the network of a service is its section's. */
+static void check_table_entries(unsigned answer, const petrizolu_listed *listed, uint64_t skip)
+{
+    const struct array *cells = &sets.arrays[CELLS];
+    for (uint64_t i = 0; i < on_page(listed, skip); i++) {
+        petrizolu_entry entry, known;
+        size_t least;
+        memcpy(&entry, list.data + i * sizeof entry, sizeof entry);
+        least = entry.kind == PETRIZOLU_SERVICE ? 5 : entry.kind == PETRIZOLU_TRANSPORT_STREAM ? 6 : 2;
+        if (entry.kind < PETRIZOLU_DESCRIPTOR || entry.kind > PETRIZOLU_SERVICE || entry.section > 255 || entry.at + least + entry.length > cells->count)
+            fail(SETS_ENTRIES, answer, "an entry that is not in the cells");
+        known = entry.kind == PETRIZOLU_DESCRIPTOR ? entry_at(entry.kind, entry.section, cells->data, entry.at)
+                                                   : table_entry_at(entry.kind, entry.section, cells->data, entry.at, entry.original_network_id);
+        if (memcmp(&entry, &known, sizeof known) != 0)
+            fail(SETS_ENTRIES, answer, "an entry that says something else");
+    }
+}
+
+static void sets_entries(uint64_t row)
+{
+    petrizolu_listed listed = untold;
+    uint64_t skip = draw_skip();
+    unsigned answer;
+    lend_list();
+    remember(&sets);
+    answer = petrizolu_sets_entries(draw_reader(), (const petrizolu_sets *)sets.words, SETS(&sets), row, skip, (petrizolu_entry *)list.data, list.count, &listed);
+    judge_question(SETS_ENTRIES, &sets, answer);
+    check_refused_listing(SETS_ENTRIES, answer, &listed);
+    if (answer <= PETRIZOLU_NOT_WHOLE)
+        check_listed(SETS_ENTRIES, answer, &listed, skip);
+    if (answer <= PETRIZOLU_NO)
+        check_table_entries(answer, &listed, skip);
+}
+
 static void eit_clear(void)
 {
     remember(&eit);
@@ -1063,6 +1258,10 @@ static void use_sets(int times)
     while (times-- > 0) {
         draw_section();
         sets_push(draw_pid());
+        if (once_in(2))
+            section_entries();
+        if (once_in(2))
+            sets_entries(once_in(8) ? any_word() : below(4));
         if (once_in(2))
             sets_next(once_in(8) ? any_word() : below(4), once_in(8) ? any_word() : below(4));
         if (once_in(40))
@@ -1114,6 +1313,12 @@ static void damage_part(struct part *p, size_t word_count, size_t limit, size_t 
             eit_events(false, row, 0);
             eit_events(true, row, below(2));
         }
+        return;
+    }
+    if (p == &sets && once_in(3)) {
+        damage_sections(&p->arrays[CELLS], size, count);
+        for (uint64_t row = 0; row < 4; row++)
+            sets_entries(row);
         return;
     }
     switch (below(4)) {

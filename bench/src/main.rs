@@ -11,7 +11,7 @@ use bytes::Bytes;
 use dvb_si::collect::{EitCollector, SectionSetCollector};
 use dvb_si::demux::SiDemux;
 use mpeg_ts::pid::Pid;
-use petrizolu::{Answer, DEFAULT_SETTINGS, ENTRY_WORDS, Eit, FOLLOW_SECTIONS, Gate, Listed, Offered, Refused, Sets, SmallGate, calls};
+use petrizolu::{Answer, BAT, DEFAULT_SETTINGS, ENTRY_WORDS, Eit, FOLLOW_SECTIONS, Gate, Listed, NIT, Offered, Refused, SDT, Sets, SmallGate, calls};
 use sections::{eit, long, of_version};
 use std::hint::black_box;
 use std::sync::atomic::Ordering;
@@ -441,6 +441,39 @@ fn listings(rounds: usize) {
             let mut side: [Side; 1] = [Box::new(|| {
                 for _ in 0..turns {
                     assert_eq!(black_box(calls::events(black_box(&section), 0, &mut list, &mut listed)), Answer::YES);
+                }
+            })];
+            let took = best(turns, 3 * rounds, &mut side)[0];
+            drop(side);
+            println!("| {name} | {} | {} | {took:.0} | {:.1} |", section.len(), listed.count, took / listed.count as f64);
+        }
+    }
+    tables(rounds);
+}
+
+/// The same of a NIT, a BAT and an SDT: what is counted ends where its length says, so each section is walked twice.
+fn tables(rounds: usize) {
+    let counted = |bytes: Vec<u8>| [&(0xF000 | bytes.len() as u16).to_be_bytes()[..], &bytes].concat();
+    let streams = |room: usize, stream: &[u8]| [&[0xF0, 0][..], &counted(stream.repeat((room - 4) / stream.len()))].concat();
+    let services = |room: usize, service: &[u8]| [&[0x21, 0x74, 0xFF][..], &service.repeat((room - 3) / service.len())].concat();
+    let empty = |room: usize| [counted([0x40, 0].repeat((room - 4) / 2)), vec![0xF0, 0]].concat();
+    type Body<'a> = &'a dyn Fn(usize) -> Vec<u8>;
+    let kinds: [(&str, u32, u8, Body); 5] = [
+        ("NIT, streams without descriptors", NIT, 0x40, &|room| streams(room, &[0, 1, 0x21, 0x74, 0xF0, 0])),
+        ("NIT, streams with one descriptor", NIT, 0x40, &|room| streams(room, b"\x00\x01\x21\x74\xF0\x05\x41\x03\x00\x01\x01")),
+        ("BAT, all descriptors empty", BAT, 0x4A, &|room| empty(room)),
+        ("SDT, services without descriptors", SDT, 0x42, &|room| services(room, &[0, 1, 0xFD, 0x80, 0])),
+        ("SDT, services with one descriptor", SDT, 0x42, &|room| services(room, b"\x00\x01\xFD\x80\x0A\x48\x08\x01\x02abc\x02de")),
+    ];
+    for (name, reader, table_id, body) in kinds {
+        for size in [1000, 4000] {
+            let section = long(table_id, 1, 0, 0, &body(size - 12));
+            let mut list = vec![0; section.len() / 2 * ENTRY_WORDS];
+            let mut listed = Listed::default();
+            let turns = 200_000 / size;
+            let mut side: [Side; 1] = [Box::new(|| {
+                for _ in 0..turns {
+                    assert_eq!(black_box(calls::entries(reader, black_box(&section), 0, &mut list, &mut listed)), Answer::YES);
                 }
             })];
             let took = best(turns, 3 * rounds, &mut side)[0];

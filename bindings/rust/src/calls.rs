@@ -113,7 +113,7 @@ impl Filter {
     }
 }
 
-/// An event or a descriptor (EN 300 468, 5.2.4 and 6.1); include/petrizolu.h says what each word is.
+/// An event, a transport stream, a service (EN 300 468, 5.2.1 to 5.2.4) or a descriptor (6.1); include/petrizolu.h says what each word is.
 #[repr(C)]
 #[derive(Debug, Clone, Copy, Default, PartialEq, Eq)]
 pub struct Entry {
@@ -144,7 +144,7 @@ impl Entry {
     }
 }
 
-/// How many entries there are; with 18, 19 and 32 the section's number and the place in it where the listing ended. 10 and 14 leave it as it was.
+/// How many entries there are; with 18, 19, 32, 35 and 36 the section's number and the place in it where the listing ended. 10 and 14 leave it as it was.
 #[repr(C)]
 #[derive(Debug, Clone, Copy, Default, PartialEq, Eq)]
 pub struct Listed {
@@ -695,7 +695,7 @@ pub fn eit_next_in_schedule(
     })
 }
 
-// ---- events. A list is lent as the words of its entries, so that it need not end with a whole one.
+// ---- entries. A list is lent as the words of its entries, so that it need not end with a whole one.
 
 pub fn events(section: &[u8], skip: u64, list: &mut [u32], listed: &mut Listed) -> Answer {
     // SAFETY: as above; an entry is twelve words, and `list` has as many words as are told.
@@ -766,6 +766,43 @@ pub fn eit_events_in_schedule(
             units.len(),
             row,
             table,
+            skip,
+            list.as_mut_ptr().cast(),
+            list.len(),
+            listed,
+        )
+    })
+}
+
+/// `reader` is `NIT`, `BAT` or `SDT`; any other number answers 35.
+pub fn entries(reader: u32, section: &[u8], skip: u64, list: &mut [u32], listed: &mut Listed) -> Answer {
+    // SAFETY: as above.
+    Answer(unsafe { raw::petrizolu_entries(reader, section.as_ptr(), section.len(), skip, list.as_mut_ptr().cast(), list.len(), listed) })
+}
+
+pub fn sets_entries(
+    reader: u32,
+    sets: &SetsState,
+    heads: &[u64],
+    slots: &[u32],
+    cells: &[u8],
+    row: u64,
+    skip: u64,
+    list: &mut [u32],
+    listed: &mut Listed,
+) -> Answer {
+    // SAFETY: as above.
+    Answer(unsafe {
+        raw::petrizolu_sets_entries(
+            reader,
+            sets,
+            heads.as_ptr(),
+            heads.len(),
+            slots.as_ptr(),
+            slots.len(),
+            cells.as_ptr(),
+            cells.len(),
+            row,
             skip,
             list.as_mut_ptr().cast(),
             list.len(),

@@ -17,7 +17,7 @@ pub use answer::{Answer, Refused};
 pub use calls::{EitState, Entry, Failure, Filter, GateState, Listed, Place, SetsState, StreamsState, crc, date};
 pub use demux::{Demux, Fed};
 pub use eit::{Complete, Eit};
-pub use events::{Ended, Listing, events};
+pub use events::{Ended, Listing, entries, events};
 pub use gate::{Gate, Offered, SmallGate};
 pub use rows::{Name, Row, Section};
 pub use sets::Sets;
@@ -85,4 +85,11 @@ pub const UNIT_WORDS: usize = 16 * SLOT_WORDS;
 pub const ENTRY_WORDS: usize = 12;
 pub const EVENT: u32 = 1;
 pub const DESCRIPTOR: u32 = 2;
+pub const TRANSPORT_STREAM: u32 = 3;
+pub const SERVICE: u32 = 4;
 pub const UNDEFINED: u32 = u32::MAX;
+
+/// Readers: of networks, of bouquets, of services.
+pub const NIT: u32 = 1;
+pub const BAT: u32 = 2;
+pub const SDT: u32 = 3;

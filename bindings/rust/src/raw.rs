@@ -342,4 +342,28 @@ unsafe extern "C" {
         listed: *mut Listed,
     ) -> u8;
     pub fn petrizolu_date(day: u32) -> u32;
+    pub fn petrizolu_entries(
+        reader: u32,
+        section: *const u8,
+        section_length: usize,
+        skip: u64,
+        list: *mut Entry,
+        list_words: usize,
+        listed: *mut Listed,
+    ) -> u8;
+    pub fn petrizolu_sets_entries(
+        reader: u32,
+        sets: *const SetsState,
+        heads: *const u64,
+        head_words: usize,
+        slots: *const u32,
+        slot_words: usize,
+        cells: *const u8,
+        cell_bytes: usize,
+        row: u64,
+        skip: u64,
+        list: *mut Entry,
+        list_words: usize,
+        listed: *mut Listed,
+    ) -> u8;
 }

@@ -1,5 +1,6 @@
 //! The set collector.
-use crate::calls::{self, Place, SetsState};
+use crate::calls::{self, Entry, Place, SetsState};
+use crate::events::{self, Listing};
 use crate::rows::{self, Name, Row, Section, pid_word};
 use crate::{Answer, HEAD_WORDS, Refused, SLOT_WORDS};
 
@@ -52,6 +53,18 @@ impl Sets {
 
     pub fn sections(&self, row: &Row) -> Vec<Section<'_>> {
         rows::sections(&self.cells, |from, place| self.next(row.0, from, place))
+    }
+
+    /// What the set in a row says, by the reader `NIT`, `BAT` or `SDT`.
+    pub fn entries(&self, reader: u32, row: &Row) -> Result<Listing, Refused> {
+        events::listing(|list, listed| {
+            calls::sets_entries(reader, &self.state, &self.heads, &self.slots, &self.cells, row.0, 0, list, listed)
+        })
+    }
+
+    /// The bytes of a descriptor of one of its rows, until the next call that changes the collector.
+    pub fn bytes(&self, descriptor: &Entry) -> &[u8] {
+        descriptor.bytes(&self.cells)
     }
 
     /// Whether the row of that number, in use or not, has a section of the number `from` or above.

@@ -85,7 +85,12 @@ pub fn is_apart(script: &[Command]) -> bool {
 
 /// Whether entries are asked for somewhere, which the original does not list.
 pub fn asks_for_entries(script: &[Command]) -> bool {
-    script.iter().any(|command| matches!(command, Command::Events { .. } | Command::Read { .. } | Command::Date(_)))
+    script.iter().any(|command| {
+        matches!(
+            command,
+            Command::Events { .. } | Command::Read { .. } | Command::Date(_) | Command::Entries { .. } | Command::ReadTable { .. }
+        )
+    })
 }
 
 /// Whether complete PATs are followed somewhere, which the original does not.

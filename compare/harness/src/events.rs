@@ -186,7 +186,7 @@ impl Run {
         for section in &set.sections {
             let all = Page { skip: 0, room: u16::MAX };
             let told = self.second.answer(&Command::Read { section: section.clone(), page: all });
-            let Answer::Entries(number, Some(([_, at, place], entries))) = told else { panic!("kept sections are sections") };
+            let Answer::Entries(_, number, Some(([_, at, place], entries))) = told else { panic!("kept sections are sections") };
             for words in entries {
                 self.entry(section, words);
             }

@@ -36,7 +36,12 @@ impl Fault {
 
     /// Whether it shows where entries are listed alone.
     pub fn of_events(self) -> bool {
-        self as usize >= Fault::DigitOfTen as usize
+        (Fault::DigitOfTen as usize..=Fault::RowsClosedUp as usize).contains(&(self as usize))
+    }
+
+    /// Whether it shows where networks, bouquets and services are listed alone.
+    pub fn of_networks(self) -> bool {
+        self as usize >= Fault::UnmarkedSetListed as usize
     }
 
     /// Whether it shows where there are several inputs alone.
@@ -197,4 +202,30 @@ faults! {
     NumberFromLast Eit "the number of a section read by itself is last_section_number",
     PartOfAScheduleListed Eit "a table is listed though another of its schedule is missing",
     RowsClosedUp Eit "a row that leaves by a drop makes those behind it move up",
+
+    UnmarkedSetListed Sets "a row is listed whose mark is 0",
+    BouquetAsNetwork Sets "the networks' reader takes bouquets",
+    ServiceOtherRefused Sets "the services' reader refuses 0x46",
+    BrokenBeforeOther Sets "36 is answered before 35",
+    LengthUnjudged Sets "section_length is not held to the bytes",
+    SecondLengthUnjudged Sets "the second loop's length is not judged",
+    ByteAfterPassed Sets "a byte behind the second loop is passed over",
+    FirstLoopLess Sets "the last byte of the first loop is passed over",
+    ServicesFromTen Sets "services begin at byte 10",
+    HeadersExchanged Sets "a transport stream has 5 bytes and a service 6",
+    FlagsExchanged Sets "the flags of a service are exchanged",
+    NetworkIdTold Sets "network_id is told for original_network_id",
+    StreamForNetwork Sets "a service's transport_stream_id is told for its original_network_id",
+    ListedBeforeBroken Sets "the sections before a 36 are listed",
+    LastBrokenDecides Sets "the last section that is refused decides",
+    PlaceOfTheEntry Sets "the place of a transport stream or service is told for that of its descriptor",
+    PlaceOfTheLoop Sets "the place of the first length is told for that of a descriptor",
+    ElevenBits Sets "descriptors are counted by 11 bits",
+    TablesOneByteLeft Sets "one byte left in a descriptor loop is passed over",
+    ShortAtOne Sets "a network too short for its lengths is told at section_length",
+    ServicesShortAtEight Sets "services too short are told at byte 8",
+    ReaderFour Sets "reader 4 is the services' too",
+    ClosedHasNone Sets "a set collector that is not open answers 9",
+    TablesPageLate Sets "the page begins one entry late",
+    TablesCountOfThePage Sets "only the entries of the page are counted",
 }

@@ -58,6 +58,7 @@ impl Original {
             Command::Drop(filter) => self.drop(filter),
             Command::Demux(command) => self.demux(command),
             Command::Events { .. } | Command::Read { .. } | Command::Date(_) => panic!("the original lists no entries"),
+            Command::Entries { .. } | Command::ReadTable { .. } => panic!("the original lists no entries"),
         }
     }
 

@@ -20,10 +20,20 @@ impl Program {
         String::from_utf8(self.bytes(input)).expect("programs write ASCII")
     }
 
-    /// The same in bytes.
+    /// The same with arguments.
+    pub fn output_of(&self, words: &[&str], input: &[u8]) -> String {
+        String::from_utf8(self.bytes_of(words, input)).expect("programs write ASCII")
+    }
+
+    /// In bytes.
     pub fn bytes(&self, input: &[u8]) -> Vec<u8> {
+        self.bytes_of(&[], input)
+    }
+
+    fn bytes_of(&self, words: &[&str], input: &[u8]) -> Vec<u8> {
         let mut started = Command::new(&self.run)
             .arg(self.name)
+            .args(words)
             .env("PETRIZOLU_BUILT", "1")
             .stdin(Stdio::piped())
             .stdout(Stdio::piped())
@@ -33,7 +43,9 @@ impl Program {
         let input = input.to_vec();
         let writer = thread::spawn(move || stdin.write_all(&input));
         let output = started.wait_with_output().expect("its output can be read");
-        writer.join().expect("the writer does not panic").expect("it reads its whole input");
+        // One that says how it is used reads nothing.
+        let written = writer.join().expect("the writer does not panic");
+        assert!(written.is_ok() || !words.is_empty(), "it reads its whole input");
         assert!(output.status.success(), "the program {} failed", self.name);
         output.stdout
     }

@@ -6,7 +6,7 @@ use crate::pairs::{Side, differing_somehow, smallest};
 use crate::second::{Reading, Second};
 use crate::stream::{self, Beyond};
 use crate::written::Written;
-use crate::{pats, transport, watch, watch_pats};
+use crate::{networks, pats, transport, watch, watch_pats};
 use player::answer::{Answer, Out, hex};
 use player::command::Command;
 use player::tape::tape_of;
@@ -19,7 +19,7 @@ const COMMANDS: usize = 2500;
 
 /// `domain` has the written scripts and some seeds inside the domain, without what a named difference decides, answered by the original; `damaged` has
 /// damaged and cell-bound seeds, `inputs` seeds of each domain on several inputs, `pats` seeds of PATs in several sections, and
-/// `events` seeds that ask for entries, answered by the second implementation.
+/// `events` and `tables` seeds that ask for entries, answered by the second implementation.
 pub fn store(root: &Path) -> bool {
     let seeds = |domain| SEEDS.flat_map(move |seed| make::script(seed, COMMANDS, domain));
     let by_hand = Written::all(root, "scripts").into_iter().flat_map(|script| script.commands);
@@ -31,6 +31,7 @@ pub fn store(root: &Path) -> bool {
         && store_tape(root, "pats", Side::RULES, &of_pats(root))
         && store_tape(root, "packets", Side::RULES, &of_packets(root))
         && store_tape(root, "events", Side::RULES, &of_events(root))
+        && store_tape(root, "tables", Side::RULES, &of_networks(root))
         && store_examples(root)
         && watch_pats::store(root)
         && store_streams(root)
@@ -61,6 +62,12 @@ fn of_packets(root: &Path) -> Vec<Command> {
 fn of_events(root: &Path) -> Vec<Command> {
     let by_hand = Written::all(root, "events").into_iter().flat_map(|script| script.commands);
     by_hand.chain(events::script(SEEDS.start, COMMANDS)).collect()
+}
+
+/// The written scripts of networks/ and a seed.
+fn of_networks(root: &Path) -> Vec<Command> {
+    let by_hand = Written::all(root, "networks").into_iter().flat_map(|script| script.commands);
+    by_hand.chain(networks::script(SEEDS.start, COMMANDS)).collect()
 }
 
 /// Whether all sides agree on a script, the original too where it is a measure; says where they do not.

@@ -1,97 +1,12 @@
 // The events of sets and schedules that go out, printed page by page.
-use answers::Refusal;
 use eit_state::Eit;
 use eit_state::PushAnswer;
-use event_lines::heads;
-use event_lines::heads::Totals;
-use shown_sections::Shown;
+use entry_lines::heads::Totals;
+use entry_pages::PAGE;
+use entry_pages::PAGES;
 ghost use mathlib.Core.Path.{_≡_};
 ghost use Prim.Native.Nat.{_*_, _≤_, _<_};
 ghost use lib.ListN.{length};
-
-// The entries of a page, and the pages that the largest set takes: 256 sections of at most 2,039 entries.
-pub const PAGE: usize = 2048;
-
-const PAGES: usize = 256;
-
-// One more; a count at its end stays.
-pub fn one_more(n: u64) -> u64 {
-    if n < u64::MAX { n + 1 } else { n }
-}
-
-fn wide(x: u32) -> usize
-    ensures { λ r. ⌜ (r ≡ x) × (r < 4294967296) ⌝ }
-{
-    x as usize
-}
-
-// An event by its words, with the digits of its time and its duration as they were sent.
-fn say_event(words: &[u32], cells: &[u8])
-    requires { ⌜ length (now words) ≡ 12 ⌝ }
-{
-    let digits = cells::part(cells, wide(words[2]) + 4, 6);
-    if digits.len() == 6 {
-        event_lines::say_event(words, digits);
-    }
-}
-
-fn say_descriptor(words: &[u32], cells: &[u8])
-    requires { ⌜ length (now words) ≡ 12 ⌝ }
-{
-    let bytes = cells::part(cells, wide(words[2]) + 2, wide(words[4]));
-    event_lines::say_descriptor((words[3] % 256) as u8, bytes);
-}
-
-// An entry: an event, or a descriptor.
-fn say_entry(words: &[u32], cells: &[u8], totals: Totals) -> Totals
-    requires { ⌜ length (now words) ≡ 12 ⌝ }
-{
-    let mut t = totals;
-    if words[0] == 1 {
-        say_event(words, cells);
-        t.events = one_more(t.events);
-        return t;
-    }
-    say_descriptor(words, cells);
-    t.descriptors = one_more(t.descriptors);
-    t
-}
-
-// The first n entries of the list.
-fn say_page(list: &[u32], n: usize, cells: &[u8], totals: Totals) -> Totals
-    requires { ⌜ (length (now list) ≡ 24576) × (n ≤ 2048) ⌝ }
-{
-    let mut t = totals;
-    let mut i = 0;
-    while i < n {
-        let at = i * entry_words::WORDS;
-        t = say_entry(&list[at..at + entry_words::WORDS], cells, t);
-        i += 1;
-    }
-    t
-}
-
-// How many entries of `count` stand on the page that passes over `skip`.
-fn on_page(count: usize, skip: usize) -> usize
-    ensures { λ r. ⌜ r ≤ 2048 ⌝ }
-{
-    if count <= skip {
-        return 0;
-    }
-    if count - skip < PAGE {
-        return count - skip;
-    }
-    PAGE
-}
-
-// The line of a listing that ended early.
-fn say_end(shown: Shown) {
-    let answer = shown.answer;
-    let number = answer.number();
-    if 9 < number {
-        heads::say_broken(number, shown.section, shown.place);
-    }
-}
 
 // All entries of the set in a row.
 fn list_set(
@@ -123,9 +38,10 @@ fn list_set(
             list,
         );
         let count = shown.count;
-        t = say_page(list, on_page(count, skip), cells, t);
+        t = entry_pages::say_page(list, entry_pages::on_page(count, skip), cells, t);
         if count <= skip + PAGE {
-            say_end(shown);
+            let answer = shown.answer;
+            entry_pages::say_end(answer.number(), shown.section, shown.place);
             return t;
         }
         page += 1;
@@ -165,9 +81,10 @@ fn list_table(
             list,
         );
         let count = shown.count;
-        t = say_page(list, on_page(count, skip), cells, t);
+        t = entry_pages::say_page(list, entry_pages::on_page(count, skip), cells, t);
         if count <= skip + PAGE {
-            say_end(shown);
+            let answer = shown.answer;
+            entry_pages::say_end(answer.number(), shown.section, shown.place);
             return t;
         }
         page += 1;
@@ -181,7 +98,7 @@ fn say_set(heads: &[u64], row: usize) {
         let key = rows::key_at(heads, row);
         let version = rows::version(heads, row);
         let last = rows::last(heads, row);
-        event_lines::heads::say_set(key, version, last);
+        entry_lines::heads::say_set(key, version, last);
     }
 }
 
@@ -191,7 +108,7 @@ fn say_schedule(schedule_heads: &[u64], row: usize) -> usize {
         let key = rows::key_at(schedule_heads, row);
         let last = rows::last(schedule_heads, row);
         let first = units::first_table(key.table_id);
-        event_lines::heads::say_schedule(key, first, last);
+        entry_lines::heads::say_schedule(key, first, last);
         return schedules::tables_of(schedule_heads, row);
     }
     0
@@ -206,7 +123,7 @@ fn say_table(schedule_heads: &[u64], units: &[u32], row: usize, table: usize) {
                 let u = row * schedules::TABLES + table;
                 let version = segments::word(units, u, 1);
                 let last = segments::word(units, u, 2);
-                event_lines::heads::say_table(
+                entry_lines::heads::say_table(
                     units::first_table(key.table_id) + table as u64,
                     version,
                     last,
@@ -242,7 +159,7 @@ pub fn tell_set(
         list,
         totals,
     );
-    t.sets = one_more(t.sets);
+    t.sets = entry_pages::one_more(t.sets);
     t
 }
 
@@ -262,7 +179,7 @@ pub fn tell_schedule(
 {
     let tables = say_schedule(schedule_heads, row);
     let mut t = totals;
-    t.schedules = one_more(t.schedules);
+    t.schedules = entry_pages::one_more(t.schedules);
     let mut table = 0;
     while table < tables {
         say_table(schedule_heads, units, row, table);
@@ -281,36 +198,6 @@ pub fn tell_schedule(
         table += 1;
     }
     t
-}
-
-fn refuse(totals: Totals) -> Totals {
-    let mut t = totals;
-    t.refused = one_more(t.refused);
-    t
-}
-
-fn pass(totals: Totals) -> Totals {
-    let mut t = totals;
-    t.other = one_more(t.other);
-    t
-}
-
-// A section that is refused: its line, unless it is one that other tables have.
-pub fn tell_refused(refusal: Refusal, pid: u16, section: &[u8], totals: Totals) -> Totals
-    requires { ⌜ 3 ≤ length (now section) ⌝ }
-{
-    match refusal {
-        Refusal::BadPid => {
-            event_lines::heads::say_bad_pid(pid);
-            refuse(totals)
-        }
-        Refusal::ShortForm => pass(totals),
-        Refusal::NotEit => pass(totals),
-        _ => {
-            event_lines::heads::say_refused(refusal.number(), pid, section[0], section.len());
-            refuse(totals)
-        }
-    }
 }
 
 // What a section led to.
@@ -353,6 +240,6 @@ pub fn tell(
             list,
             totals,
         ),
-        PushAnswer::Refused(refusal) => tell_refused(refusal, pid, section, totals),
+        PushAnswer::Refused(refusal) => entry_pages::tell_refused(refusal, pid, section, totals),
     }
 }

@@ -1,7 +1,7 @@
 // Reads standard input, records of a PID (two bytes, high byte first) and a section, and prints what the EIT sets and schedules among them say, event by event, when
 // each goes out; totals last. Every record goes to an EIT collector of 64 keys and 512 cells of 4,096 bytes.
 use eit_state::Eit;
-use event_lines::heads::Totals;
+use entry_lines::heads::Totals;
 use libc::STDOUT_FILENO;
 use records::Next;
 use section::ids::MaybePid;
@@ -28,12 +28,6 @@ fn wide16(x: u8) -> u16
     ensures { λ r. ⌜ (r ≡ x) × (r < 256) ⌝ }
 {
     x as u16
-}
-
-fn one_section(totals: Totals) -> Totals {
-    let mut t = totals;
-    t.sections = event_sets::one_more(t.sections);
-    t
 }
 
 // A section on a PID goes to the collector, and what it led to is printed.
@@ -111,7 +105,7 @@ fn push(
         list,
         pid_of(buf),
         &buf[2..n],
-        one_section(totals),
+        entry_pages::one_section(totals),
     )
 }
 
@@ -160,15 +154,7 @@ fn run(
 ) {
     let opened = eit::open(64, 4096, 512, heads, slots, cells, schedule_heads, units);
     let mut eit = opened.eit;
-    let mut totals = Totals {
-        sections: 0,
-        sets: 0,
-        schedules: 0,
-        events: 0,
-        descriptors: 0,
-        refused: 0,
-        other: 0,
-    };
+    let mut totals = entry_pages::no_totals();
     let mut more = true;
     let mut turns = u64::MAX;
     while more & (turns > 0) {
@@ -188,7 +174,7 @@ fn run(
         more = t.more;
         turns -= 1;
     }
-    event_lines::heads::say_totals(totals);
+    entry_lines::heads::say_event_totals(totals);
 }
 
 // What is lent: 64 sets, 64 schedules and 512 cells, a page of 2,048 entries and a record.

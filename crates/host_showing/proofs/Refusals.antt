@@ -15,7 +15,8 @@ use Rattle.units.specs.Units.{unitSlots}
 use Rattle.eit_state.specs.State.{Store, store, wholeOf}
 use Rattle.shown_sections.specs.declared.ShowAnswer.the-variants.{Yes, No, Refused}
 use Rattle.shown_sections.specs.Shown.{Show, End, finished, no-eit, broken, past-loop, showNumber, nothingShown, reachedAs, toldBy, laid, sectionShow, slotsShow}
-use Rattle.showing.specs.Store.{setOut, tableOut, shownSection, shownSet, shownTable}
+use Rattle.handed.specs.Handed.{setOut}
+use Rattle.showing.specs.Store.{tableOut, shownSection, shownSet, shownTable}
 use Rattle.host_eit_words.specs.Words.{eitOf}
 use Rattle.host_showing.specs.Calls.{listing, handed, sectionListed, setListed, tableListed}
 

@@ -7,7 +7,7 @@ use Rattle.laws.proofs.Unique.{one-result}
 use Rattle.host_showing.specs.Calls.{Listing, listing, sectionListed, setListed, tableListed, dateNumber}
 
 module _ (r q : ℕ) (w v l k : List ℕ) where
-  listing-one : (d : Listing) → listing r w l ≡ d → listing q v k ≡ d → (r ≡ q) × (w ≡ v) × (l ≡ k)
+  pub listing-one : (d : Listing) → listing r w l ≡ d → listing q v k ≡ d → (r ≡ q) × (w ≡ v) × (l ≡ k)
   listing-one d a b =
       let e : listing r w l ≡ listing q v k = one-result d a b in
       (ap (λ (x : Listing). x .answer) e, ap (λ (x : Listing). x .listed) e, ap (λ (x : Listing). x .list) e)

@@ -61,17 +61,13 @@ module _ (bytes : List ℕ) (of : Loop) (at left end : ℕ) (list : List ℕ) (k
 
 -- ---- entries that follow each other
 
-listed-append : (skip k : ℕ) (xs ys : List (List ℕ)) (list : List ℕ) (then : ℕ) (l : List ℕ) (r : ℕ) (m : List ℕ) → (then, l) ≡ listedFrom skip k xs list → (r, m) ≡ listedFrom skip then ys l
-    → (r, m) ≡ listedFrom skip k (xs ++ ys) list
+pub listed-then : (skip k : ℕ) (xs ys : List (List ℕ)) (list : List ℕ) (then : ℕ) (l : List ℕ) → (then, l) ≡ listedFrom skip k xs list → listedFrom skip k (xs ++ ys) list ≡ listedFrom skip then ys l
 unfolding listedFrom
-listed-append skip k xs ys list then l r m e f =
+listed-then skip k xs ys list then l e =
     let a : then ≡ k + length xs = ap (λ (p : ℕ × List ℕ). p .0) e in
     let b : l ≡ putAll list skip k xs = ap (λ (p : ℕ × List ℕ). p .1) e in
-    let c : r ≡ then + length ys = ap (λ (p : ℕ × List ℕ). p .0) f in
-    let d : m ≡ putAll l skip then ys = ap (λ (p : ℕ × List ℕ). p .1) f in
     let z : length (xs ++ ys) ≡ length xs + length ys = length-append xs ys in
-    ap₂ (λ (x : ℕ) (y : List ℕ). (x, y)) (omega arith)
-    (d ∙ ap₂ (λ (q : List ℕ) (j : ℕ). putAll q skip j ys) b a ∙ sym (put-append xs ys list skip k))
+    ap₂ (λ (x : ℕ) (y : List ℕ). (x, y)) (omega arith) (put-append xs ys list skip k ∙ ap₂ (λ (q : List ℕ) (j : ℕ). putAll q skip j ys) (sym b) (sym a))
 
 -- ---- a section inside lent bytes
 
@@ -161,8 +157,8 @@ module _ (bytes : List ℕ) (start size number k : ℕ) (i : SectionIn (length b
             → (r, m) ≡ listedFrom skip k (nitEntries start number part) list
         unfolding nitEntries
         nit-listed a b =
-            listed-append skip k (wordsOf 0 number (placed start (networkFound part))) (wordsOf 0 number (placed start (streamsFound part))) list then l r m
-            (rw first-found at a) (rw second-found at b)
+            (rw second-found at b)
+            ∙ sym (listed-then skip k (wordsOf 0 number (placed start (networkFound part))) (wordsOf 0 number (placed start (streamsFound part))) list then l (rw first-found at a))
 
         pub nit-few : then ≤ k + (start + 10 + n - (start + 10)) → r ≤ then + (start + size - 4 - (start + 10 + n + 2)) → r ≤ k + size
         nit-few a b = let f = fits .0 in omega arith

@@ -11,6 +11,7 @@ ghost use Rattle.host_feed_indexed_calls.specs.Calls as indexedPackets;
 ghost use Rattle.host_words.specs.Answers.{words};
 ghost use Rattle.pats.specs.Store.{recordOf};
 ghost use Rattle.host_sets.specs.Calls.{setsLeft, setsOpened, setsPushed, setsCleared, setsNext};
+ghost use Rattle.host_networks.specs.Calls.{sectionRead, setRead};
 ghost use Rattle.host_showing.specs.Calls.{listing, sectionListed, setListed, tableListed, dateNumber};
 ghost use Rattle.host_eit.specs.Calls.{eitOpened, eitLeft, eitPushed, eitCleared, eitDroppedTo, eitDropped, eitNext, eitNextIn};
 
@@ -554,4 +555,37 @@ pub extern "C" fn petrizolu_date(day: u32) -> u32
     ensures { λ r. ⌜ r ≡ dateNumber day ⌝ }
 {
     host_showing::date(day)
+}
+
+// The entries of a NIT, BAT or SDT section, by the reader 1, 2 or 3: 8, 9, 35 or 36. `listed` tells how many there are and, with 35 and 36, the section's number and the place
+// in it; these leave the list.
+#[no_mangle]
+pub extern "C" fn petrizolu_entries(
+    reader: u32,
+    section: &[u8],
+    skip: u64,
+    list: &mut [u32],
+    listed: &mut [u64; 3],
+) -> u8
+    ensures { λ r. ⌜ listing r (now (listed .exit)) (now (list .exit)) ≡ sectionRead reader (now (section .entry)) skip (now (list .entry)) (now (listed .entry)) ⌝ }
+{
+    host_networks::entries(reader, section, skip, list, listed)
+}
+
+// The same of the set in a row that was handed out: 8, 9, 10, 35 or 36. 10 leaves all.
+#[no_mangle]
+pub extern "C" fn petrizolu_sets_entries(
+    reader: u32,
+    sets: &[u64; 5],
+    heads: &[u64],
+    slots: &[u32],
+    cells: &[u8],
+    row: u64,
+    skip: u64,
+    list: &mut [u32],
+    listed: &mut [u64; 3],
+) -> u8
+    ensures { λ r. ⌜ listing r (now (listed .exit)) (now (list .exit)) ≡ setRead reader (now (sets .entry)) (now (heads .entry)) (now (slots .entry)) (now (cells .entry)) row skip (now (list .entry)) (now (listed .entry)) ⌝ }
+{
+    host_networks::sets_entries(reader, sets, heads, slots, cells, row, skip, list, listed)
 }

@@ -9,7 +9,7 @@ use Rattle.entry_words.specs.Words.{streamWords, serviceWords, entryWords, desc
 use Rattle.listing.specs.Store.{walk, foundFrom, wordsOf}
 use Rattle.rules_networks.specs.declared.Table.{Table}
 use Rattle.rules_networks.specs.declared.Table.the-variants.{Nit, Bat, Sdt, None}
-use Rattle.rules_networks.specs.Networks.{lengthWrong, brokenIn, nitBroken, sdtBroken, faultOf, placed, Told, other-table, broken-loop, entries, nitEntries, sdtEntries, readAs}
+use Rattle.rules_networks.specs.Networks.{lengthWrong, brokenIn, nitBroken, sdtBroken, faultOf, placed, Told, other-table, broken-loop, entries, nitEntries, sdtEntries, readAt, readAs}
 
 -- network 0x3001, section 0: its name; stream 1 with a service list; stream 3
 abbrev network : List ℕ
@@ -31,7 +31,7 @@ abbrev byteAfter : List ℕ
 byteAfter = 0x40 ∷ 0xF0 ∷ 0x0E ∷ 0x00 ∷ 0x01 ∷ 0xCB ∷ 0x00 ∷ 0x00 ∷ 0xF0 ∷ 0x00 ∷ 0xF0 ∷ 0x00 ∷ 0x00 ∷ 0x17 ∷ 0x06 ∷ 0x55 ∷ 0xDE ∷ []
 
 unfoldable pub says : Table → List ℕ → Told
-unfolding any streamWords serviceWords entryWords descriptorWords walk foundFrom wordsOf lengthWrong brokenIn nitBroken sdtBroken faultOf placed nitEntries sdtEntries readAs
+unfolding any streamWords serviceWords entryWords descriptorWords walk foundFrom wordsOf lengthWrong brokenIn nitBroken sdtBroken faultOf placed nitEntries sdtEntries readAt readAs
 says r s = readAs r s
 
 pub record NetworkExamples : Type 0 where
@@ -49,20 +49,20 @@ pub record NetworkExamples : Type 0 where
       ∷ [])
   pub no-entry : says Nit nothing ≡ entries []
   -- 36 at the second length, 10 + n
-  pub byte-after : says Nit byteAfter ≡ broken-loop 10
-  pub no-section : says Sdt (0x42 ∷ []) ≡ broken-loop 1
+  pub byte-after : says Nit byteAfter ≡ broken-loop 0 10
+  pub no-section : says Sdt (0x42 ∷ []) ≡ broken-loop 0 1
   -- a first loop of one byte less: the descriptor runs past it; of more than there is
-  pub first-less : says Nit (set network 9 4) ≡ broken-loop 10
-  pub first-more : says Nit (set network 9 200) ≡ broken-loop 8
+  pub first-less : says Nit (set network 9 4) ≡ broken-loop 0 10
+  pub first-more : says Nit (set network 9 200) ≡ broken-loop 0 8
   -- a descriptor and a transport stream that run past
-  pub descriptor-past : says Nit (set network 24 4) ≡ broken-loop 23
-  pub stream-past : says Nit (set network 33 1) ≡ broken-loop 28
-  pub service-past : says Sdt (set services 25 1) ≡ broken-loop 21
+  pub descriptor-past : says Nit (set network 24 4) ≡ broken-loop 0 23
+  pub stream-past : says Nit (set network 33 1) ≡ broken-loop 0 28
+  pub service-past : says Sdt (set services 25 1) ≡ broken-loop 4 21
   -- 35
-  pub another : says Nit bouquet ≡ other-table
-  pub no-table : says None network ≡ other-table
+  pub another : says Nit bouquet ≡ other-table 2
+  pub no-table : says None network ≡ other-table 0
   -- 35 before 36: no byte but a table_id of another reader
-  pub other-first : says Nit (0x42 ∷ []) ≡ other-table
+  pub other-first : says Nit (0x42 ∷ []) ≡ other-table 0
   -- service other is read as service actual
   pub service-other : says Sdt (set services 0 0x46) ≡ says Sdt services
 

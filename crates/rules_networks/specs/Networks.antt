@@ -126,17 +126,30 @@ entriesOf Bat start number s = nitEntries start number s
 entriesOf Sdt start number s = sdtEntries start number s
 entriesOf None start number s = []
 
+-- what is told of one section or of several: 35 or 36 by the number of the section, 36 also by the place in it; else the entries
 pub data Told : Type 0 where
-  other-table : Told
-  broken-loop : (place : ℕ) → Told
+  other-table : (section : ℕ) → Told
+  broken-loop : (section place : ℕ) → Told
   entries : List (List ℕ) → Told
 
-abbrev pub toldBy : (fault : ℕ) → List (List ℕ) → Told
-toldBy fault es = cond (eqb fault 0) (entries es) (cond (eqb fault 1) other-table (broken-loop (fault - 1)))
+abbrev pub toldBy : (section fault : ℕ) → List (List ℕ) → Told
+toldBy section fault es = cond (eqb fault 0) (entries es) (cond (eqb fault 1) (other-table section) (broken-loop section (fault - 1)))
+
+-- the section of this number, from byte `start` of what is lent on
+unfoldable pub readAt : Table → (start number : ℕ) → List ℕ → Told
+readAt r start number s = toldBy number (faultOf r s) (entriesOf r start number s)
 
 -- a section by itself: its number is byte 6
 unfoldable pub readAs : Table → List ℕ → Told
-readAs r s = toldBy (faultOf r s) (entriesOf r 0 (byteAt s 6) s)
+readAs r s = readAt r 0 (byteAt s 6) s
+
+-- one after another: the first that is refused decides
+abbrev pub andThen : (first second : Told) → Told
+andThen (entries a) (entries b) = entries (a ++ b)
+andThen (entries a) (other-table section) = other-table section
+andThen (entries a) (broken-loop section place) = broken-loop section place
+andThen (other-table section) second = other-table section
+andThen (broken-loop section place) second = broken-loop section place
 
 -- ---- an SDT section as the concatenation of its parts: 11 bytes, whole services with whole descriptor loops, and the four bytes of the CRC, with nothing between
 

@@ -13,7 +13,9 @@ use borrow.Author.Tests.{eqb-false, ltb-true, not-true}
 use Rattle.laws.proofs.Tests.{and-true}
 use Rattle.laws.proofs.Search.{every-get}
 use Rattle.cells.specs.Cells.{slotWhole, allWhole, keptLength, cellNumber, filled}
-use Rattle.rows.specs.Rows.{keyAt, tableWord, rowSlots, slotsAt, slotCount, lastOf, markOf}
+use Rattle.rows.specs.Rows.{keyAt, tableWord, rowSlots, slotsAt, slotCount, lastOf}
+use Rattle.handed.specs.Handed.{setOut}
+use Rattle.handed.proofs.Ways.{in-use}
 use Rattle.rows.proofs.Whole.{rows-get}
 use Rattle.rows.proofs.Words.{length-slots}
 use Rattle.placing.proofs.Fits.{slot-bounds}
@@ -24,7 +26,7 @@ use Rattle.eit_state.specs.State.{Store, store, wholeOf, Whole}
 use Rattle.eit_state.specs.declared.Eit.{Eit}
 use Rattle.eit_state.proofs.Whole.{whole-store, units-whole}
 use Rattle.shown_sections.specs.Shown.{HeldSlot, HeldSlots}
-use Rattle.showing.specs.Store.{setOut, headEntry, scheduleWhole, tableOut}
+use Rattle.showing.specs.Store.{headEntry, scheduleWhole, tableOut}
 
 slot-held : (long count size w : ℕ) → count * size ≤ long → slotWhole count size w ≡ true → HeldSlot long size w
 slot-held long count size w l e = record {
@@ -105,22 +107,14 @@ module _ (e : Eit) (heads slots cells schedule-heads units : List ℕ) (b : Bool
   size-small = whole .sets .size-high
 
   module _ (row : ℕ) (o : Bool) where
-    pub in-use : o ≡ setOut heads (e .sets .used) row → o ≡ true → row < e .sets .used
-    unfolding setOut
-    in-use p y = cond-there (ltb row (e .sets .used)) (not (eqb (markOf heads row) 0)) refl (sym p ∙ y)
-      where
-        cond-there : (c d : Bool) → ltb row (e .sets .used) ≡ c → cond c d false ≡ true → row < e .sets .used
-        cond-there true d z k = ltb-true row (e .sets .used) z
-        cond-there false d z k = absurd (true≢false (sym k))
-
     pub set-row : o ≡ setOut heads (e .sets .used) row → o ≡ true → (row * 12 + 12 ≤ length heads) × (row * 288 + 288 ≤ length slots)
-    set-row p y = let w = whole .sets in let h = in-use p y in (omega arith, omega arith)
+    set-row p y = let w = whole .sets in let h = in-use heads (e .sets .used) row o p y in (omega arith, omega arith)
 
     pub set-held : (part : List ℕ) → o ≡ setOut heads (e .sets .used) row → o ≡ true → part ≡ rowSlots heads slots row → HeldSlots (length cells) (e .sets .size) part
     set-held part p y f =
         let w = whole .sets in
         rw f (slots-held (length cells) (e .sets .count) (e .sets .size) (rowSlots heads slots row) (w .cells-long)
-        (rows-get heads slots (e .sets .count) (e .sets .size) (e .sets .used) row (w .rows) (in-use p y)))
+        (rows-get heads slots (e .sets .count) (e .sets .size) (e .sets .used) row (w .rows) (in-use heads (e .sets .used) row o p y)))
 
     module _ (table : ℕ) where
       pub record There : Type 0 where

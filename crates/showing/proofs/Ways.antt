@@ -12,15 +12,16 @@ use borrow.Author.Tests.{lt-ltb, le-ltb, eqb-true}
 use Rattle.answers.specs.declared.Refusal.the-variants as refusal
 use Rattle.section.specs.Header.{byteAt}
 use Rattle.section.specs.Judged.{malformed, AtMost4098}
-use Rattle.rows.specs.Rows.{keyAt, rowSlots, lastOf, markOf}
+use Rattle.rows.specs.Rows.{keyAt, rowSlots, lastOf}
 use Rattle.rows.specs.declared.Key.{Key}
+use Rattle.handed.specs.Handed.{setOut}
 use Rattle.units.specs.Units.{unitSlots}
 use Rattle.schedules.specs.Schedules.{tablesOf, tablesThere}
 use Rattle.eit_state.specs.State.{Store, store, wholeOf}
 use Rattle.shown_sections.specs.Shown.{Show, nothingShown, sectionShow, slotsShow, reachedAs, shownFrom, toldBy, laid, Kept}
 use Rattle.shown_sections.specs.declared.Shown.{Shown}
 use Rattle.shown_sections.specs.declared.ShowAnswer.the-variants.{No, Refused}
-use Rattle.showing.specs.Store.{shownSection, setOut, shownSet, headEntry, scheduleWhole, tableOut, shownTable}
+use Rattle.showing.specs.Store.{shownSection, shownSet, headEntry, scheduleWhole, tableOut, shownTable}
 
 -- section_number, and 0 past the end
 pub number-none : (s : List ℕ) → length s ≤ 6 → (0 ≡ byteAt s 6) × (0 < 256)
@@ -46,15 +47,6 @@ module _ (section : List ℕ) (skip : ℕ) (list : List ℕ) (m : Bool) (e : m �
       rw (← e, t, ← g, h, a, zero-add, ap (λ (x : Shown × List ℕ). x .1) f)
 
 -- ---- a set
-
-module _ (heads : List ℕ) (used row : ℕ) where
-  pub set-past : used ≤ row → false ≡ setOut heads used row
-  unfolding setOut
-  set-past h = rw (le-ltb row used h)
-
-  pub set-in : (m : ℕ) → row < used → m ≡ markOf heads row → not (eqb m 0) ≡ setOut heads used row
-  unfolding setOut
-  set-in m h e = rw (lt-ltb row used h, e)
 
 module _ (s : Store) (row skip : ℕ) (list : List ℕ) (b : Bool) (e : b ≡ wholeOf s) where
   pub set-refused : b ≡ false → (r : Shown) → r ≡ nothingShown (Refused refusal.NotWhole) → (r, list) ≡ shownSet s row skip list

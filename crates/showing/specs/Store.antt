@@ -8,8 +8,9 @@ use lib.Dec.{ltb, eqb}
 use Rattle.answers.specs.declared.Refusal.the-variants as refusal
 use Rattle.section.specs.Header.{byteAt}
 use Rattle.section.specs.Judged.{malformed}
-use Rattle.rows.specs.Rows.{keyAt, rowSlots, lastOf, markOf}
+use Rattle.rows.specs.Rows.{keyAt, rowSlots, lastOf}
 use Rattle.rows.specs.declared.Entry.{Entry}
+use Rattle.handed.specs.Handed.{setOut}
 use Rattle.units.specs.Units.{unitSlots}
 use Rattle.schedules.specs.Schedules.{tablesOf, tablesThere}
 use Rattle.eit_state.specs.State.{Store, wholeOf}
@@ -24,10 +25,6 @@ shownSection section skip list =
     cond (malformed section) (nothingShown (Refused refusal.Malformed), list) (laid skip (sectionShow section 0 (length section) (byteAt section 6)) list)
 
 -- ---- a set: 10 first, then 9 where it is not one that was handed out
-
--- a row in use whose mark is not 0
-unfoldable pub setOut : (heads : List ℕ) → (used row : ℕ) → Bool
-setOut heads used row = cond (ltb row used) (not (eqb (markOf heads row) 0)) false
 
 unfoldable pub shownSet : Store → (row skip : ℕ) → (list : List ℕ) → Shown × List ℕ
 shownSet s row skip list =

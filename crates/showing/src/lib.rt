@@ -14,7 +14,7 @@ ghost use lib.ListN.{length};
 ghost use Rattle.section.specs.Header.{byteAt};
 ghost use Rattle.eit_state.specs.State.{store};
 ghost use Rattle.schedules.specs.Schedules.{tablesOf};
-ghost use Rattle.showing.specs.Store.{setOut, scheduleWhole, tableOut, shownSection, shownSet, shownTable};
+ghost use Rattle.showing.specs.Store.{scheduleWhole, tableOut, shownSection, shownSet, shownTable};
 
 // section_number, and 0 where there is none.
 fn section_number(s: &[u8]) -> usize
@@ -38,17 +38,6 @@ pub fn events(section: &[u8], skip: usize, list: &mut [u32]) -> Shown
     shown_sections::told(skip, last)
 }
 
-// Whether the set in a row in use was handed out, and nothing came for it since.
-fn is_set_out(heads: &[u64], used: usize, row: usize) -> bool
-    requires { ⌜ used * 12 ≤ length (now heads) ⌝ }
-    ensures { λ r. ⌜ r ≡ setOut (now (heads .entry)) used row ⌝ }
-{
-    if row < used {
-        return rows::mark(heads, row) != 0;
-    }
-    false
-}
-
 // The events of the set in a row.
 pub fn events_of_set(
     eit: Eit,
@@ -66,7 +55,7 @@ pub fn events_of_set(
     let sets = eit.sets;
     let whole = eit_state::is_whole(eit, heads, slots, cells, schedule_heads, units);
     if whole {
-        if is_set_out(heads, sets.used, row) {
+        if handed::is_set_out(heads, sets.used, row) {
             let part = rows::row_slots(heads, slots, row);
             return shown_sections::show_slots(part, sets.size, cells, skip, list);
         }

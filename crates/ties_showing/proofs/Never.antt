@@ -61,8 +61,10 @@ use Rattle.shown_sections.specs.declared.ShowAnswer.the-variants.{Yes, No, Refu
 use Rattle.shown_sections.specs.declared.Shown.{Shown}
 use Rattle.shown_sections.specs.Shown as shown
 use Rattle.shown_sections.specs.Shown.{Show, End, finished, no-eit, past-loop, endBy, goodShow, showBy, sectionShow, andThen, endThen, slotShow, slotsShow, showNumber, nothingShown, reachedAs, toldBy, laid}
-use Rattle.showing.specs.Store.{setOut, tableOut, shownSet, shownTable}
-use Rattle.showing.proofs.Held.{in-use, there, tables-few, table-present, table-whole}
+use Rattle.handed.specs.Handed.{setOut}
+use Rattle.showing.specs.Store.{tableOut, shownSet, shownTable}
+use Rattle.handed.proofs.Ways.{in-use}
+use Rattle.showing.proofs.Held.{there, tables-few, table-present, table-whole}
 use Rattle.ties_showing.proofs.Kept.{okIn, Sound, GoodCall, opened-sound, always-sound}
 
 -- ---- a section that is read as an EIT
@@ -258,7 +260,7 @@ module _ (s : Store) (l : Left s) where
       go false e = (λ (q : _≡_ {A = ℕ} 9 18). omega arith, λ (q : _≡_ {A = ℕ} 9 19). omega arith)
       go true e =
           let w = whole-store s (l .whole) .sets in
-          let h = in-use (s .eit) (s .heads) (s .slots) (s .cells) (s .schedule-heads) (s .units) true (sym (l .whole)) refl row true (sym e) refl in
+          let h = in-use (s .heads) (s .eit .sets .used) row true (sym e) refl in
           laid-answers skip (slotsShow (s .cells) (s .eit .sets .size) (rowSlots (s .heads) (s .slots) row) 0) list
           (slots-good (s .cells) (s .eit .sets .size) (s .eit .sets .count) (rowSlots (s .heads) (s .slots) row) 0
           (rows-get (s .heads) (s .slots) (s .eit .sets .count) (s .eit .sets .size) (s .eit .sets .used) row (w .rows) h) (row-good row h))

@@ -1,9 +1,10 @@
 //! A guide monitor in Rust over the proved library: reads records from standard input or from the file named, a PID (two bytes, high byte
-//! first) and a section each, or with --ts a transport stream, and prints each new section, each complete set and schedule with their events, and
-//! totals, as examples/monitor.c does.
+//! first) and a section each, or with --ts a transport stream, and prints each new section, each complete set and schedule with their events,
+//! transport streams and services, and totals, as examples/monitor.c does.
 
 use petrizolu::{
-    Answer, Complete, Demux, EVENT, Eit, Ended, Entry, Gate, GateState, Listing, Name, Offered, PACKET_BYTES, Refused, Section, Sets, UNDEFINED, date,
+    Answer, BAT, Complete, Demux, EVENT, Eit, Ended, Entry, Gate, GateState, Listing, NIT, Name, Offered, PACKET_BYTES, Refused, SDT, SERVICE, Section, Sets,
+    TRANSPORT_STREAM, UNDEFINED, date,
 };
 use std::io::{self, BufReader, Read};
 
@@ -57,6 +58,31 @@ fn show_events(listing: Result<Listing, Refused>) {
     }
 }
 
+/// The reader of a table_id (EN 300 468, table 2).
+fn reader_of(table_id: u8) -> Option<u32> {
+    match table_id {
+        0x40 | 0x41 => Some(NIT),
+        0x4A => Some(BAT),
+        0x42 | 0x46 => Some(SDT),
+        _ => None,
+    }
+}
+
+fn show_entries(listing: Result<Listing, Refused>) {
+    let Ok(Listing { entries, ended }) = listing else { return };
+    for Entry { kind, id, original_network_id, running_status, free_ca_mode, .. } in entries {
+        let scrambled = if free_ca_mode == 1 { ", scrambled" } else { "" };
+        match kind {
+            TRANSPORT_STREAM => println!("  stream {id:04X} of network {original_network_id:04X}"),
+            SERVICE => println!("  service {id:04X} of network {original_network_id:04X}, running status {running_status}{scrambled}"),
+            _ => {}
+        }
+    }
+    if let Some(Ended { answer: Answer::BROKEN_LOOP, section, place }) = ended {
+        println!("  broken at byte {place} of section {section}");
+    }
+}
+
 impl Monitor {
     fn open() -> Result<Self, Refused> {
         Ok(Self {
@@ -95,6 +121,9 @@ impl Monitor {
                 let Name { pid, table_id, extension, version, .. } = self.sets.name(&row);
                 println!("set{} table {table_id:02X} extension {extension:04X} version {version}", pid_text(pid));
                 show_sections(&self.sets.sections(&row));
+                if let Some(reader) = reader_of(table_id) {
+                    show_entries(self.sets.entries(reader, &row));
+                }
             }
             Err(Refused(answer)) => self.refuse(answer),
         }

@@ -110,7 +110,7 @@ pub enum Answer {
     Fed(Fed),
     /// What a question for entries answers; where it tells anything (all but 10 and 14), how many there are, the section and the place where the listing ended, and
     /// the words of the entries of the page.
-    Entries(u8, Option<([u64; 3], Vec<[u32; 12]>)>),
+    Entries(Part, u8, Option<([u64; 3], Vec<[u32; 12]>)>),
     /// A calendar date in eight decimal digits, or 0.
     Date(u32),
 }
@@ -124,7 +124,7 @@ impl Answer {
             Answer::Collected(n, Held::Sets { .. }, _) => Some((Part::Sets, *n)),
             Answer::Collected(n, Held::Eit { .. }, _) => Some((Part::Eit, *n)),
             Answer::Fed(fed) => Some((Part::Demux, fed.number)),
-            Answer::Entries(n, _) => Some((Part::Eit, *n)),
+            Answer::Entries(part, n, _) => Some((*part, *n)),
             Answer::Input(_) | Answer::Unwatched | Answer::Undeliverable | Answer::Watched(..) | Answer::Date(_) => None,
             Answer::Counters(_) | Answer::Pats { .. } => None,
         }
@@ -215,9 +215,9 @@ impl Display for Answer {
                 write!(f, "eit {n} ev={e}/{s} rows={r}/{t}{out}")
             }
             Answer::Fed(fed) => write!(f, "{fed}"),
-            Answer::Entries(n, None) => write!(f, "eit {n}"),
-            Answer::Entries(n, Some(([count, section, place], entries))) => {
-                write!(f, "eit {n} count={count} section={section} place={place}")?;
+            Answer::Entries(part, n, None) => write!(f, "{part} {n}"),
+            Answer::Entries(part, n, Some(([count, section, place], entries))) => {
+                write!(f, "{part} {n} count={count} section={section} place={place}")?;
                 entries.iter().try_for_each(|words| write!(f, " [{}]", words.map(|word| word.to_string()).join(" ")))
             }
             Answer::Date(date) => write!(f, "eit date {date}"),

@@ -129,6 +129,18 @@ pub enum Command {
     },
     /// The calendar date of a day.
     Date(u32),
+    /// What the set in a row of the set collector says, by a reader: 1 networks', 2 bouquets', 3 services'.
+    Entries {
+        reader: u8,
+        row: u16,
+        page: Page,
+    },
+    /// What one section says by a reader.
+    ReadTable {
+        reader: u8,
+        section: Vec<u8>,
+        page: Page,
+    },
 }
 
 /// Entries from `skip` on, as many as there is room for.
@@ -147,6 +159,7 @@ impl Command {
             Command::Watched | Command::Counters | Command::Pats => Some(Part::Gate),
             Command::Open { part, .. } | Command::Push { part, .. } | Command::Clear { part } => Some(*part),
             Command::Drop(_) | Command::Events { .. } | Command::Read { .. } | Command::Date(_) => Some(Part::Eit),
+            Command::Entries { .. } | Command::ReadTable { .. } => Some(Part::Sets),
             Command::Demux(_) => Some(Part::Demux),
         }
     }
@@ -195,6 +208,8 @@ impl Command {
             Command::Events { .. } => "eit table",
             Command::Read { .. } => "eit read",
             Command::Date(_) => "eit date",
+            Command::Entries { .. } => "sets entries",
+            Command::ReadTable { .. } => "sets read",
         }
     }
 }

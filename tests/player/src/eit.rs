@@ -1,9 +1,10 @@
 //! The EIT collector over lent memory.
 use crate::answer::{Answer, Held, Out, Set};
-use crate::command::{Command, Filter, Page, Part};
+use crate::command::{Command, Filter, Part};
 use crate::lent::{Lent, halves, words};
+use crate::page::entries;
 use crate::sets::{byte, head, pid_word, sections, set_of};
-use petrizolu::{ANY, Answer as Number, ENTRY_WORDS, EitState, HEAD_WORDS, Listed, Place, SLOT_WORDS, UNIT_WORDS, calls};
+use petrizolu::{ANY, Answer as Number, EitState, HEAD_WORDS, Listed, Place, SLOT_WORDS, UNIT_WORDS, calls};
 
 #[derive(Clone, PartialEq)]
 pub struct Eit {
@@ -117,11 +118,11 @@ impl Eit {
                 let number = self.drop_matching(&filter_words(input, filter));
                 Answer::Collected(number.0, self.held(), Out::Nothing)
             }
-            Command::Events { row, table, page } => entries(page, |skip, list, listed| match table {
+            Command::Events { row, table, page } => entries(Part::Eit, page, |skip, list, listed| match table {
                 None => self.events((*row).into(), skip, list, listed),
                 Some(table) => self.events_in_schedule((*row).into(), (*table).into(), skip, list, listed),
             }),
-            Command::Read { section, page } => entries(page, |skip, list, listed| calls::events(section, skip, list, listed)),
+            Command::Read { section, page } => entries(Part::Eit, page, |skip, list, listed| calls::events(section, skip, list, listed)),
             Command::Date(day) => Answer::Date(calls::date(*day)),
             other => panic!("no command of the EIT collector: {other}"),
         }
@@ -151,23 +152,6 @@ impl Eit {
         };
         Out::Schedule { first, last, sets: (first..=last).map(table).collect() }
     }
-}
-
-/// Asks for a page of entries. The list has room for them and for a part of one more; words behind the last entry, and all where nothing is told, stay as they were.
-fn entries(page: &Page, ask: impl FnOnce(u64, &mut [u32], &mut Listed) -> Number) -> Answer {
-    const BEFORE: u32 = 0xA5A5_A5A5;
-    let untold = Listed { count: u64::MAX, section: u64::MAX, place: u64::MAX };
-    let room = usize::from(page.room);
-    let mut list = vec![BEFORE; room * ENTRY_WORDS + usize::from(page.skip) % ENTRY_WORDS];
-    let mut listed = untold;
-    let number = ask(page.skip.into(), &mut list, &mut listed);
-    let tells = !matches!(number, Number::NOT_WHOLE | Number::MALFORMED);
-    let shown = if tells { listed.count.saturating_sub(page.skip.into()).min(room as u64) as usize } else { 0 };
-    let (entries, behind) = list.split_at(shown * ENTRY_WORDS);
-    assert!(behind.iter().all(|&word| word == BEFORE), "{number}: words behind the last entry were written");
-    assert_eq!(listed == untold, !tells, "{number}: what is told of the listing");
-    let (entries, _) = entries.as_chunks();
-    Answer::Entries(number.0, tells.then(|| ([listed.count, listed.section, listed.place], entries.to_vec())))
 }
 
 fn filter_words(input: u8, filter: &Filter) -> petrizolu::Filter {

@@ -48,6 +48,8 @@ impl Display for Command {
             }
             Command::Read { section, page } => write!(f, " {}{page}", hex(section)),
             Command::Date(day) => write!(f, " {day}"),
+            Command::Entries { reader, row, page } => write!(f, " reader={reader} row={row}{page}"),
+            Command::ReadTable { reader, section, page } => write!(f, " {} reader={reader}{page}", hex(section)),
         }
     }
 }
@@ -76,6 +78,7 @@ pub fn parse(line: &str) -> Option<Command> {
     let number = |name: &str, default: u32| field(name).map_or(Some(default), |text| text.parse().ok());
     let small = |name: &str, default: u16| number(name, default.into()).and_then(|n| u16::try_from(n).ok());
     let page = || Some(Page { skip: small("skip", 0)?, room: small("room", 64)? });
+    let reader = || u8::try_from(small("reader", 1)?).ok();
     let flag = |name: &str, default: bool| field(name).map_or(default, |text| text == "1");
     let exact = |name: &str| match field(name) {
         None => Some(None),
@@ -143,6 +146,8 @@ pub fn parse(line: &str) -> Option<Command> {
                 Some(_) => return None,
             },
         }),
+        (Part::Sets, "entries") => Command::Entries { reader: reader()?, row: small("row", 0)?, page: page()? },
+        (Part::Sets, "read") => Command::ReadTable { reader: reader()?, section: unhex(words.get(2)?)?, page: page()? },
         (Part::Eit, "events") => Command::Events { row: small("row", 0)?, table: None, page: page()? },
         (Part::Eit, "table") => {
             Command::Events { row: small("row", 0)?, table: Some(u8::try_from(small("table", 0)?).ok()?), page: page()? }

@@ -2,7 +2,8 @@
 use crate::answer::{Answer, Held, Out, Set};
 use crate::command::{Command, Part};
 use crate::lent::{Lent, halves, words};
-use petrizolu::{Answer as Number, HEAD_WORDS, NO_PID, Place, SLOT_WORDS, SetsState, calls};
+use crate::page::entries;
+use petrizolu::{Answer as Number, HEAD_WORDS, Listed, NO_PID, Place, SLOT_WORDS, SetsState, calls};
 
 #[derive(Clone, PartialEq)]
 pub struct Sets {
@@ -43,6 +44,10 @@ impl Sets {
         calls::sets_next(&self.state, &self.heads, &self.slots, &self.cells, row, from, next)
     }
 
+    pub fn entries(&self, reader: u32, row: u64, skip: u64, list: &mut [u32], listed: &mut Listed) -> Number {
+        calls::sets_entries(reader, &self.state, &self.heads, &self.slots, &self.cells, row, skip, list, listed)
+    }
+
     /// Carries out a command of the set collector on an input.
     pub fn answer(&mut self, input: u8, command: &Command) -> Answer {
         match command {
@@ -55,6 +60,12 @@ impl Sets {
                 Answer::Collected(number.0, Held::Sets { evicted: self.state.evictions, rows: self.state.used as usize }, out)
             }
             Command::Clear { .. } => Answer::Number(Part::Sets, self.clear().0),
+            Command::Entries { reader, row, page } => entries(Part::Sets, page, |skip, list, listed| {
+                self.entries((*reader).into(), (*row).into(), skip, list, listed)
+            }),
+            Command::ReadTable { reader, section, page } => {
+                entries(Part::Sets, page, |skip, list, listed| calls::entries((*reader).into(), section, skip, list, listed))
+            }
             other => panic!("no command of the set collector: {other}"),
         }
     }

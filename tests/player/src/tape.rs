@@ -13,7 +13,9 @@
 //! 20 sets open     limit u16, cells u16, cell size u16
 //! 21 sets push     PID u16 (FFFF none), length u16, the bytes
 //! 22 sets clear
-//! 30 31 32         the same of the EIT collector
+//! 24 sets entries  reader u8 (1 networks', 2 bouquets', 3 services'), row u16, skip u16, room u16: the entries of a set
+//! 25 sets read     reader u8, skip u16, room u16, length u16, the bytes: those of a section
+//! 30 31 32         as 20 to 22 of the EIT collector
 //! 33 eit drop      mask u8 (1 PID, 2 kind, 4 service_id, 8 transport_stream_id, 10 original_network_id, 20 current_next, 40 the input that is
 //!                  current), PID u16 (FFFF none), kind u8 (0 and 1 present/following actual and other, 2 and 3 schedule actual and other),
 //!                  service_id u16, transport_stream_id u16, original_network_id u16, current_next u8
@@ -90,6 +92,12 @@ impl<R: Read> Tape<R> {
             0x20 | 0x30 => Command::Open { part, limit: self.short()?, cells: self.short()?, size: self.short()? },
             0x21 | 0x31 => Command::Push { part, pid: self.maybe_pid()?, section: self.section()? },
             0x22 | 0x32 => Command::Clear { part },
+            0x24 => Command::Entries { reader: self.byte()?, row: self.short()?, page: self.page()? },
+            0x25 => {
+                let reader = self.byte()?;
+                let page = self.page()?;
+                Command::ReadTable { reader, section: self.section()?, page }
+            }
             0x33 => self.filter()?,
             0x34 => Command::Events { row: self.short()?, table: None, page: self.page()? },
             0x35 => Command::Events { row: self.short()?, table: Some(self.byte()?), page: self.page()? },
@@ -219,6 +227,16 @@ fn write_command(command: &Command, tape: &mut Vec<u8>) {
         Command::Date(day) => {
             tape.push(0x37);
             tape.extend(day.to_be_bytes());
+        }
+        Command::Entries { reader, row, page } => {
+            tape.extend([0x24, *reader]);
+            tape.extend(row.to_be_bytes());
+            write_page(tape, page);
+        }
+        Command::ReadTable { reader, section, page } => {
+            tape.extend([0x25, *reader]);
+            write_page(tape, page);
+            write_bytes(tape, section);
         }
         Command::Demux(Demux::Open(_)) => write_opening(command, 0x40, tape),
         Command::Demux(Demux::Streams(buffers)) => {

@@ -373,7 +373,8 @@ impl Collector {
         let part = |&cell: &usize| Part { number: self.cells[cell][6], start: cell * self.size, bytes: &self.cells[cell] };
         let Some(table) = table else {
             let row = self.rows.held.iter().find(|row| row.place == place)?;
-            return (row.marked || reading.has(Fault::UnmarkedListed)).then(|| cells(row).iter().map(part).collect());
+            let listed = row.marked || reading.has(Fault::UnmarkedListed) || reading.has(Fault::UnmarkedSetListed);
+            return listed.then(|| cells(row).iter().map(part).collect());
         };
         let schedule = self.schedules.held.iter().find(|schedule| schedule.place == place)?;
         let range = schedule.key.table_id..=schedule.last_table_id;

@@ -3,7 +3,7 @@ use super::Reading;
 use super::section::{long_form, refused_by_the_eit, true_length, word};
 use crate::faults::Fault;
 use player::answer::Answer;
-use player::command::Page;
+use player::command::{Page, Part as Of};
 
 /// A section that is listed: its number, and where its bytes begin in what is lent.
 pub struct Part<'a> {
@@ -17,7 +17,7 @@ type Words = [u32; 12];
 /// What a section says by itself.
 pub fn read(reading: &mut Reading, section: &[u8], page: &Page) -> Answer {
     if section.len() < 3 || !true_length(section) || (long_form(section) && section.len() < 12) {
-        return Answer::Entries(14, None);
+        return Answer::Entries(Of::Eit, 14, None);
     }
     let number = section.get(if reading.has(Fault::NumberFromLast) { 7 } else { 6 }).copied().unwrap_or(0);
     list(reading, vec![Part { number, start: 0, bytes: section }], page)
@@ -42,8 +42,8 @@ pub fn list(reading: &mut Reading, mut parts: Vec<Part>, page: &Page) -> Answer 
     let shown: Vec<Words> = all.iter().skip(skip).take(page.room.into()).copied().collect();
     let count = if reading.has(Fault::CountOfThePage) { shown.len() } else { all.len() } as u64;
     match ended {
-        Some((number, section, place)) => Answer::Entries(number, Some(([count, section.into(), place as u64], shown))),
-        None => Answer::Entries(if all.len() > page.skip.into() { 8 } else { 9 }, Some(([count, 0, 0], shown))),
+        Some((number, section, place)) => Answer::Entries(Of::Eit, number, Some(([count, section.into(), place as u64], shown))),
+        None => Answer::Entries(Of::Eit, if all.len() > page.skip.into() { 8 } else { 9 }, Some(([count, 0, 0], shown))),
     }
 }
 

@@ -3,6 +3,7 @@
 mod collector;
 mod events;
 mod gate;
+mod networks;
 mod packets;
 mod section;
 
@@ -106,6 +107,11 @@ impl Second {
         self.eit = Some(Collector::open(true, limit, cells, size));
     }
 
+    /// Opens the set collector with whatever room it asks for.
+    pub fn open_sets(&mut self, limit: u16, cells: u16, size: u16) {
+        self.sets = Some(Collector::open(false, limit, cells, size));
+    }
+
     /// How many sets went on into a schedule since the EIT collector was opened.
     pub fn entered(&self) -> u64 {
         self.eit.as_ref().map_or(0, |eit| eit.entered)
@@ -177,14 +183,23 @@ impl Second {
                 Answer::Number(*part, if cleared.is_some() { 7 } else { 10 })
             }
             Command::Events { row, table, page } => match &self.eit {
-                None if self.reading.has(Fault::NotWholeUnasked) => Answer::Entries(9, Some(([0; 3], Vec::new()))),
-                None => Answer::Entries(10, None),
+                None if self.reading.has(Fault::NotWholeUnasked) => Answer::Entries(Part::Eit, 9, Some(([0; 3], Vec::new()))),
+                None => Answer::Entries(Part::Eit, 10, None),
                 Some(eit) => match eit.listed(&self.reading, (*row).into(), *table) {
-                    None => Answer::Entries(9, Some(([0; 3], Vec::new()))),
+                    None => Answer::Entries(Part::Eit, 9, Some(([0; 3], Vec::new()))),
                     Some(parts) => events::list(&mut self.reading, parts, page),
                 },
             },
             Command::Read { section, page } => events::read(&mut self.reading, section, page),
+            Command::Entries { reader, row, page } => match &self.sets {
+                None if self.reading.has(Fault::ClosedHasNone) => Answer::Entries(Part::Sets, 9, Some(([0; 3], Vec::new()))),
+                None => Answer::Entries(Part::Sets, 10, None),
+                Some(sets) => match sets.listed(&self.reading, (*row).into(), None) {
+                    None => Answer::Entries(Part::Sets, 9, Some(([0; 3], Vec::new()))),
+                    Some(parts) => networks::list(&self.reading, *reader, parts, page),
+                },
+            },
+            Command::ReadTable { reader, section, page } => networks::read(&self.reading, *reader, section, page),
             Command::Date(day) => Answer::Date(events::date(&self.reading, *day)),
             Command::Drop(filter) => {
                 let number = self.drop(filter);

@@ -6,9 +6,10 @@ use Rattle.event_sets.proofs.list_set.Statement.{statement}
 use Rattle.event_sets.proofs.list_set.Tie as tie
 use Rattle.event_sets.proofs.list_set.Reads as reads
 use Rattle.event_sets.proofs.list_set.Lts as lts
-use Rattle.event_sets.proofs.on_page.Reads as on-page-reads
-use Rattle.event_sets.proofs.say_end.Reads as say-end-reads
-use Rattle.event_sets.proofs.say_page.Reads as say-page-reads
+use Rattle.entry_pages.proofs.on_page.Reads as on-page-reads
+use Rattle.entry_pages.proofs.say_end.Reads as say-end-reads
+use Rattle.entry_pages.proofs.say_page.Reads as say-page-reads
+use Rattle.shown_sections.proofs.ShowAnswer.number.Reads as number-reads
 use Rattle.showing.proofs.events_of_set.Reads as events-of-set-reads
 
 abbrev Inv-loop : tie.InvT-loop
@@ -40,6 +41,10 @@ say-page-requires c κs = search needs
 -- src/lib.rt:127:21
 add-if1 : tie.Need-add-if1 Inv-loop μ-loop
 add-if1 c = search needs
+
+-- src/lib.rt:0:0
+number-requires : tie.Need-number-requires Inv-loop μ-loop
+number-requires c κs = search needs
 
 -- src/lib.rt:128:13
 say-end-requires : tie.Need-say-end-requires Inv-loop μ-loop
@@ -85,6 +90,7 @@ list-set-spec =
     on-page-requires
     say-page-requires
     add-if1
+    number-requires
     say-end-requires
     same-length
     returns

@@ -7,7 +7,7 @@ use Rattle.event_sets.proofs.tell_schedule.Tie as tie
 use Rattle.event_sets.proofs.tell_schedule.Reads as reads
 use Rattle.event_sets.proofs.tell_schedule.Lts as lts
 use Rattle.event_sets.proofs.list_table.Reads as list-table-reads
-use Rattle.event_sets.proofs.one_more.Reads as one-more-reads
+use Rattle.entry_pages.proofs.one_more.Reads as one-more-reads
 use Rattle.event_sets.proofs.say_schedule.Reads as say-schedule-reads
 use Rattle.event_sets.proofs.say_table.Reads as say-table-reads
 

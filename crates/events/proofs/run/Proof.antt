@@ -7,7 +7,8 @@ use Rattle.events.proofs.run.Tie as tie
 use Rattle.events.proofs.run.Reads as reads
 use Rattle.events.proofs.run.Lts as lts
 use Rattle.eit.proofs.open.Reads as open-reads
-use Rattle.event_lines.proofs.heads.say_totals.Reads as say-totals-reads
+use Rattle.entry_lines.proofs.heads.say_event_totals.Reads as say-event-totals-reads
+use Rattle.entry_pages.proofs.no_totals.Reads as no-totals-reads
 use Rattle.events.proofs.turn.Reads as turn-reads
 
 abbrev Inv-loop : tie.InvT-loop
@@ -21,6 +22,10 @@ abbrev μ-loop : tie.MeasureT-loop
 -- src/main.rt:160:9
 open-requires : tie.Need-open-requires Inv-loop μ-loop
 open-requires c κs = search needs
+
+-- src/main.rt:0:0
+no-totals-requires : tie.Need-no-totals-requires Inv-loop μ-loop
+no-totals-requires c κs = search needs
 
 -- src/main.rt:173:5
 loop-holds : tie.Need-loop-holds Inv-loop μ-loop
@@ -43,8 +48,8 @@ loop-again : tie.Need-loop-again Inv-loop μ-loop
 loop-again c = search needs
 
 -- src/main.rt:190:5
-say-totals-requires : tie.Need-say-totals-requires Inv-loop μ-loop
-say-totals-requires c κs = search needs
+say-event-totals-requires : tie.Need-say-event-totals-requires Inv-loop μ-loop
+say-event-totals-requires c κs = search needs
 
 -- src/main.rt:151:1
 returns : tie.Need-returns Inv-loop μ-loop
@@ -57,10 +62,11 @@ run-spec =
     Inv-loop
     μ-loop
     open-requires
+    no-totals-requires
     loop-holds
     turn-requires
     sub-turns
     loop-less
     loop-again
-    say-totals-requires
+    say-event-totals-requires
     returns)

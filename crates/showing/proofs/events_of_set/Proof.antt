@@ -7,7 +7,7 @@ use Rattle.showing.proofs.events_of_set.Reads as reads
 use Rattle.showing.proofs.events_of_set.Lts as lts
 use Rattle.eit_state.proofs.is_whole.Reads as is-whole-reads
 use Rattle.rows.proofs.row_slots.Reads as row-slots-reads
-use Rattle.showing.proofs.is_set_out.Reads as is-set-out-reads
+use Rattle.handed.proofs.is_set_out.Reads as is-set-out-reads
 use Rattle.shown_sections.proofs.nothing.Reads as nothing-reads
 use Rattle.shown_sections.proofs.show_slots.Reads as show-slots-reads
 

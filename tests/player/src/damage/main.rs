@@ -1,4 +1,4 @@
-//! `damage gate`, `damage sets`, `damage eit`, `damage packets`, `damage events`: what a tape cannot reach. Lent memory is written over, less of it is lent or a count is preset, one
+//! `damage gate`, `damage sets`, `damage eit`, `damage packets`, `damage events`, `damage tables`: what a tape cannot reach. Lent memory is written over, less of it is lent or a count is preset, one
 //! thing at a time, and each call is made on it: a line says what it answers, and whether every word, lent or kept by value, is as it was. 10, 11, 12,
 //! 13 and 37 leave all as before.
 use petrizolu::{Answer, Place};
@@ -10,6 +10,7 @@ mod events;
 mod gate;
 mod packets;
 mod sets;
+mod tables;
 
 /// What is damaged: a store, and what the calls are given. Two are equal where every word is.
 trait Store: Clone + PartialEq {
@@ -79,8 +80,9 @@ fn main() -> io::Result<ExitCode> {
             run(&packets::counters(), &mut out)?;
         }
         "events" => run(events::CASES, &mut out)?,
+        "tables" => run(tables::CASES, &mut out)?,
         _ => {
-            eprintln!("usage: damage gate|sets|eit|packets|events");
+            eprintln!("usage: damage gate|sets|eit|packets|events|tables");
             return Ok(ExitCode::from(2));
         }
     }
