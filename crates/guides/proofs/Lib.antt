@@ -3,3 +3,4 @@ pub mod Ways
 pub mod Unique
 pub mod Theorems
 pub mod Examples
+pub mod Tables
