@@ -9,16 +9,18 @@ mod demux;
 mod eit;
 mod events;
 mod gate;
+mod guides;
 mod raw;
 mod rows;
 mod sets;
 
 pub use answer::{Answer, Refused};
-pub use calls::{EitState, Entry, Failure, Filter, GateState, Listed, Place, SetsState, StreamsState, crc, date};
+pub use calls::{Compared, Difference, EitState, Entry, Failure, Filter, GateState, HeldByOne, Listed, Place, SetsState, StreamsState, crc, date};
 pub use demux::{Demux, Fed};
 pub use eit::{Complete, Eit};
 pub use events::{Ended, Listing, events};
 pub use gate::{Gate, Offered, SmallGate};
+pub use guides::{Differences, ScheduleDifferences, compare, compare_schedules, held_by_one};
 pub use rows::{Name, Row, Section};
 pub use sets::Sets;
 
@@ -86,3 +88,10 @@ pub const ENTRY_WORDS: usize = 12;
 pub const EVENT: u32 = 1;
 pub const DESCRIPTOR: u32 = 2;
 pub const UNDEFINED: u32 = u32::MAX;
+
+/// Words of a difference of two guides, how many two sets have at most (two schedules 16 times as many), and its kinds.
+pub const DIFFERENCE_WORDS: usize = 4;
+pub const MOST_DIFFERENCES: usize = 256;
+pub const ONLY_FIRST: u32 = 1;
+pub const ONLY_SECOND: u32 = 2;
+pub const OTHER_BYTES: u32 = 3;

@@ -1,6 +1,3 @@
 pub mod Ranges
 pub mod Ways
 pub mod Unique
-pub mod Theorems
-pub mod Examples
-pub mod Tables
