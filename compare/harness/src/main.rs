@@ -2,6 +2,7 @@
 mod apart;
 mod events;
 mod faults;
+mod guides;
 mod lent;
 mod make;
 mod original;
@@ -42,11 +43,12 @@ const USAGE: &str = "usage: compare/run [SEEDS] [COMMANDS]             scripts i
        compare/run --pats [SEEDS] [COMMANDS]      PATs in several sections: complete PATs followed, the port beside the second implementation
        compare/run --packets [SEEDS] [PACKETS]    the packet layer, on streams by the standard beside the original, and on wild ones
        compare/run --events [SEEDS] [COMMANDS]    the entries of sections, sets and schedules: the port beside the second implementation, and the program events
+       compare/run --guides [SEEDS] [COMMANDS]    two guides compared: the port beside the second implementation, and the program compare_guides
        compare/run --faults [SEEDS] [COMMANDS]    the same, with each fault in turn in the second implementation
        compare/run --present [SEEDS] [COMMANDS]   two EIT collectors, one with a smaller limit: the third demand for present and following
        compare/run --split STREAM                 the PAT of a transport stream sent in two sections: which of its programmes are seen
        compare/run --script FILE                  a script of your own
-       compare/run --tape DOMAIN SEED COMMANDS    writes the script of a seed as a tape (inside, damaged or cells; inputs or apart for several inputs; pats; events)
+       compare/run --tape DOMAIN SEED COMMANDS    writes the script of a seed as a tape (inside, damaged or cells; inputs or apart for several inputs; pats; events; guides)
        compare/run --sections                     what the program sections writes on the stream on standard input, by the second implementation
        compare/run --listed                       such records as lines: a PID and a section each
        compare/run --vary VARIANT SEED            a variant of the stream on standard input: guide, late, lost, copied, shuffled or swapped
@@ -76,6 +78,10 @@ fn main() -> ExitCode {
         },
         Some(&"--events") => match (number(1, 50), number(2, 20_000)) {
             (Some(seeds), Some(commands)) => events::compare(&root, seeds, commands),
+            _ => return usage(),
+        },
+        Some(&"--guides") => match (number(1, 50), number(2, 20_000)) {
+            (Some(seeds), Some(commands)) => guides::compare(&root, seeds, commands),
             _ => return usage(),
         },
         Some(&"--faults") => match (number(1, 40), number(2, 2000)) {
@@ -243,6 +249,7 @@ fn named_script(name: &str, seed: u64, commands: usize) -> Option<Vec<Command>> 
         "apart" => make::apart(seed, commands),
         "pats" => pats::script(seed, commands),
         "events" => events::script(seed, commands),
+        "guides" => guides::script(seed, commands),
         _ => make::script(seed, commands, Domain::named(name)?),
     })
 }
@@ -256,7 +263,7 @@ fn played(tape: &[u8]) -> String {
 
 /// A tape that ends inside a command, at each place, and a command that there is not.
 fn compare_ends(root: &Path) -> bool {
-    let written = ["scripts", "inputs", "pats", "packets", "events"].into_iter().flat_map(|folder| Written::all(root, folder));
+    let written = ["scripts", "inputs", "pats", "packets", "events", "guides"].into_iter().flat_map(|folder| Written::all(root, folder));
     let script = &first_of_each_kind(written.flat_map(|script| script.commands))[..];
     let lines = Side::RULES.lines(script);
     let starts: Vec<usize> = (0..=script.len()).map(|whole| tape_of(&script[..whole]).len()).collect();
@@ -267,7 +274,7 @@ fn compare_ends(root: &Path) -> bool {
         lines[..whole].iter().map(|line| format!("{line}\n")).collect::<String>() + cut
     };
     let mut good = (0..=tape.len()).all(|end| played(&tape[..end]) == expected(end));
-    for bad in [0x00, 0x0F, 0x17, 0x1F, 0x23, 0x38, 0x3F, 0x45, 0x4F, 0x51, 0xFF] {
+    for bad in [0x00, 0x0F, 0x17, 0x1F, 0x23, 0x38, 0x3F, 0x45, 0x4F, 0x51, 0x63, 0xFF] {
         let output = played(&[&tape[..], &[bad, 0x14]].concat());
         good &= output == expected(tape.len()) + &format!("bad {}\n", tape.len());
     }
@@ -350,6 +357,7 @@ fn domains_of(fault: Fault) -> &'static [(Domain, &'static str)] {
     match fault {
         fault if fault.of_pats() => &[(Domain::Inside, "PATs in several sections")],
         fault if fault.of_events() => &[(Domain::Inside, "entries")],
+        fault if fault.of_guides() => &[(Domain::Inside, "guides")],
         _ => &DOMAINS,
     }
 }
@@ -361,6 +369,9 @@ fn script_for(fault: Fault, seed: u64, commands: usize, domain: Domain) -> Vec<C
     }
     if fault.of_events() {
         return events::script(seed, commands);
+    }
+    if fault.of_guides() {
+        return guides::script(seed, commands);
     }
     let script = if fault.of_inputs() { make::on_inputs } else { make::script };
     let mut script = make::counted(script(seed, commands, domain));
@@ -395,7 +406,7 @@ fn find_fault(fault: Fault, seeds: usize, commands: usize) -> Option<(u64, &'sta
         }
         for &(domain, name) in domains_of(fault) {
             let script = script_for(fault, seed, commands, domain);
-            let has_original = !fault.of_rule_2() && !fault.of_inputs() && !fault.of_pats() && !fault.of_events();
+            let has_original = !fault.of_rule_2() && !fault.of_inputs() && !fault.of_pats() && !fault.of_events() && !fault.of_guides();
             let beside_original = || has_original.then(|| first_difference([Side::Original, with(true)], &script)).flatten();
             let found = beside_original().or_else(|| first_difference([Side::RULES, with(false)], &script));
             if let Some(found) = found {

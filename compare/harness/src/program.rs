@@ -20,10 +20,20 @@ impl Program {
         String::from_utf8(self.bytes(input)).expect("programs write ASCII")
     }
 
-    /// The same in bytes.
+    /// What it writes on no input, with these arguments.
+    pub fn with(&self, arguments: &[&str]) -> String {
+        String::from_utf8(self.run(&[], arguments)).expect("programs write ASCII")
+    }
+
+    /// What it writes on an input, in bytes.
     pub fn bytes(&self, input: &[u8]) -> Vec<u8> {
+        self.run(input, &[])
+    }
+
+    fn run(&self, input: &[u8], arguments: &[&str]) -> Vec<u8> {
         let mut started = Command::new(&self.run)
             .arg(self.name)
+            .args(arguments)
             .env("PETRIZOLU_BUILT", "1")
             .stdin(Stdio::piped())
             .stdout(Stdio::piped())

@@ -1,4 +1,5 @@
 //! What an implementation is asked.
+use crate::guides::Guides;
 
 #[derive(Clone, Copy, Debug, PartialEq, Eq, PartialOrd, Ord)]
 pub enum Part {
@@ -7,6 +8,8 @@ pub enum Part {
     Eit,
     /// The packet layer, with a gate of its own.
     Demux,
+    /// Two guides compared; nothing is kept.
+    Guides,
 }
 
 impl Part {
@@ -17,6 +20,7 @@ impl Part {
             Part::Sets => "sets",
             Part::Eit => "eit",
             Part::Demux => "demux",
+            Part::Guides => "guides",
         }
     }
 }
@@ -129,6 +133,7 @@ pub enum Command {
     },
     /// The calendar date of a day.
     Date(u32),
+    Guides(Guides),
 }
 
 /// Entries from `skip` on, as many as there is room for.
@@ -148,6 +153,7 @@ impl Command {
             Command::Open { part, .. } | Command::Push { part, .. } | Command::Clear { part } => Some(*part),
             Command::Drop(_) | Command::Events { .. } | Command::Read { .. } | Command::Date(_) => Some(Part::Eit),
             Command::Demux(_) => Some(Part::Demux),
+            Command::Guides(_) => Some(Part::Guides),
         }
     }
 
@@ -195,6 +201,7 @@ impl Command {
             Command::Events { .. } => "eit table",
             Command::Read { .. } => "eit read",
             Command::Date(_) => "eit date",
+            Command::Guides(guides) => guides.kind(),
         }
     }
 }
