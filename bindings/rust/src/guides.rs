@@ -24,7 +24,12 @@ pub fn compare(first: &[u8], first_pid: Option<u16>, second: &[u8], second_pid: 
 }
 
 /// Compares two schedules, each as the sections of its tables by rising table_id and number.
-pub fn compare_schedules(first: &[u8], first_pid: Option<u16>, second: &[u8], second_pid: Option<u16>) -> Result<ScheduleDifferences, Refused> {
+pub fn compare_schedules(
+    first: &[u8],
+    first_pid: Option<u16>,
+    second: &[u8],
+    second_pid: Option<u16>,
+) -> Result<ScheduleDifferences, Refused> {
     let mut tables = [0; 16];
     let found = differences(16 * MOST_DIFFERENCES, |list, compared| {
         calls::compare_schedules(first, pid_word(first_pid), second, pid_word(second_pid), &mut tables, list, compared)
@@ -53,7 +58,12 @@ fn differences(most: usize, ask: impl FnOnce(&mut [u32], &mut Compared) -> Answe
     match ask(&mut list, &mut compared) {
         Answer::YES | Answer::NO => {
             let (entries, _) = list.as_chunks::<DIFFERENCE_WORDS>();
-            let list = entries[..compared.count as usize].iter().map(|&[table_id, number, kind, place]| Difference { table_id, number, kind, place });
+            let list = entries[..compared.count as usize].iter().map(|&[table_id, number, kind, place]| Difference {
+                table_id,
+                number,
+                kind,
+                place,
+            });
             Ok(Differences { list: list.collect(), versions: compared.versions == 1, lasts: compared.lasts == 1 })
         }
         refusal => Err(Refused(refusal)),

@@ -15,7 +15,9 @@ mod rows;
 mod sets;
 
 pub use answer::{Answer, Refused};
-pub use calls::{Compared, Difference, EitState, Entry, Failure, Filter, GateState, HeldByOne, Listed, Place, SetsState, StreamsState, crc, date};
+pub use calls::{
+    Compared, Difference, EitState, Entry, Failure, Filter, GateState, HeldByOne, Listed, Place, SetsState, StreamsState, crc, date,
+};
 pub use demux::{Demux, Fed};
 pub use eit::{Complete, Eit};
 pub use events::{Ended, Listing, events};

@@ -288,7 +288,10 @@ fn compare_program(root: &Path, seed: u64, runs: usize) -> bool {
         let said = program.with(&[kind, first, second, &room.to_string()]);
         let expected = output(&mut rules, schedules, room, &sides);
         if said != expected {
-            println!("compare_guides {kind} with room for {room}:\n{}\nsays\n{said}not\n{expected}", Command::Guides(Guides::Compare { schedules, words, sides }));
+            println!(
+                "compare_guides {kind} with room for {room}:\n{}\nsays\n{said}not\n{expected}",
+                Command::Guides(Guides::Compare { schedules, words, sides })
+            );
             good = false;
             break;
         }

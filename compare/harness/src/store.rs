@@ -68,7 +68,7 @@ fn of_events(root: &Path) -> Vec<Command> {
 /// The written scripts of guides/ and a seed.
 fn of_guides(root: &Path) -> Vec<Command> {
     let by_hand = Written::all(root, "guides").into_iter().flat_map(|script| script.commands);
-    by_hand.chain(guides::script(SEEDS.start, COMMANDS)).collect()
+    by_hand.chain(guides::script(SEEDS.start, 1000)).collect()
 }
 
 /// Whether all sides agree on a script, the original too where it is a measure; says where they do not.

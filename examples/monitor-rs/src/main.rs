@@ -3,7 +3,8 @@
 //! totals, as examples/monitor.c does. With -w FOLDER each set and schedule that goes out is also written to a file there, which `./run compare_guides` takes.
 
 use petrizolu::{
-    Answer, Complete, Demux, EVENT, Eit, Ended, Entry, Gate, GateState, Listing, Name, Offered, PACKET_BYTES, Refused, Section, Sets, UNDEFINED, date,
+    Answer, Complete, Demux, EVENT, Eit, Ended, Entry, Gate, GateState, Listing, Name, Offered, PACKET_BYTES, Refused, Section, Sets,
+    UNDEFINED, date,
 };
 use std::io::{self, BufReader, Read};
 use std::path::PathBuf;

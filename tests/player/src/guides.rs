@@ -43,7 +43,12 @@ impl Guides {
     }
 
     /// What stands in a script behind the kind; of two sides the first before the second.
-    pub fn parse(kind: &str, words: &[&str], hex: impl Fn(&str) -> Option<Vec<u8>>, pid: impl Fn(&str) -> Option<Option<u16>>) -> Option<Guides> {
+    pub fn parse(
+        kind: &str,
+        words: &[&str],
+        hex: impl Fn(&str) -> Option<Vec<u8>>,
+        pid: impl Fn(&str) -> Option<Option<u16>>,
+    ) -> Option<Guides> {
         Some(match (kind, words) {
             ("held", [number, first, second]) => Guides::Held { number: number.parse().ok()?, sides: [hex(first)?, hex(second)?] },
             (kind @ ("sets" | "schedules"), [room, p, first, q, second]) => Guides::Compare {

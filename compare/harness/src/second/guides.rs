@@ -131,7 +131,12 @@ fn compare(reading: &Reading, schedules: bool, room: usize, [first, second]: &[C
     if list.len() > room {
         let count = if reading.has(Fault::NoRoomUncounted) { 0 } else { list.len() as u64 };
         let shown = if reading.has(Fault::ListedOnNoRoom) { room } else { 0 };
-        return Told::Compared { number: 34, told: Some([count, versions.into(), lasts.into()]), tables: None, list: list[..shown].to_vec() };
+        return Told::Compared {
+            number: 34,
+            told: Some([count, versions.into(), lasts.into()]),
+            tables: None,
+            list: list[..shown].to_vec(),
+        };
     }
     let number = if list.is_empty() { 9 } else { 8 };
     Told::Compared { number, told: Some([list.len() as u64, versions.into(), lasts.into()]), tables: schedules.then_some(tables), list }
