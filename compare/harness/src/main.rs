@@ -44,7 +44,7 @@ const USAGE: &str = "usage: compare/run [SEEDS] [COMMANDS]             scripts i
        compare/run --packets [SEEDS] [PACKETS]    the packet layer, on streams by the standard beside the original, and on wild ones
        compare/run --events [SEEDS] [COMMANDS]    the entries of sections, sets and schedules: the port beside the second implementation, and the program events
        compare/run --guides [SEEDS] [COMMANDS]    two guides compared: the port beside the second implementation, and the program compare_guides
-       compare/run --faults [SEEDS] [COMMANDS]    the same, with each fault in turn in the second implementation
+       compare/run --faults [SEEDS] [COMMANDS] [PART]    the same, with each fault in turn in the second implementation
        compare/run --present [SEEDS] [COMMANDS]   two EIT collectors, one with a smaller limit: the third demand for present and following
        compare/run --split STREAM                 the PAT of a transport stream sent in two sections: which of its programmes are seen
        compare/run --script FILE                  a script of your own
@@ -85,7 +85,7 @@ fn main() -> ExitCode {
             _ => return usage(),
         },
         Some(&"--faults") => match (number(1, 40), number(2, 2000)) {
-            (Some(seeds), Some(commands)) => compare_faults(seeds, commands),
+            (Some(seeds), Some(commands)) => compare_faults(seeds, commands, words.get(3).copied()),
             _ => return usage(),
         },
         Some(&"--present") => match (number(1, 200), number(2, 2000)) {
@@ -329,9 +329,10 @@ fn watch_stream(seed: u64) -> Vec<u8> {
 }
 
 /// Each fault in turn: it has to be found, by the original where it has a counterpart, else by the second implementation itself; and by the port.
-fn compare_faults(seeds: usize, commands: usize) -> bool {
+fn compare_faults(seeds: usize, commands: usize, part: Option<&str>) -> bool {
     let mut missed = 0;
-    for &fault in Fault::ALL {
+    let faults: Vec<Fault> = Fault::ALL.iter().copied().filter(|fault| part.is_none_or(|part| fault.part().name() == part)).collect();
+    for &fault in &faults {
         match find_fault(fault, seeds, commands) {
             Some((seed, domain, found)) => {
                 let against = found.answers[0].0;
@@ -348,7 +349,7 @@ fn compare_faults(seeds: usize, commands: usize) -> bool {
             println!("{fault:?}: NOT FOUND against the port in {seeds} seeds");
         }
     }
-    println!("{} faults, {missed} not found", Fault::ALL.len());
+    println!("{} faults, {missed} not found", faults.len());
     missed == 0
 }
 

@@ -111,7 +111,12 @@ fn compare(reading: &Reading, schedules: bool, room: usize, [first, second]: &[C
         return refused(12);
     }
     let (Some(a), Some(b)) = (side(reading, schedules, &first.bytes), side(reading, schedules, &second.bytes)) else { return refused(10) };
-    let (Some((_, x)), Some((_, y))) = (a.first_key_value(), b.first_key_value()) else { return refused(10) };
+    // A side without sections, where one is taken for a set, has whatever key the other has.
+    let (x, y) = match (a.first_key_value(), b.first_key_value()) {
+        (Some((_, x)), Some((_, y))) => (x, y),
+        (Some((_, x)), None) | (None, Some((_, x))) => (x, x),
+        (None, None) => return refused(10),
+    };
     let one_key = key(reading, schedules, first.pid, x) == key(reading, schedules, second.pid, y);
     if reading.has(Fault::KeyBeforePid) && !one_key {
         return refused(33);
