@@ -114,7 +114,7 @@ fn compared_copies(folder: &Path) -> Wrong {
     let feed = root().join("examples/feed");
     let [c, rs] = ["c", "rs"].map(|language| copies(language, &feed, &folder.join(language)));
     let mut wrong = Vec::new();
-    let names = ["0000-00-0001", "0011-42-0001", "0012-4E-0001-0001-0001", "0012-50-0001-0001-0001", "0100-02-0001"];
+    let names = ["0000-00-0001", "0011-42-0001", "0012-4E-0001-0001-2040", "0012-50-0001-0001-2040", "0100-02-0001"];
     let said: Vec<&str> = c.keys().map(String::as_str).collect();
     if said != names || c.keys().ne(rs.keys()) {
         wrong.push(format!("the files are {said:?} and {:?}", rs.keys()));
@@ -132,7 +132,7 @@ fn compared_copies(folder: &Path) -> Wrong {
     let other = copies("rs", &changed, &folder.join("changed"));
     for (name, path) in &c {
         let said = differences(name, path, &other[name]);
-        let one = "schedule 0012 50 0001 stream 0001 network 0001 current 1\ntable 50 both versions agree lasts agree\ntable 51 both versions agree lasts agree\nboth 0 17\nentries 1\n";
+        let one = "schedule 0012 50 0001 stream 0001 network 2040 current 1\ntable 50 both versions agree lasts agree\ntable 51 both versions agree lasts agree\nboth 0 17\nentries 1\n";
         let as_expected = if name.starts_with("0012-50") { said == one } else { said.contains("entries 0") };
         if !as_expected {
             wrong.push(format!("{name} after a byte of the feed was changed: {said}"));
