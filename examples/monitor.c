@@ -3,6 +3,7 @@
  * and a section; with --ts a transport stream, packets of 188 bytes one after another, whose sections the library gathers. Sections of watched PIDs go through the gate; those that are sound, new or not, go on to the set collector, EIT sections to the EIT
  * collector: a set that was evicted between two of its sections, or found no cell, is completed by repeats. It prints what a monitor shows: each new
  * section, each complete set with its sections, each complete schedule table by table, the events of both, the transport streams of networks and bouquets, the services, and totals.
+ * With -w FOLDER each set and schedule that goes out is also written to a file there, which `./run compare_guides` takes: the PID in two bytes, then the sections.
  */
 #include "../include/petrizolu.h"
 
@@ -55,6 +56,7 @@ struct monitor {
     struct eit eit;
     petrizolu_entry page[PAGE];
     uint64_t unwatched, complete_sets, complete_schedules, refused;
+    const char *folder; /* of the files that are written, or NULL */
 };
 
 /* An array and its number of elements, as every call takes them. */
@@ -82,9 +84,51 @@ static void show_pid(uint64_t pid)
         printf(" pid %04" PRIX64, pid);
 }
 
-static void show_section(const petrizolu_section *part)
+/* What is written of a set or a schedule: nothing where no folder was named. */
+struct copy {
+    FILE *file;
+    const uint8_t *cells;
+};
+
+/*
+ * The file of a set, PID-TABLE-EXTENSION, of an EIT -TSID-ONID more; of one that is not yet in force -next more. It begins with the PID. A set that goes out
+ * again is written anew.
+ */
+static struct copy open_copy(const char *folder, const uint64_t *head, uint64_t table_id, bool is_eit, const uint8_t *cells)
+{
+    struct copy copy = {NULL, cells};
+    uint64_t pid = head[PETRIZOLU_HEAD_PID] < 8192 ? head[PETRIZOLU_HEAD_PID] : 0xFFFF;
+    char streams[16] = "", name[4096];
+
+    if (folder == NULL)
+        return copy;
+    if (is_eit)
+        snprintf(streams, sizeof streams, "-%04X-%04X", (unsigned)head[PETRIZOLU_HEAD_TRANSPORT_STREAM_ID] & 0xFFFF,
+                 (unsigned)head[PETRIZOLU_HEAD_ORIGINAL_NETWORK_ID] & 0xFFFF);
+    if (snprintf(name, sizeof name, "%s/%04" PRIX64 "-%02" PRIX64 "-%04" PRIX64 "%s%s", folder, pid, table_id, head[PETRIZOLU_HEAD_EXTENSION], streams,
+                 head[PETRIZOLU_HEAD_CURRENT_NEXT] == 1 ? "" : "-next") >= (int)sizeof name
+        || (copy.file = fopen(name, "wb")) == NULL) {
+        perror(name);
+        exit(1);
+    }
+    fputc((int)(pid >> 8), copy.file);
+    fputc((int)(pid & 0xFF), copy.file);
+    return copy;
+}
+
+static void close_copy(struct copy copy)
+{
+    if (copy.file != NULL && fclose(copy.file) != 0) {
+        perror("monitor: a file is not written");
+        exit(1);
+    }
+}
+
+static void show_section(const petrizolu_section *part, struct copy copy)
 {
     printf("  section %" PRIu64 ", %" PRIu64 " bytes\n", part->number, part->length);
+    if (copy.file != NULL)
+        fwrite(copy.cells + part->start, 1, part->length, copy.file);
 }
 
 static void show_seconds(uint32_t seconds)
@@ -186,9 +230,10 @@ static void show_entries(const struct sets *s, uint32_t reader, uint64_t row, pe
         printf("  broken at byte %" PRIu64 " of section %" PRIu64 "\n", listed.place, listed.section);
 }
 
-static void show_set(const struct sets *s, uint64_t row, petrizolu_entry *page)
+static void show_set(const struct sets *s, uint64_t row, petrizolu_entry *page, const char *folder)
 {
     const uint64_t *head = s->heads + row * PETRIZOLU_HEAD_WORDS;
+    struct copy copy = open_copy(folder, head, head[PETRIZOLU_HEAD_TABLE_ID], false, s->cells);
     petrizolu_section part;
     uint64_t from = 0;
 
@@ -197,16 +242,18 @@ static void show_set(const struct sets *s, uint64_t row, petrizolu_entry *page)
     printf(" table %02" PRIX64 " extension %04" PRIX64 " version %" PRIu64 "\n", head[PETRIZOLU_HEAD_TABLE_ID], head[PETRIZOLU_HEAD_EXTENSION],
            head[PETRIZOLU_HEAD_VERSION]);
     while (petrizolu_sets_next(&s->state, LEND_SETS(s), row, from, &part) == PETRIZOLU_YES) {
-        show_section(&part);
+        show_section(&part, copy);
         from = part.number + 1;
     }
+    close_copy(copy);
     if (reader_of(head[PETRIZOLU_HEAD_TABLE_ID]) != 0)
         show_entries(s, reader_of(head[PETRIZOLU_HEAD_TABLE_ID]), row, page);
 }
 
-static void show_event_set(const struct eit *e, uint64_t row, petrizolu_entry *page)
+static void show_event_set(const struct eit *e, uint64_t row, petrizolu_entry *page, const char *folder)
 {
     const uint64_t *head = e->heads + row * PETRIZOLU_HEAD_WORDS;
+    struct copy copy = open_copy(folder, head, head[PETRIZOLU_HEAD_TABLE_ID], true, e->cells);
     petrizolu_section part;
     uint64_t from = 0;
 
@@ -214,16 +261,18 @@ static void show_event_set(const struct eit *e, uint64_t row, petrizolu_entry *p
     show_pid(head[PETRIZOLU_HEAD_PID]);
     printf(" service %04" PRIX64 " version %" PRIu64 "\n", head[PETRIZOLU_HEAD_EXTENSION], head[PETRIZOLU_HEAD_VERSION]);
     while (petrizolu_eit_next(&e->state, LEND_EIT(e), row, from, &part) == PETRIZOLU_YES) {
-        show_section(&part);
+        show_section(&part, copy);
         from = part.number + 1;
     }
+    close_copy(copy);
     show_events(e, (struct listed_row){row, false, 0}, page);
 }
 
-static void show_schedule(const struct eit *e, uint64_t row, petrizolu_entry *page)
+static void show_schedule(const struct eit *e, uint64_t row, petrizolu_entry *page, const char *folder)
 {
     const uint64_t *head = e->schedule_heads + row * PETRIZOLU_HEAD_WORDS;
     uint64_t first = head[PETRIZOLU_HEAD_TABLE_ID] == PETRIZOLU_SCHEDULE_ACTUAL ? 0x50 : 0x60;
+    struct copy copy = open_copy(folder, head, first, true, e->cells);
 
     printf("schedule");
     show_pid(head[PETRIZOLU_HEAD_PID]);
@@ -233,11 +282,12 @@ static void show_schedule(const struct eit *e, uint64_t row, petrizolu_entry *pa
         uint64_t from = 0;
         printf(" table %02" PRIX64 "\n", first + table);
         while (petrizolu_eit_next_in_schedule(&e->state, LEND_EIT(e), row, table, from, &part) == PETRIZOLU_YES) {
-            show_section(&part);
+            show_section(&part, copy);
             from = part.number + 1;
         }
         show_events(e, (struct listed_row){row, true, table}, page);
     }
+    close_copy(copy);
 }
 
 /* ---- a section's way through the monitor */
@@ -256,11 +306,11 @@ static void collect_events(struct monitor *m, uint32_t pid, const uint8_t *secti
         break;
     case PETRIZOLU_SET:
         m->complete_sets++;
-        show_event_set(&m->eit, row, m->page);
+        show_event_set(&m->eit, row, m->page, m->folder);
         break;
     case PETRIZOLU_SCHEDULE:
         m->complete_schedules++;
-        show_schedule(&m->eit, row, m->page);
+        show_schedule(&m->eit, row, m->page, m->folder);
         break;
     default:
         m->refused++;
@@ -278,7 +328,7 @@ static void collect_set(struct monitor *m, uint32_t pid, const uint8_t *section,
         break;
     case PETRIZOLU_SET:
         m->complete_sets++;
-        show_set(&m->sets, row, m->page);
+        show_set(&m->sets, row, m->page, m->folder);
         break;
     default:
         m->refused++;
@@ -394,14 +444,17 @@ static bool read_packets(struct monitor *m, FILE *in)
 int main(int argc, char **argv)
 {
     static struct monitor m;
-    bool packets = argc > 1 && strcmp(argv[1], "--ts") == 0;
-    const char *file = argv[packets ? 2 : 1];
+    bool writes = argc > 2 && strcmp(argv[1], "-w") == 0;
+    char **words = argv + (writes ? 3 : 1);
+    bool packets = *words != NULL && strcmp(*words, "--ts") == 0;
+    const char *file = packets ? words[1] : words[0];
     FILE *in = file != NULL ? fopen(file, "rb") : stdin;
 
     if (in == NULL) {
         perror(file);
         return 1;
     }
+    m.folder = writes ? argv[2] : NULL;
     if (!open_all(&m)) {
         fputs("monitor: the stores do not open\n", stderr);
         return 1;

@@ -58,6 +58,8 @@ enum petrizolu_answer {
     PETRIZOLU_MALFORMED_PACKET = 30, /* not 188 bytes, no sync byte, or an adaptation field past the end */
     PETRIZOLU_TOO_SHORT = 31,        /* gate: too short to hold its CRC, or under 3 bytes; its length is told */
     PETRIZOLU_PAST_LOOP = 32,        /* events: a descriptor runs past its loop; the entries before it are listed, and its place is told */
+    PETRIZOLU_OTHER_KEY = 33,        /* compare: two tables that are not one; PID, table_id or another part of the key differs */
+    PETRIZOLU_NO_ROOM = 34,          /* compare: more differences than the list has room for; how many is told */
     PETRIZOLU_OTHER_TABLE = 35,      /* entries: a table_id that is none of the reader's, or a number that names no reader; nothing is listed */
     PETRIZOLU_BROKEN_LOOP = 36,      /* entries: a loop does not end where its length says; nothing is listed, and the place is told */
     PETRIZOLU_BAD_INPUT = 37,        /* an input of 16 or more */
@@ -146,6 +148,13 @@ enum petrizolu_answer {
 #define PETRIZOLU_NIT 1u                                                              /* readers: networks' (table_id 0x40, 0x41) */
 #define PETRIZOLU_BAT 2u                                                              /* bouquets' (0x4A) */
 #define PETRIZOLU_SDT 3u                                                              /* services' (0x42, 0x46) */
+
+/* Two guides compared. */
+#define PETRIZOLU_DIFFERENCE_WORDS 4u                                                 /* the words of a petrizolu_difference */
+#define PETRIZOLU_MOST_DIFFERENCES 256u                                               /* of two sets; of two schedules 16 times as many */
+#define PETRIZOLU_ONLY_FIRST 1u                                                       /* kinds of a difference */
+#define PETRIZOLU_ONLY_SECOND 2u
+#define PETRIZOLU_OTHER_BYTES 3u
 
 /*
  * What a row's head says. heads + row * PETRIZOLU_HEAD_WORDS has these words; a host may read them of a row that was handed out, to name the
@@ -658,6 +667,74 @@ uint8_t petrizolu_entries(uint32_t reader, const uint8_t *section, size_t sectio
 uint8_t petrizolu_sets_entries(uint32_t reader, const petrizolu_sets *sets, const uint64_t *heads, size_t head_words, const uint32_t *slots,
                                size_t slot_words, const uint8_t *cells, size_t cell_bytes, uint64_t row, uint64_t skip, petrizolu_entry *list,
                                size_t list_words, petrizolu_listed *listed);
+
+/*
+ * ---- two guides compared: where two laboratories' copies of one table differ
+ *
+ * A set is its sections one after another by rising section_number, as petrizolu_sets_next hands them out, in bytes of its own, with the PID that it came on
+ * (PETRIZOLU_NO_PID for none). It need not have come through a collector: long-form sections to the last byte, of one key, one version and one
+ * last_section_number, are a set; the CRC is not judged. A schedule is the sections of its tables by rising table_id (0x50 to 0x5F, or 0x60 to 0x6F), each table as a set.
+ */
+
+typedef struct petrizolu_difference {
+    uint32_t table_id;
+    uint32_t number;                 /* section_number */
+    uint32_t kind;                   /* PETRIZOLU_ONLY_FIRST, PETRIZOLU_ONLY_SECOND, PETRIZOLU_OTHER_BYTES */
+    uint32_t place;                  /* of PETRIZOLU_OTHER_BYTES the first byte, from 0, at which the two sections differ; else 0 */
+} petrizolu_difference;
+
+typedef struct petrizolu_compared {
+    uint64_t count;                  /* how many differences there are */
+    uint64_t versions;               /* 1 where versions agree; of schedules, where no table that both hold differs in it */
+    uint64_t lasts;                  /* 1 where last_section_numbers agree, likewise */
+} petrizolu_compared;
+
+/*
+ * Compares two sets. list_words counts words of 32 bits; differences stand in it by rising number, and words behind the last stay as before.
+ * 8: they differ; 9: they do not, the bytes are the same. 10: the bytes of a side are no set. 12: a PID of 8192 or more. 33: the two are not of one key (PID, table_id,
+ * table_id_extension, current_next_indicator; of an EIT also transport_stream_id and original_network_id). 34: the list has no room for all; nothing is listed.
+ * 10, 12 and 33 leave the list and *compared as before, 34 the list.
+ *
+ *     static petrizolu_difference list[PETRIZOLU_MOST_DIFFERENCES];
+ *     petrizolu_compared compared = {0, 0, 0};
+ *     uint8_t differ = petrizolu_compare(section, length, pid, section, length, pid, list, sizeof list / 4, &compared);
+ *     if (differ == PETRIZOLU_YES)
+ *         for (uint64_t i = 0; i < compared.count; i++)
+ *             printf("section %u, kind %u\n", (unsigned)list[i].number, (unsigned)list[i].kind);
+ */
+uint8_t petrizolu_compare(const uint8_t *first, size_t first_bytes, uint32_t first_pid, const uint8_t *second, size_t second_bytes,
+                          uint32_t second_pid, petrizolu_difference *list, size_t list_words, petrizolu_compared *compared);
+
+/*
+ * Compares two schedules, table by table; of the key the kind stands for the table_id. Differences stand by rising table_id and then number. Word t of `tables` is of the
+ * kind's table t, and all 16 are written with 8 and 9, else none: 0 no side holds it, 1 the first alone, 2 the second alone, 3 both; 4 more where both hold it and
+ * versions differ, 8 more where both hold it and last_section_numbers differ.
+ *
+ *     static petrizolu_difference schedule_list[16 * PETRIZOLU_MOST_DIFFERENCES];
+ *     uint32_t tables[16];
+ *     uint8_t schedules = petrizolu_compare_schedules(section, length, pid, section, length, pid, tables, schedule_list, sizeof schedule_list / 4, &compared);
+ */
+uint8_t petrizolu_compare_schedules(const uint8_t *first, size_t first_bytes, uint32_t first_pid, const uint8_t *second, size_t second_bytes,
+                                    uint32_t second_pid, uint32_t tables[16], petrizolu_difference *list, size_t list_words,
+                                    petrizolu_compared *compared);
+
+typedef struct petrizolu_held {
+    uint64_t side;                   /* 1 the first, 2 the second */
+    uint64_t start;                  /* where the section starts in that side's bytes */
+    uint64_t length;
+} petrizolu_held;
+
+/*
+ * The section of a number that exactly one of two sets holds; of a table that a schedule has not, no bytes are lent. Keys are not compared.
+ * 8: that section. 9: both hold the number, or none. 10: the bytes of a side are neither a set nor empty. 9 and 10 leave *held as before.
+ *
+ *     petrizolu_held held = {0, 0, 0};
+ *     uint8_t one = petrizolu_held_by_one(section, length, section, 0, 0, &held);
+ *     if (one == PETRIZOLU_YES)
+ *         printf("side %llu, %llu bytes\n", (unsigned long long)held.side, (unsigned long long)held.length);
+ */
+uint8_t petrizolu_held_by_one(const uint8_t *first, size_t first_bytes, const uint8_t *second, size_t second_bytes, uint64_t number,
+                              petrizolu_held *held);
 
 #ifdef __cplusplus
 }

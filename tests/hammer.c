@@ -8,7 +8,7 @@
  * a refusal every lent byte must be as before. The gate with an index is run beside the one without on the same sections. Where complete PATs are
  * followed, whether the PAT store is whole is worked out here too; where they are not, or where a section enters nothing, it must be as before. What a
  * section says is worked out here too, entry by entry; of a row the entries must be in the cells, the words behind the page as before.
- * Prints the calls by function and answer.
+ * Two guides are compared here as well (hammer_guides.h). Prints the calls by function and answer.
  */
 #include "../include/petrizolu.h"
 
@@ -144,7 +144,7 @@ static void damage(struct array *a)
 
 /* ---- what must hold */
 
-enum call { GATE_OPEN, GATE_OFFER, WATCH_OPEN, WATCH_ASK, INDEXED_OPEN, INDEXED_OFFER, SETS_OPEN, SETS_PUSH, SETS_CLEAR, SETS_NEXT, EIT_OPEN, EIT_PUSH, EIT_CLEAR, EIT_DROP, EIT_NEXT, EIT_NEXT_IN_SCHEDULE, STREAMS_OPEN, FEED, INDEXED_FEED, EVENTS, EIT_EVENTS, EIT_EVENTS_IN_SCHEDULE, DATE, ENTRIES, SETS_ENTRIES, CALLS };
+enum call { GATE_OPEN, GATE_OFFER, WATCH_OPEN, WATCH_ASK, INDEXED_OPEN, INDEXED_OFFER, SETS_OPEN, SETS_PUSH, SETS_CLEAR, SETS_NEXT, EIT_OPEN, EIT_PUSH, EIT_CLEAR, EIT_DROP, EIT_NEXT, EIT_NEXT_IN_SCHEDULE, STREAMS_OPEN, FEED, INDEXED_FEED, EVENTS, EIT_EVENTS, EIT_EVENTS_IN_SCHEDULE, DATE, ENTRIES, SETS_ENTRIES, COMPARE, COMPARE_SCHEDULES, HELD_BY_ONE, CALLS };
 
 #define ANSWERS 44
 #define ONE(n) ((uint64_t)1 << (n))
@@ -178,6 +178,9 @@ static const struct {
     {"date", ONE(8) | ONE(9)},
     {"entries", ONE(8) | ONE(9) | ONE(35) | ONE(36)},
     {"sets_entries", ONE(8) | ONE(9) | ONE(10) | ONE(35) | ONE(36)},
+    {"compare", ONE(8) | ONE(9) | ONE(10) | ONE(12) | ONE(33) | ONE(34)},
+    {"compare_schedules", ONE(8) | ONE(9) | ONE(10) | ONE(12) | ONE(33) | ONE(34)},
+    {"held_by_one", ONE(8) | ONE(9) | ONE(10)},
 };
 
 /* Refusals that leave all as before: 10 to 21, and 37; of a question every answer does. */
@@ -1859,6 +1862,8 @@ static void round_of_packets(void)
     many_pats = false;
 }
 
+#include "hammer_guides.h"
+
 static void print_counts(void)
 {
     uint64_t total = 0;
@@ -1884,6 +1889,7 @@ int main(int argc, char **argv)
     page = (size_t)sysconf(_SC_PAGESIZE);
     make(&section, 1);
     make(&list, 4);
+    make_guides();
     gate.array_count = indexed.array_count = GATE_ARRAYS;
     for (int i = 0; i < GATE_ARRAYS; i++) {
         size_t element = i == PAT_SLOTS ? 4 : i == PAT_CELLS ? 1 : 8;
@@ -1908,6 +1914,7 @@ int main(int argc, char **argv)
         round_of_gates();
         round_of_collectors();
         round_of_packets();
+        round_of_guides();
     }
     print_counts();
     return 0;

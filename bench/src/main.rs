@@ -1,7 +1,8 @@
-//! bench [quick] [entries]: nanoseconds a section, the port beside the original on the same sections in the same scattered order. Times are the thread's
+//! bench [quick] [entries|guides]: nanoseconds a section, the port beside the original on the same sections in the same scattered order. Times are the thread's
 //! processor time, the best of some rounds; the rounds of the port and of the original take turns, so that a busy machine slows both.
-//! With `entries` only the listing of a section's entries, which the original has not, is measured.
+//! With `entries` only the listing of a section's entries, with `guides` only the comparison of two sets is measured; the original has neither.
 
+mod guides;
 mod packets;
 mod sections;
 mod ts;
@@ -491,6 +492,9 @@ fn main() {
     if std::env::args().any(|a| a == "entries") {
         return listings(rounds);
     }
+    if std::env::args().any(|a| a == "guides") {
+        return guides::guides(rounds);
+    }
     crc(rounds);
     gate(rounds);
     gate_new_keys(rounds);
@@ -503,4 +507,5 @@ fn main() {
     full_guide(rounds);
     check_of_the_store(rounds);
     listings(rounds);
+    guides::guides(rounds);
 }

@@ -33,6 +33,8 @@ impl Answer {
     pub const MALFORMED_PACKET: Self = Self(30);
     pub const TOO_SHORT: Self = Self(31);
     pub const PAST_LOOP: Self = Self(32);
+    pub const OTHER_KEY: Self = Self(33);
+    pub const NO_ROOM: Self = Self(34);
     pub const OTHER_TABLE: Self = Self(35);
     pub const BROKEN_LOOP: Self = Self(36);
     pub const BAD_INPUT: Self = Self(37);

@@ -153,6 +153,34 @@ pub struct Listed {
     pub place: u64,
 }
 
+/// Where two guides differ: a table and number that one side alone holds, or both with other bytes.
+#[repr(C)]
+#[derive(Debug, Clone, Copy, Default, PartialEq, Eq)]
+pub struct Difference {
+    pub table_id: u32,
+    pub number: u32,
+    pub kind: u32,
+    pub place: u32,
+}
+
+/// How many differences there are, and whether versions and last numbers agree (1). 10, 12 and 33 leave it as it was.
+#[repr(C)]
+#[derive(Debug, Clone, Copy, Default, PartialEq, Eq)]
+pub struct Compared {
+    pub count: u64,
+    pub versions: u64,
+    pub lasts: u64,
+}
+
+/// The side, 1 or 2, that alone holds a section, and where the section is in its bytes. 9 and 10 leave it as it was.
+#[repr(C)]
+#[derive(Debug, Clone, Copy, Default, PartialEq, Eq)]
+pub struct HeldByOne {
+    pub side: u64,
+    pub start: u64,
+    pub length: u64,
+}
+
 /// The CRC of ISO/IEC 13818-1, Annex A.
 pub fn crc(bytes: &[u8]) -> u32 {
     // SAFETY: the pointer goes with the length of its slice.
@@ -815,4 +843,54 @@ pub fn sets_entries(
 pub fn date(day: u32) -> u32 {
     // SAFETY: a number comes and a number goes.
     unsafe { raw::petrizolu_date(day) }
+}
+
+// ---- two guides compared. A list is lent as words here too.
+
+pub fn compare(first: &[u8], first_pid: u32, second: &[u8], second_pid: u32, list: &mut [u32], compared: &mut Compared) -> Answer {
+    // SAFETY: as above; a difference is four words, and `list` has as many words as are told.
+    Answer(unsafe {
+        raw::petrizolu_compare(
+            first.as_ptr(),
+            first.len(),
+            first_pid,
+            second.as_ptr(),
+            second.len(),
+            second_pid,
+            list.as_mut_ptr().cast(),
+            list.len(),
+            compared,
+        )
+    })
+}
+
+pub fn compare_schedules(
+    first: &[u8],
+    first_pid: u32,
+    second: &[u8],
+    second_pid: u32,
+    tables: &mut [u32; 16],
+    list: &mut [u32],
+    compared: &mut Compared,
+) -> Answer {
+    // SAFETY: as above.
+    Answer(unsafe {
+        raw::petrizolu_compare_schedules(
+            first.as_ptr(),
+            first.len(),
+            first_pid,
+            second.as_ptr(),
+            second.len(),
+            second_pid,
+            tables,
+            list.as_mut_ptr().cast(),
+            list.len(),
+            compared,
+        )
+    })
+}
+
+pub fn held_by_one(first: &[u8], second: &[u8], number: u64, held: &mut HeldByOne) -> Answer {
+    // SAFETY: as above.
+    Answer(unsafe { raw::petrizolu_held_by_one(first.as_ptr(), first.len(), second.as_ptr(), second.len(), number, held) })
 }

@@ -9,16 +9,20 @@ mod demux;
 mod eit;
 mod events;
 mod gate;
+mod guides;
 mod raw;
 mod rows;
 mod sets;
 
 pub use answer::{Answer, Refused};
-pub use calls::{EitState, Entry, Failure, Filter, GateState, Listed, Place, SetsState, StreamsState, crc, date};
+pub use calls::{
+    Compared, Difference, EitState, Entry, Failure, Filter, GateState, HeldByOne, Listed, Place, SetsState, StreamsState, crc, date,
+};
 pub use demux::{Demux, Fed};
 pub use eit::{Complete, Eit};
 pub use events::{Ended, Listing, entries, events};
 pub use gate::{Gate, Offered, SmallGate};
+pub use guides::{Differences, ScheduleDifferences, compare, compare_schedules, held_by_one};
 pub use rows::{Name, Row, Section};
 pub use sets::Sets;
 
@@ -93,3 +97,10 @@ pub const UNDEFINED: u32 = u32::MAX;
 pub const NIT: u32 = 1;
 pub const BAT: u32 = 2;
 pub const SDT: u32 = 3;
+
+/// Words of a difference of two guides, how many two sets have at most (two schedules 16 times as many), and its kinds.
+pub const DIFFERENCE_WORDS: usize = 4;
+pub const MOST_DIFFERENCES: usize = 256;
+pub const ONLY_FIRST: u32 = 1;
+pub const ONLY_SECOND: u32 = 2;
+pub const OTHER_BYTES: u32 = 3;

@@ -1,5 +1,5 @@
 //! The functions of include/petrizolu.h, argument for argument (tests/header.rs compares the two texts).
-use crate::calls::{EitState, Entry, Failure, Filter, GateState, Listed, Place, SetsState, StreamsState};
+use crate::calls::{Compared, Difference, EitState, Entry, Failure, Filter, GateState, HeldByOne, Listed, Place, SetsState, StreamsState};
 
 unsafe extern "C" {
     pub fn petrizolu_crc(bytes: *const u8, byte_count: usize) -> u32;
@@ -365,5 +365,36 @@ unsafe extern "C" {
         list: *mut Entry,
         list_words: usize,
         listed: *mut Listed,
+    ) -> u8;
+    pub fn petrizolu_compare(
+        first: *const u8,
+        first_bytes: usize,
+        first_pid: u32,
+        second: *const u8,
+        second_bytes: usize,
+        second_pid: u32,
+        list: *mut Difference,
+        list_words: usize,
+        compared: *mut Compared,
+    ) -> u8;
+    pub fn petrizolu_compare_schedules(
+        first: *const u8,
+        first_bytes: usize,
+        first_pid: u32,
+        second: *const u8,
+        second_bytes: usize,
+        second_pid: u32,
+        tables: *mut [u32; 16],
+        list: *mut Difference,
+        list_words: usize,
+        compared: *mut Compared,
+    ) -> u8;
+    pub fn petrizolu_held_by_one(
+        first: *const u8,
+        first_bytes: usize,
+        second: *const u8,
+        second_bytes: usize,
+        number: u64,
+        held: *mut HeldByOne,
     ) -> u8;
 }

@@ -13,6 +13,10 @@ pub struct Name {
     /// Of a schedule: its kind.
     pub table_id: u8,
     pub extension: u16,
+    pub current_next: bool,
+    /// Of an EIT; 0 of any other table.
+    pub transport_stream_id: u16,
+    pub original_network_id: u16,
     pub version: u8,
     /// last_section_number; of a schedule last_table_id.
     pub last: u8,
@@ -25,6 +29,9 @@ pub(crate) fn name(heads: &[u64], row: &Row) -> Name {
         pid: u16::try_from(head[0]).ok().filter(|&pid| pid < 8192),
         table_id: head[1] as u8,
         extension: head[2] as u16,
+        current_next: head[3] == 1,
+        transport_stream_id: head[4] as u16,
+        original_network_id: head[5] as u16,
         version: head[6] as u8,
         last: head[7] as u8,
     }

@@ -39,14 +39,20 @@ fn rust_type(c: &str) -> String {
         "petrizolu_streams" => "StreamsState",
         "petrizolu_entry" => "Entry",
         "petrizolu_listed" => "Listed",
+        "petrizolu_difference" => "Difference",
+        "petrizolu_compared" => "Compared",
+        "petrizolu_held" => "HeldByOne",
         other => panic!("not known: {other}"),
     };
     name.into()
 }
 
-/// `const uint64_t *keys` as `keys: *const u64`.
+/// `const uint64_t *keys` as `keys: *const u64`, `uint32_t tables[16]` as `tables: *mut [u32; 16]`.
 fn rust_argument(c: &str) -> String {
     let (before, name) = c.rsplit_once([' ', '*']).expect("a type and a name");
+    if let Some((name, count)) = name.trim_end_matches(']').split_once('[') {
+        return format!("{name}: *mut [{}; {count}]", rust_type(before));
+    }
     let kind = match before.trim_end_matches('*').trim() {
         kind if kind.len() == before.len() => rust_type(kind),
         kind if kind.starts_with("const ") => format!("*const {}", rust_type(kind)),
@@ -83,7 +89,7 @@ fn functions_of_raw() -> Said {
 #[test]
 fn functions() {
     assert_eq!(functions_of_raw(), functions_of_the_header());
-    assert_eq!(functions_of_raw().len(), 24);
+    assert_eq!(functions_of_raw().len(), 29);
 }
 
 /// The fields between the braces after `from`, in order.
@@ -104,6 +110,9 @@ fn structs() {
         ("streams", "StreamsState", 64),
         ("entry", "Entry", 32),
         ("listed", "Listed", 64),
+        ("difference", "Difference", 32),
+        ("compared", "Compared", 64),
+        ("held", "HeldByOne", 64),
     ];
     for (c, rust, bits) in pairs {
         let of_c = fields(&header(), &format!("typedef struct petrizolu_{c} {{"), |line| {
@@ -126,7 +135,7 @@ fn answers() {
     };
     let of_rust: Vec<String> = ANSWER.lines().filter_map(constant).collect();
     assert_eq!(of_c, of_rust);
-    assert_eq!(of_c.len(), 31);
+    assert_eq!(of_c.len(), 33);
 }
 
 /// Constants that both texts give as a plain number: the name and the number, without its type.
@@ -163,6 +172,9 @@ fn constants() {
         "NIT",
         "BAT",
         "SDT",
+        "DIFFERENCE_WORDS",
+        "MOST_DIFFERENCES",
+        "OTHER_BYTES",
     ] {
         assert!(both.iter().any(|known| *known == name), "{name}");
     }

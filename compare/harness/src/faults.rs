@@ -41,7 +41,12 @@ impl Fault {
 
     /// Whether it shows where networks, bouquets and services are listed alone.
     pub fn of_networks(self) -> bool {
-        self as usize >= Fault::UnmarkedSetListed as usize
+        (Fault::UnmarkedSetListed as usize..=Fault::TablesCountOfThePage as usize).contains(&(self as usize))
+    }
+
+    /// Whether it shows where guides are compared alone.
+    pub fn of_guides(self) -> bool {
+        self.part() == player::command::Part::Guides
     }
 
     /// Whether it shows where there are several inputs alone.
@@ -228,4 +233,28 @@ faults! {
     ClosedHasNone Sets "a set collector that is not open answers 9",
     TablesPageLate Sets "the page begins one entry late",
     TablesCountOfThePage Sets "only the entries of the page are counted",
+    EqualNumbersTaken Guides "two sections of one number are a set",
+    PlaceTooHigh Guides "the first differing place is one too high",
+    GuidePidIgnored Guides "the PID is no part of the key of a side",
+    GuideCurrentNextIgnored Guides "current_next is no part of the key of a side",
+    GuideNetworkIgnored Guides "the original_network_id of an EIT is no part of the key of a side",
+    GuideVersionInKey Guides "the version is part of the key of a side",
+    GuidePidFirst Guides "a PID that there is not is answered before bytes that are no set",
+    KeyBeforePid Guides "another key is answered before a PID that there is not",
+    ListedOnNoRoom Guides "34 lists as many as there is room for",
+    NoRoomUncounted Guides "34 does not tell how many differences there are",
+    RoomOneTooMany Guides "the list has room for one difference more",
+    HeldOfTheOther Guides "of a section that one side holds the other is told",
+    HeldByBothGiven Guides "a section that both sides hold is given",
+    EmptyIsSet Guides "no bytes are a set",
+    BytesBehindTaken Guides "one or two bytes behind the last section are passed over",
+    ShortFormTaken Guides "a section of the short form is taken",
+    ElevenBytesTaken Guides "a section under 12 bytes is passed over",
+    CrcJudged Guides "a section of wrong CRC makes no set",
+    NumberAboveLast Guides "a section_number above last_section_number makes no set",
+    KindsMixed Guides "tables of both kinds are a schedule",
+    TablesFall Guides "tables that fall are a schedule",
+    TableOfOneSideUnlisted Guides "a table that one side alone holds is not listed",
+    GuideLastsForVersions Guides "whether last numbers agree is told for versions",
+    TableWordsExchanged Guides "4 stands for last numbers that differ, 8 for versions",
 }

@@ -59,6 +59,7 @@ impl Original {
             Command::Demux(command) => self.demux(command),
             Command::Events { .. } | Command::Read { .. } | Command::Date(_) => panic!("the original lists no entries"),
             Command::Entries { .. } | Command::ReadTable { .. } => panic!("the original lists no entries"),
+            Command::Guides(_) => panic!("the original compares no guides"),
         }
     }
 
@@ -241,7 +242,8 @@ impl Original {
 pub fn has_all(script: &[Command]) -> bool {
     let on_one = !script.iter().any(|command| matches!(command, Command::Input(_)));
     let by_rule_1 = !script.iter().filter_map(Command::opening).any(|opening| opening.rule == 2);
-    on_one && by_rule_1 && !follows_tables(script) && !asks_for_entries(script) && opened_at_once(script)
+    let compares = script.iter().any(|command| matches!(command, Command::Guides(_)));
+    on_one && by_rule_1 && !compares && !follows_tables(script) && !asks_for_entries(script) && opened_at_once(script)
 }
 
 /// Whether a script opens the packet layer's gate and its streams at once, as the original does: each opening that succeeds directly before the other's.

@@ -1,6 +1,7 @@
 //! The stored tapes of tests/tapes with the lines that they print, the stored output of the program `examples_run`, and the stored input and output of the programs that read a
 //! transport stream.
 use crate::events;
+use crate::guides;
 use crate::make::{self, Domain};
 use crate::pairs::{Side, differing_somehow, smallest};
 use crate::second::{Reading, Second};
@@ -19,7 +20,7 @@ const COMMANDS: usize = 2500;
 
 /// `domain` has the written scripts and some seeds inside the domain, without what a named difference decides, answered by the original; `damaged` has
 /// damaged and cell-bound seeds, `inputs` seeds of each domain on several inputs, `pats` seeds of PATs in several sections, and
-/// `events` and `tables` seeds that ask for entries, answered by the second implementation.
+/// `events` and `tables` seeds that ask for entries, `guides` a seed of two guides compared, answered by the second implementation.
 pub fn store(root: &Path) -> bool {
     let seeds = |domain| SEEDS.flat_map(move |seed| make::script(seed, COMMANDS, domain));
     let by_hand = Written::all(root, "scripts").into_iter().flat_map(|script| script.commands);
@@ -32,6 +33,7 @@ pub fn store(root: &Path) -> bool {
         && store_tape(root, "packets", Side::RULES, &of_packets(root))
         && store_tape(root, "events", Side::RULES, &of_events(root))
         && store_tape(root, "tables", Side::RULES, &of_networks(root))
+        && store_tape(root, "guides", Side::RULES, &of_guides(root))
         && store_examples(root)
         && watch_pats::store(root)
         && store_streams(root)
@@ -68,6 +70,12 @@ fn of_events(root: &Path) -> Vec<Command> {
 fn of_networks(root: &Path) -> Vec<Command> {
     let by_hand = Written::all(root, "networks").into_iter().flat_map(|script| script.commands);
     by_hand.chain(networks::script(SEEDS.start, COMMANDS)).collect()
+}
+
+/// The written scripts of guides/ and a seed.
+fn of_guides(root: &Path) -> Vec<Command> {
+    let by_hand = Written::all(root, "guides").into_iter().flat_map(|script| script.commands);
+    by_hand.chain(guides::script(SEEDS.start, 1000)).collect()
 }
 
 /// Whether all sides agree on a script, the original too where it is a measure; says where they do not.

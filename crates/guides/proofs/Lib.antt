@@ -1,5 +1,3 @@
 pub mod Ranges
 pub mod Ways
 pub mod Unique
-pub mod Theorems
-pub mod Examples

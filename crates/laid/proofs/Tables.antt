@@ -35,7 +35,7 @@ never-falls x y e = or-le x y (inTable x y) (and-true (sameKey (scheduleKeyIn 0 
 
 module _ (t : ℕ) where
   -- past the table there is none of it
-  those-past : (x : List ℕ) (xs : List (List ℕ)) → t < tableId x → chainFrom inSchedule x xs ≡ true → those (ofTable t) xs ≡ []
+  pub those-past : (x : List ℕ) (xs : List (List ℕ)) → t < tableId x → chainFrom inSchedule x xs ≡ true → those (ofTable t) xs ≡ []
   unfolding chainFrom those
   those-past x [] h e = refl
   those-past x (y ∷ ys) h e =

@@ -13,6 +13,7 @@ ghost use Rattle.pats.specs.Store.{recordOf};
 ghost use Rattle.host_sets.specs.Calls.{setsLeft, setsOpened, setsPushed, setsCleared, setsNext};
 ghost use Rattle.host_networks.specs.Calls.{sectionRead, setRead};
 ghost use Rattle.host_showing.specs.Calls.{listing, sectionListed, setListed, tableListed, dateNumber};
+ghost use Rattle.host_guides.specs.Calls.{comparison, setsCompared, comparisons, schedulesCompared, heldByOne};
 ghost use Rattle.host_eit.specs.Calls.{eitOpened, eitLeft, eitPushed, eitCleared, eitDroppedTo, eitDropped, eitNext, eitNextIn};
 
 // The CRC of ISO/IEC 13818-1, Annex A.
@@ -588,4 +589,49 @@ pub extern "C" fn petrizolu_sets_entries(
     ensures { λ r. ⌜ listing r (now (listed .exit)) (now (list .exit)) ≡ setRead reader (now (sets .entry)) (now (heads .entry)) (now (slots .entry)) (now (cells .entry)) row skip (now (list .entry)) (now (listed .entry)) ⌝ }
 {
     host_networks::sets_entries(reader, sets, heads, slots, cells, row, skip, list, listed)
+}
+
+// Compares two sets, each as its sections by rising number in its own bytes: 8 they differ, 9 they do not, 10, 12, 33 or 34. The list has four words for each number that one
+// side alone holds, or both with other bytes. `compared` tells how many entries there are, and whether versions and last numbers agree; 10, 12 and 33 leave it, and 34 the list.
+#[no_mangle]
+pub extern "C" fn petrizolu_compare(
+    first: &[u8],
+    first_pid: u32,
+    second: &[u8],
+    second_pid: u32,
+    list: &mut [u32],
+    compared: &mut [u64; 3],
+) -> u8
+    ensures { λ r. ⌜ comparison r (now (compared .exit)) (now (list .exit)) ≡ setsCompared (now (first .entry)) «first_pid» (now (second .entry)) «second_pid» (now (list .entry)) (now (compared .entry)) ⌝ }
+{
+    host_guides::compare(first, first_pid, second, second_pid, list, compared)
+}
+
+// The same of two schedules, table by table; `tables` has a word for each of the kind's 16.
+#[no_mangle]
+pub extern "C" fn petrizolu_compare_schedules(
+    first: &[u8],
+    first_pid: u32,
+    second: &[u8],
+    second_pid: u32,
+    tables: &mut [u32; 16],
+    list: &mut [u32],
+    compared: &mut [u64; 3],
+) -> u8
+    ensures { λ r. ⌜ comparisons r (now (compared .exit)) (now (tables .exit)) (now (list .exit)) ≡ schedulesCompared (now (first .entry)) «first_pid» (now (second .entry)) «second_pid» (now (tables .entry)) (now (list .entry)) (now (compared .entry)) ⌝ }
+{
+    host_guides::compare_schedules(first, first_pid, second, second_pid, tables, list, compared)
+}
+
+// Which of two sets alone holds the section of a number, and where it stands in that side's bytes: 8, 9 or 10. 9 and 10 leave `held`.
+#[no_mangle]
+pub extern "C" fn petrizolu_held_by_one(
+    first: &[u8],
+    second: &[u8],
+    number: u64,
+    held: &mut [u64; 3],
+) -> u8
+    ensures { λ r. ⌜ words r (now (held .exit)) ≡ heldByOne (now (first .entry)) (now (second .entry)) number (now (held .entry)) ⌝ }
+{
+    host_guides::held_by_one(first, second, number, held)
 }

@@ -1,12 +1,14 @@
 //! A guide monitor in Rust over the proved library: reads records from standard input or from the file named, a PID (two bytes, high byte
 //! first) and a section each, or with --ts a transport stream, and prints each new section, each complete set and schedule with their events,
-//! transport streams and services, and totals, as examples/monitor.c does.
+//! transport streams and services, and totals, as examples/monitor.c does. With -w FOLDER each set and schedule that goes out is also written to a
+//! file there, which `./run compare_guides` takes.
 
 use petrizolu::{
     Answer, BAT, Complete, Demux, EVENT, Eit, Ended, Entry, Gate, GateState, Listing, NIT, Name, Offered, PACKET_BYTES, Refused, SDT, SERVICE, Section, Sets,
     TRANSPORT_STREAM, UNDEFINED, date,
 };
 use std::io::{self, BufReader, Read};
+use std::path::PathBuf;
 
 const SCHEDULE_ACTUAL: u8 = 2;
 
@@ -22,6 +24,8 @@ struct Monitor {
     complete_sets: u64,
     complete_schedules: u64,
     refused: u64,
+    /// Of the files that are written, if any.
+    folder: Option<PathBuf>,
 }
 
 fn pid_text(pid: Option<u16>) -> String {
@@ -83,8 +87,28 @@ fn show_entries(listing: Result<Listing, Refused>) {
     }
 }
 
+/// A set or a schedule in a file: its PID in two bytes, and its sections. The name is PID-TABLE-EXTENSION, of an EIT -TSID-ONID more; of one that is not yet
+/// in force -next more. A set that goes out again is written anew.
+fn write_copy(folder: Option<&PathBuf>, name: &Name, table_id: u8, sections: &[Section]) {
+    let Some(folder) = folder else { return };
+    let pid = name.pid.unwrap_or(0xFFFF);
+    let mut file = format!("{pid:04X}-{table_id:02X}-{:04X}", name.extension);
+    if (0x4E..=0x6F).contains(&table_id) {
+        file += &format!("-{:04X}-{:04X}", name.transport_stream_id, name.original_network_id);
+    }
+    if !name.current_next {
+        file += "-next";
+    }
+    let mut bytes = pid.to_be_bytes().to_vec();
+    sections.iter().for_each(|section| bytes.extend(section.bytes));
+    if let Err(error) = std::fs::write(folder.join(&file), bytes) {
+        eprintln!("{file}: {error}");
+        std::process::exit(1);
+    }
+}
+
 impl Monitor {
-    fn open() -> Result<Self, Refused> {
+    fn open(folder: Option<PathBuf>) -> Result<Self, Refused> {
         Ok(Self {
             sets: Sets::open(64, 4096, 1024)?,
             eit: Eit::open(64, 4096, 1024)?,
@@ -92,6 +116,7 @@ impl Monitor {
             complete_sets: 0,
             complete_schedules: 0,
             refused: 0,
+            folder,
         })
     }
 
@@ -118,9 +143,12 @@ impl Monitor {
             Ok(None) | Err(Refused(Answer::SHORT_FORM)) => {}
             Ok(Some(row)) => {
                 self.complete_sets += 1;
-                let Name { pid, table_id, extension, version, .. } = self.sets.name(&row);
+                let name = self.sets.name(&row);
+                let Name { pid, table_id, extension, version, .. } = name;
                 println!("set{} table {table_id:02X} extension {extension:04X} version {version}", pid_text(pid));
-                show_sections(&self.sets.sections(&row));
+                let sections = self.sets.sections(&row);
+                show_sections(&sections);
+                write_copy(self.folder.as_ref(), &name, table_id, &sections);
                 if let Some(reader) = reader_of(table_id) {
                     show_entries(self.sets.entries(reader, &row));
                 }
@@ -134,21 +162,29 @@ impl Monitor {
             Ok(None) => {}
             Ok(Some(Complete::Set(row))) => {
                 self.complete_sets += 1;
-                let Name { pid, extension, version, .. } = self.eit.name(&row);
+                let name = self.eit.name(&row);
+                let Name { pid, table_id, extension, version, .. } = name;
                 println!("present/following{} service {extension:04X} version {version}", pid_text(pid));
-                show_sections(&self.eit.sections(&row));
+                let sections = self.eit.sections(&row);
+                show_sections(&sections);
+                write_copy(self.folder.as_ref(), &name, table_id, &sections);
                 show_events(self.eit.events(&row));
             }
             Ok(Some(Complete::Schedule(row))) => {
                 self.complete_schedules += 1;
-                let Name { pid, table_id: kind, extension, last, .. } = self.eit.schedule_name(&row);
+                let name = self.eit.schedule_name(&row);
+                let Name { pid, table_id: kind, extension, last, .. } = name;
                 let first = if kind == SCHEDULE_ACTUAL { 0x50 } else { 0x60 };
                 println!("schedule{} service {extension:04X} tables {first:02X} to {last:02X}", pid_text(pid));
+                let mut all = Vec::new();
                 for table_id in first..=last {
                     println!(" table {table_id:02X}");
-                    show_sections(&self.eit.table_sections(&row, table_id - first));
+                    let sections = self.eit.table_sections(&row, table_id - first);
+                    show_sections(&sections);
+                    all.extend(sections);
                     show_events(self.eit.table_events(&row, table_id - first));
                 }
+                write_copy(self.folder.as_ref(), &name, first, &all);
             }
             Err(Refused(answer)) => self.refuse(answer),
         }
@@ -209,8 +245,8 @@ fn not_open(Refused(answer): Refused) -> io::Error {
     io::Error::other(format!("the stores do not open: {answer}"))
 }
 
-fn read_records(mut input: impl Read) -> io::Result<()> {
-    let mut monitor = Monitor::open().map_err(not_open)?;
+fn read_records(mut input: impl Read, folder: Option<PathBuf>) -> io::Result<()> {
+    let mut monitor = Monitor::open(folder).map_err(not_open)?;
     let mut gate = Gate::open(4096, &[]).map_err(not_open)?;
     let mut section = Vec::new();
     until_the_end(|| {
@@ -227,8 +263,8 @@ fn read_records(mut input: impl Read) -> io::Result<()> {
 }
 
 /// Packets one after another. Those of PIDs that are not watched are counted, but null packets.
-fn read_packets(mut input: impl Read) -> io::Result<()> {
-    let mut monitor = Monitor::open().map_err(not_open)?;
+fn read_packets(mut input: impl Read, folder: Option<PathBuf>) -> io::Result<()> {
+    let mut monitor = Monitor::open(folder).map_err(not_open)?;
     let mut demux = Demux::open(1, 4096, 64, &[]).map_err(not_open)?;
     let mut packet = [0; PACKET_BYTES];
     until_the_end(|| {
@@ -255,11 +291,12 @@ fn read_packets(mut input: impl Read) -> io::Result<()> {
 }
 
 fn main() -> io::Result<()> {
-    let words: Vec<_> = std::env::args_os().skip(1).collect();
-    let packets = words.first().is_some_and(|word| word == "--ts");
-    let input: Box<dyn Read> = match words.get(usize::from(packets)) {
+    let mut words = std::env::args_os().skip(1).peekable();
+    let folder = words.next_if(|word| word == "-w").and_then(|_| words.next()).map(PathBuf::from);
+    let packets = words.next_if(|word| word == "--ts").is_some();
+    let input: Box<dyn Read> = match words.next() {
         Some(file) => Box::new(BufReader::new(std::fs::File::open(file)?)),
         None => Box::new(io::stdin().lock()),
     };
-    if packets { read_packets(input) } else { read_records(input) }
+    if packets { read_packets(input, folder) } else { read_records(input, folder) }
 }

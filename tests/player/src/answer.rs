@@ -1,5 +1,6 @@
 //! What an implementation answers, and the line that says it.
 use crate::command::Part;
+use crate::guides::Told;
 use std::fmt::{self, Display, Write as _};
 
 /// A set as it is handed out.
@@ -113,6 +114,7 @@ pub enum Answer {
     Entries(Part, u8, Option<([u64; 3], Vec<[u32; 12]>)>),
     /// A calendar date in eight decimal digits, or 0.
     Date(u32),
+    Guides(Told),
 }
 
 impl Answer {
@@ -125,6 +127,7 @@ impl Answer {
             Answer::Collected(n, Held::Eit { .. }, _) => Some((Part::Eit, *n)),
             Answer::Fed(fed) => Some((Part::Demux, fed.number)),
             Answer::Entries(part, n, _) => Some((*part, *n)),
+            Answer::Guides(told) => Some((Part::Guides, told.number())),
             Answer::Input(_) | Answer::Unwatched | Answer::Undeliverable | Answer::Watched(..) | Answer::Date(_) => None,
             Answer::Counters(_) | Answer::Pats { .. } => None,
         }
@@ -221,6 +224,7 @@ impl Display for Answer {
                 entries.iter().try_for_each(|words| write!(f, " [{}]", words.map(|word| word.to_string()).join(" ")))
             }
             Answer::Date(date) => write!(f, "eit date {date}"),
+            Answer::Guides(told) => write!(f, "{told}"),
         }
     }
 }

@@ -1,4 +1,5 @@
 //! What an implementation is asked.
+use crate::guides::Guides;
 
 #[derive(Clone, Copy, Debug, PartialEq, Eq, PartialOrd, Ord)]
 pub enum Part {
@@ -7,6 +8,8 @@ pub enum Part {
     Eit,
     /// The packet layer, with a gate of its own.
     Demux,
+    /// Two guides compared; nothing is kept.
+    Guides,
 }
 
 impl Part {
@@ -17,6 +20,7 @@ impl Part {
             Part::Sets => "sets",
             Part::Eit => "eit",
             Part::Demux => "demux",
+            Part::Guides => "guides",
         }
     }
 }
@@ -141,6 +145,7 @@ pub enum Command {
         section: Vec<u8>,
         page: Page,
     },
+    Guides(Guides),
 }
 
 /// Entries from `skip` on, as many as there is room for.
@@ -161,6 +166,7 @@ impl Command {
             Command::Drop(_) | Command::Events { .. } | Command::Read { .. } | Command::Date(_) => Some(Part::Eit),
             Command::Entries { .. } | Command::ReadTable { .. } => Some(Part::Sets),
             Command::Demux(_) => Some(Part::Demux),
+            Command::Guides(_) => Some(Part::Guides),
         }
     }
 
@@ -210,6 +216,7 @@ impl Command {
             Command::Date(_) => "eit date",
             Command::Entries { .. } => "sets entries",
             Command::ReadTable { .. } => "sets read",
+            Command::Guides(guides) => guides.kind(),
         }
     }
 }

@@ -49,6 +49,10 @@ impl Port {
             Some(Part::Gate) => self.gates.answer(self.input, command),
             Some(Part::Sets) => Ok(self.sets.answer(self.input, command)),
             Some(Part::Eit) => Ok(self.eit.answer(self.input, command)),
+            Some(Part::Guides) => {
+                let Command::Guides(guides) = command else { panic!("no command that compares guides: {command}") };
+                Ok(Answer::Guides(guides.ask()))
+            }
             Some(Part::Demux) => {
                 let Command::Demux(command) = command else { panic!("no command of the packet layer: {command}") };
                 let input = self.input;

@@ -1,6 +1,7 @@
 //! Commands as text, one a line (compare/README.md, "Scripts").
 use crate::answer::{hex, pid_text};
 use crate::command::{By, Command, Demux, Filter, Opening, Page, Part};
+use crate::guides::Guides;
 use std::fmt::{self, Display};
 
 /// The command as a line of a script, which `parse` reads.
@@ -50,6 +51,7 @@ impl Display for Command {
             Command::Date(day) => write!(f, " {day}"),
             Command::Entries { reader, row, page } => write!(f, " reader={reader} row={row}{page}"),
             Command::ReadTable { reader, section, page } => write!(f, " {} reader={reader}{page}", hex(section)),
+            Command::Guides(guides) => write!(f, "{guides}"),
         }
     }
 }
@@ -104,6 +106,7 @@ pub fn parse(line: &str) -> Option<Command> {
         "sets" => Part::Sets,
         "eit" => Part::Eit,
         "demux" => Part::Demux,
+        "guides" => Part::Guides,
         _ => return None,
     };
     Some(match (part, *words.get(1)?) {
@@ -154,6 +157,7 @@ pub fn parse(line: &str) -> Option<Command> {
         }
         (Part::Eit, "read") => Command::Read { section: unhex(words.get(2)?)?, page: page()? },
         (Part::Eit, "date") => Command::Date(words.get(2)?.parse().ok()?),
+        (Part::Guides, kind) => Command::Guides(Guides::parse(kind, words.get(2..)?, unhex, maybe_pid)?),
         _ => return None,
     })
 }

@@ -28,9 +28,13 @@
 //! 42 demux packet  length u16, the bytes
 //! 43 demux ask     PID u16
 //! 44 demux watched
+//! 60 guides sets   list words u16, then twice: PID u16 (FFFF none), length u16, the bytes of a set
+//! 61 guides schedules  the same of two schedules
+//! 62 guides held   number u16, then twice: length u16, the bytes of a set
 //! 50 input         u8: the commands after it are on this input, until the next one; a tape begins on input 0
 //! ```
 use crate::command::{By, Command, Demux, Filter, Opening, Page, Part};
+use crate::guides;
 use std::io::{self, ErrorKind, Read};
 
 /// Stands on a tape for "no PID".
@@ -107,6 +111,7 @@ impl<R: Read> Tape<R> {
             }
             0x37 => Command::Date(self.bytes().map(u32::from_be_bytes)?),
             0x40..=0x44 => Command::Demux(self.demux(first)?),
+            0x60..=0x62 => Command::Guides(guides::read(first, self, Self::short, Self::maybe_pid, Self::section)?),
             0x50 => Command::Input(self.byte()?),
             _ => return Err(Stop::Bad),
         })
@@ -252,6 +257,7 @@ fn write_command(command: &Command, tape: &mut Vec<u8>) {
             tape.extend(pid.to_be_bytes());
         }
         Command::Demux(Demux::Watched) => tape.push(0x44),
+        Command::Guides(command) => guides::write(command, tape, NO_PID),
     }
 }
 

@@ -115,7 +115,8 @@ fn what_memory_held_does_not_matter() {
     let pats: (&[u8], &str) = (include_bytes!("../../tapes/pats.tape"), include_str!("../../tapes/pats.txt"));
     let packets: (&[u8], &str) = (include_bytes!("../../tapes/packets.tape"), include_str!("../../tapes/packets.txt"));
     let events: (&[u8], &str) = (include_bytes!("../../tapes/events.tape"), include_str!("../../tapes/events.txt"));
-    for (tape, expected) in [TAPES[1], pats, packets, events] {
+    let guides: (&[u8], &str) = (include_bytes!("../../tapes/guides.tape"), include_str!("../../tapes/guides.txt"));
+    for (tape, expected) in [TAPES[1], pats, packets, events, guides] {
         assert!(lines(tape, Port::on_bytes(0xA5)) == expected);
         assert!(lines(tape, Port::on_bytes(0xFF)) == expected);
     }

@@ -3,6 +3,7 @@
 mod collector;
 mod events;
 mod gate;
+mod guides;
 mod networks;
 mod packets;
 mod section;
@@ -206,6 +207,7 @@ impl Second {
                 Answer::Collected(number, self.held(Part::Eit), Out::Nothing)
             }
             Command::Demux(command) => self.packets.answer(&mut self.reading, input, command),
+            Command::Guides(command) => Answer::Guides(guides::answer(&self.reading, command)),
         }
     }
 

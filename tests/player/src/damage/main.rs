@@ -1,4 +1,4 @@
-//! `damage gate`, `damage sets`, `damage eit`, `damage packets`, `damage events`, `damage tables`: what a tape cannot reach. Lent memory is written over, less of it is lent or a count is preset, one
+//! `damage gate`, `damage sets`, `damage eit`, `damage packets`, `damage events`, `damage tables`, `damage guides`: what a tape cannot reach. Lent memory is written over, less of it is lent or a count is preset, one
 //! thing at a time, and each call is made on it: a line says what it answers, and whether every word, lent or kept by value, is as it was. 10, 11, 12,
 //! 13 and 37 leave all as before.
 use petrizolu::{Answer, Place};
@@ -8,6 +8,7 @@ use std::process::ExitCode;
 mod eit;
 mod events;
 mod gate;
+mod guides;
 mod packets;
 mod sets;
 mod tables;
@@ -81,8 +82,9 @@ fn main() -> io::Result<ExitCode> {
         }
         "events" => run(events::CASES, &mut out)?,
         "tables" => run(tables::CASES, &mut out)?,
+        "guides" => run(guides::CASES, &mut out)?,
         _ => {
-            eprintln!("usage: damage gate|sets|eit|packets|events|tables");
+            eprintln!("usage: damage gate|sets|eit|packets|events|tables|guides");
             return Ok(ExitCode::from(2));
         }
     }

@@ -146,6 +146,23 @@ module _ (a b : List ℕ) (p q : MaybePid) (x : Bytes a) (y : Bytes b) (room : �
     same-nine e =
         let z = sets-empty a b x y (alike-sets a b p q sides.Alike (sym s) refl) e in
         ap (λ (r : Compared). compareNo (r .answer)) told-alike ∙ ap (λ (es : List Entry). compareNo ((toldOf room (length es) (sameVersion a b) (sameLast a b)) .answer)) z ∙ none-nine room (sameVersion a b) (sameLast a b)
+
+  module _ (s : scheduleSides a p b q ≡ sides.Alike) where
+    schedules-told-alike : comparedSchedules a p b q room ≡ toldOf room (length (scheduleEntries a b)) (versionsAgree (scheduleWords a b)) (lastsAgree (scheduleWords a b))
+    unfolding comparedSchedules
+    schedules-told-alike = rw s
+
+    pub schedules-nine-same : compareNo ((comparedSchedules a p b q room) .answer) ≡ 9 → a ≡ b
+    schedules-nine-same e =
+        schedules-same a b x y (alike-schedules a b p q sides.Alike (sym s) refl)
+        (nine-none room (scheduleEntries a b) (versionsAgree (scheduleWords a b)) (lastsAgree (scheduleWords a b)) (ap (λ (r : Compared). compareNo (r .answer)) (sym schedules-told-alike) ∙ e))
+
+    pub schedules-same-nine : a ≡ b → compareNo ((comparedSchedules a p b q room) .answer) ≡ 9
+    schedules-same-nine e =
+        let z = schedules-empty a b x y (alike-schedules a b p q sides.Alike (sym s) refl) e in
+        ap (λ (r : Compared). compareNo (r .answer)) schedules-told-alike
+        ∙ ap (λ (es : List Entry). compareNo ((toldOf room (length es) (versionsAgree (scheduleWords a b)) (lastsAgree (scheduleWords a b))) .answer)) z
+        ∙ none-nine room (versionsAgree (scheduleWords a b)) (lastsAgree (scheduleWords a b))
 
 -- ---- 2: each number once, by rising number, at most 256, of schedules 4,096
 
