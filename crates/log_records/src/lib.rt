@@ -1,10 +1,14 @@
 // The records of a log in bytes (docs/RULES.md, "Logs"). Parts for the writer and the checker: each makes one record.
+use section::bytes::word;
 use section::header::Header;
 use section::header::Parts;
 ghost use mathlib.Core.Path.{_≡_};
 ghost use mathlib.Core.Bool.{cond};
 ghost use Prim.Native.Nat.{_<_, _/_, _%_};
+ghost use Prim.Native.Nat.{_+_, _≤_};
+ghost use lib.ListN.{length};
 ghost use Rattle.rules_logs.specs.Records.{recordSize, seenRecord, failedRecord, setRecord, bareSetRecord};
+ghost use Rattle.log_records.specs.Reading.{seenAt, failedAt, setAt, bareSetAt, fieldsAt, readAt, readNumber, IsSize};
 
 // Kinds.
 pub const EMITTED: u8 = 1;
@@ -18,6 +22,9 @@ pub const MISMATCH: u8 = 4;
 pub const SET: u8 = 5;
 
 pub const BARE_SET: u8 = 6;
+
+// What stands for a PID that is unknown.
+pub const NO_PID: u16 = 8192;
 
 // How many bytes a record of this kind has, with the kind; 0 where there is no such kind.
 pub fn record_size(kind: u8) -> usize
@@ -126,4 +133,155 @@ pub fn bare_set(input: u8, h: Header) -> [u8; 8]
         h.version,
         h.last,
     ]
+}
+
+// The fields of a record; those that its kind has not are 0, and the PID of a set without one is 8192.
+pub struct Record {
+    pub kind: u8,
+    pub input: u8,
+    pub pid: u16,
+    pub table_id: u8,
+    pub extension: u16,
+    pub number: u8,
+    pub version: u8,
+    pub change: u32,
+    pub length: u16,
+    pub current_next: u8,
+    pub last: u8,
+}
+
+// A record (8), the end of the log (9), no such kind (38), or a record that is cut off (39).
+pub enum Read {
+    Found(Record),
+    End,
+    Unknown,
+    Cut,
+}
+
+impl Read {
+    pub fn number(self) -> u8
+        ensures { λ r. ⌜ r ≡ readNumber self ⌝ }
+    {
+        match self {
+            Read::Found(_) => 8,
+            Read::End => 9,
+            Read::Unknown => 38,
+            Read::Cut => 39,
+        }
+    }
+}
+
+// Emitted or suppressed.
+fn seen_at(log: &[u8], at: usize) -> Record
+    requires { ⌜ at + 13 ≤ length (now log) ⌝ }
+    ensures { λ r. ⌜ r ≡ seenAt (now (log .entry)) at ⌝ }
+{
+    Record {
+        kind: log[at],
+        input: log[at + 1],
+        pid: word(log, at + 2),
+        table_id: log[at + 4],
+        extension: word(log, at + 5),
+        number: log[at + 7],
+        version: log[at + 8],
+        change: crc::stored(log, at + 9),
+        length: 0,
+        current_next: 0,
+        last: 0,
+    }
+}
+
+// Short or a mismatch.
+fn failed_at(log: &[u8], at: usize) -> Record
+    requires { ⌜ at + 6 ≤ length (now log) ⌝ }
+    ensures { λ r. ⌜ r ≡ failedAt (now (log .entry)) at ⌝ }
+{
+    Record {
+        kind: log[at],
+        input: log[at + 1],
+        pid: word(log, at + 2),
+        table_id: 0,
+        extension: 0,
+        number: 0,
+        version: 0,
+        change: 0,
+        length: word(log, at + 4),
+        current_next: 0,
+        last: 0,
+    }
+}
+
+// A set with its PID.
+fn set_at(log: &[u8], at: usize) -> Record
+    requires { ⌜ at + 10 ≤ length (now log) ⌝ }
+    ensures { λ r. ⌜ r ≡ setAt (now (log .entry)) at ⌝ }
+{
+    Record {
+        kind: log[at],
+        input: log[at + 1],
+        pid: word(log, at + 2),
+        table_id: log[at + 4],
+        extension: word(log, at + 5),
+        number: 0,
+        version: log[at + 8],
+        change: 0,
+        length: 0,
+        current_next: log[at + 7],
+        last: log[at + 9],
+    }
+}
+
+// A set without one.
+fn bare_set_at(log: &[u8], at: usize) -> Record
+    requires { ⌜ at + 8 ≤ length (now log) ⌝ }
+    ensures { λ r. ⌜ r ≡ bareSetAt (now (log .entry)) at ⌝ }
+{
+    Record {
+        kind: log[at],
+        input: log[at + 1],
+        pid: NO_PID,
+        table_id: log[at + 2],
+        extension: word(log, at + 3),
+        number: 0,
+        version: log[at + 6],
+        change: 0,
+        length: 0,
+        current_next: log[at + 5],
+        last: log[at + 7],
+    }
+}
+
+// The record of this size.
+fn fields(log: &[u8], at: usize, size: usize) -> Record
+    requires { ⌜ at + size ≤ length (now log) ⌝ }
+    requires { ⌜ IsSize size ⌝ }
+    ensures { λ r. ⌜ r ≡ fieldsAt (now (log .entry)) at size ⌝ }
+{
+    if size == 13 {
+        return seen_at(log, at);
+    }
+    if size == 6 {
+        return failed_at(log, at);
+    }
+    if size == 10 {
+        return set_at(log, at);
+    }
+    bare_set_at(log, at)
+}
+
+// The record that begins at this place.
+pub fn read_record(log: &[u8], place: usize) -> Read
+    ensures { λ r. ⌜ r ≡ readAt (now (log .entry)) place ⌝ }
+{
+    if log.len() <= place {
+        return Read::End;
+    }
+    let size = record_size(log[place]);
+    if size == 0 {
+        return Read::Unknown;
+    }
+    if log.len() - place < size {
+        return Read::Cut;
+    }
+    Read::Found(fields(log, place, size))
 }
