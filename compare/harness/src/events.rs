@@ -1,16 +1,14 @@
 //! What a guide says: scripts that ask for its entries, the port beside the second implementation; and the program `events` beside what the second implementation makes of its
 //! input. The original lists nothing.
+use crate::beside;
 use crate::make::{self, Dice, Domain, damaged, mend};
-use crate::pairs::{Side, first_difference, smallest};
 use crate::program::Program;
 use crate::report::Report;
 use crate::second::{Reading, Second, crc};
-use crate::written::Written;
 use player::answer::{Answer, Out, Set, hex};
 use player::command::{Command, Page, Part};
 use std::fmt::Write as _;
 use std::path::Path;
-use std::time::Instant;
 
 // ---- scripts
 
@@ -115,14 +113,8 @@ fn output(input: &[u8]) -> String {
     let mut second = Second::new(Reading::default());
     second.open_eit(64, 512, 4096);
     let mut run = Run { second, text: String::new(), sections: 0, sets: 0, schedules: 0, events: 0, descriptors: 0, refused: 0, other: 0 };
-    let mut rest = input;
-    while !rest.is_empty() {
-        let Some((pid, section)) = crate::watch::record(rest) else {
-            run.text.push_str("cut\n");
-            break;
-        };
-        rest = &rest[2 + section.len()..];
-        run.take(pid, section);
+    if !crate::watch::each_record(input, |pid, section| run.take(pid, section)) {
+        run.text.push_str("cut\n");
     }
     let Run { sections, sets, schedules, events, descriptors, refused, other, .. } = run;
     let totals = format!(
@@ -222,21 +214,6 @@ fn named(set: &Set) -> String {
     format!("{:04X} stream {:04X} network {:04X} current {}", set.extension, word(8), word(10), u8::from(set.current_next))
 }
 
-/// The pushes of a script as records; the last one may be cut.
-fn feed(seed: u64) -> Vec<u8> {
-    let mut feed = Vec::new();
-    for command in script(seed, 400) {
-        if let Command::Push { pid, section, .. } = command
-            && crate::lent::deliverable(&section)
-        {
-            feed.extend(pid.unwrap_or(0x0012).to_be_bytes());
-            feed.extend(section);
-        }
-    }
-    feed.truncate(feed.len() - seed as usize % 3);
-    feed
-}
-
 /// A schedule of one table of 256 sections of 4,096 bytes, each an event with 2,033 descriptors of no bytes.
 fn largest() -> Vec<u8> {
     let mut feed = Vec::new();
@@ -253,50 +230,23 @@ fn largest() -> Vec<u8> {
 /// The program on its stored input, cut at each place near an end of a record, on feeds of seeds, and on the largest table there is.
 fn compare_program(root: &Path) -> bool {
     let program = Program::new(root, "events");
-    let stored = std::fs::read(root.join("crates/events/stdin")).expect("the stored input");
-    let mut good = output(&stored).as_bytes() == std::fs::read(root.join("crates/events/stdout")).expect("the stored output");
-    println!("the stored output of events: {}", if good { "equal" } else { "DIFFERS" });
+    let (stored, mut good) = beside::stored(root, "events", output);
     let mut inputs: Vec<Vec<u8>> = (0..=120).map(|end| stored[..end].to_vec()).collect();
-    inputs.extend((0..40).map(feed));
+    inputs.extend((0..40).map(|seed| beside::feed(seed, script(seed, 400), 0x0012)));
     let same = inputs.iter().filter(|input| program.output(input) == output(input)).count();
     println!("events on {} inputs, an empty one among them: {same} equal", inputs.len());
     good &= same == inputs.len();
-    let largest = largest();
-    let start = Instant::now();
-    let told = program.output(&largest);
-    let seconds = start.elapsed().as_secs_f64();
-    let equal = told == output(&largest);
-    println!(
-        "events on a table of 256 sections of 2,033 descriptors: {} lines in {seconds:.1} s: {}",
-        told.lines().count(),
-        if equal { "equal" } else { "DIFFERS" }
-    );
-    good && equal && seconds < 10.0
+    beside::large(&program, "a table of 256 sections of 2,033 descriptors", &largest(), output) && good
 }
 
 // ---- the comparison
 
 /// The scripts of events/; seeds, the port beside the second implementation; every day; and the program.
 pub fn compare(root: &Path, seeds: usize, commands: usize) -> bool {
-    let sides = [Side::RULES, Side::Port];
-    let scripts = Written::all(root, "events");
-    let wrong: Vec<String> = scripts.iter().flat_map(|script| sides.map(|side| script.not_as_said(side))).flatten().collect();
-    let said: usize = scripts.iter().map(|script| script.said.len()).sum();
-    println!("{} written scripts of events/, {said} answers: {}", scripts.len(), if wrong.is_empty() { "as said" } else { "NOT as said" });
-    wrong.iter().for_each(|line| println!("  {line}"));
+    let written = beside::as_said(root, "events");
     let days: Vec<Command> = (0..=65_600).map(Command::Date).collect();
-    let dates = first_difference(sides, &days).is_none();
+    let dates = beside::alike("the dates of days 0 to 65,600", &days, &mut Report::default());
     println!("the dates of days 0 to 65,600: {}", if dates { "equal" } else { "DIFFER" });
-    let mut report = Report::default();
-    for seed in 0..seeds as u64 {
-        let script = script(seed, commands);
-        if let Some(found) = first_difference(sides, &script) {
-            println!("seed {seed}: a difference at command {}; the smallest script found:", found.line + 1);
-            println!("{}", smallest(found));
-            return false;
-        }
-        script.iter().zip(Side::RULES.answers(&script)).for_each(|(command, answer)| report.count(command, &answer));
-    }
-    println!("entries: {seeds} seeds, 0 differences\n{report}");
-    wrong.is_empty() && dates && compare_program(root)
+    let seeds = beside::seeds_alike("entries", seeds, |seed| script(seed, commands));
+    written && dates && seeds && compare_program(root)
 }

@@ -1,17 +1,14 @@
 //! Two guides compared: scripts of sets and schedules with copies that were changed, the port beside the second implementation; and the program `compare_guides` beside what
 //! the second implementation makes of its files. The original compares nothing.
+use crate::beside;
 use crate::make::{Dice, sealed};
-use crate::pairs::{Side, first_difference, smallest};
 use crate::program::Program;
-use crate::report::Report;
 use crate::second::{Reading, Second};
-use crate::written::Written;
 use player::answer::{Answer, hex};
 use player::command::Command;
 use player::guides::{Copy, Guides, Told};
 use std::fmt::Write as _;
 use std::path::Path;
-use std::time::Instant;
 
 // ---- scripts
 
@@ -302,22 +299,7 @@ fn compare_program(root: &Path, seed: u64, runs: usize) -> bool {
 
 /// The written scripts of guides/, seeds, and the program.
 pub fn compare(root: &Path, seeds: usize, commands: usize) -> bool {
-    let scripts = Written::all(root, "guides");
-    let sides = [Side::RULES, Side::Port];
-    let wrong: Vec<String> = scripts.iter().flat_map(|script| sides.map(|side| script.not_as_said(side))).flatten().collect();
-    println!("{} written scripts of guides/: {}", scripts.len(), if wrong.is_empty() { "as said" } else { "NOT as said" });
-    wrong.iter().for_each(|line| println!("  {line}"));
-    let start = Instant::now();
-    let mut report = Report::default();
-    for seed in 0..seeds as u64 {
-        let script = script(seed, commands);
-        if let Some(found) = first_difference(sides, &script) {
-            println!("seed {seed}: a difference at command {}; the smallest script found:", found.line + 1);
-            println!("{}", smallest(found));
-            return false;
-        }
-        script.iter().zip(Side::RULES.answers(&script)).for_each(|(command, answer)| report.count(command, &answer));
-    }
-    println!("{seeds} seeds in {} seconds, 0 differences\n{report}", start.elapsed().as_secs());
-    wrong.is_empty() && compare_program(root, 1, 200)
+    let written = beside::as_said(root, "guides");
+    let seeds = beside::seeds_alike("two guides compared", seeds, |seed| script(seed, commands));
+    written && seeds && compare_program(root, 1, 200)
 }

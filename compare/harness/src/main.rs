@@ -1,5 +1,6 @@
 //! Runs the port beside the original and beside a second implementation, in one process, and compares what they answer, command for command.
 mod apart;
+mod beside;
 mod events;
 mod faults;
 mod guides;
@@ -145,9 +146,7 @@ fn compare_seeds(root: &Path, seeds: usize, commands: usize) -> bool {
         let mut report = Report::default();
         for seed in 0..seeds as u64 {
             if let Some(found) = differing(&make::counted(make::script(seed, commands, domain)), &mut report) {
-                println!("{name}, seed {seed}: a difference at command {}; the smallest script found:", found.line + 1);
-                println!("{}", smallest(found));
-                return false;
+                return beside::differs(&format!("{name}, seed {seed}"), found);
             }
         }
         println!("{name}: {seeds} seeds, 0 differences that are not named\n{report}");
@@ -162,61 +161,28 @@ fn compare_seeds(root: &Path, seeds: usize, commands: usize) -> bool {
 
 /// The port beside the second implementation, where the original has no counterpart: the scripts of corrected/, and seeds by change rule 2.
 fn compare_rule_2(root: &Path, seeds: usize, commands: usize) -> bool {
-    let scripts = Written::all(root, "corrected");
-    let sides = [Side::RULES, Side::Port];
-    let wrong: Vec<String> = scripts.iter().flat_map(|script| sides.map(|side| script.not_as_said(side))).flatten().collect();
-    println!("{} written scripts of corrected/: {}", scripts.len(), if wrong.is_empty() { "as said" } else { "NOT as said" });
-    wrong.iter().for_each(|line| println!("  {line}"));
-    for (domain, name) in DOMAINS {
-        let mut report = Report::default();
-        for seed in 0..seeds as u64 {
-            let script = make::counted(make::by_rule_2(make::script(seed, commands, domain)));
-            if let Some(found) = first_difference(sides, &script) {
-                println!("{name}, seed {seed}: a difference at command {}; the smallest script found:", found.line + 1);
-                println!("{}", smallest(found));
-                return false;
-            }
-            script.iter().zip(Side::RULES.answers(&script)).for_each(|(command, answer)| report.count(command, &answer));
-        }
-        println!("{name}, by change rule 2: {seeds} seeds, 0 differences\n{report}");
-    }
-    wrong.is_empty()
+    let written = beside::as_said(root, "corrected");
+    let by_rule_2 = |seed, domain| make::counted(make::by_rule_2(make::script(seed, commands, domain)));
+    let alike = |(domain, name)| beside::seeds_alike(&format!("{name}, by change rule 2"), seeds, |seed| by_rule_2(seed, domain));
+    DOMAINS.into_iter().all(alike) && written
 }
 
 /// Several inputs. Where nothing leaves, each input beside an original of its own; where they share little room, the port beside the second implementation.
 fn compare_inputs(root: &Path, seeds: usize, commands: usize) -> bool {
-    let scripts = Written::all(root, "inputs");
-    let sides = [Side::RULES, Side::Port];
-    let wrong: Vec<String> = scripts.iter().flat_map(|script| sides.map(|side| script.not_as_said(side))).flatten().collect();
-    println!("{} written scripts of inputs/: {}", scripts.len(), if wrong.is_empty() { "as said" } else { "NOT as said" });
-    wrong.iter().for_each(|line| println!("  {line}"));
+    let written = beside::as_said(root, "inputs");
     let mut report = Report::default();
     for seed in 0..seeds as u64 {
         let script = make::apart(seed, commands);
         assert!(apart::is_apart(&script), "apart, seed {seed}");
         if let Some(found) = differing_apart(&script, &mut report) {
-            println!("apart, seed {seed}: a difference at command {}; the smallest script found:", found.line + 1);
-            println!("{}", smallest(found));
-            return false;
+            return beside::differs(&format!("apart, seed {seed}"), found);
         }
     }
     println!("apart: {seeds} seeds, 0 differences that are not named\n{report}");
-    let mut good = wrong.is_empty() && report.named_as_expected(Domain::Inside) && report.none_dead();
-    for (domain, name) in DOMAINS {
-        let mut report = Report::default();
-        for seed in 0..seeds as u64 {
-            let script = make::counted(make::on_inputs(seed, commands, domain));
-            if let Some(found) = first_difference(sides, &script) {
-                println!("{name}, seed {seed}: a difference at command {}; the smallest script found:", found.line + 1);
-                println!("{}", smallest(found));
-                return false;
-            }
-            script.iter().zip(Side::RULES.answers(&script)).for_each(|(command, answer)| report.count(command, &answer));
-        }
-        println!("{name}, on several inputs: {seeds} seeds, 0 differences\n{report}");
-        good &= report.commands() > 0;
-    }
-    good
+    let good = written && report.named_as_expected(Domain::Inside) && report.none_dead();
+    let on_inputs = |seed, domain| make::counted(make::on_inputs(seed, commands, domain));
+    let alike = |(domain, name)| beside::seeds_alike(&format!("{name}, on several inputs"), seeds, |seed| on_inputs(seed, domain));
+    DOMAINS.into_iter().all(alike) && good
 }
 
 /// What is the same in every run: the CRC's published check, the written scripts, the program `watch`, and tapes that end early.

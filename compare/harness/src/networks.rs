@@ -1,15 +1,12 @@
 //! Networks, bouquets and services: scripts that ask for their entries, the port beside the second implementation; and the program `tables` beside what the second implementation
 //! makes of its input. The original lists nothing.
+use crate::beside;
 use crate::make::{self, Dice, Domain, Head, damaged, long, mend};
-use crate::pairs::{Side, first_difference, smallest};
 use crate::program::Program;
-use crate::report::Report;
 use crate::second::{Reading, Second, crc};
-use crate::written::Written;
 use player::answer::{Answer, Out, Set, hex};
 use player::command::{Command, Page, Part};
 use std::path::Path;
-use std::time::Instant;
 
 /// The table_ids of the three readers (EN 300 468, table 2), and two of none.
 const TABLES: [u8; 7] = [0x40, 0x41, 0x42, 0x46, 0x4A, 0x00, 0x4E];
@@ -163,14 +160,8 @@ fn output(input: &[u8], named: Option<u8>) -> String {
     let mut second = Second::new(Reading::default());
     second.open_sets(64, 512, 4096);
     let mut run = Run { second, named, text: String::new(), sections: 0, sets: 0, streams: 0, services: 0, descriptors: 0, refused: 0, other: 0 };
-    let mut rest = input;
-    while !rest.is_empty() {
-        let Some((pid, section)) = crate::watch::record(rest) else {
-            run.text.push_str("cut\n");
-            break;
-        };
-        rest = &rest[2 + section.len()..];
-        run.take(pid, section);
+    if !crate::watch::each_record(input, |pid, section| run.take(pid, section)) {
+        run.text.push_str("cut\n");
     }
     let Run { sections, sets, streams, services, descriptors, refused, other, .. } = run;
     let totals = format!(
@@ -273,20 +264,6 @@ fn record(pid: u16, section: Vec<u8>) -> Vec<u8> {
     [&pid.to_be_bytes(), &section[..]].concat()
 }
 
-/// The pushes of a script as records; the last one may be cut.
-fn feed(seed: u64) -> Vec<u8> {
-    let mut feed = Vec::new();
-    for command in script(seed, 400) {
-        if let Command::Push { pid, section, .. } = command
-            && crate::lent::deliverable(&section)
-        {
-            feed.extend(record(pid.unwrap_or(0x0010), section));
-        }
-    }
-    feed.truncate(feed.len() - seed as usize % 3);
-    feed
-}
-
 fn head(table_id: u8, number: u8, last: u8) -> Head {
     Head { table_id, extension: 1, version: 0, current_next: true, number, last }
 }
@@ -311,12 +288,10 @@ fn largest() -> Vec<(&'static str, Vec<u8>)> {
 /// The program on its stored input, cut at each place near an end of a record, on feeds of seeds by each reader, and on the largest sections and tables there are.
 fn compare_program(root: &Path) -> bool {
     let program = Program::new(root, "tables");
-    let stored = std::fs::read(root.join("crates/tables/stdin")).expect("the stored input");
-    let mut good = output(&stored, None).as_bytes() == std::fs::read(root.join("crates/tables/stdout")).expect("the stored output");
-    println!("the stored output of tables: {}", if good { "equal" } else { "DIFFERS" });
+    let (stored, mut good) = beside::stored(root, "tables", |input| output(input, None));
     let mut inputs: Vec<Vec<u8>> = (0..=120).map(|end| stored[..end].to_vec()).collect();
     inputs.push(stored);
-    inputs.extend((0..40).map(feed));
+    inputs.extend((0..40).map(|seed| beside::feed(seed, script(seed, 400), 0x0010)));
     let mut same = 0;
     for (at, input) in inputs.iter().enumerate() {
         let (named, words): (_, &[&str]) = if at < 121 { (None, &[]) } else { [(None, &[][..]), (Some(1), &["nit"]), (Some(2), &["bat"]), (Some(3), &["sdt"])][at % 4] };
@@ -325,37 +300,14 @@ fn compare_program(root: &Path) -> bool {
     println!("tables on {} inputs, an empty one among them, with and without a reader: {same} equal", inputs.len());
     good &= same == inputs.len();
     good &= program.output_of(&["pat"], &inputs[121]) == "usage: tables [nit|bat|sdt]\n";
-    for (name, input) in largest() {
-        let start = Instant::now();
-        let told = program.output(&input);
-        let seconds = start.elapsed().as_secs_f64();
-        let equal = told == output(&input, None);
-        println!("tables on {name}: {} lines in {seconds:.1} s: {}", told.lines().count(), if equal { "equal" } else { "DIFFERS" });
-        good &= equal && seconds < 10.0;
-    }
-    good
+    largest().iter().fold(good, |good, (name, input)| beside::large(&program, name, input, |input| output(input, None)) && good)
 }
 
 // ---- the comparison
 
 /// The scripts of networks/; seeds, the port beside the second implementation; and the program.
 pub fn compare(root: &Path, seeds: usize, commands: usize) -> bool {
-    let sides = [Side::RULES, Side::Port];
-    let scripts = Written::all(root, "networks");
-    let wrong: Vec<String> = scripts.iter().flat_map(|script| sides.map(|side| script.not_as_said(side))).flatten().collect();
-    let said: usize = scripts.iter().map(|script| script.said.len()).sum();
-    println!("{} written scripts of networks/, {said} answers: {}", scripts.len(), if wrong.is_empty() { "as said" } else { "NOT as said" });
-    wrong.iter().for_each(|line| println!("  {line}"));
-    let mut report = Report::default();
-    for seed in 0..seeds as u64 {
-        let script = script(seed, commands);
-        if let Some(found) = first_difference(sides, &script) {
-            println!("seed {seed}: a difference at command {}; the smallest script found:", found.line + 1);
-            println!("{}", smallest(found));
-            return false;
-        }
-        script.iter().zip(Side::RULES.answers(&script)).for_each(|(command, answer)| report.count(command, &answer));
-    }
-    println!("entries of networks, bouquets and services: {seeds} seeds, 0 differences\n{report}");
-    wrong.is_empty() && compare_program(root)
+    let written = beside::as_said(root, "networks");
+    let seeds = beside::seeds_alike("entries of networks, bouquets and services", seeds, |seed| script(seed, commands));
+    written && seeds && compare_program(root)
 }

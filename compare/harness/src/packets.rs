@@ -1,5 +1,6 @@
 //! The packet layer: on streams by the standard beside the original's `feed`; on wild ones too, where the original stands on its side of the named differences, and the
 //! port beside the second implementation with everything that the original has not.
+use crate::beside;
 use crate::faults::Fault;
 use crate::original::has_all;
 use crate::pairs::{Found, Side, differing, first_difference, smallest};
@@ -22,7 +23,7 @@ pub fn compare(root: &Path, seeds: usize, packets: usize) -> bool {
             let script = script(seed, packets);
             assert!(has_all(&script), "{name}, seed {seed}");
             if let Some(found) = differing(&script, &mut report) {
-                return differs(name, seed, found);
+                return beside::differs(&format!("{name}, seed {seed}"), found);
             }
         }
         println!("{name}: {seeds} seeds of {packets} packets, 0 differences that are not named\n{report}");
@@ -32,7 +33,7 @@ pub fn compare(root: &Path, seeds: usize, packets: usize) -> bool {
     for seed in 0..seeds as u64 {
         let script = stream::wild(seed, packets, Beyond::Port);
         if let Some(found) = first_difference([Side::RULES, Side::Port], &script) {
-            return differs(EVERYTHING, seed, found);
+            return beside::differs(&format!("{EVERYTHING}, seed {seed}"), found);
         }
         let mut second = Second::new(Reading::default());
         script.iter().for_each(|command| report.count(command, &second.answer(command)));
@@ -50,12 +51,6 @@ type Script = fn(u64, usize) -> Vec<Command>;
 
 const BESIDE_THE_ORIGINAL: [(&str, Script); 2] =
     [(STANDARD, stream::by_the_standard), ("wild streams", |seed, packets| stream::wild(seed, packets, Beyond::Original))];
-
-fn differs(name: &str, seed: u64, found: Found) -> bool {
-    println!("{name}, seed {seed}: a difference at command {}; the smallest script found:", found.line + 1);
-    println!("{}", smallest(found));
-    false
-}
 
 /// The scripts of packets/, written by hand: the original is held to those that begin with `0`, the second implementation and the port to all.
 fn written(root: &Path) -> bool {

@@ -1,10 +1,10 @@
 //! PATs in several sections: scripts of them made from a seed, and the port beside the second implementation where complete PATs are followed. The original follows each changed
 //! section: it is run on the same scripts in that manner.
+use crate::beside;
 use crate::make::{Dice, Head, another_input, damaged, gate_opening, long, mend, same_crc, short};
-use crate::pairs::{Side, differing, first_difference, smallest};
+use crate::pairs::{Side, differing};
 use crate::report::Report;
 use crate::watch_pats;
-use crate::written::Written;
 use player::answer::Answer;
 use player::command::{By, Command};
 use std::path::Path;
@@ -203,29 +203,24 @@ pub fn offered_by(script: &[Command], manner: (bool, bool)) -> Vec<Command> {
 /// The scripts of pats/; seeds by complete PATs, the port beside the second implementation; the same where each changed section is followed, beside the original; and that the manner
 /// decides the watch alone.
 pub fn compare(root: &Path, seeds: usize, commands: usize) -> bool {
-    let sides = [Side::RULES, Side::Port];
-    let scripts = Written::all(root, "pats");
-    let wrong: Vec<String> = scripts.iter().flat_map(|script| sides.map(|side| script.not_as_said(side))).flatten().collect();
-    println!("{} written scripts of pats/: {}", scripts.len(), if wrong.is_empty() { "as said" } else { "NOT as said" });
-    wrong.iter().for_each(|line| println!("  {line}"));
+    let written = beside::as_said(root, "pats");
     let [mut tables, mut sections] = [Report::default(), Report::default()];
     for seed in 0..seeds as u64 {
         let script = script(seed, commands);
-        let found = first_difference(sides, &script).or_else(|| differing(&by_sections(script.clone()), &mut sections));
-        if let Some(found) = found {
-            println!("seed {seed}: a difference at command {}; the smallest script found:", found.line + 1);
-            println!("{}", smallest(found));
+        if !beside::alike(&format!("seed {seed}"), &script, &mut tables) {
             return false;
+        }
+        if let Some(found) = differing(&by_sections(script.clone()), &mut sections) {
+            return beside::differs(&format!("each changed section, seed {seed}"), found);
         }
         if let Some(line) = manner_shows(&script) {
             println!("seed {seed}: another answer in another manner at command {}", line + 1);
             return false;
         }
-        script.iter().zip(Side::RULES.answers(&script)).for_each(|(command, answer)| tables.count(command, &answer));
     }
     println!("complete PATs: {seeds} seeds, 0 differences\n{tables}");
     println!("each changed section, on one input: {seeds} seeds, 0 differences that are not named\n{sections}");
-    wrong.is_empty() && watch_pats::compare(root)
+    written && watch_pats::compare(root)
 }
 
 /// The first command of the script with all its sections offered that the port answers otherwise where PATs are followed otherwise: by tables, by sections, not at all.

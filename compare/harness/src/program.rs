@@ -7,7 +7,7 @@ use std::thread;
 /// A program of the project, as its script `run` starts it.
 pub struct Program {
     run: PathBuf,
-    name: &'static str,
+    pub name: &'static str,
 }
 
 impl Program {

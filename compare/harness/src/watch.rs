@@ -70,3 +70,13 @@ pub fn record(input: &[u8]) -> Option<(u16, &[u8])> {
     let length = 3 + usize::from(u16::from_be_bytes([high & 0x0F, low]));
     Some((u16::from_be_bytes([pid_high, pid_low]), input.get(2..2 + length)?))
 }
+
+/// Each record of an input; whether the last one is whole.
+pub fn each_record(mut input: &[u8], mut take: impl FnMut(u16, &[u8])) -> bool {
+    while !input.is_empty() {
+        let Some((pid, section)) = record(input) else { return false };
+        input = &input[2 + section.len()..];
+        take(pid, section);
+    }
+    true
+}

@@ -1,0 +1,4 @@
+pub mod Records
+pub mod Gate
+pub mod Lists
+pub mod Examples

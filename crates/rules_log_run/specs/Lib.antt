@@ -1,0 +1,4 @@
+pub mod Run
+pub mod Gate
+pub mod Lists
+pub mod Entries
