@@ -4,6 +4,8 @@
  * collector: a set that was evicted between two of its sections, or found no cell, is completed by repeats. It prints what a monitor shows: each new
  * section, each complete set with its sections, each complete schedule table by table, the events of both, the transport streams of networks and bouquets, the services, and totals.
  * With -w FOLDER each set and schedule that goes out is also written to a file there, which `./run compare_guides` takes: the PID in two bytes, then the sections.
+ * With -l LIMIT FOLDER it keeps a log besides, and the list of the sections that it is of: the files log and sections there, to which
+ * `./run check_log 4096 0 2 LIMIT 4096 256 with FOLDER/sections < FOLDER/log` says yes.
  */
 #include "../include/petrizolu.h"
 
@@ -16,7 +18,7 @@
 /* All records, and all packets, come on one input. */
 enum { INPUT = 0, NULL_PID = 0x1FFF };
 
-enum { CAPACITY = 4096, SECTION_BUFFERS = 64, LIMIT = 64, CELL_SIZE = 4096, CELLS = 1024, LONGEST_SECTION = 3 + 0xFFF, PAGE = 2048 };
+enum { CAPACITY = 4096, SECTION_BUFFERS = 64, LIMIT = 64, CELL_SIZE = 4096, CELLS = 1024, LOG_CELLS = 256, LONGEST_SECTION = 3 + 0xFFF, PAGE = 2048 };
 
 /* ---- the stores: a struct of words and the arrays that it goes with */
 
@@ -49,11 +51,21 @@ struct eit {
     uint8_t cells[CELL_SIZE * CELLS];
 };
 
+/* A log that is kept, and the set collector that it tells of: it gets every sound section, of an EIT and of the short form too, and is never cleared. */
+struct log {
+    FILE *records, *sections; /* or NULL */
+    petrizolu_sets state;
+    uint64_t heads[LIMIT * PETRIZOLU_HEAD_WORDS];
+    uint32_t slots[LIMIT * PETRIZOLU_SLOT_WORDS];
+    uint8_t cells[CELL_SIZE * LOG_CELLS];
+};
+
 struct monitor {
     struct gate gate;
     struct streams streams;
     struct sets sets;
     struct eit eit;
+    struct log log;
     petrizolu_entry page[PAGE];
     uint64_t unwatched, complete_sets, complete_schedules, refused;
     const char *folder; /* of the files that are written, or NULL */
@@ -336,9 +348,56 @@ static void collect_set(struct monitor *m, uint32_t pid, const uint8_t *section,
     }
 }
 
+/* ---- the log */
+
+static FILE *open_kept(const char *folder, const char *name)
+{
+    char path[4096];
+    FILE *file = NULL;
+    if (snprintf(path, sizeof path, "%s/%s", folder, name) >= (int)sizeof path || (file = fopen(path, "wb")) == NULL) {
+        perror(path);
+        exit(1);
+    }
+    return file;
+}
+
+static bool open_log(struct log *log, uint64_t limit, const char *folder)
+{
+    log->records = open_kept(folder, "log");
+    log->sections = open_kept(folder, "sections");
+    return petrizolu_sets_open(&log->state, limit, CELL_SIZE, LOG_CELLS, LEND_SETS(log)) == PETRIZOLU_DONE;
+}
+
+/* The record of the gate's answer; and where the collector has a set by this section, the set's. */
+static void keep_log(struct monitor *m, uint32_t pid, const uint8_t *section, size_t length, uint8_t answer)
+{
+    struct log *log = &m->log;
+    const uint8_t head[] = {INPUT, (uint8_t)(pid >> 8), (uint8_t)pid, (uint8_t)(length >> 8), (uint8_t)length};
+    uint8_t record[13];
+    uint64_t bytes = 0, row;
+
+    fwrite(head, 1, sizeof head, log->sections);
+    fwrite(section, 1, length, log->sections);
+    petrizolu_log_offer_record(answer, m->gate.state.change_rule, INPUT, pid, section, length, record, &bytes);
+    fwrite(record, 1, bytes, log->records);
+    if (answer != PETRIZOLU_EMITTED && answer != PETRIZOLU_SUPPRESSED)
+        return;
+    if (petrizolu_sets_push(&log->state, LEND_SETS(log), INPUT, pid, section, length, &row) == PETRIZOLU_SET) {
+        petrizolu_log_set_record(INPUT, pid, section, length, record, &bytes);
+        fwrite(record, 1, bytes, log->records);
+    }
+}
+
+static bool close_log(struct log *log)
+{
+    return log->records == NULL || (fclose(log->records) == 0 && fclose(log->sections) == 0);
+}
+
 /* A section and the gate's answer to it; of a failure what is told. */
 static void judged(struct monitor *m, uint32_t pid, const uint8_t *section, size_t length, uint64_t answer, uint64_t stored, uint64_t worked)
 {
+    if (m->log.records != NULL)
+        keep_log(m, pid, section, length, (uint8_t)answer);
     switch (answer) {
     case PETRIZOLU_EMITTED:
         printf("new pid %04" PRIX32 " table %02X, %zu bytes\n", pid, section[0], length);
@@ -446,6 +505,10 @@ int main(int argc, char **argv)
     static struct monitor m;
     bool writes = argc > 2 && strcmp(argv[1], "-w") == 0;
     char **words = argv + (writes ? 3 : 1);
+    bool logs = words[0] != NULL && strcmp(words[0], "-l") == 0 && words[1] != NULL && words[2] != NULL;
+    char **of_log = words;
+    if (logs)
+        words += 3;
     bool packets = *words != NULL && strcmp(*words, "--ts") == 0;
     const char *file = packets ? words[1] : words[0];
     FILE *in = file != NULL ? fopen(file, "rb") : stdin;
@@ -455,7 +518,7 @@ int main(int argc, char **argv)
         return 1;
     }
     m.folder = writes ? argv[2] : NULL;
-    if (!open_all(&m)) {
+    if (!open_all(&m) || (logs && !open_log(&m.log, strtoull(of_log[1], NULL, 10), of_log[2]))) {
         fputs("monitor: the stores do not open\n", stderr);
         return 1;
     }
@@ -467,5 +530,9 @@ int main(int argc, char **argv)
            m.gate.state.suppressed, m.gate.state.crc_failures, m.unwatched);
     printf("sets %" PRIu64 " schedules %" PRIu64 " refused %" PRIu64 " evicted %" PRIu64 "\n", m.complete_sets, m.complete_schedules, m.refused,
            m.sets.state.evictions + m.eit.state.evictions + m.eit.state.schedule_evictions);
+    if (!close_log(&m.log)) {
+        perror("monitor: the log is not written");
+        return 1;
+    }
     return 0;
 }

@@ -37,7 +37,7 @@ enum petrizolu_answer {
     PETRIZOLU_NOTHING = 4,           /* collector: nothing to hand out */
     PETRIZOLU_SET = 5,               /* collector: a set is complete; its row is told */
     PETRIZOLU_SCHEDULE = 6,          /* EIT collector: a schedule is complete; its row is told */
-    PETRIZOLU_DONE = 7,              /* opened, cleared or dropped */
+    PETRIZOLU_DONE = 7,              /* opened, cleared or dropped; a log or a record is written */
     PETRIZOLU_YES = 8,
     PETRIZOLU_NO = 9,
     PETRIZOLU_NOT_WHOLE = 10,        /* the store is damaged, or less is lent than it was opened with: only opening it anew helps */
@@ -63,7 +63,12 @@ enum petrizolu_answer {
     PETRIZOLU_OTHER_TABLE = 35,      /* entries: a table_id that is none of the reader's, or a number that names no reader; nothing is listed */
     PETRIZOLU_BROKEN_LOOP = 36,      /* entries: a loop does not end where its length says; nothing is listed, and the place is told */
     PETRIZOLU_BAD_INPUT = 37,        /* an input of 16 or more */
-    PETRIZOLU_NO_BUFFER = 43         /* its PID needs a section buffer, and none is free */
+    PETRIZOLU_UNKNOWN_KIND = 38,     /* log: a record of no known kind; its place is told */
+    PETRIZOLU_RECORD_CUT = 39,       /* log: it ends inside a record; the record's place is told */
+    PETRIZOLU_OTHER_RECORD = 40,     /* log: not the record that the sections give, or one too many, or one missing; the place is told */
+    PETRIZOLU_OVERLONG_SECTION = 42, /* log: a section of more than 4,098 bytes */
+    PETRIZOLU_NO_BUFFER = 43,        /* its PID needs a section buffer, and none is free */
+    PETRIZOLU_NO_LOG_ROOM = 44       /* log: it is longer than the room */
 };
 
 /* ---- numbers */
@@ -155,6 +160,16 @@ enum petrizolu_answer {
 #define PETRIZOLU_ONLY_FIRST 1u                                                       /* kinds of a difference */
 #define PETRIZOLU_ONLY_SECOND 2u
 #define PETRIZOLU_OTHER_BYTES 3u
+
+/* Logs. */
+#define PETRIZOLU_LOG_EMITTED 1u                                                      /* kinds of a record, with the kind byte of 13 bytes */
+#define PETRIZOLU_LOG_SUPPRESSED 2u
+#define PETRIZOLU_LOG_SHORT 3u                                                        /* 6 bytes */
+#define PETRIZOLU_LOG_MISMATCH 4u
+#define PETRIZOLU_LOG_SET 5u                                                          /* with PID: 10 bytes */
+#define PETRIZOLU_LOG_BARE_SET 6u                                                     /* without: 8 */
+#define PETRIZOLU_MOST_LOG_BYTES 23u                                                  /* of one section: an emitted or suppressed, and a set */
+#define PETRIZOLU_LONGEST_LOGGED 4098u                                                /* bytes of a section in a section list */
 
 /*
  * What a row's head says. heads + row * PETRIZOLU_HEAD_WORDS has these words; a host may read them of a row that was handed out, to name the
@@ -735,6 +750,113 @@ typedef struct petrizolu_held {
  */
 uint8_t petrizolu_held_by_one(const uint8_t *first, size_t first_bytes, const uint8_t *second, size_t second_bytes, uint64_t number,
                               petrizolu_held *held);
+
+/*
+ * ---- logs: what a gate and a set collector make of the sections of a feed
+ *
+ * A log is records without gaps, each a byte of kind and a body; numbers stand high byte first.
+ *
+ *    1, 2  emitted, suppressed   input, PID (2), table_id, table_id_extension (2), section_number, version, change number (4)
+ *    3, 4  short, mismatch       input, PID (2), length of the section (2)
+ *    5     set with PID          input, PID (2), table_id, table_id_extension (2), current_next, version, last_section_number
+ *    6     set without PID       the same less the PID
+ *
+ * A section list is for each section an input (1 byte), a PID (2), a length (2), then that many bytes; any input, any PID and any bytes may stand there. Its log is what
+ * an opened gate and an opened set collector, never cleared, answer to them in order: 1, 2, 31 and 3 give the records 1 to 4, 12 and 37 none; what was answered 1 or 2 goes to
+ * the collector, and where that answers 5 the set's record follows. What a gate watches and follows does not reach the log.
+ *
+ * The memory of the run (keys, changes, heads, slots, cells) is working memory: as before with 42, 10 and 13, else as the opened run leaves it after the
+ * sections that were looked at. It is no store: nothing that is kept in it counts.
+ */
+
+typedef struct petrizolu_log_settings {
+    uint64_t capacity;               /* the first three as of petrizolu_gate_open; repeats: not 0 is on */
+    uint64_t repeats;
+    uint64_t change_rule;
+    uint64_t limit;                  /* these three as of petrizolu_sets_open */
+    uint64_t size;
+    uint64_t count;
+    uint64_t without_pid;            /* 0: sets are taken with the PID of their sections; 1: without one */
+} petrizolu_log_settings;
+
+/*
+ * Is this the log of these sections? 8: byte for byte. 42: some length in the list is over 4,098; 10: the list is cut; the first bad section decides. 13: less is lent
+ * than the settings need, or a setting is one that opening refuses, or without_pid is neither 0 nor 1. Else the earliest place that is wrong, where a record starts: 38, its kind
+ * is none of the six; 39, the log ends inside it; 40, it is not the one expected, or none is expected, or one is expected and the log ends there. *place is written by 38, 39 and 40 alone.
+ *
+ *     petrizolu_log_settings run = {512, 0, PETRIZOLU_DEFAULT_CHANGE_RULE, 16, 4096, 64, 0};
+ *     static uint64_t run_keys[512], run_changes[512], run_heads[PETRIZOLU_HEADS(16)];
+ *     static uint32_t run_slots[PETRIZOLU_SLOTS(16)];
+ *     static uint8_t run_cells[PETRIZOLU_CELLS(4096, 64)];
+ *     const uint8_t sections[] = {0, 0x00, 0x11, 0, 3, 0x02, 0xB0, 0x00};     // of input 0 and PID 0x11 three bytes
+ *     const uint8_t log[] = {PETRIZOLU_LOG_SHORT, 0, 0x00, 0x11, 0, 3};
+ *     uint64_t wrong_place = 0;
+ *     uint8_t logged = petrizolu_log_check(&run, sections, sizeof sections, log, sizeof log, run_keys, sizeof run_keys / 8, run_changes, sizeof run_changes / 8,
+ *                                          run_heads, sizeof run_heads / 8, run_slots, sizeof run_slots / 4, run_cells, sizeof run_cells, &wrong_place);
+ */
+uint8_t petrizolu_log_check(const petrizolu_log_settings *settings, const uint8_t *sections, size_t section_bytes, const uint8_t *log, size_t log_bytes,
+                            uint64_t *keys, size_t key_count, uint64_t *changes, size_t change_count, uint64_t *heads, size_t head_words, uint32_t *slots,
+                            size_t slot_words, uint8_t *cells, size_t cell_bytes, uint64_t *place);
+
+/*
+ * Writes the log of these sections into the room: 7, and *length tells how many bytes; those behind stay as before. 42, 10 and 13 as above; 44: it is longer than the room.
+ * These leave the room and *length as before. A room of PETRIZOLU_MOST_LOG_BYTES for each section is always enough.
+ *
+ *     uint8_t room[PETRIZOLU_MOST_LOG_BYTES];
+ *     uint64_t log_length = 0;
+ *     uint8_t written = petrizolu_log_write(&run, sections, sizeof sections, room, sizeof room, run_keys, sizeof run_keys / 8, run_changes, sizeof run_changes / 8,
+ *                                           run_heads, sizeof run_heads / 8, run_slots, sizeof run_slots / 4, run_cells, sizeof run_cells, &log_length);
+ */
+uint8_t petrizolu_log_write(const petrizolu_log_settings *settings, const uint8_t *sections, size_t section_bytes, uint8_t *room, size_t room_bytes,
+                            uint64_t *keys, size_t key_count, uint64_t *changes, size_t change_count, uint64_t *heads, size_t head_words, uint32_t *slots,
+                            size_t slot_words, uint8_t *cells, size_t cell_bytes, uint64_t *length);
+
+/*
+ * The record of a gate's answer to a section, for a monitor that keeps a log as it goes: after each offer what this writes, after each push that answered 5 what
+ * petrizolu_log_set_record writes. Every section that was answered 1 or 2 has to be pushed, to one set collector that is never cleared.
+ * 7: *length is 13 for the answers 1 and 2, 6 for 3 and 31, else 0, also for an input or a PID that there is not and, with 1 and 2, for a section under 3 bytes; of `record` the first *length
+ * bytes are written. 42: more than 4,098 bytes. 13: a change rule that there is not. Both write nothing. The CRC is not judged again.
+ *
+ *     uint8_t record[13];
+ *     uint64_t record_length = 0;
+ *     petrizolu_log_offer_record(PETRIZOLU_EMITTED, gate.change_rule, input, pid, section, length, record, &record_length);
+ */
+uint8_t petrizolu_log_offer_record(uint8_t answer, uint64_t change_rule, uint32_t input, uint32_t pid, const uint8_t *section, size_t section_length,
+                                   uint8_t record[13], uint64_t *length);
+
+/*
+ * The record of the set that this section completed, taken with this PID or, for PETRIZOLU_NO_PID, without one: 7, and *length is 10 or 8; 0 for a section under 12 bytes and for an input or
+ * a PID that there is not.
+ *
+ *     uint8_t set_record[10];
+ *     petrizolu_log_set_record(input, pid, section, length, set_record, &record_length);
+ */
+uint8_t petrizolu_log_set_record(uint32_t input, uint32_t pid, const uint8_t *section, size_t section_length, uint8_t record[10], uint64_t *length);
+
+/* Fields that a kind has not are 0. */
+typedef struct petrizolu_log_record {
+    uint64_t kind;
+    uint64_t input;
+    uint64_t pid;                    /* 8192 where unknown */
+    uint64_t table_id;
+    uint64_t extension;
+    uint64_t section;                /* section_number */
+    uint64_t version;
+    uint64_t change;                 /* change number */
+    uint64_t length;                 /* of the section */
+    uint64_t current;                /* current_next_indicator */
+    uint64_t last;                   /* last_section_number */
+    uint64_t next;                   /* the place of the next record */
+} petrizolu_log_record;
+
+/*
+ * The record at a place of a log: 8. 9: the log ends there. 38: its kind is none of the six; 39: the log ends inside it. *record is written by 8 alone.
+ *
+ *     petrizolu_log_record seen = {0, 0, 0, 0, 0, 0, 0, 0, 0, 0, 0, 0};
+ *     while (petrizolu_log_read(room, log_length, seen.next, &seen) == PETRIZOLU_YES)
+ *         printf("kind %llu, input %llu\n", (unsigned long long)seen.kind, (unsigned long long)seen.input);
+ */
+uint8_t petrizolu_log_read(const uint8_t *log, size_t log_bytes, uint64_t place, petrizolu_log_record *record);
 
 #ifdef __cplusplus
 }

@@ -8,7 +8,7 @@
  * a refusal every lent byte must be as before. The gate with an index is run beside the one without on the same sections. Where complete PATs are
  * followed, whether the PAT store is whole is worked out here too; where they are not, or where a section enters nothing, it must be as before. What a
  * section says is worked out here too, entry by entry; of a row the entries must be in the cells, the words behind the page as before.
- * Two guides are compared here as well (hammer_guides.h). Prints the calls by function and answer.
+ * Two guides are compared here as well (hammer_guides.h), and logs written, checked and read (hammer_logs.h). Prints the calls by function and answer.
  */
 #include "../include/petrizolu.h"
 
@@ -144,9 +144,9 @@ static void damage(struct array *a)
 
 /* ---- what must hold */
 
-enum call { GATE_OPEN, GATE_OFFER, WATCH_OPEN, WATCH_ASK, INDEXED_OPEN, INDEXED_OFFER, SETS_OPEN, SETS_PUSH, SETS_CLEAR, SETS_NEXT, EIT_OPEN, EIT_PUSH, EIT_CLEAR, EIT_DROP, EIT_NEXT, EIT_NEXT_IN_SCHEDULE, STREAMS_OPEN, FEED, INDEXED_FEED, EVENTS, EIT_EVENTS, EIT_EVENTS_IN_SCHEDULE, DATE, ENTRIES, SETS_ENTRIES, COMPARE, COMPARE_SCHEDULES, HELD_BY_ONE, CALLS };
+enum call { GATE_OPEN, GATE_OFFER, WATCH_OPEN, WATCH_ASK, INDEXED_OPEN, INDEXED_OFFER, SETS_OPEN, SETS_PUSH, SETS_CLEAR, SETS_NEXT, EIT_OPEN, EIT_PUSH, EIT_CLEAR, EIT_DROP, EIT_NEXT, EIT_NEXT_IN_SCHEDULE, STREAMS_OPEN, FEED, INDEXED_FEED, EVENTS, EIT_EVENTS, EIT_EVENTS_IN_SCHEDULE, DATE, ENTRIES, SETS_ENTRIES, COMPARE, COMPARE_SCHEDULES, HELD_BY_ONE, LOG_CHECK, LOG_WRITE, LOG_OFFER_RECORD, LOG_SET_RECORD, LOG_READ, CALLS };
 
-#define ANSWERS 44
+#define ANSWERS 45
 #define ONE(n) ((uint64_t)1 << (n))
 
 static const struct {
@@ -181,6 +181,11 @@ static const struct {
     {"compare", ONE(8) | ONE(9) | ONE(10) | ONE(12) | ONE(33) | ONE(34)},
     {"compare_schedules", ONE(8) | ONE(9) | ONE(10) | ONE(12) | ONE(33) | ONE(34)},
     {"held_by_one", ONE(8) | ONE(9) | ONE(10)},
+    {"log_check", ONE(8) | ONE(10) | ONE(13) | ONE(38) | ONE(39) | ONE(40) | ONE(42)},
+    {"log_write", ONE(7) | ONE(10) | ONE(13) | ONE(42) | ONE(44)},
+    {"log_offer_record", ONE(7) | ONE(13) | ONE(42)},
+    {"log_set_record", ONE(7)},
+    {"log_read", ONE(8) | ONE(9) | ONE(38) | ONE(39)},
 };
 
 /* Refusals that leave all as before: 10 to 21, and 37; of a question every answer does. */
@@ -1863,6 +1868,7 @@ static void round_of_packets(void)
 }
 
 #include "hammer_guides.h"
+#include "hammer_logs.h"
 
 static void print_counts(void)
 {
@@ -1890,6 +1896,7 @@ int main(int argc, char **argv)
     make(&section, 1);
     make(&list, 4);
     make_guides();
+    make_logs();
     gate.array_count = indexed.array_count = GATE_ARRAYS;
     for (int i = 0; i < GATE_ARRAYS; i++) {
         size_t element = i == PAT_SLOTS ? 4 : i == PAT_CELLS ? 1 : 8;
@@ -1915,6 +1922,7 @@ int main(int argc, char **argv)
         round_of_collectors();
         round_of_packets();
         round_of_guides();
+        round_of_logs();
     }
     print_counts();
     return 0;

@@ -1,8 +1,9 @@
-//! bench [quick] [entries|guides]: nanoseconds a section, the port beside the original on the same sections in the same scattered order. Times are the thread's
+//! bench [quick] [entries|guides|logs]: nanoseconds a section, the port beside the original on the same sections in the same scattered order. Times are the thread's
 //! processor time, the best of some rounds; the rounds of the port and of the original take turns, so that a busy machine slows both.
-//! With `entries` only the listing of a section's entries, with `guides` only the comparison of two sets is measured; the original has neither.
+//! With `entries` only the listing of a section's entries, with `guides` only the comparison of two sets, with `logs` only a log is measured; the original has none of them.
 
 mod guides;
+mod logs;
 mod packets;
 mod sections;
 mod ts;
@@ -495,6 +496,9 @@ fn main() {
     if std::env::args().any(|a| a == "guides") {
         return guides::guides(rounds);
     }
+    if std::env::args().any(|a| a == "logs") {
+        return logs::logs(rounds);
+    }
     crc(rounds);
     gate(rounds);
     gate_new_keys(rounds);
@@ -508,4 +512,5 @@ fn main() {
     check_of_the_store(rounds);
     listings(rounds);
     guides::guides(rounds);
+    logs::logs(rounds);
 }

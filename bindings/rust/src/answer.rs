@@ -38,7 +38,12 @@ impl Answer {
     pub const OTHER_TABLE: Self = Self(35);
     pub const BROKEN_LOOP: Self = Self(36);
     pub const BAD_INPUT: Self = Self(37);
+    pub const UNKNOWN_KIND: Self = Self(38);
+    pub const RECORD_CUT: Self = Self(39);
+    pub const OTHER_RECORD: Self = Self(40);
+    pub const OVERLONG_SECTION: Self = Self(42);
     pub const NO_BUFFER: Self = Self(43);
+    pub const NO_LOG_ROOM: Self = Self(44);
 
     /// `Ok` where the answer is 7.
     pub(crate) fn done(self) -> Result<(), Refused> {

@@ -181,6 +181,46 @@ pub struct HeldByOne {
     pub length: u64,
 }
 
+/// What a log is made by: a gate's capacity, repeats and change rule, a set collector's limit, cell size and cell count, and whether sets are taken without a PID.
+#[repr(C)]
+#[derive(Debug, Clone, Copy, Default, PartialEq, Eq)]
+pub struct LogSettings {
+    pub capacity: u64,
+    pub repeats: u64,
+    pub change_rule: u64,
+    pub limit: u64,
+    pub size: u64,
+    pub count: u64,
+    pub without_pid: u64,
+}
+
+/// A record of a log; fields that its kind has not are 0, and a PID that is unknown is 8192.
+#[repr(C)]
+#[derive(Debug, Clone, Copy, Default, PartialEq, Eq)]
+pub struct LogRecord {
+    pub kind: u64,
+    pub input: u64,
+    pub pid: u64,
+    pub table_id: u64,
+    pub extension: u64,
+    pub section: u64,
+    pub version: u64,
+    pub change: u64,
+    pub length: u64,
+    pub current: u64,
+    pub last: u64,
+    pub next: u64,
+}
+
+/// The memory of a run that checks or writes a log: room for the gate's keys and for the rows and cells of the set collector.
+pub struct RunMemory<'a> {
+    pub keys: &'a mut [u64],
+    pub changes: &'a mut [u64],
+    pub heads: &'a mut [u64],
+    pub slots: &'a mut [u32],
+    pub cells: &'a mut [u8],
+}
+
 /// The CRC of ISO/IEC 13818-1, Annex A.
 pub fn crc(bytes: &[u8]) -> u32 {
     // SAFETY: the pointer goes with the length of its slice.
@@ -893,4 +933,77 @@ pub fn compare_schedules(
 pub fn held_by_one(first: &[u8], second: &[u8], number: u64, held: &mut HeldByOne) -> Answer {
     // SAFETY: as above.
     Answer(unsafe { raw::petrizolu_held_by_one(first.as_ptr(), first.len(), second.as_ptr(), second.len(), number, held) })
+}
+
+// ---- logs
+
+pub fn log_check(settings: &LogSettings, sections: &[u8], log: &[u8], run: RunMemory, place: &mut u64) -> Answer {
+    // SAFETY: as above.
+    Answer(unsafe {
+        raw::petrizolu_log_check(
+            settings,
+            sections.as_ptr(),
+            sections.len(),
+            log.as_ptr(),
+            log.len(),
+            run.keys.as_mut_ptr(),
+            run.keys.len(),
+            run.changes.as_mut_ptr(),
+            run.changes.len(),
+            run.heads.as_mut_ptr(),
+            run.heads.len(),
+            run.slots.as_mut_ptr(),
+            run.slots.len(),
+            run.cells.as_mut_ptr(),
+            run.cells.len(),
+            place,
+        )
+    })
+}
+
+pub fn log_write(settings: &LogSettings, sections: &[u8], room: &mut [u8], run: RunMemory, length: &mut u64) -> Answer {
+    // SAFETY: as above.
+    Answer(unsafe {
+        raw::petrizolu_log_write(
+            settings,
+            sections.as_ptr(),
+            sections.len(),
+            room.as_mut_ptr(),
+            room.len(),
+            run.keys.as_mut_ptr(),
+            run.keys.len(),
+            run.changes.as_mut_ptr(),
+            run.changes.len(),
+            run.heads.as_mut_ptr(),
+            run.heads.len(),
+            run.slots.as_mut_ptr(),
+            run.slots.len(),
+            run.cells.as_mut_ptr(),
+            run.cells.len(),
+            length,
+        )
+    })
+}
+
+pub fn log_offer_record(
+    answer: Answer,
+    change_rule: u64,
+    input: u32,
+    pid: u32,
+    section: &[u8],
+    record: &mut [u8; 13],
+    length: &mut u64,
+) -> Answer {
+    // SAFETY: as above.
+    Answer(unsafe { raw::petrizolu_log_offer_record(answer.0, change_rule, input, pid, section.as_ptr(), section.len(), record, length) })
+}
+
+pub fn log_set_record(input: u32, pid: u32, section: &[u8], record: &mut [u8; 10], length: &mut u64) -> Answer {
+    // SAFETY: as above.
+    Answer(unsafe { raw::petrizolu_log_set_record(input, pid, section.as_ptr(), section.len(), record, length) })
+}
+
+pub fn log_read(log: &[u8], place: u64, record: &mut LogRecord) -> Answer {
+    // SAFETY: as above.
+    Answer(unsafe { raw::petrizolu_log_read(log.as_ptr(), log.len(), place, record) })
 }

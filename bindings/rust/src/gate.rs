@@ -18,6 +18,18 @@ pub enum Offered {
     },
 }
 
+impl Offered {
+    /// The number that the gate answered, as the record of a log takes it.
+    pub fn answer(self) -> Answer {
+        match self {
+            Self::Emitted => Answer::EMITTED,
+            Self::Suppressed => Answer::SUPPRESSED,
+            Self::TooShort(_) => Answer::TOO_SHORT,
+            Self::Mismatch { .. } => Answer::CRC_MISMATCH,
+        }
+    }
+}
+
 fn offered(answer: Answer, failure: Failure) -> Result<Offered, Refused> {
     match answer {
         Answer::EMITTED => Ok(Offered::Emitted),

@@ -10,19 +10,22 @@ mod eit;
 mod events;
 mod gate;
 mod guides;
+mod logs;
 mod raw;
 mod rows;
 mod sets;
 
 pub use answer::{Answer, Refused};
 pub use calls::{
-    Compared, Difference, EitState, Entry, Failure, Filter, GateState, HeldByOne, Listed, Place, SetsState, StreamsState, crc, date,
+    Compared, Difference, EitState, Entry, Failure, Filter, GateState, HeldByOne, Listed, LogRecord, LogSettings, Place, SetsState,
+    StreamsState, crc, date,
 };
 pub use demux::{Demux, Fed};
 pub use eit::{Complete, Eit};
 pub use events::{Ended, Listing, entries, events};
 pub use gate::{Gate, Offered, SmallGate};
 pub use guides::{Differences, ScheduleDifferences, compare, compare_schedules, held_by_one};
+pub use logs::{Judged, LogRun, Wrong, listed_section, offer_record, record_at, set_record};
 pub use rows::{Name, Row, Section};
 pub use sets::Sets;
 
@@ -104,3 +107,13 @@ pub const MOST_DIFFERENCES: usize = 256;
 pub const ONLY_FIRST: u32 = 1;
 pub const ONLY_SECOND: u32 = 2;
 pub const OTHER_BYTES: u32 = 3;
+
+/// Logs: the kinds of a record, the most bytes that a section gives, and the longest section of a section list.
+pub const LOG_EMITTED: u8 = 1;
+pub const LOG_SUPPRESSED: u8 = 2;
+pub const LOG_SHORT: u8 = 3;
+pub const LOG_MISMATCH: u8 = 4;
+pub const LOG_SET: u8 = 5;
+pub const LOG_BARE_SET: u8 = 6;
+pub const MOST_LOG_BYTES: usize = 23;
+pub const LONGEST_LOGGED: usize = 4098;

@@ -1,5 +1,8 @@
 //! The functions of include/petrizolu.h, argument for argument (tests/header.rs compares the two texts).
-use crate::calls::{Compared, Difference, EitState, Entry, Failure, Filter, GateState, HeldByOne, Listed, Place, SetsState, StreamsState};
+use crate::calls::{
+    Compared, Difference, EitState, Entry, Failure, Filter, GateState, HeldByOne, Listed, LogRecord, LogSettings, Place, SetsState,
+    StreamsState,
+};
 
 unsafe extern "C" {
     pub fn petrizolu_crc(bytes: *const u8, byte_count: usize) -> u32;
@@ -397,4 +400,59 @@ unsafe extern "C" {
         number: u64,
         held: *mut HeldByOne,
     ) -> u8;
+    pub fn petrizolu_log_check(
+        settings: *const LogSettings,
+        sections: *const u8,
+        section_bytes: usize,
+        log: *const u8,
+        log_bytes: usize,
+        keys: *mut u64,
+        key_count: usize,
+        changes: *mut u64,
+        change_count: usize,
+        heads: *mut u64,
+        head_words: usize,
+        slots: *mut u32,
+        slot_words: usize,
+        cells: *mut u8,
+        cell_bytes: usize,
+        place: *mut u64,
+    ) -> u8;
+    pub fn petrizolu_log_write(
+        settings: *const LogSettings,
+        sections: *const u8,
+        section_bytes: usize,
+        room: *mut u8,
+        room_bytes: usize,
+        keys: *mut u64,
+        key_count: usize,
+        changes: *mut u64,
+        change_count: usize,
+        heads: *mut u64,
+        head_words: usize,
+        slots: *mut u32,
+        slot_words: usize,
+        cells: *mut u8,
+        cell_bytes: usize,
+        length: *mut u64,
+    ) -> u8;
+    pub fn petrizolu_log_offer_record(
+        answer: u8,
+        change_rule: u64,
+        input: u32,
+        pid: u32,
+        section: *const u8,
+        section_length: usize,
+        record: *mut [u8; 13],
+        length: *mut u64,
+    ) -> u8;
+    pub fn petrizolu_log_set_record(
+        input: u32,
+        pid: u32,
+        section: *const u8,
+        section_length: usize,
+        record: *mut [u8; 10],
+        length: *mut u64,
+    ) -> u8;
+    pub fn petrizolu_log_read(log: *const u8, log_bytes: usize, place: u64, record: *mut LogRecord) -> u8;
 }

@@ -42,6 +42,8 @@ fn rust_type(c: &str) -> String {
         "petrizolu_difference" => "Difference",
         "petrizolu_compared" => "Compared",
         "petrizolu_held" => "HeldByOne",
+        "petrizolu_log_settings" => "LogSettings",
+        "petrizolu_log_record" => "LogRecord",
         other => panic!("not known: {other}"),
     };
     name.into()
@@ -89,7 +91,7 @@ fn functions_of_raw() -> Said {
 #[test]
 fn functions() {
     assert_eq!(functions_of_raw(), functions_of_the_header());
-    assert_eq!(functions_of_raw().len(), 29);
+    assert_eq!(functions_of_raw().len(), 34);
 }
 
 /// The fields between the braces after `from`, in order.
@@ -113,6 +115,8 @@ fn structs() {
         ("difference", "Difference", 32),
         ("compared", "Compared", 64),
         ("held", "HeldByOne", 64),
+        ("log_settings", "LogSettings", 64),
+        ("log_record", "LogRecord", 64),
     ];
     for (c, rust, bits) in pairs {
         let of_c = fields(&header(), &format!("typedef struct petrizolu_{c} {{"), |line| {
@@ -135,7 +139,7 @@ fn answers() {
     };
     let of_rust: Vec<String> = ANSWER.lines().filter_map(constant).collect();
     assert_eq!(of_c, of_rust);
-    assert_eq!(of_c.len(), 33);
+    assert_eq!(of_c.len(), 38);
 }
 
 /// Constants that both texts give as a plain number: the name and the number, without its type.
@@ -175,6 +179,10 @@ fn constants() {
         "DIFFERENCE_WORDS",
         "MOST_DIFFERENCES",
         "OTHER_BYTES",
+        "LOG_EMITTED",
+        "LOG_BARE_SET",
+        "MOST_LOG_BYTES",
+        "LONGEST_LOGGED",
     ] {
         assert!(both.iter().any(|known| *known == name), "{name}");
     }

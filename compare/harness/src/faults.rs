@@ -49,6 +49,17 @@ impl Fault {
         self.part() == player::command::Part::Guides
     }
 
+    /// Whether it shows in logs alone.
+    pub fn of_logs(self) -> bool {
+        self.part() == player::command::Part::Logs
+    }
+
+    /// Whether the original has a counterpart of the faulty part.
+    pub fn has_original(self) -> bool {
+        let of_the_port = self.of_events() || self.of_networks() || self.of_guides() || self.of_logs();
+        !self.of_rule_2() && !self.of_inputs() && !self.of_pats() && !of_the_port
+    }
+
     /// Whether it shows where there are several inputs alone.
     pub fn of_inputs(self) -> bool {
         let of_gate = matches!(self, Fault::InputNotInKey | Fault::InputBeforePid | Fault::PatOfAnotherInput);
@@ -257,4 +268,42 @@ faults! {
     TableOfOneSideUnlisted Guides "a table that one side alone holds is not listed",
     GuideLastsForVersions Guides "whether last numbers agree is told for versions",
     TableWordsExchanged Guides "4 stands for last numbers that differ, 8 for versions",
+
+    LogKindsExchanged Logs "a short section is kind 4, a mismatch kind 3",
+    LogLowByteFirst Logs "numbers of two bytes stand low byte first",
+    LogPidOfTwelveBits Logs "a PID has 12 bits in a record",
+    LogVersionLeftOut Logs "the version of an emitted or suppressed section is 0",
+    LogChangeByRule1 Logs "the change number is that of rule 1 whatever the rule",
+    LogSectionLength Logs "the length of a failure is 3 + section_length",
+    LogAlwaysCurrent Logs "current_next of a set is always 1",
+    LogNumberForLast Logs "a set has its section's number for the last one",
+    LogSetInputZero Logs "a set has input 0",
+    LogSetFirst Logs "the set's record comes before the gate's",
+    LogSuppressedNotPushed Logs "a suppressed section does not reach the collector",
+    LogConflictRecorded Logs "a conflict in the collector gives a set's record",
+    LogRefusedRecorded Logs "a PID that there is not gives a record",
+    LogPidInKey Logs "sets without a PID are told apart by it",
+    LogCutBeforeOverlong Logs "an overlong section whose bytes are missing is a cut list",
+    LogListCutTaken Logs "a list that is cut inside a section is taken as whole",
+    LogTooLittleFirst Logs "13 is answered before 42 and 10",
+    LogMannerUnjudged Logs "sets with a PID, without or otherwise: the third is taken",
+    LogNoRoomAtFull Logs "44 is answered where the log fills the room",
+    LogYesGoesOn Logs "yes where the log goes on",
+    LogYesTooSoon Logs "yes where the log ends too soon",
+    LogCutDiffers Logs "a record that is cut is another record",
+    LogUnknownLate Logs "a kind that there is not is told one place late",
+    LogUnknownSkipped Logs "a kind that there is not is passed over",
+    LogPlaceOfTheByte Logs "the place of the first differing byte is told",
+    LogUnknownPidZero Logs "a record without a PID is read as of PID 0",
+    LogExtensionOfShortForm Logs "the extension is read where the section has no header",
+    LogChangeOverAll Logs "the change number is the CRC over all bytes",
+    LogNumberBehindVersion Logs "the section's number stands behind its version",
+    LogSuppressedUnnoted Logs "a suppressed section gives no record",
+    LogKindSixUnused Logs "a set without a PID is of kind 5",
+    LogSetOfEightBytes Logs "a section of 8 to 11 bytes gives the record of a set",
+    LogLongestOfACell Logs "a section of 4,097 bytes is overlong",
+    LogOverlongOnBadInput Logs "an overlong section is taken on an input that there is not",
+    LogTooManyFirst Logs "behind the last record whatever stands there is one too many",
+    LogOtherKindUnknown Logs "a kind that is not the one expected is told as a kind that there is not",
+    LogLastByteUncompared Logs "the last byte of a record is not compared",
 }

@@ -5,6 +5,7 @@ mod events;
 mod faults;
 mod guides;
 mod lent;
+mod logs;
 mod make;
 mod networks;
 mod original;
@@ -47,11 +48,12 @@ const USAGE: &str = "usage: compare/run [SEEDS] [COMMANDS]             scripts i
        compare/run --events [SEEDS] [COMMANDS]    the entries of sections, sets and schedules: the port beside the second implementation, and the program events
        compare/run --networks [SEEDS] [COMMANDS]  the entries of networks, bouquets and services: the same, and the program tables
        compare/run --guides [SEEDS] [COMMANDS]    two guides compared: the port beside the second implementation, and the program compare_guides
+       compare/run --logs [SEEDS] [SECTIONS]      logs written, checked and spoilt: the port beside the second implementation, and the programs write_log, check_log and show_log
        compare/run --faults [SEEDS] [COMMANDS] [PART]    the same, with each fault in turn in the second implementation
        compare/run --present [SEEDS] [COMMANDS]   two EIT collectors, one with a smaller limit: the third demand for present and following
        compare/run --split STREAM                 the PAT of a transport stream sent in two sections: which of its programmes are seen
        compare/run --script FILE                  a script of your own
-       compare/run --tape DOMAIN SEED COMMANDS    writes the script of a seed as a tape (inside, damaged or cells; inputs or apart for several inputs; pats; events; networks; guides)
+       compare/run --tape DOMAIN SEED COMMANDS    writes the script of a seed as a tape (inside, damaged or cells; inputs or apart for several inputs; pats; events; networks; guides; logs, whose commands are sections)
        compare/run --sections                     what the program sections writes on the stream on standard input, by the second implementation
        compare/run --listed                       such records as lines: a PID and a section each
        compare/run --vary VARIANT SEED            a variant of the stream on standard input: guide, late, lost, copied, shuffled or swapped
@@ -89,6 +91,10 @@ fn main() -> ExitCode {
         },
         Some(&"--guides") => match (number(1, 50), number(2, 20_000)) {
             (Some(seeds), Some(commands)) => guides::compare(&root, seeds, commands),
+            _ => return usage(),
+        },
+        Some(&"--logs") => match (number(1, 100), number(2, 5000)) {
+            (Some(seeds), Some(sections)) => logs::compare(&root, seeds, sections),
             _ => return usage(),
         },
         Some(&"--faults") => match (number(1, 40), number(2, 2000)) {
@@ -223,6 +229,7 @@ fn named_script(name: &str, seed: u64, commands: usize) -> Option<Vec<Command>> 
         "events" => events::script(seed, commands),
         "networks" => networks::script(seed, commands),
         "guides" => guides::script(seed, commands),
+        "logs" => logs::script(seed, commands),
         _ => make::script(seed, commands, Domain::named(name)?),
     })
 }
@@ -236,7 +243,7 @@ fn played(tape: &[u8]) -> String {
 
 /// A tape that ends inside a command, at each place, and a command that there is not.
 fn compare_ends(root: &Path) -> bool {
-    let written = ["scripts", "inputs", "pats", "packets", "events", "networks", "guides"].into_iter().flat_map(|folder| Written::all(root, folder));
+    let written = ["scripts", "inputs", "pats", "packets", "events", "networks", "guides", "logs"].into_iter().flat_map(|folder| Written::all(root, folder));
     let script = &first_of_each_kind(written.flat_map(|script| script.commands))[..];
     let lines = Side::RULES.lines(script);
     let starts: Vec<usize> = (0..=script.len()).map(|whole| tape_of(&script[..whole]).len()).collect();
@@ -247,7 +254,7 @@ fn compare_ends(root: &Path) -> bool {
         lines[..whole].iter().map(|line| format!("{line}\n")).collect::<String>() + cut
     };
     let mut good = (0..=tape.len()).all(|end| played(&tape[..end]) == expected(end));
-    for bad in [0x00, 0x0F, 0x17, 0x1F, 0x23, 0x26, 0x38, 0x3F, 0x45, 0x4F, 0x51, 0x63, 0xFF] {
+    for bad in [0x00, 0x0F, 0x17, 0x1F, 0x23, 0x26, 0x38, 0x3F, 0x45, 0x4F, 0x51, 0x63, 0x75, 0xFF] {
         let output = played(&[&tape[..], &[bad, 0x14]].concat());
         good &= output == expected(tape.len()) + &format!("bad {}\n", tape.len());
     }
@@ -333,6 +340,7 @@ fn domains_of(fault: Fault) -> &'static [(Domain, &'static str)] {
         fault if fault.of_events() => &[(Domain::Inside, "entries")],
         fault if fault.of_networks() => &[(Domain::Inside, "entries of networks, bouquets and services")],
         fault if fault.of_guides() => &[(Domain::Inside, "guides")],
+        fault if fault.of_logs() => &[(Domain::Inside, "logs")],
         _ => &DOMAINS,
     }
 }
@@ -350,6 +358,9 @@ fn script_for(fault: Fault, seed: u64, commands: usize, domain: Domain) -> Vec<C
     }
     if fault.of_guides() {
         return guides::script(seed, commands);
+    }
+    if fault.of_logs() {
+        return logs::script(seed, 60);
     }
     let script = if fault.of_inputs() { make::on_inputs } else { make::script };
     let mut script = make::counted(script(seed, commands, domain));
@@ -384,8 +395,7 @@ fn find_fault(fault: Fault, seeds: usize, commands: usize) -> Option<(u64, &'sta
         }
         for &(domain, name) in domains_of(fault) {
             let script = script_for(fault, seed, commands, domain);
-            let has_original = !fault.of_rule_2() && !fault.of_inputs() && !fault.of_pats() && !fault.of_events() && !fault.of_networks() && !fault.of_guides();
-            let beside_original = || has_original.then(|| first_difference([Side::Original, with(true)], &script)).flatten();
+            let beside_original = || fault.has_original().then(|| first_difference([Side::Original, with(true)], &script)).flatten();
             let found = beside_original().or_else(|| first_difference([Side::RULES, with(false)], &script));
             if let Some(found) = found {
                 return Some((seed, name, smallest(found)));

@@ -30,7 +30,7 @@ impl Program {
         self.bytes_of(&[], input)
     }
 
-    fn bytes_of(&self, words: &[&str], input: &[u8]) -> Vec<u8> {
+    pub fn bytes_of(&self, words: &[&str], input: &[u8]) -> Vec<u8> {
         let mut started = Command::new(&self.run)
             .arg(self.name)
             .args(words)

@@ -2,6 +2,7 @@
 //! transport stream.
 use crate::events;
 use crate::guides;
+use crate::logs;
 use crate::make::{self, Domain};
 use crate::pairs::{Side, differing_somehow, smallest};
 use crate::second::{Reading, Second};
@@ -20,11 +21,10 @@ const COMMANDS: usize = 2500;
 
 /// `domain` has the written scripts and some seeds inside the domain, without what a named difference decides, answered by the original; `damaged` has
 /// damaged and cell-bound seeds, `inputs` seeds of each domain on several inputs, `pats` seeds of PATs in several sections, and
-/// `events` and `tables` seeds that ask for entries, `guides` a seed of two guides compared, answered by the second implementation.
+/// `events` and `tables` seeds that ask for entries, `guides` a seed of two guides compared, `logs` one of logs, answered by the second implementation.
 pub fn store(root: &Path) -> bool {
     let seeds = |domain| SEEDS.flat_map(move |seed| make::script(seed, COMMANDS, domain));
-    let by_hand = Written::all(root, "scripts").into_iter().flat_map(|script| script.commands);
-    let inside: Vec<Command> = by_hand.chain(seeds(Domain::Inside)).collect();
+    let inside: Vec<Command> = by_hand(root, "scripts").chain(seeds(Domain::Inside)).collect();
     let outside: Vec<Command> = seeds(Domain::Damaged).chain(seeds(Domain::CellBound)).collect();
     store_tape(root, "domain", Side::Original, &without_named(inside))
         && store_tape(root, "damaged", Side::RULES, &outside)
@@ -34,48 +34,53 @@ pub fn store(root: &Path) -> bool {
         && store_tape(root, "events", Side::RULES, &of_events(root))
         && store_tape(root, "tables", Side::RULES, &of_networks(root))
         && store_tape(root, "guides", Side::RULES, &of_guides(root))
+        && store_tape(root, "logs", Side::RULES, &of_logs(root))
         && store_examples(root)
         && watch_pats::store(root)
         && store_streams(root)
 }
 
+/// The commands of the written scripts of a folder.
+fn by_hand(root: &Path, folder: &str) -> impl Iterator<Item = Command> {
+    Written::all(root, folder).into_iter().flat_map(|script| script.commands)
+}
+
 /// The written scripts of inputs/ and a seed of each domain.
 fn on_inputs(root: &Path) -> Vec<Command> {
-    let by_hand = Written::all(root, "inputs").into_iter().flat_map(|script| script.commands);
     let domains = [Domain::Inside, Domain::Damaged, Domain::CellBound];
     let seeds = domains.into_iter().flat_map(|domain| make::on_inputs(SEEDS.start, COMMANDS, domain));
-    by_hand.chain(seeds).collect()
+    by_hand(root, "inputs").chain(seeds).collect()
 }
 
 /// The written scripts of pats/ and a seed.
 fn of_pats(root: &Path) -> Vec<Command> {
-    let by_hand = Written::all(root, "pats").into_iter().flat_map(|script| script.commands);
-    by_hand.chain(pats::script(SEEDS.start, COMMANDS)).collect()
+    by_hand(root, "pats").chain(pats::script(SEEDS.start, COMMANDS)).collect()
 }
 
 /// The written scripts of packets/, a stream by the standard, and a wild one.
 fn of_packets(root: &Path) -> Vec<Command> {
-    let by_hand = Written::all(root, "packets").into_iter().flat_map(|script| script.commands);
     let streams = [stream::by_the_standard(SEEDS.start, 400), stream::wild(SEEDS.start, 800, Beyond::Port)];
-    by_hand.chain([Command::Input(0)]).chain(streams.into_iter().flatten()).collect()
+    by_hand(root, "packets").chain([Command::Input(0)]).chain(streams.into_iter().flatten()).collect()
 }
 
 /// The written scripts of events/ and a seed.
 fn of_events(root: &Path) -> Vec<Command> {
-    let by_hand = Written::all(root, "events").into_iter().flat_map(|script| script.commands);
-    by_hand.chain(events::script(SEEDS.start, COMMANDS)).collect()
+    by_hand(root, "events").chain(events::script(SEEDS.start, COMMANDS)).collect()
 }
 
 /// The written scripts of networks/ and a seed.
 fn of_networks(root: &Path) -> Vec<Command> {
-    let by_hand = Written::all(root, "networks").into_iter().flat_map(|script| script.commands);
-    by_hand.chain(networks::script(SEEDS.start, COMMANDS)).collect()
+    by_hand(root, "networks").chain(networks::script(SEEDS.start, COMMANDS)).collect()
 }
 
 /// The written scripts of guides/ and a seed.
 fn of_guides(root: &Path) -> Vec<Command> {
-    let by_hand = Written::all(root, "guides").into_iter().flat_map(|script| script.commands);
-    by_hand.chain(guides::script(SEEDS.start, 1000)).collect()
+    by_hand(root, "guides").chain(guides::script(SEEDS.start, 1000)).collect()
+}
+
+/// The written scripts of logs/ and a seed.
+fn of_logs(root: &Path) -> Vec<Command> {
+    by_hand(root, "logs").chain(logs::script(SEEDS.start, 60)).collect()
 }
 
 /// Whether all sides agree on a script, the original too where it is a measure; says where they do not.

@@ -14,6 +14,9 @@ ghost use Rattle.host_sets.specs.Calls.{setsLeft, setsOpened, setsPushed, setsC
 ghost use Rattle.host_networks.specs.Calls.{sectionRead, setRead};
 ghost use Rattle.host_showing.specs.Calls.{listing, sectionListed, setListed, tableListed, dateNumber};
 ghost use Rattle.host_guides.specs.Calls.{comparison, setsCompared, comparisons, schedulesCompared, heldByOne};
+ghost use Rattle.host_logs.specs.Calls.{checkLeft, logChecked, writeLeft, logWritten};
+ghost use Rattle.host_log_records.specs.Calls.{logRead, made, offerMade, setMade};
+ghost use Rattle.log_sections.specs.Steps.{memory};
 ghost use Rattle.host_eit.specs.Calls.{eitOpened, eitLeft, eitPushed, eitCleared, eitDroppedTo, eitDropped, eitNext, eitNextIn};
 
 // The CRC of ISO/IEC 13818-1, Annex A.
@@ -634,4 +637,99 @@ pub extern "C" fn petrizolu_held_by_one(
     ensures { λ r. ⌜ words r (now (held .exit)) ≡ heldByOne (now (first .entry)) (now (second .entry)) number (now (held .entry)) ⌝ }
 {
     host_guides::held_by_one(first, second, number, held)
+}
+
+// Is a log exactly that of a section list? 8, 10, 13, 38, 39, 40 or 42. `settings` are capacity, repeats, change rule, limit, cell size, cell count, and 1 where sets are taken without a PID.
+// 38, 39 and 40 write the place; 42, 10 and 13 leave all.
+#[no_mangle]
+pub extern "C" fn petrizolu_log_check(
+    settings: &[u64; 7],
+    sections: &[u8],
+    log: &[u8],
+    keys: &mut [u64],
+    changes: &mut [u64],
+    heads: &mut [u64],
+    slots: &mut [u32],
+    cells: &mut [u8],
+    place: &mut [u64; 1],
+) -> u8
+    ensures { λ r. ⌜ checkLeft r (now (place .exit)) (memory (now (keys .exit)) (now (changes .exit)) (now (heads .exit)) (now (slots .exit)) (now (cells .exit))) ≡ logChecked (now (settings .entry)) (now (sections .entry)) (now (log .entry)) (memory (now (keys .entry)) (now (changes .entry)) (now (heads .entry)) (now (slots .entry)) (now (cells .entry))) (now (place .entry)) ⌝ }
+{
+    host_logs::check(
+        settings,
+        sections,
+        log,
+        keys,
+        changes,
+        heads,
+        slots,
+        cells,
+        place,
+    )
+}
+
+// Writes the log of a section list into the room: 7 writes its length, 44 where it is longer than the room, 10, 13 or 42. All but 7 leave the room and the length.
+#[no_mangle]
+pub extern "C" fn petrizolu_log_write(
+    settings: &[u64; 7],
+    sections: &[u8],
+    room: &mut [u8],
+    keys: &mut [u64],
+    changes: &mut [u64],
+    heads: &mut [u64],
+    slots: &mut [u32],
+    cells: &mut [u8],
+    length: &mut [u64; 1],
+) -> u8
+    ensures { λ r. ⌜ writeLeft r (now (length .exit)) (now (room .exit)) (memory (now (keys .exit)) (now (changes .exit)) (now (heads .exit)) (now (slots .exit)) (now (cells .exit))) ≡ logWritten (now (settings .entry)) (now (sections .entry)) (now (room .entry)) (memory (now (keys .entry)) (now (changes .entry)) (now (heads .entry)) (now (slots .entry)) (now (cells .entry))) (now (length .entry)) ⌝ }
+{
+    host_logs::write(
+        settings,
+        sections,
+        room,
+        keys,
+        changes,
+        heads,
+        slots,
+        cells,
+        length,
+    )
+}
+
+// The record of a gate's answer to a section, for a monitor that keeps a log: 42, 13, or 7 with 0, 6 or 13 bytes.
+#[no_mangle]
+pub extern "C" fn petrizolu_log_offer_record(
+    answer: u8,
+    change_rule: u64,
+    input: u32,
+    pid: u32,
+    section: &[u8],
+    bytes: &mut [u8; 13],
+    told: &mut [u64; 1],
+) -> u8
+    ensures { λ r. ⌜ made r (now (bytes .exit)) (now (told .exit)) ≡ offerMade answer «change_rule» input pid (now (section .entry)) (now (bytes .entry)) (now (told .entry)) ⌝ }
+{
+    host_log_records::offer_record(answer, change_rule, input, pid, section, bytes, told)
+}
+
+// The record of the set that a section completed, with its PID or, for PID 0xFFFFFFFF, without one: 7 with 0, 8 or 10 bytes.
+#[no_mangle]
+pub extern "C" fn petrizolu_log_set_record(
+    input: u32,
+    pid: u32,
+    section: &[u8],
+    bytes: &mut [u8; 10],
+    told: &mut [u64; 1],
+) -> u8
+    ensures { λ r. ⌜ made r (now (bytes .exit)) (now (told .exit)) ≡ setMade input pid (now (section .entry)) (now (bytes .entry)) ⌝ }
+{
+    host_log_records::set_record(input, pid, section, bytes, told)
+}
+
+// The record at a place of a log: 8 writes its twelve words; 9, 38 and 39 leave them.
+#[no_mangle]
+pub extern "C" fn petrizolu_log_read(log: &[u8], place: u64, fields: &mut [u64; 12]) -> u8
+    ensures { λ r. ⌜ words r (now (fields .exit)) ≡ logRead (now (log .entry)) place (now (fields .entry)) ⌝ }
+{
+    host_log_records::read(log, place, fields)
 }

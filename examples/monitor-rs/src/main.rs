@@ -1,14 +1,16 @@
 //! A guide monitor in Rust over the proved library: reads records from standard input or from the file named, a PID (two bytes, high byte
 //! first) and a section each, or with --ts a transport stream, and prints each new section, each complete set and schedule with their events,
 //! transport streams and services, and totals, as examples/monitor.c does. With -w FOLDER each set and schedule that goes out is also written to a
-//! file there, which `./run compare_guides` takes.
+//! file there, which `./run compare_guides` takes. With -l LIMIT FOLDER it keeps a log besides, and the list of the sections that it is of: the files log and
+//! sections there, to which `./run check_log 4096 0 2 LIMIT 4096 256 with FOLDER/sections < FOLDER/log` says yes.
 
 use petrizolu::{
-    Answer, BAT, Complete, Demux, EVENT, Eit, Ended, Entry, Gate, GateState, Listing, NIT, Name, Offered, PACKET_BYTES, Refused, SDT, SERVICE, Section, Sets,
-    TRANSPORT_STREAM, UNDEFINED, date,
+    Answer, BAT, Complete, DEFAULT_CHANGE_RULE, Demux, EVENT, Eit, Ended, Entry, Gate, GateState, Listing, NIT, Name, Offered, PACKET_BYTES,
+    Refused, SDT, SERVICE, Section, Sets, TRANSPORT_STREAM, UNDEFINED, date, listed_section, offer_record, set_record,
 };
-use std::io::{self, BufReader, Read};
-use std::path::PathBuf;
+use std::fs::File;
+use std::io::{self, BufReader, BufWriter, Read, Write};
+use std::path::{Path, PathBuf};
 
 const SCHEDULE_ACTUAL: u8 = 2;
 
@@ -26,6 +28,40 @@ struct Monitor {
     refused: u64,
     /// Of the files that are written, if any.
     folder: Option<PathBuf>,
+    log: Option<Log>,
+}
+
+/// A log that is kept, and the set collector that it tells of: it gets every sound section, of an EIT and of the short form too, and is never cleared.
+struct Log {
+    sets: Sets,
+    records: BufWriter<File>,
+    sections: BufWriter<File>,
+}
+
+impl Log {
+    fn open(limit: usize, folder: &Path) -> io::Result<Self> {
+        let [records, sections] = ["log", "sections"].map(|name| File::create(folder.join(name)).map(BufWriter::new));
+        Ok(Self { sets: Sets::open(limit, 4096, 256).map_err(not_open)?, records: records?, sections: sections? })
+    }
+
+    /// The record of the gate's answer; and where the collector has a set by this section, the set's.
+    fn keep(&mut self, pid: u16, offered: Offered, section: &[u8]) -> io::Result<()> {
+        let record = offer_record(offered.answer(), DEFAULT_CHANGE_RULE, INPUT, pid, section);
+        let listed = listed_section(INPUT, pid, section);
+        let (Ok(record), Some(listed)) = (record, listed) else { return Ok(()) };
+        self.sections.write_all(&listed)?;
+        self.records.write_all(&record)?;
+        let sound = matches!(offered, Offered::Emitted | Offered::Suppressed);
+        if sound && matches!(self.sets.push(INPUT, Some(pid), section), Ok(Some(_))) {
+            self.records.write_all(&set_record(INPUT, Some(pid), section))?;
+        }
+        Ok(())
+    }
+
+    fn close(mut self) -> io::Result<()> {
+        self.records.flush()?;
+        self.sections.flush()
+    }
 }
 
 fn pid_text(pid: Option<u16>) -> String {
@@ -108,20 +144,25 @@ fn write_copy(folder: Option<&PathBuf>, name: &Name, table_id: u8, sections: &[S
 }
 
 impl Monitor {
-    fn open(folder: Option<PathBuf>) -> Result<Self, Refused> {
+    fn open(folder: Option<PathBuf>, log: Option<Log>) -> io::Result<Self> {
         Ok(Self {
-            sets: Sets::open(64, 4096, 1024)?,
-            eit: Eit::open(64, 4096, 1024)?,
+            sets: Sets::open(64, 4096, 1024).map_err(not_open)?,
+            eit: Eit::open(64, 4096, 1024).map_err(not_open)?,
             unwatched: 0,
             complete_sets: 0,
             complete_schedules: 0,
             refused: 0,
             folder,
+            log,
         })
     }
 
     /// A section and the gate's answer to it. A repeat goes on too: it completes a set that was evicted between two of its sections, or found no cell.
     fn judged(&mut self, pid: u16, offered: Offered, section: &[u8]) {
+        if let Some(Err(error)) = self.log.as_mut().map(|log| log.keep(pid, offered, section)) {
+            eprintln!("the log: {error}");
+            std::process::exit(1);
+        }
         match offered {
             Offered::Emitted => println!("new pid {pid:04X} table {:02X}, {} bytes", section[0], section.len()),
             Offered::Suppressed => {}
@@ -195,7 +236,7 @@ impl Monitor {
         println!("refused {answer}");
     }
 
-    fn show_totals(&self, gate: GateState) {
+    fn end(self, gate: GateState) -> io::Result<()> {
         println!(
             "sections {} new {} repeats {} crc {} unwatched {}",
             gate.completed, gate.emitted, gate.suppressed, gate.crc_failures, self.unwatched
@@ -208,6 +249,7 @@ impl Monitor {
             self.refused,
             self.sets.state().evictions + eit.evictions + eit.schedule_evictions
         );
+        self.log.map_or(Ok(()), Log::close)
     }
 }
 
@@ -245,8 +287,7 @@ fn not_open(Refused(answer): Refused) -> io::Error {
     io::Error::other(format!("the stores do not open: {answer}"))
 }
 
-fn read_records(mut input: impl Read, folder: Option<PathBuf>) -> io::Result<()> {
-    let mut monitor = Monitor::open(folder).map_err(not_open)?;
+fn read_records(mut input: impl Read, mut monitor: Monitor) -> io::Result<()> {
     let mut gate = Gate::open(4096, &[]).map_err(not_open)?;
     let mut section = Vec::new();
     until_the_end(|| {
@@ -258,13 +299,11 @@ fn read_records(mut input: impl Read, folder: Option<PathBuf>) -> io::Result<()>
         }
         Ok(true)
     })?;
-    monitor.show_totals(gate.state());
-    Ok(())
+    monitor.end(gate.state())
 }
 
 /// Packets one after another. Those of PIDs that are not watched are counted, but null packets.
-fn read_packets(mut input: impl Read, folder: Option<PathBuf>) -> io::Result<()> {
-    let mut monitor = Monitor::open(folder).map_err(not_open)?;
+fn read_packets(mut input: impl Read, mut monitor: Monitor) -> io::Result<()> {
     let mut demux = Demux::open(1, 4096, 64, &[]).map_err(not_open)?;
     let mut packet = [0; PACKET_BYTES];
     until_the_end(|| {
@@ -286,17 +325,24 @@ fn read_packets(mut input: impl Read, folder: Option<PathBuf>) -> io::Result<()>
     })?;
     let streams = demux.streams(INPUT);
     println!("packets {} malformed {}", streams.packets, streams.malformed);
-    monitor.show_totals(demux.state());
-    Ok(())
+    monitor.end(demux.state())
 }
 
 fn main() -> io::Result<()> {
     let mut words = std::env::args_os().skip(1).peekable();
     let folder = words.next_if(|word| word == "-w").and_then(|_| words.next()).map(PathBuf::from);
+    let log = match words.next_if(|word| word == "-l") {
+        None => None,
+        Some(_) => {
+            let limit = words.next().and_then(|word| word.to_str()?.parse().ok()).ok_or_else(|| io::Error::other("-l LIMIT FOLDER"))?;
+            Some(Log::open(limit, Path::new(&words.next().ok_or_else(|| io::Error::other("-l LIMIT FOLDER"))?))?)
+        }
+    };
     let packets = words.next_if(|word| word == "--ts").is_some();
     let input: Box<dyn Read> = match words.next() {
         Some(file) => Box::new(BufReader::new(std::fs::File::open(file)?)),
         None => Box::new(io::stdin().lock()),
     };
-    if packets { read_packets(input, folder) } else { read_records(input, folder) }
+    let monitor = Monitor::open(folder, log)?;
+    if packets { read_packets(input, monitor) } else { read_records(input, monitor) }
 }

@@ -1,6 +1,7 @@
 //! What an implementation answers, and the line that says it.
 use crate::command::Part;
 use crate::guides::Told;
+use crate::logs;
 use std::fmt::{self, Display, Write as _};
 
 /// A set as it is handed out.
@@ -115,6 +116,7 @@ pub enum Answer {
     /// A calendar date in eight decimal digits, or 0.
     Date(u32),
     Guides(Told),
+    Logs(logs::Told),
 }
 
 impl Answer {
@@ -128,6 +130,7 @@ impl Answer {
             Answer::Fed(fed) => Some((Part::Demux, fed.number)),
             Answer::Entries(part, n, _) => Some((*part, *n)),
             Answer::Guides(told) => Some((Part::Guides, told.number())),
+            Answer::Logs(told) => Some((Part::Logs, told.number())),
             Answer::Input(_) | Answer::Unwatched | Answer::Undeliverable | Answer::Watched(..) | Answer::Date(_) => None,
             Answer::Counters(_) | Answer::Pats { .. } => None,
         }
@@ -225,6 +228,7 @@ impl Display for Answer {
             }
             Answer::Date(date) => write!(f, "eit date {date}"),
             Answer::Guides(told) => write!(f, "{told}"),
+            Answer::Logs(told) => write!(f, "{told}"),
         }
     }
 }

@@ -1,5 +1,6 @@
 //! What an implementation is asked.
 use crate::guides::Guides;
+use crate::logs::Logs;
 
 #[derive(Clone, Copy, Debug, PartialEq, Eq, PartialOrd, Ord)]
 pub enum Part {
@@ -10,6 +11,8 @@ pub enum Part {
     Demux,
     /// Two guides compared; nothing is kept.
     Guides,
+    /// Logs, checked, written and read; nothing is kept.
+    Logs,
 }
 
 impl Part {
@@ -21,6 +24,7 @@ impl Part {
             Part::Eit => "eit",
             Part::Demux => "demux",
             Part::Guides => "guides",
+            Part::Logs => "logs",
         }
     }
 }
@@ -146,6 +150,7 @@ pub enum Command {
         page: Page,
     },
     Guides(Guides),
+    Logs(Logs),
 }
 
 /// Entries from `skip` on, as many as there is room for.
@@ -167,6 +172,7 @@ impl Command {
             Command::Entries { .. } | Command::ReadTable { .. } => Some(Part::Sets),
             Command::Demux(_) => Some(Part::Demux),
             Command::Guides(_) => Some(Part::Guides),
+            Command::Logs(_) => Some(Part::Logs),
         }
     }
 
@@ -217,6 +223,7 @@ impl Command {
             Command::Entries { .. } => "sets entries",
             Command::ReadTable { .. } => "sets read",
             Command::Guides(guides) => guides.kind(),
+            Command::Logs(logs) => logs.kind(),
         }
     }
 }

@@ -2,7 +2,7 @@
 //! original and beside a second implementation (compare/), and how stored runs are held to what was stored (tests/run).
 //!
 //! `command` has what is asked and `answer` what is told; `script` has commands as text, `tape` as bytes. `lent` owns memory that a test may write
-//! over, `page` a list for entries, `gate`, `sets`, `eit` and `demux` make the calls over it (`guides` over bytes alone), `port` puts them together and `play` plays a whole tape.
+//! over, `page` a list for entries, `gate`, `sets`, `eit` and `demux` make the calls over it (`guides` over bytes alone, `logs` over the memory of a run), `port` puts them together and `play` plays a whole tape.
 pub mod answer;
 pub mod command;
 pub mod demux;
@@ -10,6 +10,7 @@ pub mod eit;
 pub mod gate;
 pub mod guides;
 pub mod lent;
+pub mod logs;
 mod page;
 pub mod play;
 pub mod port;

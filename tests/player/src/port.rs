@@ -4,6 +4,7 @@ use crate::command::{Command, Part};
 use crate::demux::Demuxes;
 use crate::eit::Eit;
 use crate::gate::{Differs, Gates};
+use crate::logs::Memory;
 use crate::sets::Sets;
 
 /// As many rows and bytes of cells as a collector is lent; a gate has rows for the default capacity.
@@ -18,6 +19,8 @@ pub struct Port {
     pub eit: Eit,
     /// The packet layer, from its first command on.
     demux: Option<Box<Demuxes>>,
+    /// The memory of a run that checks or writes a log, from the first on; what it holds is not to matter.
+    run: Option<Box<Memory>>,
     byte: u8,
 }
 
@@ -36,6 +39,7 @@ impl Port {
             sets: Sets::lend(ROWS, CELLS, byte),
             eit: Eit::lend(ROWS, CELLS, byte),
             demux: None,
+            run: None,
             byte,
         }
     }
@@ -52,6 +56,11 @@ impl Port {
             Some(Part::Guides) => {
                 let Command::Guides(guides) = command else { panic!("no command that compares guides: {command}") };
                 Ok(Answer::Guides(guides.ask()))
+            }
+            Some(Part::Logs) => {
+                let Command::Logs(logs) = command else { panic!("no command of logs: {command}") };
+                let byte = self.byte;
+                Ok(Answer::Logs(logs.ask(self.run.get_or_insert_with(|| Box::new(Memory::of(byte))))))
             }
             Some(Part::Demux) => {
                 let Command::Demux(command) = command else { panic!("no command of the packet layer: {command}") };

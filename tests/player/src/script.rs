@@ -2,6 +2,7 @@
 use crate::answer::{hex, pid_text};
 use crate::command::{By, Command, Demux, Filter, Opening, Page, Part};
 use crate::guides::Guides;
+use crate::logs;
 use std::fmt::{self, Display};
 
 /// The command as a line of a script, which `parse` reads.
@@ -52,6 +53,7 @@ impl Display for Command {
             Command::Entries { reader, row, page } => write!(f, " reader={reader} row={row}{page}"),
             Command::ReadTable { reader, section, page } => write!(f, " {} reader={reader}{page}", hex(section)),
             Command::Guides(guides) => write!(f, "{guides}"),
+            Command::Logs(logs) => write!(f, "{logs}"),
         }
     }
 }
@@ -107,6 +109,7 @@ pub fn parse(line: &str) -> Option<Command> {
         "eit" => Part::Eit,
         "demux" => Part::Demux,
         "guides" => Part::Guides,
+        "logs" => Part::Logs,
         _ => return None,
     };
     Some(match (part, *words.get(1)?) {
@@ -158,6 +161,7 @@ pub fn parse(line: &str) -> Option<Command> {
         (Part::Eit, "read") => Command::Read { section: unhex(words.get(2)?)?, page: page()? },
         (Part::Eit, "date") => Command::Date(words.get(2)?.parse().ok()?),
         (Part::Guides, kind) => Command::Guides(Guides::parse(kind, words.get(2..)?, unhex, maybe_pid)?),
+        (Part::Logs, kind) => Command::Logs(logs::parse(kind, words.get(2..)?, unhex, maybe_pid, number)?),
         _ => return None,
     })
 }

@@ -31,10 +31,16 @@
 //! 60 guides sets   list words u16, then twice: PID u16 (FFFF none), length u16, the bytes of a set
 //! 61 guides schedules  the same of two schedules
 //! 62 guides held   number u16, then twice: length u16, the bytes of a set
+//! 70 logs write    capacity u32, repeats u8, change rule u8, limit u32, cell size u32, cells u32, without PID u8; room u32; length u32, the bytes of a section list
+//! 71 logs check    the same settings; the log's length u32; length u32, the bytes of a section list; the bytes of the log
+//! 72 logs read     place u32, length u32, the bytes of a log
+//! 73 logs offer    answer u8, change rule u8, input u8, PID u16, length u16, the bytes of a section
+//! 74 logs set      input u8, PID u16 (FFFF none), length u16, the bytes of a section
 //! 50 input         u8: the commands after it are on this input, until the next one; a tape begins on input 0
 //! ```
 use crate::command::{By, Command, Demux, Filter, Opening, Page, Part};
 use crate::guides;
+use crate::logs;
 use std::io::{self, ErrorKind, Read};
 
 /// Stands on a tape for "no PID".
@@ -112,6 +118,7 @@ impl<R: Read> Tape<R> {
             0x37 => Command::Date(self.bytes().map(u32::from_be_bytes)?),
             0x40..=0x44 => Command::Demux(self.demux(first)?),
             0x60..=0x62 => Command::Guides(guides::read(first, self, Self::short, Self::maybe_pid, Self::section)?),
+            0x70..=0x74 => Command::Logs(logs::read(first, |count| self.many(count))?),
             0x50 => Command::Input(self.byte()?),
             _ => return Err(Stop::Bad),
         })
@@ -137,10 +144,15 @@ impl<R: Read> Tape<R> {
     }
 
     fn section(&mut self) -> Result<Vec<u8>, Stop> {
-        let mut section = vec![0; self.short()?.into()];
-        self.input.read_exact(&mut section)?;
-        self.read += section.len() as u64;
-        Ok(section)
+        let length = self.short()?;
+        self.many(length.into())
+    }
+
+    fn many(&mut self, count: usize) -> Result<Vec<u8>, Stop> {
+        let mut bytes = vec![0; count];
+        self.input.read_exact(&mut bytes)?;
+        self.read += count as u64;
+        Ok(bytes)
     }
 
     fn page(&mut self) -> Result<Page, Stop> {
@@ -258,6 +270,7 @@ fn write_command(command: &Command, tape: &mut Vec<u8>) {
         }
         Command::Demux(Demux::Watched) => tape.push(0x44),
         Command::Guides(command) => guides::write(command, tape, NO_PID),
+        Command::Logs(command) => logs::write(command, tape, NO_PID),
     }
 }
 

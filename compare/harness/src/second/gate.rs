@@ -306,8 +306,21 @@ fn by_stored_crc(reading: &Reading, rule: u64, section: &[u8]) -> bool {
     }
 }
 
-/// The key of a section, its version and its change number: by rule 2 the stored CRC of every section whose CRC was checked.
-fn kept(reading: &Reading, rule: u64, from: Origin, section: &[u8]) -> Kept {
+/// What a section is known by beside its table_id; extension, number and version are 0 where it has no header.
+pub struct Parts {
+    pub extension: u16,
+    pub number: u8,
+    pub version: u8,
+    pub change: u32,
+}
+
+/// Whether there are three bytes, and room for the CRC that the form announces.
+pub fn has_parts(reading: &Reading, section: &[u8]) -> bool {
+    section.len() >= 3 && (section.len() >= 4 || !has_crc(reading, section))
+}
+
+/// The change number is by rule 2 the stored CRC of every section whose CRC was checked.
+pub fn parts(reading: &Reading, rule: u64, section: &[u8]) -> Parts {
     let least = if reading.has(Fault::HeaderAtEleven) { 11 } else { 12 };
     let headed = long_form(section) && section.len() >= least;
     let (extension, number, version, change) = if headed {
@@ -317,6 +330,12 @@ fn kept(reading: &Reading, rule: u64, from: Origin, section: &[u8]) -> Kept {
     } else {
         (0, 0, 0, crc(section))
     };
+    Parts { extension, number, version, change }
+}
+
+/// The key of a section, its version and its change number.
+fn kept(reading: &Reading, rule: u64, from: Origin, section: &[u8]) -> Kept {
+    let Parts { extension, number, version, change } = parts(reading, rule, section);
     let number = if reading.has(Fault::NumberNotInKey) { 0 } else { number };
     let key = u64::from(from.pid) + (u64::from(section[0]) << 13) + (u64::from(extension) << 21) + (u64::from(number) << 37);
     let input = if reading.has(Fault::InputNotInKey) { 0 } else { u64::from(from.input) << 45 };

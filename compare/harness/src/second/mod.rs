@@ -4,6 +4,7 @@ mod collector;
 mod events;
 mod gate;
 mod guides;
+mod logs;
 mod networks;
 mod packets;
 mod section;
@@ -13,6 +14,7 @@ use crate::lent;
 use collector::Collector;
 use gate::{Follow, Gate, Origin, Watch};
 use packets::Packets;
+pub use logs::{records_of, verdict};
 pub use packets::{Seen, StreamWatcher};
 use player::answer::{Answer, Held, Out};
 use player::command::{By, Command, Filter, Part};
@@ -208,6 +210,7 @@ impl Second {
             }
             Command::Demux(command) => self.packets.answer(&mut self.reading, input, command),
             Command::Guides(command) => Answer::Guides(guides::answer(&self.reading, command)),
+            Command::Logs(command) => Answer::Logs(logs::answer(&mut self.reading, command)),
         }
     }
 

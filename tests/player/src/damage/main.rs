@@ -1,4 +1,4 @@
-//! `damage gate`, `damage sets`, `damage eit`, `damage packets`, `damage events`, `damage tables`, `damage guides`: what a tape cannot reach. Lent memory is written over, less of it is lent or a count is preset, one
+//! `damage gate`, `damage sets`, `damage eit`, `damage packets`, `damage events`, `damage tables`, `damage guides`, `damage logs`: what a tape cannot reach. Lent memory is written over, less of it is lent or a count is preset, one
 //! thing at a time, and each call is made on it: a line says what it answers, and whether every word, lent or kept by value, is as it was. 10, 11, 12,
 //! 13 and 37 leave all as before.
 use petrizolu::{Answer, Place};
@@ -9,6 +9,7 @@ mod eit;
 mod events;
 mod gate;
 mod guides;
+mod logs;
 mod packets;
 mod sets;
 mod tables;
@@ -83,8 +84,9 @@ fn main() -> io::Result<ExitCode> {
         "events" => run(events::CASES, &mut out)?,
         "tables" => run(tables::CASES, &mut out)?,
         "guides" => run(guides::CASES, &mut out)?,
+        "logs" => run(logs::CASES, &mut out)?,
         _ => {
-            eprintln!("usage: damage gate|sets|eit|packets|events|tables|guides");
+            eprintln!("usage: damage gate|sets|eit|packets|events|tables|guides|logs");
             return Ok(ExitCode::from(2));
         }
     }
