@@ -1,0 +1,65 @@
+-- What the test says of the rows, both ways, and examples.
+-- Assumes nothing.
+use mathlib.Core.Path.{_≡_, refl, sym, _∙_}
+use mathlib.Core.List.{List, [], _∷_}
+use mathlib.Core.Bool.{Bool, true, false, _||_, or-true}
+use Prim.Native.Nat.{ℕ, zero, suc, _+_, _*_, _≤_, _<_}
+use native.Mathlib.Omega.{arith}
+use borrow.Author.Tests.{eq-eqb, ne-eqb, eqb-true, eqb-false}
+use lib.Dec.{eqb}
+use lib.ListN.{length, getD, replicate}
+use mathlib.Core.List.{_++_}
+use Rattle.rows.specs.Rows.{word}
+use Rattle.without_pid.specs.Pids.{withoutPid}
+
+-- ---- the loop
+
+pub none-yet : (heads : List ℕ) → withoutPid heads 0 ≡ false
+unfolding withoutPid
+none-yet heads = refl
+
+pub next-row : (heads : List ℕ) (i : ℕ) (found : Bool) → found ≡ withoutPid heads i → (found || eqb (getD heads (i * 12) 0) 8192) ≡ withoutPid heads (i + 1)
+unfolding withoutPid
+next-row heads i found e = let z : i + 1 ≡ suc i = omega arith in rw z (step e)
+  where
+    step : found ≡ withoutPid heads i → (found || eqb (getD heads (i * 12) 0) 8192) ≡ withoutPid heads (suc i)
+    step e = let y : i * 12 + 0 ≡ i * 12 = omega arith in rw (e, y)
+
+pub at-end : (heads : List ℕ) (i used : ℕ) (found : Bool) → found ≡ withoutPid heads i → i ≤ used → used ≤ i → found ≡ withoutPid heads used
+at-end heads i used found e h k = let z : used ≡ i = omega (arith, h, k) in rw z e
+
+-- ---- what it says
+
+-- no row in use without a PID: the test is false
+pub each-has : (heads : List ℕ) (used : ℕ) → ((i : ℕ) → i < used → word heads i 0 ≡ 8192 → ⊥) → withoutPid heads used ≡ false
+unfolding withoutPid
+each-has heads zero h = refl
+each-has heads (suc n) h = rw (each-has heads n (λ i k e. h i (omega (arith, k)) e), ne-eqb (word heads n 0) 8192 (h n (omega arith)))
+
+-- one of them without: the test is true
+pub one-without : (heads : List ℕ) (used i : ℕ) → i < used → word heads i 0 ≡ 8192 → withoutPid heads used ≡ true
+unfolding withoutPid
+one-without heads zero i h e = absurd (omega (arith, h))
+one-without heads (suc n) i h e = go (withoutPid heads n) (eqb i n) refl refl (λ k. one-without heads n i k e)
+  where
+    go : (b s : Bool) → withoutPid heads n ≡ b → eqb i n ≡ s → (i < n → withoutPid heads n ≡ true) → (withoutPid heads n || eqb (word heads n 0) 8192) ≡ true
+    go b true p q r = let z : i ≡ n = eqb-true i n q in let w : word heads n 0 ≡ 8192 = rw (← z) e in rw (eq-eqb (word heads n 0) 8192 w, or-true (withoutPid heads n))
+    go b false p q r = rw (r (omega (arith, h, eqb-false i n q)))
+
+-- ---- examples: a head has twelve words
+
+abbrev row : ℕ → List ℕ
+row pid = pid ∷ replicate 11 0
+
+pub none-in-use : withoutPid (row 17 ++ row 8192) 1 ≡ false
+unfolding withoutPid
+none-in-use = refl
+
+pub second-without : withoutPid (row 17 ++ row 8192) 2 ≡ true
+unfolding withoutPid
+second-without = refl
+
+-- no PID, and not "none"
+pub larger : withoutPid (row 8193 ++ row 18446744073709551615) 2 ≡ false
+unfolding withoutPid
+larger = refl
