@@ -7,7 +7,7 @@
  * With -l LIMIT FOLDER it keeps a log besides, and the list of the sections that it is of: the files log and sections there, to which
  * `./run check_log 4096 0 2 LIMIT 4096 256 with FOLDER/sections < FOLDER/log` says yes.
  */
-#include "../include/petrizolu.h"
+#include <petrizolu.h>
 
 #include <inttypes.h>
 #include <stdbool.h>
