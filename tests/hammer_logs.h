@@ -1,11 +1,9 @@
 /*
  * Part of tests/hammer.c: logs. Section lists are drawn from sections, and cut and spoilt; settings are of every kind, and the memory of a run is what they need, less or more, whatever it held. The
- * log of a list is worked out here too, by offers to a gate and pushes to a set collector over a copy of the memory; so what the five calls have to answer, tell and leave is known, the memory
- * of the run too.
+ * log of a list is worked out here too, by offers to a gate and pushes to a set collector of memory of its own; so what the five calls have to answer, tell and leave is known.
  */
 
-/* A list is drawn of few sections; one that is damaged may be read as many short ones. */
-enum { MOST_DRAWN = 8, MOST_LISTED = ARENA / 10 + 1, LOGGED_ROWS = 16, LOGGED_LIMIT = 4, LOGGED_CELLS = 1 << 14, LOG_ARRAYS = 5 };
+enum { MOST_LISTED = 8, LOGGED_ROWS = 16, LOGGED_LIMIT = 4, LOGGED_CELLS = 1 << 14, LOG_ARRAYS = 5 };
 
 static struct array listed, log_bytes, room;
 static struct part log_run; /* keys, changes, heads, slots, cells; the settings are its words */
@@ -14,7 +12,7 @@ static struct part log_run; /* keys, changes, heads, slots, cells; the settings 
 
 static uint8_t known_log[MOST_LISTED * PETRIZOLU_MOST_LOG_BYTES];
 static size_t known_length;
-static size_t record_starts[2 * MOST_LISTED + 1], record_section[2 * MOST_LISTED + 1], record_count;
+static size_t record_starts[2 * MOST_LISTED + 1], record_count;
 
 static size_t record_size(uint8_t kind)
 {
@@ -60,11 +58,11 @@ static size_t known_offer(unsigned answer, uint64_t rule, uint64_t input, uint64
     return 13;
 }
 
-static size_t known_set(uint64_t input, uint64_t pid, const uint8_t *s, size_t n, uint8_t *out)
+/* Bare by the older definition alone. */
+static size_t known_set(bool bare, uint64_t input, uint64_t pid, const uint8_t *s, size_t n, uint8_t *out)
 {
-    bool bare = pid == PETRIZOLU_NO_PID;
     uint8_t *fields = out + (bare ? 2 : 4);
-    if (input >= PETRIZOLU_INPUTS || (!bare && pid >= 8192) || n < 12)
+    if (input >= PETRIZOLU_INPUTS || pid >= 8192 || n < 12)
         return 0;
     out[0] = bare ? PETRIZOLU_LOG_BARE_SET : PETRIZOLU_LOG_SET;
     out[1] = (uint8_t)input;
@@ -112,18 +110,13 @@ static bool opens_log(void)
     const struct array *a = log_run.arrays;
     petrizolu_gate g;
     petrizolu_sets c;
-    return s->without_pid < 2
+    return s->pids <= PETRIZOLU_LOG_BEFORE
         && petrizolu_gate_open(&g, s->capacity, 0, s->change_rule, no_extra, 0, (uint64_t *)a[0].data, a[0].count, (uint64_t *)a[1].data, a[1].count, watch, 384, no_slots, 0, no_cells, 0) == PETRIZOLU_DONE
         && petrizolu_sets_open(&c, s->limit, s->size, s->count, (uint64_t *)a[2].data, a[2].count, (uint32_t *)a[3].data, a[3].count, a[4].data, a[4].count) == PETRIZOLU_DONE;
 }
 
-/* Memory of a run like the one that is lent. */
-static uint64_t keys[ARENA / 8], changes[ARENA / 8], heads[ARENA / 8];
-static uint32_t slots[ARENA / 4];
-static uint8_t cells[ARENA];
-static void *const own_memory[LOG_ARRAYS] = {keys, changes, heads, slots, cells};
-
-static void copy_memory(void)
+/* The log of a whole list by settings that open, over memory of its own. */
+static void work_out_log(void)
 {
     for (int i = 0; i < LOG_ARRAYS; i++)
         memcpy(own_memory[i], log_run.arrays[i].data, size_of(&log_run.arrays[i]));
@@ -137,7 +130,10 @@ static bool as_own_memory(void)
     return true;
 }
 
-/* The log of the first sections of a whole list by settings that open, over memory of its own. */
+/*
+ * The log of the first sections of a whole list by settings that open, over memory of its own. By the older definition no section has a PID: all are pushed with one and the same, and the rows
+ * in use have 8192 in its place afterwards.
+ */
 static void work_out_log(size_t sections)
 {
     static uint64_t watch[384];
@@ -149,43 +145,42 @@ static void work_out_log(size_t sections)
     petrizolu_gate g;
     petrizolu_sets c;
     const uint8_t *b = listed.data;
+    bool bare = s->pids == PETRIZOLU_LOG_BEFORE;
 
     petrizolu_gate_open(&g, s->capacity, s->repeats != 0 ? PETRIZOLU_REPEATS : 0, s->change_rule, no_extra, 0, keys, a[0].count, changes, a[1].count, watch, 384, no_slots, 0, no_cells, 0);
     petrizolu_sets_open(&c, s->limit, s->size, s->count, heads, a[2].count, slots, a[3].count, cells, a[4].count);
     known_length = record_count = 0;
-    for (size_t looked_at = 0; looked_at < sections && b < listed.data + listed.count; looked_at++) {
+    while (b < listed.data + listed.count) {
         uint32_t input = b[0], pid = (uint32_t)b[1] << 8 | b[2];
         size_t n = (size_t)b[3] << 8 | b[4], size;
         petrizolu_failure failure;
         uint64_t row;
         unsigned answer = petrizolu_gate_offer(&g, keys, a[0].count, changes, a[1].count, watch, 384, no_slots, 0, no_cells, 0, input, pid, b + 5, n, &failure);
         record_starts[record_count] = known_length;
-        record_section[record_count] = looked_at;
         size = known_offer(answer, s->change_rule, input, pid, b + 5, n, known_log + known_length);
         record_count += size > 0;
         known_length += size;
-        if (s->without_pid)
-            pid = PETRIZOLU_NO_PID;
+        if (bare)
+            pid = 0;
         if ((answer == PETRIZOLU_EMITTED || answer == PETRIZOLU_SUPPRESSED)
             && petrizolu_sets_push(&c, heads, a[2].count, slots, a[3].count, cells, a[4].count, input, pid, b + 5, n, &row) == PETRIZOLU_SET) {
-            record_section[record_count] = looked_at;
             record_starts[record_count++] = known_length;
-            known_length += known_set(input, pid, b + 5, n, known_log + known_length);
+            known_length += known_set(bare, input, pid, b + 5, n, known_log + known_length);
         }
         b += 5 + n;
     }
+    for (uint64_t row = 0; bare && row < c.used; row++)
+        heads[row * PETRIZOLU_HEAD_WORDS + PETRIZOLU_HEAD_PID] = 8192;
     record_starts[record_count] = known_length;
-    record_section[record_count] = MOST_LISTED;
 }
 
-/* 8, or the first place that is wrong; and how many sections are looked at: none behind the one with the wrong record. */
-static unsigned known_verdict(uint64_t *place, size_t *sections)
+/* 8, or the first place that is wrong. */
+static unsigned known_verdict(uint64_t *place)
 {
     const uint8_t *log = log_bytes.data;
     for (size_t i = 0;; i++) {
         size_t p = record_starts[i], size;
         *place = p;
-        *sections = record_section[i] + 1;
         if (log_bytes.count == p)
             return i == record_count ? PETRIZOLU_YES : PETRIZOLU_OTHER_RECORD;
         size = record_size(log[p]);
@@ -204,7 +199,7 @@ static void draw_list(void)
 {
     size_t n = 0;
     lend(&listed, ARENA / 2);
-    for (uint64_t k = below(MOST_DRAWN); k > 0; k--) {
+    for (uint64_t k = below(MOST_LISTED); k > 0; k--) {
         static const uint16_t pids[] = {0, 0x11, 0x12, 0x12, 0x1FFF, 0x2000};
         uint8_t *b = listed.data + n;
         if (once_in(3) && n > 0) { /* the first section again */
@@ -247,7 +242,7 @@ static void lend_run(void)
     s->limit = setting(LOGGED_LIMIT);
     s->size = once_in(60) ? any_word() : 12 + below(60) * (once_in(3) ? 60 : 1);
     s->count = setting(LOGGED_CELLS / (s->size > 0 && s->size < LOGGED_CELLS ? s->size : LOGGED_CELLS));
-    s->without_pid = once_in(60) ? any_word() : below(2);
+    s->pids = once_in(60) ? any_word() : once_in(20) ? PETRIZOLU_LOG_WITHOUT : once_in(3) ? PETRIZOLU_LOG_BEFORE : PETRIZOLU_LOG_WITH;
     rows = s->capacity == 0 ? 1 : s->capacity;
     rows = rows > 2 * LOGGED_ROWS ? LOGGED_ROWS : rows;
     limit = s->limit > 2 * LOGGED_LIMIT ? LOGGED_LIMIT : s->limit;
@@ -316,31 +311,26 @@ static void check_log(unsigned before)
 {
     uint64_t place = UINT64_MAX, known = UINT64_MAX;
     unsigned answer, should = before;
-    size_t sections = 0;
-    if (before == PETRIZOLU_DONE) {
-        should = known_verdict(&known, &sections);
-        copy_memory();
-        work_out_log(sections);
-    }
+    if (before == PETRIZOLU_DONE)
+        should = known_verdict(&known);
     if (should == before || should == PETRIZOLU_YES)
         known = UINT64_MAX;
     remember_log();
     answer = petrizolu_log_check(settings_of_log(), listed.data, listed.count, log_bytes.data, log_bytes.count, LEND_LOG_RUN, &place);
     judge_log(LOG_CHECK, answer, should);
     log_as_before(LOG_CHECK, answer, before);
-    if (before == PETRIZOLU_DONE && !as_own_memory())
-        fail(LOG_CHECK, answer, "not the memory that the run leaves");
     if (place != known)
         fail(LOG_CHECK, answer, "another place");
-    if (before == PETRIZOLU_DONE)
-        work_out_log(MOST_LISTED);
 }
 
 static void write_log(unsigned before)
 {
     size_t bytes = before == PETRIZOLU_DONE ? known_length + below(5) - (known_length > 1 ? 2 : 0) : below(30);
-    uint64_t length = UINT64_MAX;
-    unsigned answer, should = before == PETRIZOLU_DONE && known_length > bytes ? PETRIZOLU_NO_LOG_ROOM : before;
+    uint64_t length = UINT64_MAX, pids = settings_of_log()->pids;
+    unsigned answer, should;
+    if (judge_list() == PETRIZOLU_DONE && (pids == PETRIZOLU_LOG_WITHOUT || pids == PETRIZOLU_LOG_BEFORE)) /* none is written any more */
+        before = PETRIZOLU_NO_PID_GIVEN;
+    should = before == PETRIZOLU_DONE && known_length > bytes ? PETRIZOLU_NO_LOG_ROOM : before;
     if (before == PETRIZOLU_DONE)
         copy_memory();
     if (should == PETRIZOLU_NO_LOG_ROOM) { /* up to the section whose records find no room */
@@ -363,12 +353,8 @@ static void write_log(unsigned before)
         memcpy(room.before, known_log, known_length);
     if (!array_as_before(&room))
         fail(LOG_WRITE, answer, "not the log, or bytes behind it");
-    if (before == PETRIZOLU_DONE && !as_own_memory())
-        fail(LOG_WRITE, answer, "not the memory that the run leaves");
     if (length != (should == PETRIZOLU_DONE ? known_length : UINT64_MAX))
         fail(LOG_WRITE, answer, "another length");
-    if (should == PETRIZOLU_NO_LOG_ROOM)
-        work_out_log(MOST_LISTED);
 }
 
 /* A record made of any answer, or of a set, of any section. */
@@ -396,7 +382,7 @@ static void make_records(void)
 
     memset(set, 0xA5, sizeof set);
     memcpy(known_bytes, set, sizeof known_bytes);
-    expected = known_set(input, pid, section.data, section.count, known_bytes);
+    expected = known_set(false, input, pid, section.data, section.count, known_bytes);
     told = petrizolu_log_set_record(input, pid, section.data, section.count, set, &length);
     judge_log(LOG_SET_RECORD, told, PETRIZOLU_DONE);
     if (length != expected || memcmp(set, known_bytes, sizeof known_bytes) != 0 || !array_as_before(&section))
@@ -430,23 +416,31 @@ static void read_log(void)
         fail(LOG_READ, answer, "another record");
 }
 
+/* Logs are written with PIDs alone. */
+static unsigned unwritten(unsigned before)
+{
+    return (before == PETRIZOLU_DONE || before == PETRIZOLU_TOO_LITTLE) && settings_of_log()->pids == 2 ? PETRIZOLU_NO_PID_GIVEN : before;
+}
+
 static void round_of_logs(void)
 {
     unsigned before;
     draw_list();
     lend_run();
     before = judge_list();
+    if (before == PETRIZOLU_DONE && settings_of_log()->pids == PETRIZOLU_LOG_WITHOUT)
+        before = PETRIZOLU_NO_PID_GIVEN;
     if (before == PETRIZOLU_DONE && !opens_log())
         before = PETRIZOLU_TOO_LITTLE;
     known_length = record_count = 0;
     if (before == PETRIZOLU_DONE)
-        work_out_log(MOST_LISTED);
+        work_out_log();
     draw_log(before == PETRIZOLU_DONE);
     if (once_in(2)) {
         check_log(before);
-        write_log(before);
+        write_log(unwritten(before));
     } else {
-        write_log(before);
+        write_log(unwritten(before));
         check_log(before);
     }
     read_log();

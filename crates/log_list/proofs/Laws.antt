@@ -255,7 +255,7 @@ module _ (s : Bytes) (p : ℕ) (w : WholeFrom s p) (l : p < length s) where
   head-fits = placed .head
 
   pub first-there : {r : Place} → r ≡ placeAt s p → PlacedAt s p r
-  first-there {r = r} e = rw e (record { first = first; behind = record { within = placed .within; whole = whole }; starts = placed .start; later = omega (arith, placed .start); short = placed .short })
+  first-there {r = r} e = rw e (record { first = first; behind = record { within = placed .within; whole = whole }; later = omega (arith, placed .start); short = placed .short })
     where
       there : Place
       there = placeAt s p

@@ -63,6 +63,5 @@ pub record WholeFrom (s : Bytes) (p : ℕ) : Type 0 where
 pub record PlacedAt (s : Bytes) (p : ℕ) (r : Place) : Type 0 where
   pub first : givensFrom s p ≡ givenAt s r ∷ givensFrom s (r .start + r .length)
   pub behind : WholeFrom s (r .start + r .length)
-  pub starts : r .start ≡ p + 5
   pub later : p < r .start
   pub short : r .length ≤ 4098

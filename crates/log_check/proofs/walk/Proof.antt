@@ -35,11 +35,11 @@ loop-holds c = let a = c .before .before .before .before .before .before .before
 
 -- src/lib.rt:118:13
 take-one-requires : tie.Need-take-one-requires Inv-loop μ-loop
-take-one-requires c κs = (c .before .before .before .before .before .before .loop .inv .0, c .before .before .before .before .before .loop-test .taken)
+take-one-requires c κs = search needs
 
 -- src/lib.rt:121:13
 beside-requires : tie.Need-beside-requires Inv-loop μ-loop
-beside-requires c κs = step-entry (c .before .before .before .before .before .before .before .before .before .before .before .take-one .ensures)
+beside-requires c κs = search step-entry
 
 -- src/lib.rt:122:13
 passes-requires : tie.Need-passes-requires Inv-loop μ-loop
@@ -95,23 +95,23 @@ finish-requires c κs = search needs
 
 -- src/lib.rt:101:1
 same-length-6 : tie.Need-same-length-6 Inv-loop μ-loop
-same-length-6 c = c .before .before .loop .inv .1 .keys
+same-length-6 c = search needs
 
 -- src/lib.rt:101:1
 same-length-7 : tie.Need-same-length-7 Inv-loop μ-loop
-same-length-7 c = c .before .before .loop .inv .1 .changes
+same-length-7 c = search needs
 
 -- src/lib.rt:101:1
 same-length-8 : tie.Need-same-length-8 Inv-loop μ-loop
-same-length-8 c = c .before .before .loop .inv .1 .heads
+same-length-8 c = search needs
 
 -- src/lib.rt:101:1
 same-length-9 : tie.Need-same-length-9 Inv-loop μ-loop
-same-length-9 c = c .before .before .loop .inv .1 .slots
+same-length-9 c = search needs
 
 -- src/lib.rt:101:1
 same-length-10 : tie.Need-same-length-10 Inv-loop μ-loop
-same-length-10 c = c .before .before .loop .inv .1 .cells
+same-length-10 c = search needs
 
 -- src/lib.rt:101:1
 returns-2 : tie.Need-returns-2 Inv-loop μ-loop

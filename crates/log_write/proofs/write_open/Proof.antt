@@ -1,4 +1,3 @@
-use mathlib.Core.Path.{_∙_}
 use Rattle.log_write.proofs.Laws.{no-room, is-written}
 use Rattle.log_sections.specs.Steps.{memory}
 use borrow.Author.Needs.{needs}
@@ -12,7 +11,7 @@ use Rattle.log_write.proofs.refused.Reads as refused-reads
 
 -- src/lib.rt:61:9
 measure-requires : tie.Need-measure-requires
-measure-requires c κs = c .before .before .before .before .before .before .before .before .before .before .before .before .pre
+measure-requires c κs = search needs
 
 -- src/lib.rt:72:9
 refused-requires : tie.Need-refused-requires
@@ -20,23 +19,23 @@ refused-requires c κs = search needs
 
 -- src/lib.rt:72:9
 same-length : tie.Need-same-length
-same-length c = c .before .before .before .before .before .before .before .before .before .before .before .before .before .measure .kept .1 .0
+same-length c = search needs
 
 -- src/lib.rt:72:9
 same-length-2 : tie.Need-same-length-2
-same-length-2 c = c .before .before .before .before .before .before .before .before .before .before .before .before .before .measure .kept .1 .1 .0
+same-length-2 c = search needs
 
 -- src/lib.rt:72:9
 same-length-3 : tie.Need-same-length-3
-same-length-3 c = c .before .before .before .before .before .before .before .before .before .before .before .before .before .measure .kept .1 .1 .1 .0
+same-length-3 c = search needs
 
 -- src/lib.rt:72:9
 same-length-4 : tie.Need-same-length-4
-same-length-4 c = c .before .before .before .before .before .before .before .before .before .before .before .before .before .measure .kept .1 .1 .1 .1 .0
+same-length-4 c = search needs
 
 -- src/lib.rt:72:9
 same-length-5 : tie.Need-same-length-5
-same-length-5 c = c .before .before .before .before .before .before .before .before .before .before .before .before .before .measure .kept .1 .1 .1 .1 .1 .0
+same-length-5 c = search needs
 
 -- src/lib.rt:72:9
 returns : tie.Need-returns
@@ -45,31 +44,31 @@ returns c = let a = c .before .before .before .before .before .before .before .b
 
 -- src/lib.rt:74:5
 write-all-requires : tie.Need-write-all-requires
-write-all-requires c κs = c .before .before .before .before .before .before .before .before .before .before .before .before .before .before .before .before .before .before .before .before .before .before .before .before .before .before .before .before .before .before .before .pre
+write-all-requires c κs = search needs
 
 -- src/lib.rt:48:1
 same-length-6 : tie.Need-same-length-6
-same-length-6 c = c .before .before .before .before .before .before .before .before .before .before .before .before .write-all .kept .1 .1 .1 .1 .1 .1 .1 .0
+same-length-6 c = search needs
 
 -- src/lib.rt:48:1
 same-length-7 : tie.Need-same-length-7
-same-length-7 c = c .before .before .before .before .before .before .before .before .before .before .before .before .write-all .kept .1 .0 ∙ c .before .before .before .before .before .before .before .before .before .before .before .before .before .before .before .before .before .before .before .before .before .before .before .before .before .before .before .before .before .before .before .measure .kept .1 .0
+same-length-7 c = search needs
 
 -- src/lib.rt:48:1
 same-length-8 : tie.Need-same-length-8
-same-length-8 c = c .before .before .before .before .before .before .before .before .before .before .before .before .write-all .kept .1 .1 .0 ∙ c .before .before .before .before .before .before .before .before .before .before .before .before .before .before .before .before .before .before .before .before .before .before .before .before .before .before .before .before .before .before .before .measure .kept .1 .1 .0
+same-length-8 c = search needs
 
 -- src/lib.rt:48:1
 same-length-9 : tie.Need-same-length-9
-same-length-9 c = c .before .before .before .before .before .before .before .before .before .before .before .before .write-all .kept .1 .1 .1 .0 ∙ c .before .before .before .before .before .before .before .before .before .before .before .before .before .before .before .before .before .before .before .before .before .before .before .before .before .before .before .before .before .before .before .measure .kept .1 .1 .1 .0
+same-length-9 c = search needs
 
 -- src/lib.rt:48:1
 same-length-10 : tie.Need-same-length-10
-same-length-10 c = c .before .before .before .before .before .before .before .before .before .before .before .before .write-all .kept .1 .1 .1 .1 .0 ∙ c .before .before .before .before .before .before .before .before .before .before .before .before .before .before .before .before .before .before .before .before .before .before .before .before .before .before .before .before .before .before .before .measure .kept .1 .1 .1 .1 .0
+same-length-10 c = search needs
 
 -- src/lib.rt:48:1
 same-length-11 : tie.Need-same-length-11
-same-length-11 c = c .before .before .before .before .before .before .before .before .before .before .before .before .write-all .kept .1 .1 .1 .1 .1 .0 ∙ c .before .before .before .before .before .before .before .before .before .before .before .before .before .before .before .before .before .before .before .before .before .before .before .before .before .before .before .before .before .before .before .measure .kept .1 .1 .1 .1 .1 .0
+same-length-11 c = search needs
 
 -- src/lib.rt:48:1
 returns-2 : tie.Need-returns-2
