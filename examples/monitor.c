@@ -92,8 +92,7 @@ static bool open_all(struct monitor *m)
 
 static void show_pid(uint64_t pid)
 {
-    if (pid < 8192)
-        printf(" pid %04" PRIX64, pid);
+    printf(" pid %04" PRIX64, pid);
 }
 
 /* What is written of a set or a schedule: nothing where no folder was named. */
@@ -109,7 +108,7 @@ struct copy {
 static struct copy open_copy(const char *folder, const uint64_t *head, uint64_t table_id, bool is_eit, const uint8_t *cells)
 {
     struct copy copy = {NULL, cells};
-    uint64_t pid = head[PETRIZOLU_HEAD_PID] < 8192 ? head[PETRIZOLU_HEAD_PID] : 0xFFFF;
+    uint64_t pid = head[PETRIZOLU_HEAD_PID];
     char streams[16] = "", name[4096];
 
     if (folder == NULL)

@@ -66,6 +66,7 @@ enum petrizolu_answer {
     PETRIZOLU_UNKNOWN_KIND = 38,     /* log: a record of no known kind; its place is told */
     PETRIZOLU_RECORD_CUT = 39,       /* log: it ends inside a record; the record's place is told */
     PETRIZOLU_OTHER_RECORD = 40,     /* log: not the record that the sections give, or one too many, or one missing; the place is told */
+    PETRIZOLU_NO_PID_GIVEN = 41,     /* collector, comparing, log: a call without a PID, or a store in which a row in use has none */
     PETRIZOLU_OVERLONG_SECTION = 42, /* log: a section of more than 4,098 bytes */
     PETRIZOLU_NO_BUFFER = 43,        /* its PID needs a section buffer, and none is free */
     PETRIZOLU_NO_LOG_ROOM = 44       /* log: it is longer than the room */
@@ -73,7 +74,7 @@ enum petrizolu_answer {
 
 /* ---- numbers */
 
-#define PETRIZOLU_NO_PID UINT32_MAX    /* to a collector: the section came with no PID */
+#define PETRIZOLU_NO_PID UINT32_MAX    /* no PID: collectors and comparisons answer 41 to it */
 #define PETRIZOLU_ANY UINT64_MAX       /* in a filter: this field is free */
 #define PETRIZOLU_INPUTS 16u           /* inputs of a card: 0 to 15 */
 
@@ -167,7 +168,10 @@ enum petrizolu_answer {
 #define PETRIZOLU_LOG_SHORT 3u                                                        /* 6 bytes */
 #define PETRIZOLU_LOG_MISMATCH 4u
 #define PETRIZOLU_LOG_SET 5u                                                          /* with PID: 10 bytes */
-#define PETRIZOLU_LOG_BARE_SET 6u                                                     /* without: 8 */
+#define PETRIZOLU_LOG_BARE_SET 6u                                                     /* without, of before 2026-12: 8 */
+#define PETRIZOLU_LOG_WITH 0u                                                         /* pids: sets are taken with the PID of their sections */
+#define PETRIZOLU_LOG_WITHOUT 1u                                                      /* without one, which is given up: 41 */
+#define PETRIZOLU_LOG_BEFORE 2u                                                       /* as before 2026-12 without one: to check a log that was made so */
 #define PETRIZOLU_MOST_LOG_BYTES 23u                                                  /* of one section: an emitted or suppressed, and a set */
 #define PETRIZOLU_LONGEST_LOGGED 4098u                                                /* bytes of a section in a section list */
 
@@ -175,7 +179,7 @@ enum petrizolu_answer {
  * What a row's head says. heads + row * PETRIZOLU_HEAD_WORDS has these words; a host may read them of a row that was handed out, to name the
  * set. The library alone writes them.
  */
-#define PETRIZOLU_HEAD_PID 0u                    /* 8192: no PID */
+#define PETRIZOLU_HEAD_PID 0u                    /* 8192: a row of before 2026-12; such a store answers 41 */
 #define PETRIZOLU_HEAD_TABLE_ID 1u               /* in schedule_heads: the kind */
 #define PETRIZOLU_HEAD_EXTENSION 2u              /* service_id of an EIT */
 #define PETRIZOLU_HEAD_CURRENT_NEXT 3u
@@ -414,6 +418,9 @@ typedef struct petrizolu_section {
  *
  * Give it every section that the gate answers 1 or 2 for: a set that was evicted between two of its sections, or whose section found no cell (21), is
  * completed by repeats, and these are suppressed. EIT sections go to the EIT collector instead.
+ *
+ * A section is taken only with its PID: sections of two PIDs are never of one set. A store of before 2026-12 may have rows without one (PETRIZOLU_HEAD_PID is 8192):
+ * every call that looks at its rows answers 41 and leaves everything as before, and only opening it anew helps. No call makes such a row.
  */
 
 typedef struct petrizolu_sets {
@@ -441,9 +448,9 @@ uint8_t petrizolu_sets_open(petrizolu_sets *sets, uint64_t limit, uint64_t size,
                             const uint32_t *slots, size_t slot_words, const uint8_t *cells, size_t cell_bytes);
 
 /*
- * Gives a section with the input and the PID that it came on, or PETRIZOLU_NO_PID. Sections of different inputs are never of one set, but the
- * inputs share the rows and the cells: an eviction can come from a neighbour. 5: the set in *row is complete and handed out. 4, 10 to 12, 37, 14 to
- * 17, 20 to 22 else, and *row is not written then.
+ * Gives a section with the input and the PID that it came on. Sections of different inputs are never of one set, but the
+ * inputs share the rows and the cells: an eviction can come from a neighbour. 5: the set in *row is complete and handed out. 10, 11, 41 (the PID is PETRIZOLU_NO_PID,
+ * or a row in use has none), 12, 37, 14 to 17, 4, 20 to 22 else, and *row is not written then.
  *
  *     uint64_t row = 0;
  *     if (petrizolu_sets_push(&sets, heads, sizeof heads / 8, slots, sizeof slots / 4, cells, sizeof cells, input, pid, section, length, &row) == PETRIZOLU_SET)
@@ -453,7 +460,7 @@ uint8_t petrizolu_sets_push(petrizolu_sets *sets, uint64_t *heads, size_t head_w
                             size_t cell_bytes, uint32_t input, uint32_t pid, const uint8_t *section, size_t section_length, uint64_t *row);
 
 /*
- * Empties all rows; the eviction count stays. 7, 10.
+ * Empties all rows; the eviction count stays. 7; 10, 41 (a row in use has no PID): as before.
  *
  *     petrizolu_sets_clear(&sets, heads, sizeof heads / 8, slots, sizeof slots / 4, cells, sizeof cells);
  */
@@ -461,8 +468,8 @@ uint8_t petrizolu_sets_clear(petrizolu_sets *sets, const uint64_t *heads, size_t
                              const uint8_t *cells, size_t cell_bytes);
 
 /*
- * Has the set in a row another section, its number `from` or more? 8: *next tells of it; go on from next->number + 1. 9: no, or no such row. 10.
- * 9 and 10 leave *next as it was.
+ * Has the set in a row another section, its number `from` or more? 8: *next tells of it; go on from next->number + 1. 9: no, or no such row. 10. 41: a row in use,
+ * this one or another, has no PID. 9, 10 and 41 leave *next as it was.
  *
  *     petrizolu_section next;
  *     uint64_t from = 0;
@@ -503,7 +510,7 @@ uint8_t petrizolu_eit_open(petrizolu_eit *eit, uint64_t limit, uint64_t size, ui
 
 /*
  * Gives an EIT section, with input and PID as the set collector takes them. 5: the present/following set in row *row is complete. 6: the schedule
- * in row *row of the schedules is complete. 4, 10 to 12, 37, 14 to 23 else, and *row is not written then.
+ * in row *row of the schedules is complete. 10, 11, 41 (the PID is PETRIZOLU_NO_PID, or a set or a schedule in use has none), 12, 37, 14 to 19, 4, 20 to 23 else, and *row is not written then.
  *
  *     uint8_t answer = petrizolu_eit_push(&eit, heads, sizeof heads / 8, slots, sizeof slots / 4, cells, sizeof cells, schedule_heads,
  *                                         sizeof schedule_heads / 8, units, sizeof units / 4, input, pid, section, length, &row);
@@ -513,7 +520,7 @@ uint8_t petrizolu_eit_push(petrizolu_eit *eit, uint64_t *heads, size_t head_word
                            uint32_t input, uint32_t pid, const uint8_t *section, size_t section_length, uint64_t *row);
 
 /*
- * Empties all sets and schedules; the eviction counts stay. 7, 10.
+ * Empties all sets and schedules; the eviction counts stay. 7; 10, 41 (a set or a schedule in use has no PID): as before.
  *
  *     petrizolu_eit_clear(&eit, heads, sizeof heads / 8, slots, sizeof slots / 4, cells, sizeof cells, schedule_heads, sizeof schedule_heads / 8, units,
  *                         sizeof units / 4);
@@ -522,7 +529,7 @@ uint8_t petrizolu_eit_clear(petrizolu_eit *eit, const uint64_t *heads, size_t he
                             const uint8_t *cells, size_t cell_bytes, const uint64_t *schedule_heads, size_t schedule_head_words,
                             const uint32_t *units, size_t unit_words);
 
-/* Which sets and schedules to drop: each field exact, or PETRIZOLU_ANY. pid may be PETRIZOLU_NO_PID: those without a PID. */
+/* Which sets and schedules to drop: each field exact, or PETRIZOLU_ANY. There are none without a PID: a pid of PETRIZOLU_NO_PID is answered 41. */
 typedef struct petrizolu_filter {
     uint64_t pid;
     uint64_t kind;
@@ -534,8 +541,8 @@ typedef struct petrizolu_filter {
 } petrizolu_filter;
 
 /*
- * Drops each set and each schedule that the filter matches; no eviction is counted. 7; 10, 12 (an exact PID of 8192 or more) and 37 (an
- * exact input of 16 or more): as before.
+ * Drops each set and each schedule that the filter matches; no eviction is counted. 7; 10, 41 (the filter's PID is PETRIZOLU_NO_PID, or a set or a schedule in use has
+ * none), 12 (an exact PID of 8192 or more) and 37 (an exact input of 16 or more): as before.
  *
  *     petrizolu_filter service = {PETRIZOLU_ANY, PETRIZOLU_ANY, 0x0001, PETRIZOLU_ANY, PETRIZOLU_ANY, PETRIZOLU_ANY, PETRIZOLU_ANY};
  *     petrizolu_eit_drop(&eit, heads, sizeof heads / 8, slots, sizeof slots / 4, cells, sizeof cells, schedule_heads, sizeof schedule_heads / 8, units,
@@ -546,7 +553,7 @@ uint8_t petrizolu_eit_drop(petrizolu_eit *eit, uint64_t *heads, size_t head_word
                            const petrizolu_filter *filter);
 
 /*
- * As petrizolu_sets_next, of a set's row.
+ * As petrizolu_sets_next, of a set's row. 41: a set or a schedule in use has no PID.
  *
  *     from = 0;
  *     while (petrizolu_eit_next(&eit, heads, sizeof heads / 8, slots, sizeof slots / 4, cells, sizeof cells, schedule_heads, sizeof schedule_heads / 8,
@@ -628,7 +635,7 @@ uint8_t petrizolu_events(const uint8_t *section, size_t section_length, uint64_t
 /*
  * The same of the set in a row that was handed out, its sections one after another by rising number: at the first 18, 19 or 32 the listing ends, and nothing
  * of later sections is listed. 18 and 19 do not come from a store that was opened. 9, with a count of 0, also where the row is not in use, or where its set
- * was not handed out or has changed since. 10: list and *listed as before.
+ * was not handed out or has changed since. 10, 41 (a set or a schedule in use has no PID): list and *listed as before.
  *
  *     uint8_t shown = petrizolu_eit_events(&eit, heads, sizeof heads / 8, slots, sizeof slots / 4, cells, sizeof cells, schedule_heads,
  *                                          sizeof schedule_heads / 8, units, sizeof units / 4, row, 0, page, PETRIZOLU_LIST_WORDS(64), &told);
@@ -674,7 +681,8 @@ uint8_t petrizolu_entries(uint32_t reader, const uint8_t *section, size_t sectio
 
 /*
  * The same of the set in a row that was handed out, its sections one after another by rising number. All are judged first: the first that has a 35 or a 36 decides, and
- * nothing is listed. 9, with a count of 0, also where the row is not in use, or where its set was not handed out or has changed since. 10: list and *listed as before.
+ * nothing is listed. 9, with a count of 0, also where the row is not in use, or where its set was not handed out or has changed since. 10, 41 (a row in use has no PID): list and
+ * *listed as before.
  *
  *     read = petrizolu_sets_entries(PETRIZOLU_SDT, &sets, heads, sizeof heads / 8, slots, sizeof slots / 4, cells, sizeof cells, row, 0, page,
  *                                   PETRIZOLU_LIST_WORDS(64), &told);
@@ -686,8 +694,8 @@ uint8_t petrizolu_sets_entries(uint32_t reader, const petrizolu_sets *sets, cons
 /*
  * ---- two guides compared: where two laboratories' copies of one table differ
  *
- * A set is its sections one after another by rising section_number, as petrizolu_sets_next hands them out, in bytes of its own, with the PID that it came on
- * (PETRIZOLU_NO_PID for none). It need not have come through a collector: long-form sections to the last byte, of one key, one version and one
+ * A set is its sections one after another by rising section_number, as petrizolu_sets_next hands them out, in bytes of its own, with the PID that it came on.
+ * It need not have come through a collector: long-form sections to the last byte, of one key, one version and one
  * last_section_number, are a set; the CRC is not judged. A schedule is the sections of its tables by rising table_id (0x50 to 0x5F, or 0x60 to 0x6F), each table as a set.
  */
 
@@ -706,9 +714,9 @@ typedef struct petrizolu_compared {
 
 /*
  * Compares two sets. list_words counts words of 32 bits; differences stand in it by rising number, and words behind the last stay as before.
- * 8: they differ; 9: they do not, the bytes are the same. 10: the bytes of a side are no set. 12: a PID of 8192 or more. 33: the two are not of one key (PID, table_id,
+ * 8: they differ; 9: they do not, the bytes are the same. 10: the bytes of a side are no set. 41: the PID of a side is PETRIZOLU_NO_PID. 12: a PID of 8192 or more. 33: the two are not of one key (PID, table_id,
  * table_id_extension, current_next_indicator; of an EIT also transport_stream_id and original_network_id). 34: the list has no room for all; nothing is listed.
- * 10, 12 and 33 leave the list and *compared as before, 34 the list.
+ * 10, 41, 12 and 33 leave the list and *compared as before, 34 the list.
  *
  *     static petrizolu_difference list[PETRIZOLU_MOST_DIFFERENCES];
  *     petrizolu_compared compared = {0, 0, 0};
@@ -759,13 +767,16 @@ uint8_t petrizolu_held_by_one(const uint8_t *first, size_t first_bytes, const ui
  *    1, 2  emitted, suppressed   input, PID (2), table_id, table_id_extension (2), section_number, version, change number (4)
  *    3, 4  short, mismatch       input, PID (2), length of the section (2)
  *    5     set with PID          input, PID (2), table_id, table_id_extension (2), current_next, version, last_section_number
- *    6     set without PID       the same less the PID
+ *    6     set without PID       the same less the PID; in logs of before 2026-12
  *
  * A section list is for each section an input (1 byte), a PID (2), a length (2), then that many bytes; any input, any PID and any bytes may stand there. Its log is what
  * an opened gate and an opened set collector, never cleared, answer to them in order: 1, 2, 31 and 3 give the records 1 to 4, 12 and 37 none; what was answered 1 or 2 goes to
  * the collector, and where that answers 5 the set's record follows. What a gate watches and follows does not reach the log.
  *
- * The memory of the run (keys, changes, heads, slots, cells) is working memory: as before with 42, 10 and 13, else as the opened run leaves it after the
+ * By the older definition, of before 2026-12, the log of a section list has all sets collected without a PID: sections of one table on two PIDs are of one set, and its record is
+ * of kind 6. A log that was made so is still read, and checked by that definition; none is written.
+ *
+ * The memory of the run (keys, changes, heads, slots, cells) is working memory: as before with 42, 10, 41 and 13, else as the opened run leaves it after the
  * sections that were looked at. It is no store: nothing that is kept in it counts.
  */
 
@@ -776,12 +787,12 @@ typedef struct petrizolu_log_settings {
     uint64_t limit;                  /* these three as of petrizolu_sets_open */
     uint64_t size;
     uint64_t count;
-    uint64_t without_pid;            /* 0: sets are taken with the PID of their sections; 1: without one */
+    uint64_t pids;                   /* PETRIZOLU_LOG_WITH, PETRIZOLU_LOG_WITHOUT (41) or PETRIZOLU_LOG_BEFORE; another number is 13 */
 } petrizolu_log_settings;
 
 /*
- * Is this the log of these sections? 8: byte for byte. 42: some length in the list is over 4,098; 10: the list is cut; the first bad section decides. 13: less is lent
- * than the settings need, or a setting is one that opening refuses, or without_pid is neither 0 nor 1. Else the earliest place that is wrong, where a record starts: 38, its kind
+ * Is this the log of these sections? 8: byte for byte. 42: some length in the list is over 4,098; 10: the list is cut; the first bad section decides. 41: pids is
+ * PETRIZOLU_LOG_WITHOUT. 13: less is lent than the settings need, or a setting is one that opening refuses, or pids is above PETRIZOLU_LOG_BEFORE. Else the earliest place that is wrong, where a record starts: 38, its kind
  * is none of the six; 39, the log ends inside it; 40, it is not the one expected, or none is expected, or one is expected and the log ends there. *place is written by 38, 39 and 40 alone.
  *
  *     petrizolu_log_settings run = {512, 0, PETRIZOLU_DEFAULT_CHANGE_RULE, 16, 4096, 64, 0};
@@ -799,7 +810,8 @@ uint8_t petrizolu_log_check(const petrizolu_log_settings *settings, const uint8_
                             size_t slot_words, uint8_t *cells, size_t cell_bytes, uint64_t *place);
 
 /*
- * Writes the log of these sections into the room: 7, and *length tells how many bytes; those behind stay as before. 42, 10 and 13 as above; 44: it is longer than the room.
+ * Writes the log of these sections into the room: 7, and *length tells how many bytes; those behind stay as before. 42, 10 and 13 as above; 41: pids is
+ * PETRIZOLU_LOG_WITHOUT or PETRIZOLU_LOG_BEFORE, so that no record of kind 6 is ever written; 44: it is longer than the room.
  * These leave the room and *length as before. A room of PETRIZOLU_MOST_LOG_BYTES for each section is always enough.
  *
  *     uint8_t room[PETRIZOLU_MOST_LOG_BYTES];
@@ -825,8 +837,8 @@ uint8_t petrizolu_log_offer_record(uint8_t answer, uint64_t change_rule, uint32_
                                    uint8_t record[13], uint64_t *length);
 
 /*
- * The record of the set that this section completed, taken with this PID or, for PETRIZOLU_NO_PID, without one: 7, and *length is 10 or 8; 0 for a section under 12 bytes and for an input or
- * a PID that there is not.
+ * The record of the set that this section completed, taken with this PID: 7, and *length is 10; 0 for a section under 12 bytes, for an input or a PID that there is not and for
+ * PETRIZOLU_NO_PID, to which the push before answered 41.
  *
  *     uint8_t set_record[10];
  *     petrizolu_log_set_record(input, pid, section, length, set_record, &record_length);
@@ -837,7 +849,7 @@ uint8_t petrizolu_log_set_record(uint32_t input, uint32_t pid, const uint8_t *se
 typedef struct petrizolu_log_record {
     uint64_t kind;
     uint64_t input;
-    uint64_t pid;                    /* 8192 where unknown */
+    uint64_t pid;                    /* 8192 where unknown: kind 6 */
     uint64_t table_id;
     uint64_t extension;
     uint64_t section;                /* section_number */

@@ -7,7 +7,8 @@
  * `heap` it is a block of the heap of exactly its length, for a memory checker. Each call's answer must be one that the header names for it, and after
  * a refusal every lent byte must be as before. The gate with an index is run beside the one without on the same sections. Where complete PATs are
  * followed, whether the PAT store is whole is worked out here too; where they are not, or where a section enters nothing, it must be as before. What a
- * section says is worked out here too, entry by entry; of a row the entries must be in the cells, the words behind the page as before.
+ * section says is worked out here too, entry by entry; of a row the entries must be in the cells, the words behind the page as before. Whether a call is
+ * made without a PID, or on a store in which a row in use has none, is known: 41 comes then, after 10 and 11 and before all else, and nowhere else.
  * Two guides are compared here as well (hammer_guides.h), and logs written, checked and read (hammer_logs.h). Prints the calls by function and answer.
  */
 #include "../include/petrizolu.h"
@@ -160,36 +161,36 @@ static const struct {
     {"indexed_open", ONE(7) | ONE(12) | ONE(13)},
     {"indexed_offer", ONE(1) | ONE(2) | ONE(3) | ONE(10) | ONE(11) | ONE(12) | ONE(31) | ONE(37)},
     {"sets_open", ONE(7) | ONE(13)},
-    {"sets_push", ONE(4) | ONE(5) | ONE(10) | ONE(11) | ONE(12) | ONE(14) | ONE(15) | ONE(16) | ONE(17) | ONE(20) | ONE(21) | ONE(22) | ONE(37)},
-    {"sets_clear", ONE(7) | ONE(10)},
-    {"sets_next", ONE(8) | ONE(9) | ONE(10)},
+    {"sets_push", ONE(4) | ONE(5) | ONE(10) | ONE(11) | ONE(12) | ONE(14) | ONE(15) | ONE(16) | ONE(17) | ONE(20) | ONE(21) | ONE(22) | ONE(37) | ONE(41)},
+    {"sets_clear", ONE(7) | ONE(10) | ONE(41)},
+    {"sets_next", ONE(8) | ONE(9) | ONE(10) | ONE(41)},
     {"eit_open", ONE(7) | ONE(13)},
-    {"eit_push", ONE(4) | ONE(5) | ONE(6) | ONE(10) | ONE(11) | ONE(12) | 0xFFC000u | ONE(37)},
-    {"eit_clear", ONE(7) | ONE(10)},
-    {"eit_drop", ONE(7) | ONE(10) | ONE(12) | ONE(37)},
-    {"eit_next", ONE(8) | ONE(9) | ONE(10)},
-    {"eit_next_in_schedule", ONE(8) | ONE(9) | ONE(10)},
+    {"eit_push", ONE(4) | ONE(5) | ONE(6) | ONE(10) | ONE(11) | ONE(12) | 0xFFC000u | ONE(37) | ONE(41)},
+    {"eit_clear", ONE(7) | ONE(10) | ONE(41)},
+    {"eit_drop", ONE(7) | ONE(10) | ONE(12) | ONE(37) | ONE(41)},
+    {"eit_next", ONE(8) | ONE(9) | ONE(10) | ONE(41)},
+    {"eit_next_in_schedule", ONE(8) | ONE(9) | ONE(10) | ONE(41)},
     {"streams_open", ONE(7) | ONE(13)},
     {"feed", ONE(10) | ONE(11) | ONE(29) | ONE(30) | ONE(37) | ONE(43)},
     {"indexed_feed", ONE(10) | ONE(11) | ONE(29) | ONE(30) | ONE(37) | ONE(43)},
     {"events", ONE(8) | ONE(9) | ONE(14) | ONE(18) | ONE(19) | ONE(32)},
-    {"eit_events", ONE(8) | ONE(9) | ONE(10) | ONE(18) | ONE(19) | ONE(32)},
-    {"eit_events_in_schedule", ONE(8) | ONE(9) | ONE(10) | ONE(18) | ONE(19) | ONE(32)},
+    {"eit_events", ONE(8) | ONE(9) | ONE(10) | ONE(18) | ONE(19) | ONE(32) | ONE(41)},
+    {"eit_events_in_schedule", ONE(8) | ONE(9) | ONE(10) | ONE(18) | ONE(19) | ONE(32) | ONE(41)},
     {"date", ONE(8) | ONE(9)},
     {"entries", ONE(8) | ONE(9) | ONE(35) | ONE(36)},
-    {"sets_entries", ONE(8) | ONE(9) | ONE(10) | ONE(35) | ONE(36)},
-    {"compare", ONE(8) | ONE(9) | ONE(10) | ONE(12) | ONE(33) | ONE(34)},
-    {"compare_schedules", ONE(8) | ONE(9) | ONE(10) | ONE(12) | ONE(33) | ONE(34)},
+    {"sets_entries", ONE(8) | ONE(9) | ONE(10) | ONE(35) | ONE(36) | ONE(41)},
+    {"compare", ONE(8) | ONE(9) | ONE(10) | ONE(12) | ONE(33) | ONE(34) | ONE(41)},
+    {"compare_schedules", ONE(8) | ONE(9) | ONE(10) | ONE(12) | ONE(33) | ONE(34) | ONE(41)},
     {"held_by_one", ONE(8) | ONE(9) | ONE(10)},
-    {"log_check", ONE(8) | ONE(10) | ONE(13) | ONE(38) | ONE(39) | ONE(40) | ONE(42)},
-    {"log_write", ONE(7) | ONE(10) | ONE(13) | ONE(42) | ONE(44)},
+    {"log_check", ONE(8) | ONE(10) | ONE(13) | ONE(38) | ONE(39) | ONE(40) | ONE(41) | ONE(42)},
+    {"log_write", ONE(7) | ONE(10) | ONE(13) | ONE(41) | ONE(42) | ONE(44)},
     {"log_offer_record", ONE(7) | ONE(13) | ONE(42)},
     {"log_set_record", ONE(7)},
     {"log_read", ONE(8) | ONE(9) | ONE(38) | ONE(39)},
 };
 
-/* Refusals that leave all as before: 10 to 21, and 37; of a question every answer does. */
-#define REFUSALS (0x3FFC00u | ONE(37))
+/* Refusals that leave all as before: 10 to 21, 37 and 41; of a question every answer does. */
+#define REFUSALS (0x3FFC00u | ONE(37) | ONE(41))
 
 static uint64_t answered[CALLS][ANSWERS];
 
@@ -815,6 +816,24 @@ static void check_part(enum call call, const struct part *p, const uint64_t next
         fail(call, answer, "a section where there is none");
 }
 
+/* Whether one of the first rows has 8192 in its head for a PID. */
+static bool none_among(const struct array *heads, uint64_t used)
+{
+    const uint64_t *words = (const uint64_t *)heads->before;
+    for (uint64_t row = 0; row < used && (row + 1) * PETRIZOLU_HEAD_WORDS <= heads->count; row++)
+        if (words[row * PETRIZOLU_HEAD_WORDS + PETRIZOLU_HEAD_PID] == 8192)
+            return true;
+    return false;
+}
+
+/* 41 exactly where no PID was given, or a row in use had none before the call; 10 and 11 come before it. */
+static void check_pid(enum call call, const struct part *p, bool none_given, unsigned answer)
+{
+    bool none = none_given || none_among(&p->arrays[HEADS], p->words_before[3]) || (p->array_count == EIT_ARRAYS && none_among(&p->arrays[SCHEDULE_HEADS], p->words_before[5]));
+    if (answer != PETRIZOLU_NOT_WHOLE && answer != PETRIZOLU_COUNTER_FULL && (answer == PETRIZOLU_NO_PID_GIVEN) != none)
+        fail(call, answer, "whether there is a PID");
+}
+
 /* 22: the key becomes newest, else as before. Ages are words of the heads. */
 static void check_conflict(enum call call, const struct part *p)
 {
@@ -843,6 +862,7 @@ static void sets_push(uint32_t pid)
     remember(&sets);
     answer = petrizolu_sets_push((petrizolu_sets *)sets.words, SETS(&sets), draw_input(), pid, SECTION, row);
     judge(SETS_PUSH, &sets, answer);
+    check_pid(SETS_PUSH, &sets, pid == PETRIZOLU_NO_PID, answer);
     if (answer == PETRIZOLU_CONFLICT)
         check_conflict(SETS_PUSH, &sets);
     check_row(SETS_PUSH, row[0], answer, sets.words[3]);
@@ -855,13 +875,17 @@ static void sets_next(uint64_t row, uint64_t from)
     remember(&sets);
     answer = petrizolu_sets_next((const petrizolu_sets *)sets.words, SETS(&sets), row, from, (petrizolu_section *)next);
     judge_question(SETS_NEXT, &sets, answer);
+    check_pid(SETS_NEXT, &sets, false, answer);
     check_part(SETS_NEXT, &sets, next, answer);
 }
 
 static void sets_clear(void)
 {
+    unsigned answer;
     remember(&sets);
-    judge(SETS_CLEAR, &sets, petrizolu_sets_clear((petrizolu_sets *)sets.words, SETS(&sets)));
+    answer = petrizolu_sets_clear((petrizolu_sets *)sets.words, SETS(&sets));
+    judge(SETS_CLEAR, &sets, answer);
+    check_pid(SETS_CLEAR, &sets, false, answer);
 }
 
 static void sets_open(uint64_t limit, uint64_t size, uint64_t count)
@@ -877,6 +901,7 @@ static unsigned eit_push(uint32_t pid, uint64_t *told)
     remember(&eit);
     answer = petrizolu_eit_push((petrizolu_eit *)eit.words, EIT(&eit), draw_input(), pid, SECTION, row);
     judge(EIT_PUSH, &eit, answer);
+    check_pid(EIT_PUSH, &eit, pid == PETRIZOLU_NO_PID, answer);
     if (answer == PETRIZOLU_CONFLICT)
         check_conflict(EIT_PUSH, &eit);
     check_row(EIT_PUSH, row[0], answer, answer == PETRIZOLU_SET ? eit.words[3] : eit.words[5]);
@@ -891,6 +916,7 @@ static void eit_next(uint64_t row, uint64_t from)
     remember(&eit);
     answer = petrizolu_eit_next((const petrizolu_eit *)eit.words, EIT(&eit), row, from, (petrizolu_section *)next);
     judge_question(EIT_NEXT, &eit, answer);
+    check_pid(EIT_NEXT, &eit, false, answer);
     check_part(EIT_NEXT, &eit, next, answer);
 }
 
@@ -901,6 +927,7 @@ static void eit_next_in_schedule(uint64_t row, uint64_t table, uint64_t from)
     remember(&eit);
     answer = petrizolu_eit_next_in_schedule((const petrizolu_eit *)eit.words, EIT(&eit), row, table, from, (petrizolu_section *)next);
     judge_question(EIT_NEXT_IN_SCHEDULE, &eit, answer);
+    check_pid(EIT_NEXT_IN_SCHEDULE, &eit, false, answer);
     check_part(EIT_NEXT_IN_SCHEDULE, &eit, next, answer);
 }
 
@@ -958,11 +985,11 @@ static uint64_t on_page(const petrizolu_listed *listed, uint64_t skip)
     return left < room ? left : room;
 }
 
-/* 10 and 14 write nothing; else 8 and 9 by the count, a place only where the listing ended early, and what is behind the page as before. */
+/* 10, 41 and 14 write nothing; else 8 and 9 by the count, a place only where the listing ended early, and what is behind the page as before. */
 static void check_listed(enum call call, unsigned answer, const petrizolu_listed *listed, uint64_t skip)
 {
     size_t shown;
-    if (answer == PETRIZOLU_NOT_WHOLE || answer == PETRIZOLU_MALFORMED) {
+    if (answer == PETRIZOLU_NOT_WHOLE || answer == PETRIZOLU_NO_PID_GIVEN || answer == PETRIZOLU_MALFORMED) {
         if (memcmp(listed, &untold, sizeof untold) != 0 || !array_as_before(&list))
             fail(call, answer, "a refusal that wrote");
         return;
@@ -1060,8 +1087,9 @@ static void eit_events(bool in_schedule, uint64_t row, uint64_t table)
     else
         answer = petrizolu_eit_events((const petrizolu_eit *)eit.words, EIT(&eit), row, skip, (petrizolu_entry *)list.data, list.count, &listed);
     judge_question(call, &eit, answer);
+    check_pid(call, &eit, false, answer);
     check_listed(call, answer, &listed, skip);
-    if (answer != PETRIZOLU_NOT_WHOLE)
+    if (answer != PETRIZOLU_NOT_WHOLE && answer != PETRIZOLU_NO_PID_GIVEN)
         check_entries(call, answer, &listed, skip);
 }
 
@@ -1221,8 +1249,9 @@ static void sets_entries(uint64_t row)
     remember(&sets);
     answer = petrizolu_sets_entries(draw_reader(), (const petrizolu_sets *)sets.words, SETS(&sets), row, skip, (petrizolu_entry *)list.data, list.count, &listed);
     judge_question(SETS_ENTRIES, &sets, answer);
+    check_pid(SETS_ENTRIES, &sets, false, answer);
     check_refused_listing(SETS_ENTRIES, answer, &listed);
-    if (answer <= PETRIZOLU_NOT_WHOLE)
+    if (answer <= PETRIZOLU_NOT_WHOLE || answer == PETRIZOLU_NO_PID_GIVEN)
         check_listed(SETS_ENTRIES, answer, &listed, skip);
     if (answer <= PETRIZOLU_NO)
         check_table_entries(answer, &listed, skip);
@@ -1230,13 +1259,17 @@ static void sets_entries(uint64_t row)
 
 static void eit_clear(void)
 {
+    unsigned answer;
     remember(&eit);
-    judge(EIT_CLEAR, &eit, petrizolu_eit_clear((petrizolu_eit *)eit.words, EIT(&eit)));
+    answer = petrizolu_eit_clear((petrizolu_eit *)eit.words, EIT(&eit));
+    judge(EIT_CLEAR, &eit, answer);
+    check_pid(EIT_CLEAR, &eit, false, answer);
 }
 
 static void eit_drop(void)
 {
     uint64_t filter[7];
+    unsigned answer;
     for (int i = 0; i < 7; i++)
         filter[i] = once_in(3) ? below(4) : PETRIZOLU_ANY;
     if (once_in(2))
@@ -1244,7 +1277,9 @@ static void eit_drop(void)
     if (once_in(4))
         filter[6] = draw_input();
     remember(&eit);
-    judge(EIT_DROP, &eit, petrizolu_eit_drop((petrizolu_eit *)eit.words, EIT(&eit), (const petrizolu_filter *)filter));
+    answer = petrizolu_eit_drop((petrizolu_eit *)eit.words, EIT(&eit), (const petrizolu_filter *)filter);
+    judge(EIT_DROP, &eit, answer);
+    check_pid(EIT_DROP, &eit, filter[0] == PETRIZOLU_NO_PID, answer);
 }
 
 static void eit_open(uint64_t limit, uint64_t size, uint64_t count)
@@ -1313,8 +1348,23 @@ static void damage_sections(struct array *cells, size_t size, size_t count)
             cells->data[i * size + (once_in(3) ? 0 : below(size))] = (uint8_t)below(96);
 }
 
+/* A row of before 2026-12, in use or not, or one that is nearly such a row. */
+static void damage_head(struct array *heads, size_t limit)
+{
+    static const uint64_t pids[] = {8192, 8192, 8191, 8193, UINT64_MAX};
+    if (limit > 0 && heads->count >= PETRIZOLU_HEADS(limit))
+        ((uint64_t *)heads->data)[below(limit) * PETRIZOLU_HEAD_WORDS + PETRIZOLU_HEAD_PID] = pids[below(sizeof pids / sizeof pids[0])];
+}
+
 static void damage_part(struct part *p, size_t word_count, size_t limit, size_t size, size_t count)
 {
+    if (once_in(4)) {
+        damage_head(&p->arrays[p == &eit && once_in(2) ? SCHEDULE_HEADS : HEADS], limit);
+        if (p == &eit)
+            eit_drop();
+        p == &eit ? eit_clear() : sets_clear();
+        return;
+    }
     if (p == &eit && once_in(3)) {
         damage_sections(&p->arrays[CELLS], size, count);
         for (uint64_t row = 0; row < 4; row++) {

@@ -219,7 +219,7 @@ static uint32_t draw_side_pid(void)
 
 static bool is_no_pid(uint32_t pid)
 {
-    return pid >= 8192 && pid != PETRIZOLU_NO_PID;
+    return pid >= 8192;
 }
 
 static void sides_as_before(enum call call, unsigned answer)
@@ -246,6 +246,7 @@ static void compare_guides(bool schedules)
     memset(tables, 0xA5, sizeof tables);
     memset(words, 0xA5, sizeof words);
     should = !sides ? PETRIZOLU_NOT_WHOLE
+        : p == PETRIZOLU_NO_PID || q == PETRIZOLU_NO_PID ? PETRIZOLU_NO_PID_GIVEN
         : is_no_pid(p) || is_no_pid(q) ? PETRIZOLU_BAD_PID
         : p != q || !one_key(x, y, schedules) ? PETRIZOLU_OTHER_KEY
         : differences.count / PETRIZOLU_DIFFERENCE_WORDS < count ? PETRIZOLU_NO_ROOM

@@ -60,11 +60,11 @@ static size_t known_offer(unsigned answer, uint64_t rule, uint64_t input, uint64
     return 13;
 }
 
-static size_t known_set(uint64_t input, uint64_t pid, const uint8_t *s, size_t n, uint8_t *out)
+/* Bare by the older definition alone. */
+static size_t known_set(bool bare, uint64_t input, uint64_t pid, const uint8_t *s, size_t n, uint8_t *out)
 {
-    bool bare = pid == PETRIZOLU_NO_PID;
     uint8_t *fields = out + (bare ? 2 : 4);
-    if (input >= PETRIZOLU_INPUTS || (!bare && pid >= 8192) || n < 12)
+    if (input >= PETRIZOLU_INPUTS || pid >= 8192 || n < 12)
         return 0;
     out[0] = bare ? PETRIZOLU_LOG_BARE_SET : PETRIZOLU_LOG_SET;
     out[1] = (uint8_t)input;
@@ -112,7 +112,7 @@ static bool opens_log(void)
     const struct array *a = log_run.arrays;
     petrizolu_gate g;
     petrizolu_sets c;
-    return s->without_pid < 2
+    return s->pids <= PETRIZOLU_LOG_BEFORE
         && petrizolu_gate_open(&g, s->capacity, 0, s->change_rule, no_extra, 0, (uint64_t *)a[0].data, a[0].count, (uint64_t *)a[1].data, a[1].count, watch, 384, no_slots, 0, no_cells, 0) == PETRIZOLU_DONE
         && petrizolu_sets_open(&c, s->limit, s->size, s->count, (uint64_t *)a[2].data, a[2].count, (uint32_t *)a[3].data, a[3].count, a[4].data, a[4].count) == PETRIZOLU_DONE;
 }
@@ -137,7 +137,10 @@ static bool as_own_memory(void)
     return true;
 }
 
-/* The log of the first sections of a whole list by settings that open, over memory of its own. */
+/*
+ * The log of the first sections of a whole list by settings that open, over memory of its own. By the older definition no section has a PID: all are pushed with one and the same, and the rows
+ * in use have 8192 in its place afterwards.
+ */
 static void work_out_log(size_t sections)
 {
     static uint64_t watch[384];
@@ -149,6 +152,7 @@ static void work_out_log(size_t sections)
     petrizolu_gate g;
     petrizolu_sets c;
     const uint8_t *b = listed.data;
+    bool bare = s->pids == PETRIZOLU_LOG_BEFORE;
 
     petrizolu_gate_open(&g, s->capacity, s->repeats != 0 ? PETRIZOLU_REPEATS : 0, s->change_rule, no_extra, 0, keys, a[0].count, changes, a[1].count, watch, 384, no_slots, 0, no_cells, 0);
     petrizolu_sets_open(&c, s->limit, s->size, s->count, heads, a[2].count, slots, a[3].count, cells, a[4].count);
@@ -164,16 +168,18 @@ static void work_out_log(size_t sections)
         size = known_offer(answer, s->change_rule, input, pid, b + 5, n, known_log + known_length);
         record_count += size > 0;
         known_length += size;
-        if (s->without_pid)
-            pid = PETRIZOLU_NO_PID;
+        if (bare)
+            pid = 0;
         if ((answer == PETRIZOLU_EMITTED || answer == PETRIZOLU_SUPPRESSED)
             && petrizolu_sets_push(&c, heads, a[2].count, slots, a[3].count, cells, a[4].count, input, pid, b + 5, n, &row) == PETRIZOLU_SET) {
             record_section[record_count] = looked_at;
             record_starts[record_count++] = known_length;
-            known_length += known_set(input, pid, b + 5, n, known_log + known_length);
+            known_length += known_set(bare, input, pid, b + 5, n, known_log + known_length);
         }
         b += 5 + n;
     }
+    for (uint64_t row = 0; bare && row < c.used; row++)
+        heads[row * PETRIZOLU_HEAD_WORDS + PETRIZOLU_HEAD_PID] = 8192;
     record_starts[record_count] = known_length;
     record_section[record_count] = MOST_LISTED;
 }
@@ -247,7 +253,7 @@ static void lend_run(void)
     s->limit = setting(LOGGED_LIMIT);
     s->size = once_in(60) ? any_word() : 12 + below(60) * (once_in(3) ? 60 : 1);
     s->count = setting(LOGGED_CELLS / (s->size > 0 && s->size < LOGGED_CELLS ? s->size : LOGGED_CELLS));
-    s->without_pid = once_in(60) ? any_word() : below(2);
+    s->pids = once_in(60) ? any_word() : once_in(20) ? PETRIZOLU_LOG_WITHOUT : once_in(3) ? PETRIZOLU_LOG_BEFORE : PETRIZOLU_LOG_WITH;
     rows = s->capacity == 0 ? 1 : s->capacity;
     rows = rows > 2 * LOGGED_ROWS ? LOGGED_ROWS : rows;
     limit = s->limit > 2 * LOGGED_LIMIT ? LOGGED_LIMIT : s->limit;
@@ -339,8 +345,11 @@ static void check_log(unsigned before)
 static void write_log(unsigned before)
 {
     size_t bytes = before == PETRIZOLU_DONE ? known_length + below(5) - (known_length > 1 ? 2 : 0) : below(30);
-    uint64_t length = UINT64_MAX;
-    unsigned answer, should = before == PETRIZOLU_DONE && known_length > bytes ? PETRIZOLU_NO_LOG_ROOM : before;
+    uint64_t length = UINT64_MAX, pids = settings_of_log()->pids;
+    unsigned answer, should;
+    if (judge_list() == PETRIZOLU_DONE && (pids == PETRIZOLU_LOG_WITHOUT || pids == PETRIZOLU_LOG_BEFORE)) /* logs are written with PIDs alone */
+        before = PETRIZOLU_NO_PID_GIVEN;
+    should = before == PETRIZOLU_DONE && known_length > bytes ? PETRIZOLU_NO_LOG_ROOM : before;
     if (before == PETRIZOLU_DONE)
         copy_memory();
     if (should == PETRIZOLU_NO_LOG_ROOM) { /* up to the section whose records find no room */
@@ -396,7 +405,7 @@ static void make_records(void)
 
     memset(set, 0xA5, sizeof set);
     memcpy(known_bytes, set, sizeof known_bytes);
-    expected = known_set(input, pid, section.data, section.count, known_bytes);
+    expected = known_set(false, input, pid, section.data, section.count, known_bytes);
     told = petrizolu_log_set_record(input, pid, section.data, section.count, set, &length);
     judge_log(LOG_SET_RECORD, told, PETRIZOLU_DONE);
     if (length != expected || memcmp(set, known_bytes, sizeof known_bytes) != 0 || !array_as_before(&section))
@@ -436,6 +445,8 @@ static void round_of_logs(void)
     draw_list();
     lend_run();
     before = judge_list();
+    if (before == PETRIZOLU_DONE && settings_of_log()->pids == PETRIZOLU_LOG_WITHOUT)
+        before = PETRIZOLU_NO_PID_GIVEN;
     if (before == PETRIZOLU_DONE && !opens_log())
         before = PETRIZOLU_TOO_LITTLE;
     known_length = record_count = 0;

@@ -28,7 +28,7 @@ pub fn logs(rounds: usize) {
         limit: LIMIT as u64,
         size: 4096,
         count: CELLS as u64,
-        without_pid: 0,
+        pids: 0,
     };
     let log = LogRun::new(settings).write(&list).expect("a whole list");
     let [mut checks, mut writes] = [LogRun::new(settings), LogRun::new(settings)];

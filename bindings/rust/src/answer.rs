@@ -41,6 +41,7 @@ impl Answer {
     pub const UNKNOWN_KIND: Self = Self(38);
     pub const RECORD_CUT: Self = Self(39);
     pub const OTHER_RECORD: Self = Self(40);
+    pub const NO_PID_GIVEN: Self = Self(41);
     pub const OVERLONG_SECTION: Self = Self(42);
     pub const NO_BUFFER: Self = Self(43);
     pub const NO_LOG_ROOM: Self = Self(44);

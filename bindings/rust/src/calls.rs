@@ -98,7 +98,7 @@ impl Filter {
     pub const ALL: Self =
         Self { pid: ANY, kind: ANY, service_id: ANY, transport_stream_id: ANY, original_network_id: ANY, current_next: ANY, input: ANY };
 
-    /// Only those with this PID, or only those without one.
+    /// Only those with this PID. There are none without one: a drop that asks for them is refused (41).
     pub fn pid(self, pid: Option<u16>) -> Self {
         Self { pid: rows::pid_word(pid).into(), ..self }
     }
@@ -181,7 +181,7 @@ pub struct HeldByOne {
     pub length: u64,
 }
 
-/// What a log is made by: a gate's capacity, repeats and change rule, a set collector's limit, cell size and cell count, and whether sets are taken without a PID.
+/// What a log is made by: a gate's capacity, repeats and change rule, a set collector's limit, cell size and cell count, and how sets are taken: `LOG_WITH`, `LOG_WITHOUT` or `LOG_BEFORE`.
 #[repr(C)]
 #[derive(Debug, Clone, Copy, Default, PartialEq, Eq)]
 pub struct LogSettings {
@@ -191,7 +191,7 @@ pub struct LogSettings {
     pub limit: u64,
     pub size: u64,
     pub count: u64,
-    pub without_pid: u64,
+    pub pids: u64,
 }
 
 /// A record of a log; fields that its kind has not are 0, and a PID that is unknown is 8192.

@@ -35,7 +35,7 @@ impl Eit {
             .map(|()| eit)
     }
 
-    /// Gives an EIT section of an input; the row of a set or of a schedule that is complete with it.
+    /// Gives an EIT section of an input; the row of a set or of a schedule that is complete with it. Without a PID it is refused (41).
     pub fn push(&mut self, input: u8, pid: Option<u16>, section: &[u8]) -> Result<Option<Complete>, Refused> {
         let mut row = 0;
         let answer = calls::eit_push(

@@ -18,7 +18,7 @@ pub struct ScheduleDifferences {
     pub differences: Differences,
 }
 
-/// Compares two sets, each as its sections by rising number, with the PID that it came on or none.
+/// Compares two sets, each as its sections by rising number, with the PID that it came on; without one they are refused (41).
 pub fn compare(first: &[u8], first_pid: Option<u16>, second: &[u8], second_pid: Option<u16>) -> Result<Differences, Refused> {
     differences(MOST_DIFFERENCES, |list, compared| calls::compare(first, pid_word(first_pid), second, pid_word(second_pid), list, compared))
 }

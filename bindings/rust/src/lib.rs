@@ -29,7 +29,7 @@ pub use logs::{Judged, LogRun, Wrong, listed_section, offer_record, record_at, s
 pub use rows::{Name, Row, Section};
 pub use sets::Sets;
 
-/// To a collector: the section came with no PID.
+/// No PID: collectors and comparisons answer 41 to it.
 pub const NO_PID: u32 = u32::MAX;
 /// In a filter: this field is free.
 pub const ANY: u64 = u64::MAX;
@@ -108,7 +108,7 @@ pub const ONLY_FIRST: u32 = 1;
 pub const ONLY_SECOND: u32 = 2;
 pub const OTHER_BYTES: u32 = 3;
 
-/// Logs: the kinds of a record, the most bytes that a section gives, and the longest section of a section list.
+/// Logs: the kinds of a record (6 in logs of before 2026-12), the most bytes that a section gives, and the longest section of a section list.
 pub const LOG_EMITTED: u8 = 1;
 pub const LOG_SUPPRESSED: u8 = 2;
 pub const LOG_SHORT: u8 = 3;
@@ -117,3 +117,7 @@ pub const LOG_SET: u8 = 5;
 pub const LOG_BARE_SET: u8 = 6;
 pub const MOST_LOG_BYTES: usize = 23;
 pub const LONGEST_LOGGED: usize = 4098;
+/// `LogSettings::pids`: sets are taken with the PID of their sections; without one, which is given up (41); or as before 2026-12 without one, to check a log that was made so.
+pub const LOG_WITH: u64 = 0;
+pub const LOG_WITHOUT: u64 = 1;
+pub const LOG_BEFORE: u64 = 2;

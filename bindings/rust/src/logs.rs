@@ -72,7 +72,7 @@ impl LogRun {
         }
     }
 
-    /// The log of these sections. A section takes five bytes of a list and more, and gives at most 23.
+    /// The log of these sections, by settings with `LOG_WITH` alone. A section takes five bytes of a list and more, and gives at most 23.
     pub fn write(&mut self, sections: &[u8]) -> Result<Vec<u8>, Refused> {
         let (settings, mut length) = (self.settings, 0);
         let mut room = vec![0; sections.len() / 5 * MOST_LOG_BYTES];
@@ -89,7 +89,7 @@ pub fn offer_record(answer: Answer, change_rule: u64, input: u8, pid: u16, secti
     Ok(record[..length as usize].to_vec())
 }
 
-/// The record of the set that a section completed.
+/// The record of the set that a section completed; of no bytes without a PID, to which the push before answered 41.
 pub fn set_record(input: u8, pid: Option<u16>, section: &[u8]) -> Vec<u8> {
     let (mut record, mut length) = ([0; 10], 0);
     calls::log_set_record(input.into(), pid_word(pid), section, &mut record, &mut length);

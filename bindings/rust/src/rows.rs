@@ -9,7 +9,7 @@ pub struct Row(pub(crate) u64);
 #[derive(Debug, Clone, Copy)]
 pub struct Name {
     pub input: u8,
-    pub pid: Option<u16>,
+    pub pid: u16,
     /// Of a schedule: its kind.
     pub table_id: u8,
     pub extension: u16,
@@ -26,7 +26,7 @@ pub(crate) fn name(heads: &[u64], row: &Row) -> Name {
     let head = &heads[row.0 as usize * HEAD_WORDS..][..HEAD_WORDS];
     Name {
         input: head[10] as u8,
-        pid: u16::try_from(head[0]).ok().filter(|&pid| pid < 8192),
+        pid: head[0] as u16,
         table_id: head[1] as u8,
         extension: head[2] as u16,
         current_next: head[3] == 1,

@@ -23,7 +23,7 @@ impl Sets {
         calls::sets_open(&mut sets.state, limit, size, count, &sets.heads, &sets.slots, &sets.cells).done().map(|()| sets)
     }
 
-    /// Gives a section of an input; the row of a set that is complete with it.
+    /// Gives a section of an input; the row of a set that is complete with it. Without a PID it is refused (41).
     pub fn push(&mut self, input: u8, pid: Option<u16>, section: &[u8]) -> Result<Option<Row>, Refused> {
         let mut row = 0;
         let answer = calls::sets_push(

@@ -37,7 +37,11 @@ fn refusals_leave_all() {
         (&one[..16], 0x12, 0x12, Answer::NOT_WHOLE),
         (&one[..], 0x2000, 0x12, Answer::BAD_PID),
         (&one[..], 0x12, 0x1_0012, Answer::BAD_PID),
-        (&one[..], 0x12, NO_PID, Answer::OTHER_KEY),
+        (&one[..], 0x12, 0x13, Answer::OTHER_KEY),
+        (&one[..], 0x12, NO_PID, Answer::NO_PID_GIVEN),
+        (&one[..], NO_PID, NO_PID, Answer::NO_PID_GIVEN),
+        (&one[..], 0x2000, NO_PID, Answer::NO_PID_GIVEN),
+        (&one[..16], NO_PID, 0x12, Answer::NOT_WHOLE),
     ];
     for (first, p, q, answer) in cases {
         let (mut list, mut tables) = ([7; 4], [7; 16]);
@@ -105,7 +109,7 @@ fn a_mebibyte_in_a_second() {
     let second: Vec<u8> = (0..=255).flat_map(|number| large(number, u8::from(number == 255))).collect();
     assert_eq!(first.len(), 1 << 20);
     let start = std::time::Instant::now();
-    let told = compare(&first, None, &second, None).expect("two sets of one key");
+    let told = compare(&first, PID, &second, PID).expect("two sets of one key");
     assert!(start.elapsed().as_secs() < 1, "{:?}", start.elapsed());
     assert_eq!(told.list, vec![Difference { table_id: 0x42, number: 255, kind: OTHER_BYTES, place: 4091 }]);
 }

@@ -139,7 +139,7 @@ fn answers() {
     };
     let of_rust: Vec<String> = ANSWER.lines().filter_map(constant).collect();
     assert_eq!(of_c, of_rust);
-    assert_eq!(of_c.len(), 38);
+    assert_eq!(of_c.len(), 39);
 }
 
 /// Constants that both texts give as a plain number: the name and the number, without its type.
@@ -181,6 +181,9 @@ fn constants() {
         "OTHER_BYTES",
         "LOG_EMITTED",
         "LOG_BARE_SET",
+        "LOG_WITH",
+        "LOG_WITHOUT",
+        "LOG_BEFORE",
         "MOST_LOG_BYTES",
         "LONGEST_LOGGED",
     ] {

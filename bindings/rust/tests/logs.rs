@@ -1,10 +1,10 @@
 //! Logs: the worked example written, checked, spoilt and read, by a run and by the record makers; what refusals leave.
 use petrizolu::{
-    Answer, Judged, LOG_BARE_SET, LOG_MISMATCH, LOG_SHORT, LogRecord, LogRun, LogSettings, NO_PID, Refused, SLOT_WORDS, Sets, Wrong, calls,
+    Answer, Judged, LOG_BARE_SET, LOG_BEFORE, LOG_MISMATCH, LOG_SHORT, LOG_WITH, LOG_WITHOUT, LogRecord, LogRun, LogSettings, NO_PID, Refused, SLOT_WORDS, Sets, Wrong, calls,
     crc, listed_section, offer_record, record_at, set_record,
 };
 
-const SETTINGS: LogSettings = LogSettings { capacity: 512, repeats: 0, change_rule: 2, limit: 16, size: 4096, count: 64, without_pid: 0 };
+const SETTINGS: LogSettings = LogSettings { capacity: 512, repeats: 0, change_rule: 2, limit: 16, size: 4096, count: 64, pids: LOG_WITH };
 const A: [u8; 13] = [0x42, 0xB0, 0x0A, 0x00, 0x01, 0xC7, 0x00, 0x00, 0x61, 0xE7, 0x22, 0xAD, 0x04];
 const TDT: [u8; 8] = [0x70, 0x70, 0x05, 0xC0, 0x79, 0x12, 0x45, 0x00];
 
@@ -39,11 +39,34 @@ fn the_worked_example() {
     let mut run = LogRun::new(SETTINGS);
     assert_eq!(run.write(&sections()).as_deref(), Ok(&LOG[..]));
     assert_eq!(run.check(&sections(), &LOG), Ok(Judged::Equal));
-    let mut without = LogRun::new(LogSettings { without_pid: 1, ..SETTINGS });
-    let log = without.write(&sections()).expect("a whole list");
-    assert_eq!(&log[13..21], &[LOG_BARE_SET, 0, 0x42, 0, 1, 1, 3, 0]);
-    assert_eq!(without.check(&sections(), &log), Ok(Judged::Equal));
+}
+
+/// The log of before 2026-12, of sets without a PID: checked by the older definition alone, and written by none.
+#[test]
+fn a_log_of_before() {
+    let bare = |input: u8| [LOG_BARE_SET, input, 0x42, 0, 1, 1, 3, 0];
+    let log = [&LOG[..13], &bare(0), &LOG[23..49], &bare(1), &LOG[59..]].concat();
+    let mut run = LogRun::new(SETTINGS);
+    let mut before = LogRun::new(LogSettings { pids: LOG_BEFORE, ..SETTINGS });
+    let mut without = LogRun::new(LogSettings { pids: LOG_WITHOUT, ..SETTINGS });
+    let refused = Refused(Answer::NO_PID_GIVEN);
+    assert_eq!(before.check(&sections(), &log), Ok(Judged::Equal));
+    assert_eq!(before.check(&sections(), &LOG), Ok(Judged::Wrong(Wrong::Record, 13)));
     assert_eq!(run.check(&sections(), &log), Ok(Judged::Wrong(Wrong::Record, 13)));
+    assert_eq!(run.check(&sections(), &log[..20]), Ok(Judged::Wrong(Wrong::Cut, 13)));
+    assert_eq!(without.check(&sections(), &log), Err(refused));
+    assert_eq!((before.write(&sections()), without.write(&sections())), (Err(refused), Err(refused)));
+    // One table on two PIDs is one set by the older definition, and two by that of now.
+    let two: Vec<u8> = [0x11, 0x10].into_iter().flat_map(|pid| listed_section(0, pid, &A).expect("short enough")).collect();
+    let kinds = |log: &[u8]| {
+        let record = |place: &u64| record_at(log, *place).expect("a whole log");
+        let all = std::iter::successors(record(&0), |last| record(&last.next));
+        all.map(|record| record.kind).collect::<Vec<_>>()
+    };
+    let log = run.write(&two).expect("a whole list");
+    assert_eq!(kinds(&log), [1, 5, 1, 5]);
+    let older = [&log[..13], &bare(0), &log[23..36]].concat();
+    assert_eq!((kinds(&older), before.check(&two, &older)), (vec![1, 6, 1], Ok(Judged::Equal)));
 }
 
 #[test]
@@ -88,7 +111,10 @@ fn refusals_leave_all() {
         (whole.clone(), LogSettings { capacity: 513, ..SETTINGS }, 84, Answer::TOO_LITTLE),
         (whole.clone(), LogSettings { size: 11, ..SETTINGS }, 84, Answer::TOO_LITTLE),
         (whole.clone(), LogSettings { change_rule: 3, ..SETTINGS }, 84, Answer::TOO_LITTLE),
-        (whole.clone(), LogSettings { without_pid: 2, ..SETTINGS }, 84, Answer::TOO_LITTLE),
+        (whole.clone(), LogSettings { pids: 3, ..SETTINGS }, 84, Answer::TOO_LITTLE),
+        (whole.clone(), LogSettings { pids: LOG_WITHOUT, ..SETTINGS }, 84, Answer::NO_PID_GIVEN),
+        (whole.clone(), LogSettings { pids: LOG_WITHOUT, size: 11, ..SETTINGS }, 84, Answer::NO_PID_GIVEN),
+        (whole[..4].to_vec(), LogSettings { pids: LOG_WITHOUT, ..SETTINGS }, 84, Answer::NOT_WHOLE),
         (whole, SETTINGS, 83, Answer::NO_LOG_ROOM),
     ];
     for (sections, settings, bytes, answer) in cases {
@@ -130,7 +156,7 @@ fn records_that_there_are_not() {
     assert_eq!((&short[..6], &short[6..], length), (&[LOG_SHORT, 0, 0, 0x11, 0, 0][..], &[7; 7][..], 6));
     let (_, longest, length) = made(Answer::CRC_MISMATCH, 1, 15, 8191, &[0; 4098]);
     assert_eq!((&longest[..6], length), (&[LOG_MISMATCH, 15, 0x1F, 0xFF, 0x10, 0x02][..], 6));
-    for (input, pid, section) in [(0, 0x11, &A[..11]), (16, 0x11, &A[..]), (0, 8192, &A[..])] {
+    for (input, pid, section) in [(0, 0x11, &A[..11]), (16, 0x11, &A[..]), (0, 8192, &A[..]), (0, NO_PID, &A[..])] {
         let (mut record, mut length) = ([7; 10], 7);
         assert_eq!(calls::log_set_record(input, pid, section, &mut record, &mut length), Answer::DONE);
         assert_eq!((record, length), ([7; 10], 0));

@@ -57,14 +57,19 @@ impl Fault {
     /// Whether the original has a counterpart of the faulty part.
     pub fn has_original(self) -> bool {
         let of_the_port = self.of_events() || self.of_networks() || self.of_guides() || self.of_logs();
-        !self.of_rule_2() && !self.of_inputs() && !self.of_pats() && !of_the_port
+        !self.of_rule_2() && !self.of_inputs() && !self.of_pats() && !self.of_no_pid() && !of_the_port
+    }
+
+    /// Whether it shows without a PID alone: the original is handed no such command.
+    pub fn of_no_pid(self) -> bool {
+        matches!(self, Fault::NoPidIsPidZero | Fault::NoPidCollected | Fault::NoneDropped)
     }
 
     /// Whether it shows where there are several inputs alone.
     pub fn of_inputs(self) -> bool {
         let of_gate = matches!(self, Fault::InputNotInKey | Fault::InputBeforePid | Fault::PatOfAnotherInput);
         let of_eit = matches!(self, Fault::InputNotInEitKey | Fault::InputNotInScheduleKey | Fault::InputNotInFilter);
-        of_gate || of_eit || self == Fault::InputNotInSetKey
+        of_gate || of_eit || matches!(self, Fault::InputNotInSetKey | Fault::InputBeforeNoPid)
     }
 }
 
@@ -125,6 +130,7 @@ faults! {
     LastIgnored Sets "another last_section_number does not empty the row",
     VersionKeepsRow Sets "another version does not empty the row",
     NoPidIsPidZero Sets "no PID is taken for PID 0",
+    InputBeforeNoPid Sets "an input that there is not is answered before a PID that is missing",
     CurrentNextIgnored Sets "current_next is no part of the key",
     ClearZeroes Sets "clearing sets the eviction count to 0",
     CrcBeforeNumber Sets "a wrong CRC is answered before a wrong section number",
@@ -151,6 +157,8 @@ faults! {
     DropKeepsSchedules Eit "a drop leaves the schedules",
     DropCountsEvictions Eit "a drop counts what goes as evicted",
     ScheduleWithoutNetwork Eit "original_network_id is no part of a schedule's key",
+    NoPidCollected Eit "a section without a PID is collected",
+    NoneDropped Eit "a filter that wants no PID is answered 7",
     InputNotInEitKey Eit "the input is no part of the key of an EIT's set",
     InputNotInScheduleKey Eit "the input is no part of a schedule's key",
     InputNotInFilter Eit "a drop that asks for one input drops what matches on every input",
@@ -269,6 +277,10 @@ faults! {
     GuideLastsForVersions Guides "whether last numbers agree is told for versions",
     TableWordsExchanged Guides "4 stands for last numbers that differ, 8 for versions",
 
+    GuideNoPidCompared Guides "sides without a PID are compared",
+    GuideNoPidFirst Guides "41 is answered before 10",
+    GuideBadPidBeforeNone Guides "12 is answered before 41",
+
     LogKindsExchanged Logs "a short section is kind 4, a mismatch kind 3",
     LogLowByteFirst Logs "numbers of two bytes stand low byte first",
     LogPidOfTwelveBits Logs "a PID has 12 bits in a record",
@@ -282,11 +294,11 @@ faults! {
     LogSuppressedNotPushed Logs "a suppressed section does not reach the collector",
     LogConflictRecorded Logs "a conflict in the collector gives a set's record",
     LogRefusedRecorded Logs "a PID that there is not gives a record",
-    LogPidInKey Logs "sets without a PID are told apart by it",
+    LogPidInKey Logs "by the older definition sets are told apart by their PID",
     LogCutBeforeOverlong Logs "an overlong section whose bytes are missing is a cut list",
     LogListCutTaken Logs "a list that is cut inside a section is taken as whole",
     LogTooLittleFirst Logs "13 is answered before 42 and 10",
-    LogMannerUnjudged Logs "sets with a PID, without or otherwise: the third is taken",
+    LogMannerUnjudged Logs "sets with a PID, without, as before or otherwise: the fourth is taken",
     LogNoRoomAtFull Logs "44 is answered where the log fills the room",
     LogYesGoesOn Logs "yes where the log goes on",
     LogYesTooSoon Logs "yes where the log ends too soon",
@@ -299,11 +311,17 @@ faults! {
     LogChangeOverAll Logs "the change number is the CRC over all bytes",
     LogNumberBehindVersion Logs "the section's number stands behind its version",
     LogSuppressedUnnoted Logs "a suppressed section gives no record",
-    LogKindSixUnused Logs "a set without a PID is of kind 5",
+    LogKindSixUnused Logs "by the older definition a set is of kind 5",
     LogSetOfEightBytes Logs "a section of 8 to 11 bytes gives the record of a set",
     LogLongestOfACell Logs "a section of 4,097 bytes is overlong",
     LogOverlongOnBadInput Logs "an overlong section is taken on an input that there is not",
     LogTooManyFirst Logs "behind the last record whatever stands there is one too many",
     LogOtherKindUnknown Logs "a kind that is not the one expected is told as a kind that there is not",
     LogLastByteUncompared Logs "the last byte of a record is not compared",
+    LogWithoutAsBefore Logs "a check without a PID is made as before",
+    LogWrittenAsBefore Logs "a log is written as before",
+    LogNoPidFirst Logs "41 is answered before 42 and 10",
+    LogTooLittleBeforeNoPid Logs "13 is answered before 41",
+    LogSetWithoutPid Logs "a set without a PID has a record",
+    LogKindSixUnknown Logs "a record of kind 6 is of no known kind",
 }

@@ -137,7 +137,7 @@ fn damaged(dice: &mut Dice, mut bytes: Vec<u8>) -> Vec<u8> {
 }
 
 fn pid(dice: &mut Dice) -> Option<u16> {
-    if dice.once_in(6) { None } else { Some(dice.of(&[0x11, 0x12, 0x12, 0x12, 0x1FFF, 0x2000, 0xFFFE])) }
+    if dice.once_in(12) { None } else { Some(dice.of(&[0x11, 0x12, 0x12, 0x12, 0x1FFF, 0x2000, 0xFFFE])) }
 }
 
 /// A script of questions, each alone: nothing is kept between them.
@@ -201,10 +201,6 @@ fn file(copy: &Copy) -> Vec<u8> {
     [&copy.pid.unwrap_or(0xFFFF).to_be_bytes()[..], &copy.bytes].concat()
 }
 
-fn pid_word(pid: Option<u16>) -> String {
-    pid.map_or("none".into(), |pid| format!("{pid:04X}"))
-}
-
 fn agree(agree: bool) -> &'static str {
     if agree { "agree" } else { "differ" }
 }
@@ -225,7 +221,8 @@ fn output(rules: &mut Second, schedules: bool, room: u16, sides: &[Copy; 2]) -> 
     let word = |at: usize| u16::from_be_bytes([s[at], s[at + 1]]);
     let stream = if (0x4E..=0x6F).contains(&s[0]) { format!(" stream {:04X} network {:04X}", word(8), word(10)) } else { String::new() };
     let (name, table_id) = if schedules { ("schedule", s[0] & 0xF0) } else { ("set", s[0]) };
-    let _ = writeln!(text, "{name} {} {table_id:02X} {:04X}{stream} current {}", pid_word(first.pid), word(3), s[5] & 1);
+    let pid = first.pid.expect("without a PID nothing is compared");
+    let _ = writeln!(text, "{name} {pid:04X} {table_id:02X} {:04X}{stream} current {}", word(3), s[5] & 1);
     let part = |bytes: &[u8], table: u8| sections_of(bytes).into_iter().filter(|section| section[0] == table).collect::<Vec<_>>().concat();
     let mut entries = |text: &mut String, table: u32| {
         for [_, number, kind, place] in list.iter().filter(|entry| entry[0] == table) {

@@ -81,7 +81,7 @@ fn settings(dice: &mut Dice) -> Settings {
         limit: dice.of(&[0, 1, 1, 2, 3, 5, 16, 64, 256]),
         size,
         count,
-        without_pid: dice.once_in(3).into(),
+        pids: dice.of(&[0, 0, 2]),
     }
 }
 
@@ -94,7 +94,7 @@ fn refused(dice: &mut Dice, good: Settings) -> Settings {
         3 => Settings { size: dice.of(&[0, 11, 4097, u32::MAX]), count: 1, ..good },
         4 => Settings { size: 12, count: dice.of(&[65_536, u32::MAX]), ..good },
         5 => Settings { size: 4096, count: 257, ..good },
-        _ => Settings { without_pid: dice.of(&[2, 255]), ..good },
+        _ => Settings { pids: dice.of(&[1, 1, 3, 255]), ..good },
     }
 }
 
@@ -174,7 +174,7 @@ fn answered(logs: Logs) -> Told {
 }
 
 fn records(settings: &Settings, list: &[u8]) -> Vec<Vec<u8>> {
-    records_of(&mut Reading::default(), settings, list).expect("a whole list, and settings that open")
+    records_of(&mut Reading::default(), settings, false, list).expect("a whole list, and settings that open")
 }
 
 /// What a seed is about: settings, a long list, a short one for logs to spoil.
@@ -211,7 +211,10 @@ pub fn script(seed: u64, count: usize) -> Vec<Command> {
     let log = expected.concat();
     for _ in 0..4 {
         let bad = bad_list(&mut dice, &few);
-        let unopened = refused(&mut dice, settings);
+        let mut unopened = refused(&mut dice, settings);
+        if dice.once_in(3) {
+            unopened.pids = 1;
+        }
         let (settings, list) = dice.of(&[(&settings, &bad), (&settings, &bad), (&unopened, &bad), (&unopened, &list)]);
         script.push(Logs::Write { settings: *settings, room: log.len() as u32, list: list.clone() });
         script.push(Logs::Check { settings: *settings, list: list.clone(), log: log.clone() });
@@ -251,9 +254,9 @@ fn made(dice: &mut Dice) -> Logs {
 
 /// The words of the settings.
 fn words(settings: &Settings) -> Vec<String> {
-    let Settings { capacity, repeats, rule, limit, size, count, without_pid } = *settings;
+    let Settings { capacity, repeats, rule, limit, size, count, pids } = *settings;
     let numbers = [capacity, repeats.into(), rule.into(), limit, size, count].map(|number| number.to_string());
-    [&numbers[..], &[["with", "without"][usize::from(without_pid)].into()]].concat()
+    [&numbers[..], &[["with", "without", "before"][usize::from(pids)].into()]].concat()
 }
 
 /// What `check_log` and `write_log` say where there is no log to speak of.
@@ -261,6 +264,7 @@ fn refusal(number: u8) -> &'static str {
     match number {
         42 => "42 too-long\n",
         10 => "10 sections-cut\n",
+        41 => "41 no-pid\n",
         13 => "13 too-little\n",
         _ => "44 no-room\n",
     }
@@ -268,7 +272,7 @@ fn refusal(number: u8) -> &'static str {
 
 /// What `check_log` says of a log.
 fn checked(settings: &Settings, list: &[u8], log: &[u8]) -> String {
-    match records_of(&mut Reading::default(), settings, list) {
+    match records_of(&mut Reading::default(), settings, false, list) {
         Err(number) => refusal(number).into(),
         Ok(expected) => match verdict(&Reading::default(), log, &expected) {
             None => "8 yes\n".into(),
@@ -326,10 +330,12 @@ fn programs_alike(root: &Path, seed: u64, count: usize) -> Option<String> {
     let log = records(&settings, &list).concat();
     lends(&list);
     let less = log.len().saturating_sub(1).to_string();
-    if write_of(&settings, "-") != log || write_of(&settings, &log.len().to_string()) != log {
+    let is_before = settings.pids == 2;
+    let written = if is_before { refusal(41).into() } else { log.clone() };
+    if write_of(&settings, "-") != written || write_of(&settings, &log.len().to_string()) != written {
         return Some("write_log writes another log".into());
     }
-    if !log.is_empty() && write_of(&settings, &less) != refusal(44).as_bytes() {
+    if !log.is_empty() && write_of(&settings, &less) != refusal(if is_before { 41 } else { 44 }).as_bytes() {
         return Some("write_log with room for one byte less".into());
     }
     if check_of(&settings, &log) != "8 yes\n" {
@@ -354,10 +360,10 @@ fn programs_alike(root: &Path, seed: u64, count: usize) -> Option<String> {
     for _ in 0..4 {
         let bad = bad_list(&mut dice, &few);
         lends(&bad);
-        let opened = Settings { without_pid: 0, ..refused(&mut dice, settings) };
+        let opened = Settings { pids: dice.of(&[0, 1, 2]), ..refused(&mut dice, settings) };
         for settings in [settings, opened] {
             let right = checked(&settings, &bad, &[]);
-            let log = records_of(&mut Reading::default(), &settings, &bad).map(|records| records.concat());
+            let log = records_of(&mut Reading::default(), &settings, true, &bad).map(|records| records.concat());
             let written = log.unwrap_or_else(|number| refusal(number).into());
             if check_of(&settings, &[]) != right || write_of(&settings, "-") != written {
                 return Some(format!("check_log or write_log on a list or settings that are refused: {settings}: {right}"));

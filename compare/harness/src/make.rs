@@ -49,7 +49,7 @@ fn before_opening(dice: &mut Dice) -> Vec<Command> {
     for part in [Part::Sets, Part::Eit] {
         let table = tables(dice, part == Part::Eit).remove(0);
         let section = table.section(0, 0, part == Part::Eit, 4096);
-        commands.push(Command::Push { part, pid: table.pid, section });
+        commands.push(Command::Push { part, pid: Some(table.pid).filter(|_| !dice.once_in(3)), section });
         commands.push(Command::Clear { part });
     }
     commands.push(Command::Drop(Filter::default()));
@@ -431,7 +431,7 @@ fn roomy_gate(dice: &mut Dice, repeats: bool, follow: bool, rule: u64) -> Comman
 /// A sub-table as a broadcaster sends it, section after section.
 #[derive(Clone)]
 struct Table {
-    pid: Option<u16>,
+    pid: u16,
     head: Head,
     network: (u16, u16),
     last_table_id: u8,
@@ -501,7 +501,7 @@ impl Table {
 fn tables(dice: &mut Dice, eit: bool) -> Vec<Table> {
     let mut all = Vec::new();
     for service in 0..1 + dice.below(4) {
-        let pid = dice.of(&[None, Some(0x0000), Some(0x0012), Some(0x0012), Some(0x0013)]);
+        let pid = dice.of(&[0x0011, 0x0000, 0x0012, 0x0012, 0x0013]);
         let current_next = !dice.once_in(7);
         let network = (dice.of(&[1, 2]), dice.of(&[1, 2]));
         for (table_id, last_table_id) in table_ids(dice, eit) {
@@ -567,7 +567,7 @@ pub fn collector_run(dice: &mut Dice, length: usize, domain: Domain, part: Part)
         if domain == Domain::Damaged && dice.once_in(25) {
             section = damaged(dice, section);
         }
-        let mut pid = table.pid;
+        let mut pid = Some(table.pid).filter(|_| !dice.once_in(50));
         if domain == Domain::Damaged && dice.once_in(100) {
             pid = Some(dice.of(&[0x2000, 0xFFFE]));
         }
@@ -657,7 +657,7 @@ fn filter(dice: &mut Dice, tables: &[Table], domain: Domain) -> Filter {
     let table = &tables[dice.below(tables.len())];
     let mut exact = |times: usize| dice.once_in(times);
     let mut filter = Filter {
-        pid: exact(3).then_some(table.pid),
+        pid: exact(3).then_some(Some(table.pid)),
         kind: exact(3).then_some(match table.head.table_id {
             0x4E => 0,
             0x4F => 1,
@@ -672,6 +672,9 @@ fn filter(dice: &mut Dice, tables: &[Table], domain: Domain) -> Filter {
     };
     if domain == Domain::Damaged && exact(6) {
         filter.pid = Some(Some(0x2000));
+    }
+    if exact(8) {
+        filter.pid = Some(None);
     }
     filter
 }

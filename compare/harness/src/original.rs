@@ -52,8 +52,15 @@ impl Original {
             Command::Counters => Answer::Counters(self.counters()),
             Command::Pats => Answer::Pats { evicted: 0, rows: 0 },
             Command::Open { part, limit, cells, size } => self.open(*part, *limit, *cells, *size),
-            Command::Push { part: Part::Eit, pid, section } => self.push_eit(*pid, section),
-            Command::Push { pid, section, .. } => self.push_set(*pid, section),
+            // The original collects without a PID: it is not handed such a section, nor a filter that wants none.
+            Command::Push { part: Part::Eit, pid: None, .. } | Command::Drop(Filter { pid: Some(None), .. }) => {
+                Answer::Collected(if self.eit.is_some() { 41 } else { 10 }, self.eit_held(), Out::Nothing)
+            }
+            Command::Push { pid: None, .. } => {
+                Answer::Collected(if self.sets.is_some() { 41 } else { 10 }, self.sets_held(), Out::Nothing)
+            }
+            Command::Push { part: Part::Eit, pid: Some(pid), section } => self.push_eit(*pid, section),
+            Command::Push { pid: Some(pid), section, .. } => self.push_set(*pid, section),
             Command::Clear { part } => self.clear(*part),
             Command::Drop(filter) => self.drop(filter),
             Command::Demux(command) => self.demux(command),
@@ -167,12 +174,12 @@ impl Original {
         Answer::Number(part, answer)
     }
 
-    fn push_set(&mut self, pid: Option<u16>, section: &[u8]) -> Answer {
+    fn push_set(&mut self, pid: u16, section: &[u8]) -> Answer {
         let input = self.input;
         let Some(sets) = &mut self.sets else { return Answer::Collected(10, self.sets_held(), Out::Nothing) };
         let (number, out) = match pid {
-            Some(pid) if !lent::is_pid(pid) => (12, Out::Nothing),
-            _ => match sets.push_section_with_pid(pid.map(Pid::new), section) {
+            _ if !lent::is_pid(pid) => (12, Out::Nothing),
+            _ => match sets.push_section_with_pid(Some(Pid::new(pid)), section) {
                 Ok(None) => (4, Out::Nothing),
                 Ok(Some(set)) => (5, Out::Set(set_of(input, &set))),
                 Err(error) => (number(&error), Out::Nothing),
@@ -181,12 +188,12 @@ impl Original {
         Answer::Collected(number, self.sets_held(), out)
     }
 
-    fn push_eit(&mut self, pid: Option<u16>, section: &[u8]) -> Answer {
+    fn push_eit(&mut self, pid: u16, section: &[u8]) -> Answer {
         let input = self.input;
         let Some(eit) = &mut self.eit else { return Answer::Collected(10, self.eit_held(), Out::Nothing) };
         let (number, out) = match pid {
-            Some(pid) if !lent::is_pid(pid) => (12, Out::Nothing),
-            _ => match eit.push_section_with_pid(pid.map(Pid::new), section) {
+            _ if !lent::is_pid(pid) => (12, Out::Nothing),
+            _ => match eit.push_section_with_pid(Some(Pid::new(pid)), section) {
                 Ok(None) => (4, Out::Nothing),
                 Ok(Some(CompletedEit::PresentFollowing(set))) => (5, Out::Set(set_of(input, &set))),
                 Ok(Some(CompletedEit::Schedule(schedule))) => {

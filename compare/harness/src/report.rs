@@ -130,7 +130,7 @@ impl Answered {
 
 impl Display for Answered {
     fn fmt(&self, f: &mut fmt::Formatter<'_>) -> fmt::Result {
-        let given = |(number, _): &(usize, &usize)| *number < 24 || matches!(number, 29..=34 | 37 | 43);
+        let given = |(number, _): &(usize, &usize)| *number < 24 || matches!(number, 29..=34 | 37 | 41 | 43);
         self.0.iter().enumerate().skip(1).filter(given).try_for_each(|(number, count)| writeln!(f, "  answer {number}: {count}"))
     }
 }

@@ -7,7 +7,7 @@ use mathlib.Core.Bool.{cond, false}
 use lib.Dec.{eqb, ltb}
 use native.Mathlib.Omega.{arith}
 use Rattle.answers.specs.declared.Refusal.{Refusal}
-use Rattle.answers.specs.declared.Refusal.the-variants.{NotWhole, CounterFull, BadPid, TooLittle, Malformed, ShortForm, BadNumber, BadCrc, NotEit, Broken, TooLong, NoCell, Conflict, Range, BadInput}
+use Rattle.answers.specs.declared.Refusal.the-variants.{NotWhole, CounterFull, BadPid, TooLittle, Malformed, ShortForm, BadNumber, BadCrc, NotEit, Broken, TooLong, NoCell, Conflict, Range, BadInput, NoPid}
 use Rattle.answers.specs.declared.Outcome.{Outcome}
 use Rattle.answers.specs.declared.Outcome.the-variants as outcome
 use Rattle.answers.specs.declared.Reply.{Reply}
@@ -16,7 +16,7 @@ use Rattle.answers.specs.Answers.{refusalNo, outcomeNo, replyNo}
 
 -- the refusals by rising number
 refusals : List Refusal
-refusals = NotWhole ∷ CounterFull ∷ BadPid ∷ TooLittle ∷ Malformed ∷ ShortForm ∷ BadNumber ∷ BadCrc ∷ NotEit ∷ Broken ∷ TooLong ∷ NoCell ∷ Conflict ∷ Range ∷ BadInput ∷ []
+refusals = NotWhole ∷ CounterFull ∷ BadPid ∷ TooLittle ∷ Malformed ∷ ShortForm ∷ BadNumber ∷ BadCrc ∷ NotEit ∷ Broken ∷ TooLong ∷ NoCell ∷ Conflict ∷ Range ∷ BadInput ∷ NoPid ∷ []
 
 pick : List Refusal → ℕ → Refusal
 pick [] n = NotWhole
@@ -42,6 +42,7 @@ refusal-at NoCell = refl
 refusal-at Conflict = refl
 refusal-at Range = refl
 refusal-at BadInput = refl
+refusal-at NoPid = refl
 
 pub refusal-apart : (a b : Refusal) → refusalNo a ≡ refusalNo b → a ≡ b
 refusal-apart a b e = sym (refusal-at a) ∙ ap refusalAt e ∙ refusal-at b
@@ -63,6 +64,7 @@ refused-from-10 NoCell = refl
 refused-from-10 Conflict = refl
 refused-from-10 Range = refl
 refused-from-10 BadInput = refl
+refused-from-10 NoPid = refl
 
 -- and none has 31, which is a section too short for its CRC
 pub refused-not-31 : (r : Refusal) → refusalNo r ≡ 31 → ⊥

@@ -1,7 +1,7 @@
 -- The numbers of the answers (docs/RULES.md, "Answers").
 use Prim.Native.Nat.{ℕ}
 use Rattle.answers.specs.declared.Refusal.{Refusal}
-use Rattle.answers.specs.declared.Refusal.the-variants.{NotWhole, CounterFull, BadPid, TooLittle, Malformed, ShortForm, BadNumber, BadCrc, NotEit, Broken, TooLong, NoCell, Conflict, Range, BadInput}
+use Rattle.answers.specs.declared.Refusal.the-variants.{NotWhole, CounterFull, BadPid, TooLittle, Malformed, ShortForm, BadNumber, BadCrc, NotEit, Broken, TooLong, NoCell, Conflict, Range, BadInput, NoPid}
 use Rattle.answers.specs.declared.Outcome.{Outcome}
 use Rattle.answers.specs.declared.Outcome.the-variants as outcome
 use Rattle.answers.specs.declared.Reply.{Reply}
@@ -38,6 +38,8 @@ refusalNo Conflict = 22
 refusalNo Range = 23
 -- an input of 16 or more
 refusalNo BadInput = 37
+-- a section without a PID, or a store in which a row has none, to a collector
+refusalNo NoPid = 41
 
 abbrev pub outcomeNo : Outcome → ℕ
 -- opened, cleared or dropped

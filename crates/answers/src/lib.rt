@@ -20,6 +20,7 @@ pub enum Refusal {
     Conflict,
     Range,
     BadInput,
+    NoPid,
 }
 
 // What opening, clearing or dropping answers.
@@ -55,6 +56,7 @@ impl Refusal {
             Refusal::Conflict => 22,
             Refusal::Range => 23,
             Refusal::BadInput => 37,
+            Refusal::NoPid => 41,
         }
     }
 }

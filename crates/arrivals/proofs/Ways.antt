@@ -32,7 +32,7 @@ use Rattle.arrivals.specs.declared.SetArrival.the-variants as set-arriva
 use Rattle.arrivals.specs.declared.Arrival.{Arrival}
 use Rattle.arrivals.specs.declared.EitArrival.{EitArrival}
 use Rattle.arrivals.specs.declared.EitArrival.the-variants as eit-arrival
-use Rattle.arrivals.specs.Arrivals.{inputWords, madeWords, originWords, bitOf, setKey, eitKey, entryOf, kindNumber, arrivalOf, setRead, setArrival, eitFields, eitRead, eitArrival}
+use Rattle.arrivals.specs.Arrivals.{madeWords, originWords, bitOf, setKey, eitKey, entryOf, kindNumber, arrivalOf, setRead, setArrival, eitFields, eitRead, eitArrival}
 
 -- ---- where it came from
 
@@ -45,15 +45,9 @@ words-refused m e = rw e
 pub words-nowhere : (m : OriginMade) → m ≡ origin.BadInput → words.Refused refusal.BadInput ≡ madeWords m
 words-nowhere m e = rw e
 
-pub words-input : (m : InputMade) (i : Input) → m ≡ input.One i → words.Are (record { input = i .0; pid = 8192 }) ≡ inputWords m
-words-input m i e = rw e
-
-pub words-no-input : (m : InputMade) → m ≡ input.TooLarge → words.Refused refusal.BadInput ≡ inputWords m
-words-no-input m e = rw e
-
 module _ (input : ℕ) (pid : MaybePid) where
-  pub words-none : (m : InputMade) (r : OriginWords) → pid ≡ maybe.None → m ≡ inputMade input → r ≡ inputWords m → r ≡ originWords input pid
-  words-none m r e f g = rw (e, ← f) g
+  pub words-none : pid ≡ maybe.None → words.Refused refusal.NoPid ≡ originWords input pid
+  words-none e = rw e
 
   pub words-some : (v : ℕ) (m : OriginMade) (r : OriginWords) → pid ≡ maybe.Some v → m ≡ originMade input v → r ≡ madeWords m → r ≡ originWords input pid
   words-some v m r e f g = rw (e, ← f) g

@@ -5,13 +5,11 @@ use mathlib.Core.Bool.{Bool, cond}
 use lib.ListN.{length}
 use Rattle.answers.specs.declared.Refusal.{Refusal}
 use Rattle.answers.specs.declared.Refusal.the-variants as refusal
-use Rattle.section.specs.Ids.{inputMade, originMade}
+use Rattle.section.specs.Ids.{originMade}
 use Rattle.section.specs.Judged.{collectedOf}
 use Rattle.section.specs.declared.header.Header.{Header}
 use Rattle.section.specs.declared.header.Collected.{Collected}
 use Rattle.section.specs.declared.header.Collected.the-variants as collected
-use Rattle.section.specs.declared.ids.InputMade.{InputMade}
-use Rattle.section.specs.declared.ids.InputMade.the-variants as input
 use Rattle.section.specs.declared.ids.OriginMade.{OriginMade}
 use Rattle.section.specs.declared.ids.OriginMade.the-variants as origin
 use Rattle.section.specs.declared.ids.MaybePid.{MaybePid}
@@ -35,26 +33,21 @@ use Rattle.arrivals.specs.declared.EitArrival.the-variants as eit-arriva
 
 -- ---- the key
 
--- the PID word of a section without a PID is 8192; an input of 16 or more is none (37)
-abbrev pub inputWords : InputMade → OriginWords
-inputWords (input.One i) = words.Are (record { input = i .0; pid = 8192 })
-inputWords input.TooLarge = words.Refused refusal.BadInput
-
 -- a PID of 8192 or more is none (12), then an input of 16 or more (37)
 abbrev pub madeWords : OriginMade → OriginWords
 madeWords (origin.One o) = words.Are (record { input = o .input .0; pid = o .pid .0 })
 madeWords origin.BadPid = words.Refused refusal.BadPid
 madeWords origin.BadInput = words.Refused refusal.BadInput
 
--- where a section came from, in the words of a key
+-- where a section came from, in the words of a key; 41 without a PID
 abbrev pub originWords : ℕ → MaybePid → OriginWords
-originWords input maybe.None = inputWords (inputMade input)
+originWords input maybe.None = words.Refused refusal.NoPid
 originWords input (maybe.Some v) = madeWords (originMade input v)
 
 abbrev pub bitOf : Bool → ℕ
 bitOf b = cond b 1 0
 
--- the set collector's key: PID or none, table_id, extension, current_next
+-- the set collector's key: PID, table_id, extension, current_next
 abbrev pub setKey : Origin → Header → Key
 setKey from h = record {
   from = from;

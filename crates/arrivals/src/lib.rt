@@ -1,4 +1,4 @@
-// What a section's bytes and where it came from say to a collector (docs/RULES.md, "Collectors" and "Answers"): a refusal (12, 37, 14 to 17, for the EIT collector
+// What a section's bytes and where it came from say to a collector (docs/RULES.md, "Collectors" and "Answers"): a refusal (41, 12, 37, 14 to 17, for the EIT collector
 // also 18 and 19), or what arrived. No store is looked at.
 use answers::Refusal;
 use eit_section::Eit;
@@ -9,14 +9,12 @@ use rows::Key;
 use rows::Origin;
 use section::header::Collected;
 use section::header::Header;
-use section::ids::Input;
-use section::ids::InputMade;
 use section::ids::MaybePid;
 use section::ids::OriginMade;
 ghost use mathlib.Core.Path.{_≡_};
 ghost use Rattle.section.specs.Judged.{collectedOf};
 ghost use Rattle.eit_section.specs.Eit.{eitOf};
-ghost use Rattle.arrivals.specs.Arrivals.{inputWords, madeWords, originWords, bitOf, setKey, eitKey, entryOf, kindNumber, arrivalOf};
+ghost use Rattle.arrivals.specs.Arrivals.{madeWords, originWords, bitOf, setKey, eitKey, entryOf, kindNumber, arrivalOf};
 ghost use Rattle.arrivals.specs.Arrivals.{setRead, setArrival, eitFields, eitRead, eitArrival, SetTaken, EitTaken};
 
 // The words of a key that say where a section came from, or why there is no such place.
@@ -45,7 +43,7 @@ pub enum EitArrival {
     Arrived(Arrival),
 }
 
-// 12, then 37, then 14 to 17.
+// 41, then 12, then 37, then 14 to 17.
 pub fn set_arrival(input: u8, pid: MaybePid, bytes: &[u8]) -> SetArrival
     ensures { λ r. ⌜ r ≡ setArrival input pid (now (bytes .entry)) ⌝ }
     ensures { λ r. ⌜ SetTaken (now (bytes .entry)) r ⌝ }
@@ -56,7 +54,7 @@ pub fn set_arrival(input: u8, pid: MaybePid, bytes: &[u8]) -> SetArrival
     }
 }
 
-// 12, then 37, then 14 to 19.
+// 41, then 12, then 37, then 14 to 19.
 pub fn eit_arrival(input: u8, pid: MaybePid, bytes: &[u8]) -> EitArrival
     ensures { λ r. ⌜ r ≡ eitArrival input pid (now (bytes .entry)) ⌝ }
     ensures { λ r. ⌜ EitTaken (now (bytes .entry)) r ⌝ }
@@ -67,26 +65,13 @@ pub fn eit_arrival(input: u8, pid: MaybePid, bytes: &[u8]) -> EitArrival
     }
 }
 
-// Where a section came from, in the words of a key: a PID of 8192 or more is refused (12), then an input of 16 or more (37).
+// Where a section came from, in the words of a key: no PID is refused (41), then a PID of 8192 or more (12), then an input of 16 or more (37).
 pub fn origin_words(input: u8, pid: MaybePid) -> OriginWords
     ensures { λ r. ⌜ r ≡ originWords input pid ⌝ }
 {
     match pid {
-        MaybePid::None => input_words(Input::make(input)),
+        MaybePid::None => OriginWords::Refused(Refusal::NoPid),
         MaybePid::Some(v) => made_words(section::ids::Origin::make(input, v)),
-    }
-}
-
-// Without a PID.
-fn input_words(m: InputMade) -> OriginWords
-    ensures { λ r. ⌜ r ≡ inputWords m ⌝ }
-{
-    match m {
-        InputMade::One(i) => OriginWords::Are(Origin {
-            input: i.0 as u64,
-            pid: Origin::NO_PID,
-        }),
-        InputMade::TooLarge => OriginWords::Refused(Refusal::BadInput),
     }
 }
 
@@ -177,7 +162,7 @@ fn arrival_of(from: Origin, h: Header, f: Eit) -> Arrival
 }
 
 // 14 to 17, then what the header says.
-fn set_read(from: Origin, bytes: &[u8]) -> SetArrival
+pub fn set_read(from: Origin, bytes: &[u8]) -> SetArrival
     ensures { λ r. ⌜ r ≡ setRead from (collectedOf (now (bytes .entry))) ⌝ }
 {
     match section::header::collect(bytes) {

@@ -1,4 +1,4 @@
-// Checks a log on standard input against a section list: `check_log CAPACITY REPEATS RULE LIMIT SIZE COUNT with|without SECTIONS < LOG`. It prints one line: whether the log is exactly the one
+// Checks a log on standard input against a section list: `check_log CAPACITY REPEATS RULE LIMIT SIZE COUNT with|without|before SECTIONS < LOG`. It prints one line: whether the log is exactly the one
 // that the sections give with these settings, and where not, the first place and what is wrong there. The list is read twice: first it is judged, then run.
 use answers::Outcome;
 use log_entries::Entry;
@@ -227,7 +227,12 @@ fn run_over(settings: Settings, fd: i32, list: &mut [u8; 4103]) {
 
 fn check(settings: Settings, path: &[u8]) {
     let mut list = log_feed::section();
+    let pids = settings.pids;
     if log_feed::is_whole(path, &mut list) {
+        if pids.is_without() {
+            log_feed::say_no_pid();
+            return;
+        }
         let fd = log_feed::open(path);
         if fd < 0 {
             return;
@@ -245,7 +250,7 @@ fn check_path(settings: Settings) {
 
 fn usage() {
     entry_lines::say(
-        b"usage: check_log CAPACITY REPEATS RULE LIMIT SIZE COUNT with|without SECTIONS < LOG\n",
+        b"usage: check_log CAPACITY REPEATS RULE LIMIT SIZE COUNT with|without|before SECTIONS < LOG\n",
     );
 }
 

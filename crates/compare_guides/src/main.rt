@@ -1,4 +1,4 @@
-// Compares two files, each a PID in two bytes (high byte first, FFFF for none) and then the sections of a set or a schedule to the end, and says where
+// Compares two files, each a PID in two bytes (high byte first; FFFF, for none, is refused with 41) and then the sections of a set or a schedule to the end, and says where
 // they differ: `compare_guides set|schedule FIRST SECOND [ROOM]`, ROOM how many entries the list may have.
 use guide_lines::say;
 use guide_report::compare_files;

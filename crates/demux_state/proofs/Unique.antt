@@ -31,6 +31,7 @@ other-numbers refusal.NoCell = refl
 other-numbers refusal.Conflict = refl
 other-numbers refusal.Range = refl
 other-numbers refusal.BadInput = refl
+other-numbers refusal.NoPid = refl
 
 -- the answer that is said so
 answerAt : Said → Answer

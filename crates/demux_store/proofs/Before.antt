@@ -39,6 +39,7 @@ module _ {S : Type 0} (s : StoreOf S) where
   refused-before refusal.Conflict = record { said = refl; store = refl }
   refused-before refusal.Range = record { said = refl; store = refl }
   refused-before refusal.BadInput = record { said = refl; store = refl }
+  refused-before refusal.NoPid = record { said = refl; store = refl }
 
   module _ (wordsOf : S → List ℕ) (tellsOf : S → (input pid : ℕ) → List ℕ → Said) (actsOf : S → (input pid : ℕ) → List ℕ → S) (input : ℕ) (packet : List ℕ) where
     -- 30 adds 1 to packets and malformed, 43 to packets

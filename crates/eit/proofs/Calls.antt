@@ -17,6 +17,7 @@ use Rattle.eit_state.specs.declared.Eit.{Eit}
 use Rattle.eit_state.specs.declared.Pushed.{Pushed}
 use Rattle.eit_state.specs.State.{Store, store, Rows, rows, settingsFit, wholeOf, Whole, RowsFit, CanCount, emptyEit, openedAs, clearedAs}
 use Rattle.eit_state.proofs.Whole.{is-whole-room}
+use Rattle.eit_pids.specs.Rows.{anyWithout}
 use Rattle.eit_carry.specs.Carried.{step, pushedWhole}
 use Rattle.eit_drop.specs.declared.Filter.{Filter}
 use Rattle.eit_drop.specs.declared.Drop.{Drop}
@@ -32,12 +33,6 @@ opened-told : (b : Bool) (e : Eit) (s : Store) → after (outcomeOf (openedAs b 
 opened-told true e s = refl
 opened-told false e s = refl
 
-cleared-told : (b : Bool) (e : Eit) (heads slots cells schedule-heads units : List ℕ)
-    → turned (clearedAs b e) heads slots cells schedule-heads units
-    ≡ cond b (after done (store (emptyEit e) heads slots cells schedule-heads units)) (after (refused refusal.NotWhole) (store e heads slots cells schedule-heads units))
-cleared-told true e heads slots cells schedule-heads units = refl
-cleared-told false e heads slots cells schedule-heads units = refl
-
 module _ (e : Eit) (heads slots cells schedule-heads units : List ℕ) (r : Turned) where
   pub opened-done : r ≡ openedAs (settingsFit e (length heads) (length slots) (length cells) (length schedule-heads) (length units)) e
       → turned r heads slots cells schedule-heads units ≡ openedOf (store e heads slots cells schedule-heads units)
@@ -45,10 +40,21 @@ module _ (e : Eit) (heads slots cells schedule-heads units : List ℕ) (r : Turn
   opened-done q =
       rw q (opened-told (settingsFit e (length heads) (length slots) (length cells) (length schedule-heads) (length units)) e (store e heads slots cells schedule-heads units))
 
-  pub cleared-done : (b : Bool) → b ≡ wholeOf (store e heads slots cells schedule-heads units) → r ≡ clearedAs b e
+  pub cleared-broken : (b : Bool) → b ≡ wholeOf (store e heads slots cells schedule-heads units) → b ≡ false → r ≡ clearedAs false e
       → turned r heads slots cells schedule-heads units ≡ clearedOf (store e heads slots cells schedule-heads units)
   unfolding clearedOf
-  cleared-done b p q = rw (← p, q) (cleared-told b e heads slots cells schedule-heads units)
+  cleared-broken b p t q = rw (← p, t, q)
+
+  pub cleared-done : (b w : Bool) → b ≡ wholeOf (store e heads slots cells schedule-heads units) → b ≡ true → w ≡ anyWithout e heads schedule-heads → w ≡ false → r ≡ clearedAs true e
+      → turned r heads slots cells schedule-heads units ≡ clearedOf (store e heads slots cells schedule-heads units)
+  unfolding clearedOf
+  cleared-done b w p t o v q = rw (← p, t, ← o, v, q)
+
+pub cleared-without : (e : Eit) (heads slots cells schedule-heads units : List ℕ) (b w : Bool) → b ≡ wholeOf (store e heads slots cells schedule-heads units) → b ≡ true
+    → w ≡ anyWithout e heads schedule-heads → w ≡ true
+    → after (refused refusal.NoPid) (store e heads slots cells schedule-heads units) ≡ clearedOf (store e heads slots cells schedule-heads units)
+unfolding clearedOf
+cleared-without e heads slots cells schedule-heads units b w p t o v = rw (← p, t, ← o, v)
 
 -- ---- dropping
 

@@ -26,6 +26,7 @@ use Rattle.eit_becomes.specs.Becoming.{ownTable, becomesOf, isMarked}
 use Rattle.eit_settle.specs.Settle.{markedHeads, settledAs, settled}
 use Rattle.eit_carry.specs.Carried.{Step, keptAndSettled, carried, pushedWhole}
 use Rattle.eit_enter.specs.Entering.{scheduleEntry, enteredAnswer, enteredIn, entered}
+use Rattle.eit_pids.specs.Rows.{anyWithout}
 use Rattle.eit_drop.specs.declared.Filter.{Filter}
 use Rattle.eit_drop.specs.declared.Drop.{Drop}
 use Rattle.eit_drop.specs.declared.Drop.the-variants as drop
@@ -91,19 +92,23 @@ carried-drop-keeps : (s : Store) (d : Drop) → 10 ≤ number ((carriedDrop s d)
 carried-drop-keeps s (drop.Refuse r) h = refl
 carried-drop-keeps s (drop.Matching f) h = absurd (omega arith)
 
--- 10 and 12
+-- 10, 41, 12 and 37
 pub drop-keeps : (s : Store) (f : Filter) → 10 ≤ number ((droppedOf s f) .told) → (droppedOf s f) .store ≡ s
 unfolding droppedOf
 drop-keeps s f h = carried-drop-keeps s (dropOf s f) h
 
--- 10
+-- 10 and 41
 pub clear-keeps : (s : Store) → 10 ≤ number ((clearedOf s) .told) → (clearedOf s) .store ≡ s
 unfolding clearedOf
-clear-keeps s h = go (wholeOf s) h
+clear-keeps s h = go (wholeOf s) (anyWithout (s .eit) (s .heads) (s .schedule-heads)) h
   where
-    left : Bool → After
-    left b = cond b (after done (store (emptyEit (s .eit)) (s .heads) (s .slots) (s .cells) (s .schedule-heads) (s .units))) (after (refused refusal.NotWhole) s)
+    left : Bool → Bool → After
+    left b w =
+        cond b
+        (cond w (after (refused refusal.NoPid) s) (after done (store (emptyEit (s .eit)) (s .heads) (s .slots) (s .cells) (s .schedule-heads) (s .units))))
+        (after (refused refusal.NotWhole) s)
 
-    go : (b : Bool) → 10 ≤ number ((left b) .told) → (left b) .store ≡ s
-    go true h = absurd (omega arith)
-    go false h = refl
+    go : (b w : Bool) → 10 ≤ number ((left b w) .told) → (left b w) .store ≡ s
+    go true true h = refl
+    go true false h = absurd (omega arith)
+    go false w h = refl

@@ -29,6 +29,7 @@ use Rattle.eit_state.specs.State.{Store, store, storeWith, rowsOf, settingsFit,
 use Rattle.eit_carry.specs.Carried.{Step, pushedWhole}
 use Rattle.eit_next.specs.Following.{rowNext, scheduleNext}
 use Rattle.eit_admit.specs.Admitting.{dropOf, admitted}
+use Rattle.eit_pids.specs.Rows.{anyWithout}
 use Rattle.eit_drop.specs.declared.Filter.{Filter}
 use Rattle.eit_drop.specs.declared.Drop.{Drop}
 use Rattle.eit_drop.specs.declared.Drop.the-variants as drop
@@ -142,10 +143,13 @@ openedOf s =
     (cond (settingsFit (s .eit) (length (s .heads)) (length (s .slots)) (length (s .cells)) (length (s .schedule-heads)) (length (s .units))) done (refused refusal.TooLittle))
     s
 
--- 10, or 7
+-- 10, 41 where a set or a schedule has no PID, or 7
 unfoldable pub clearedOf : Store → After
 clearedOf s =
-    cond (wholeOf s) (after done (store (emptyEit (s .eit)) (s .heads) (s .slots) (s .cells) (s .schedule-heads) (s .units))) (after (refused refusal.NotWhole) s)
+    cond (wholeOf s)
+    (cond (anyWithout (s .eit) (s .heads) (s .schedule-heads)) (after (refused refusal.NoPid) s)
+    (after done (store (emptyEit (s .eit)) (s .heads) (s .slots) (s .cells) (s .schedule-heads) (s .units))))
+    (after (refused refusal.NotWhole) s)
 
 -- ---- dropping by a filter
 
@@ -167,16 +171,18 @@ pushedOf s input pid bytes = pushedAs s bytes (admitted s input pid bytes)
 
 -- ---- the sections of a set and of a table of a schedule, one after another
 
--- 8 with the first filled slot at or after `from`; 9 where there is none or the row is not in use
+-- 10, then 41 where a set or a schedule has no PID, then 8 with the first filled slot at or after `from`; 9 where there is none or the row is not in use
 unfoldable pub nextOf : Store → (row from : ℕ) → Next
 nextOf s row from =
     cond (wholeOf s)
-    (rowNext (s .heads) (s .slots) (s .eit .sets .used) (s .eit .sets .size) row from)
+    (cond (anyWithout (s .eit) (s .heads) (s .schedule-heads)) (noSection (reply.Refused refusal.NoPid))
+    (rowNext (s .heads) (s .slots) (s .eit .sets .used) (s .eit .sets .size) row from))
     (noSection (reply.Refused refusal.NotWhole))
 
 -- of a table of a schedule, by its number from the first of the kind on
 unfoldable pub nextInOf : Store → (row table from : ℕ) → Next
 nextInOf s row table from =
     cond (wholeOf s)
-    (scheduleNext (s .schedule-heads) (s .units) (s .eit .schedules) (s .eit .sets .size) row table from)
+    (cond (anyWithout (s .eit) (s .heads) (s .schedule-heads)) (noSection (reply.Refused refusal.NoPid))
+    (scheduleNext (s .schedule-heads) (s .units) (s .eit .schedules) (s .eit .sets .size) row table from))
     (noSection (reply.Refused refusal.NotWhole))

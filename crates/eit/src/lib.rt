@@ -43,7 +43,7 @@ pub fn open(
     )
 }
 
-// Offers a section, with the PID that it came on or without.
+// Offers a section with the PID that it came on; without one it is refused (41).
 pub fn push(
     eit: Eit,
     heads: &mut [u64],
@@ -89,8 +89,16 @@ pub fn clear(
 ) -> Turned
     ensures { λ r. ⌜ turned r (now (heads .entry)) (now (slots .entry)) (now (cells .entry)) (now («schedule_heads» .entry)) (now (units .entry)) ≡ clearedOf (store eit (now (heads .entry)) (now (slots .entry)) (now (cells .entry)) (now («schedule_heads» .entry)) (now (units .entry))) ⌝ }
 {
-    let whole = eit_state::is_whole(eit, heads, slots, cells, schedule_heads, units);
-    eit_state::cleared(eit, whole)
+    if eit_state::is_whole(eit, heads, slots, cells, schedule_heads, units) {
+        if eit_pids::any_row_without_pid(eit, heads, schedule_heads) {
+            return Turned {
+                answer: Outcome::Refused(Refusal::NoPid),
+                eit,
+            };
+        }
+        return eit_state::cleared(eit, true);
+    }
+    eit_state::cleared(eit, false)
 }
 
 // The sets and the schedules that match the filter leave. The order of the others stays, and so do the counts of evictions.
@@ -135,6 +143,9 @@ pub fn next_section(
 {
     let sets = eit.sets;
     if eit_state::is_whole(eit, heads, slots, cells, schedule_heads, units) {
+        if eit_pids::any_row_without_pid(eit, heads, schedule_heads) {
+            return readers::no_section(Reply::Refused(Refusal::NoPid));
+        }
         return eit_next::in_row(heads, slots, sets.used, sets.size, row, from);
     }
     readers::no_section(Reply::Refused(Refusal::NotWhole))
@@ -156,6 +167,9 @@ pub fn next_in_schedule(
 {
     let sets = eit.sets;
     if eit_state::is_whole(eit, heads, slots, cells, schedule_heads, units) {
+        if eit_pids::any_row_without_pid(eit, heads, schedule_heads) {
+            return readers::no_section(Reply::Refused(Refusal::NoPid));
+        }
         return eit_next::in_schedule(
             schedule_heads,
             units,

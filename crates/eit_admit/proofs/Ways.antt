@@ -12,6 +12,7 @@ use Rattle.arrivals.specs.declared.EitArrival.the-variants as arrival
 use Rattle.eit_state.specs.declared.Eit.{Eit}
 use Rattle.eit_state.specs.State.{store, wholeOf, countersFull}
 use Rattle.eit_state.proofs.Whole.{whole-store, can-count}
+use Rattle.eit_pids.specs.Rows.{anyWithout}
 use Rattle.eit_drop.specs.declared.Filter.{Filter}
 use Rattle.eit_drop.specs.declared.Drop.{Drop}
 use Rattle.eit_drop.specs.declared.Drop.the-variants as drop
@@ -28,9 +29,14 @@ module _ (e : Eit) (heads slots cells schedule-heads units : List ℕ) (input : 
     unfolding admitted
     admit-full h = rw (← q, t, ← g, h)
 
-    pub admit-read : (a : EitArrival) → full ≡ false → a ≡ eitArrival input pid bytes → a ≡ admitted (store e heads slots cells schedule-heads units) input pid bytes
-    unfolding admitted
-    admit-read a h k = rw (← q, t, ← g, h) k
+    module _ (h : full ≡ false) (w : Bool) (o : w ≡ anyWithout e heads schedule-heads) where
+      pub admit-without : w ≡ true → arrival.Refused refusal.NoPid ≡ admitted (store e heads slots cells schedule-heads units) input pid bytes
+      unfolding admitted
+      admit-without v = rw (← q, t, ← g, h, ← o, v)
+
+      pub admit-read : (a : EitArrival) → w ≡ false → a ≡ eitArrival input pid bytes → a ≡ admitted (store e heads slots cells schedule-heads units) input pid bytes
+      unfolding admitted
+      admit-read a v k = rw (← q, t, ← g, h, ← o, v) k
 
     pub admit-may : (a : EitArrival) → full ≡ false → e .sets .evictions < 18446744073709551616 → e .«schedule_evictions» < 18446744073709551616 → EitTaken bytes a
         → Admitted (store e heads slots cells schedule-heads units) a
@@ -42,9 +48,14 @@ module _ (e : Eit) (heads slots cells schedule-heads units : List ℕ) (f : Filt
   unfolding dropOf
   drop-broken t = rw (← q, t)
 
-  pub drop-read : (d : Drop) → b ≡ true → d ≡ dropWanted f → d ≡ dropOf (store e heads slots cells schedule-heads units) f
-  unfolding dropOf
-  drop-read d t g = rw (← q, t) g
+  module _ (t : b ≡ true) (w : Bool) (o : w ≡ anyWithout e heads schedule-heads) where
+    pub drop-without : w ≡ true → drop.Refuse refusal.NoPid ≡ dropOf (store e heads slots cells schedule-heads units) f
+    unfolding dropOf
+    drop-without v = rw (← q, t, ← o, v)
+
+    pub drop-read : (d : Drop) → w ≡ false → d ≡ dropWanted f → d ≡ dropOf (store e heads slots cells schedule-heads units) f
+    unfolding dropOf
+    drop-read d v g = rw (← q, t, ← o, v) g
 
   pub drop-may : (d : Drop) → b ≡ true → DropOk (store e heads slots cells schedule-heads units) d
   drop-may (drop.Refuse r) t = tt

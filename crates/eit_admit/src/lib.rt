@@ -10,7 +10,7 @@ ghost use mathlib.Core.Path.{_≡_};
 ghost use Rattle.eit_state.specs.State.{store};
 ghost use Rattle.eit_admit.specs.Admitting.{admitted, Admitted, dropOf, DropOk};
 
-// 10, then 11, then what the section's bytes and its PID say (12, 14 to 19).
+// 10, then 11, then 41 where a set or a schedule has no PID, then what the section's PID (41, 12, 37) and its bytes (14 to 19) say.
 pub fn admit(
     eit: Eit,
     heads: &[u64],
@@ -29,12 +29,15 @@ pub fn admit(
         if eit_state::counters_full(eit) {
             return EitArrival::Refused(Refusal::CounterFull);
         }
+        if eit_pids::any_row_without_pid(eit, heads, schedule_heads) {
+            return EitArrival::Refused(Refusal::NoPid);
+        }
         return arrivals::eit_arrival(input, pid, bytes);
     }
     EitArrival::Refused(Refusal::NotWhole)
 }
 
-// 10, then 12, then what is to leave.
+// 10, then 41 where a set or a schedule has no PID, then what the filter is refused with (41, 12, 37), or what is to leave.
 pub fn admit_filter(
     eit: Eit,
     heads: &[u64],
@@ -48,6 +51,9 @@ pub fn admit_filter(
     ensures { λ r. ⌜ DropOk (store eit (now (heads .entry)) (now (slots .entry)) (now (cells .entry)) (now («schedule_heads» .entry)) (now (units .entry))) r ⌝ }
 {
     if eit_state::is_whole(eit, heads, slots, cells, schedule_heads, units) {
+        if eit_pids::any_row_without_pid(eit, heads, schedule_heads) {
+            return Drop::Refuse(Refusal::NoPid);
+        }
         return eit_drop::read_filter(filter);
     }
     Drop::Refuse(Refusal::NotWhole)

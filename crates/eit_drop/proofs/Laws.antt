@@ -45,12 +45,12 @@ wanted-one input m p r e g = rw e g
 pub wanted-large : (input : Wanted) (m : Made) → m ≡ made.TooLarge → origin-wanted.Refused refusal.BadPid ≡ madeWanted input m
 wanted-large input m e = rw e
 
+pub wanted-without : (input : Wanted) (pid : WantedPid) → pid ≡ wanted-pid.Without → origin-wanted.Refused refusal.NoPid ≡ wantedOrigin input pid
+wanted-without input pid e = rw e
+
 module _ (input : Wanted) (pid : WantedPid) (r : OriginWanted) where
   pub wanted-any : pid ≡ wanted-pid.Any → r ≡ inputWanted input wanted.Any → r ≡ wantedOrigin input pid
   wanted-any e g = rw e g
-
-  pub wanted-without : pid ≡ wanted-pid.Without → r ≡ inputWanted input (wanted.Exactly 8192) → r ≡ wantedOrigin input pid
-  wanted-without e g = rw e g
 
   pub wanted-exactly : (v : ℕ) (m : Made) → pid ≡ wanted-pid.Exactly v → m ≡ pidMade v → r ≡ madeWanted input m → r ≡ wantedOrigin input pid
   wanted-exactly v m e f g = rw (e, ← f) g

@@ -32,10 +32,10 @@ abbrev pub madeWanted : (input : Wanted) → Made → OriginWanted
 madeWanted input (made.One p) = inputWanted input (wanted.Exactly (p .0))
 madeWanted input made.TooLarge = origin-wanted.Refused refusal.BadPid
 
--- the PID is free, exactly none or exactly p
+-- the PID is free or exactly p; exactly none is refused (41)
 abbrev pub wantedOrigin : (input : Wanted) → WantedPid → OriginWanted
 wantedOrigin input wanted-pid.Any = inputWanted input wanted.Any
-wantedOrigin input wanted-pid.Without = inputWanted input (wanted.Exactly 8192)
+wantedOrigin input wanted-pid.Without = origin-wanted.Refused refusal.NoPid
 wantedOrigin input (wanted-pid.Exactly v) = madeWanted input (pidMade v)
 
 -- the filter in the words of a head
@@ -49,7 +49,7 @@ fieldsOf from f = record {
   «current_next» = f .«current_next»;
 }
 
--- 12, then 37
+-- 41, then 12, then 37
 abbrev pub dropFrom : Filter → OriginWanted → Drop
 dropFrom f (origin-wanted.Refused r) = drop.Refuse r
 dropFrom f (origin-wanted.Is w) = drop.Matching (fieldsOf w f)

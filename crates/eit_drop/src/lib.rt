@@ -5,7 +5,6 @@ use filter::Fields;
 use filter::Of;
 use filter::Wanted;
 use filter::WantedOrigin;
-use rows::Origin;
 use section::ids::Input;
 use section::ids::Made;
 use section::ids::Pid;
@@ -13,7 +12,7 @@ ghost use mathlib.Core.Path.{_≡_};
 ghost use Rattle.eit_state.specs.State.{rows, RowsFit};
 ghost use Rattle.eit_drop.specs.Drop.{inputWanted, madeWanted, wantedOrigin, fieldsOf, dropWanted, matchingGone};
 
-// The PID that a filter wants: free, exactly none, or exactly a number.
+// The PID that a filter wants: free, exactly none, which is refused, or exactly a number.
 pub enum WantedPid {
     Any,
     Without,
@@ -68,13 +67,13 @@ fn made_wanted(input: Wanted, m: Made) -> OriginWanted
     }
 }
 
-// What a filter wants of where sections came from: a PID of 8192 or more is refused (12), then an input of 16 or more (37).
+// What a filter wants of where sections came from: exactly none is refused (41), then a PID of 8192 or more (12), then an input of 16 or more (37).
 fn wanted_origin(input: Wanted, pid: WantedPid) -> OriginWanted
     ensures { λ r. ⌜ r ≡ wantedOrigin input pid ⌝ }
 {
     match pid {
         WantedPid::Any => input_wanted(input, Wanted::Any),
-        WantedPid::Without => input_wanted(input, Wanted::Exactly(Origin::NO_PID)),
+        WantedPid::Without => OriginWanted::Refused(Refusal::NoPid),
         WantedPid::Exactly(v) => made_wanted(input, Pid::make(v)),
     }
 }
@@ -98,7 +97,7 @@ fn fields_of(from: WantedOrigin, filter: Filter) -> Fields
     }
 }
 
-// 12, then 37, then what is to leave.
+// 41, then 12, then 37, then what is to leave.
 pub fn read_filter(filter: Filter) -> Drop
     ensures { λ r. ⌜ r ≡ dropWanted filter ⌝ }
 {

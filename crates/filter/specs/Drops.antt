@@ -44,7 +44,7 @@ abbrev pub kindIn : Of → ℕ → ℕ
 kindIn of.Sets t = kindWord t
 kindIn of.Schedules k = k
 
--- input, "PID or none, kind, service_id, transport_stream_id, original_network_id and current_next"
+-- input, "PID, kind, service_id, transport_stream_id, original_network_id and current_next"
 unfoldable pub matches : Of → Fields → Key → Bool
 matches o f k =
     wantsOrigin (f .from) (k .from) && wants (f .kind) (kindIn o (k .«table_id»)) && wants (f .«service_id») (k .extension)

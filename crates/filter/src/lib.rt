@@ -19,7 +19,7 @@ pub enum Wanted {
     Exactly(u64),
 }
 
-// What a filter wants of where a row's sections came from, in the words of a head: PID 8192 is "no PID".
+// What a filter wants of where a row's sections came from, in the words of a head.
 pub struct WantedOrigin {
     pub input: Wanted,
     pub pid: Wanted,

@@ -2,7 +2,6 @@
 
 use libc::STDOUT_FILENO;
 use section::bytes::word;
-use section::ids::MaybePid;
 ghost use mathlib.Core.Path.{_≡_};
 ghost use Prim.Native.Nat.{_+_, _*_, _≤_, _<_};
 ghost use lib.ListN.{length};
@@ -28,13 +27,6 @@ fn say_hex4(v: u16) {
     let mut digits = [0u8; 4];
     text::put_hex4(&mut digits, 0, v);
     io::write_all(STDOUT_FILENO, &digits);
-}
-
-fn say_pid(pid: MaybePid) {
-    match pid {
-        MaybePid::Some(p) => say_hex4(p),
-        MaybePid::None => say(b"none"),
-    }
 }
 
 // The bytes of a section, two digits each.
@@ -93,12 +85,12 @@ fn say_current(s: &[u8])
 }
 
 // The first line of two sets: the key of the first.
-pub fn say_set(pid: MaybePid, s: &[u8]) {
+pub fn say_set(pid: u16, s: &[u8]) {
     if s.len() < 12 {
         return;
     }
     say(b"set ");
-    say_pid(pid);
+    say_hex4(pid);
     say(b" ");
     say_hex2(s[0]);
     say(b" ");
@@ -114,12 +106,12 @@ fn kind_first(table_id: u8) -> u8 {
 }
 
 // The first line of two schedules: the key of the first, with the first table_id of its kind.
-pub fn say_schedule(pid: MaybePid, s: &[u8]) {
+pub fn say_schedule(pid: u16, s: &[u8]) {
     if s.len() < 12 {
         return;
     }
     say(b"schedule ");
-    say_pid(pid);
+    say_hex4(pid);
     say(b" ");
     say_hex2(kind_first(s[0]));
     say(b" ");

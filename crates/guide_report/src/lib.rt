@@ -1,4 +1,4 @@
-// What `compare_guides` says of two files: each a PID in two bytes, high byte first, FFFF for none, and then its sections to the end.
+// What `compare_guides` says of two files: each a PID in two bytes, high byte first, and then its sections to the end. FFFF stands for no PID, which is refused (41).
 use guide_lines::say;
 use guide_lines::say_count;
 use guide_lines::say_entry;
@@ -14,8 +14,11 @@ use section::ids::MaybePid;
 ghost use Prim.Native.Nat.{_*_, _≤_};
 ghost use lib.ListN.{length};
 
-fn pid_of(high: u8, low: u8) -> MaybePid {
-    let pid = (wide(high) * 256 + wide(low)) as u16;
+fn number_of(high: u8, low: u8) -> u16 {
+    (wide(high) * 256 + wide(low)) as u16
+}
+
+fn pid_of(pid: u16) -> MaybePid {
     if pid == 0xFFFF {
         return MaybePid::None;
     }
@@ -74,13 +77,7 @@ fn say_no_room(count: usize) {
     say(b"\n");
 }
 
-fn say_sets<'a>(
-    first: &'a [u8],
-    pid: MaybePid,
-    second: &'a [u8],
-    compared: Compared,
-    list: &[u32],
-) {
+fn say_sets<'a>(first: &'a [u8], pid: u16, second: &'a [u8], compared: Compared, list: &[u32]) {
     say_set(pid, first);
     if 0 < first.len() {
         let table_id = word_of(first[0]);
@@ -94,12 +91,14 @@ fn say_sets<'a>(
 
 fn compare_sets<'a>(
     first: &'a [u8],
-    first_pid: MaybePid,
+    first_pid: u16,
     second: &'a [u8],
-    second_pid: MaybePid,
+    second_pid: u16,
     list: &mut [u32],
 ) {
-    let compared = guides::compare(first, first_pid, second, second_pid, list);
+    let p = pid_of(first_pid);
+    let q = pid_of(second_pid);
+    let compared = guides::compare(first, p, second, q, list);
     let answer = compared.answer;
     match answer {
         CompareAnswer::Differ => say_sets(first, first_pid, second, compared, list),
@@ -146,7 +145,7 @@ fn kind_first(table_id: u8) -> u8
 
 fn say_schedules<'a>(
     first: &'a [u8],
-    pid: MaybePid,
+    pid: u16,
     second: &'a [u8],
     compared: Compared,
     tables: &[u32; 16],
@@ -164,20 +163,15 @@ fn say_schedules<'a>(
 
 fn compare_schedules<'a>(
     first: &'a [u8],
-    first_pid: MaybePid,
+    first_pid: u16,
     second: &'a [u8],
-    second_pid: MaybePid,
+    second_pid: u16,
     list: &mut [u32],
 ) {
     let mut tables = [0u32; 16];
-    let compared = guides::compare_schedules(
-        first,
-        first_pid,
-        second,
-        second_pid,
-        &mut tables,
-        list,
-    );
+    let p = pid_of(first_pid);
+    let q = pid_of(second_pid);
+    let compared = guides::compare_schedules(first, p, second, q, &mut tables, list);
     let answer = compared.answer;
     match answer {
         CompareAnswer::Differ => say_schedules(first, first_pid, second, compared, &tables, list),
@@ -195,8 +189,8 @@ pub fn compare_files<'a>(schedules: bool, first: &'a [u8], second: &'a [u8], lis
     if second.len() < 2 {
         return say_refused(10);
     }
-    let p = pid_of(first[0], first[1]);
-    let q = pid_of(second[0], second[1]);
+    let p = number_of(first[0], first[1]);
+    let q = number_of(second[0], second[1]);
     let a = &first[2..first.len()];
     let b = &second[2..second.len()];
     if schedules {

@@ -27,7 +27,7 @@ use Rattle.laid.proofs.Agree.{set-run, schedule-run, opens, keys-table}
 use Rattle.differences.specs.Rules.{Entry, oneOf, tableWords, versionsAgree, lastsAgree}
 use Rattle.differences.specs.Walk.{wordsOf, allDifferences}
 use Rattle.differences.proofs.Listing.{words-four}
-use Rattle.guides.specs.Store.{sameSides, keyed, setSides, scheduleSides, told, refused, toldOf, comparedBy, written, listIf, listBy, tablesIf, tablesBy, setEntries, scheduleEntries, scheduleWords, compared, listed, comparedSchedules, listedSchedules, tablesOf}
+use Rattle.guides.specs.Store.{besideBad, sameSides, keyed, setSides, scheduleSides, told, refused, toldOf, comparedBy, written, listIf, listBy, tablesIf, tablesBy, setEntries, scheduleEntries, scheduleWords, compared, listed, comparedSchedules, listedSchedules, tablesOf}
 use Rattle.guides.specs.Store.{setOrEmpty, heldNot, heldOne, heldFor, heldOf, heldBy, sectionOf, tablePart, AlikeSets, AlikeSchedules, LaidSides}
 use Rattle.guides.specs.declared.CompareAnswer.the-variants as answer
 use Rattle.guides.specs.declared.Compared.{Compared}
@@ -87,11 +87,19 @@ module _ (a b : List ℕ) (p q : MaybePid) where
     second-room h = let r = set-run b (and-true (isSet a) (isSet b) (sets-good h) .1) in opens b (r .laid) (r .some) .room
 
     module _ (h : not (x && y) ≡ false) (u : PidWord) (eu : u ≡ pidWord p) where
-      pub sets-pid : u ≡ pid.TooLarge → sides.BadPid ≡ setSides a p b q
+      pub sets-none : u ≡ pid.NoPid → sides.NoPid ≡ setSides a p b q
       unfolding setSides
-      sets-pid z = rw (sets-good h, ← eu, z)
+      sets-none z = rw (sets-good h, ← eu, z)
+
+      pub sets-pid : u ≡ pid.TooLarge → (w : PidWord) (s : Sides) → w ≡ pidWord q → s ≡ besideBad w → s ≡ setSides a p b q
+      unfolding setSides
+      sets-pid z w s ew es = rw (sets-good h, ← eu, z, ← ew) es
 
       module _ (i : ℕ) (z : u ≡ pid.Is i) (w : PidWord) (ew : w ≡ pidWord q) where
+        pub sets-second-none : w ≡ pid.NoPid → sides.NoPid ≡ setSides a p b q
+        unfolding setSides
+        sets-second-none y = rw (sets-good h, ← eu, ← ew, z, y)
+
         pub sets-second : w ≡ pid.TooLarge → sides.BadPid ≡ setSides a p b q
         unfolding setSides
         sets-second y = rw (sets-good h, ← eu, ← ew, z, y)
@@ -115,11 +123,19 @@ module _ (a b : List ℕ) (p q : MaybePid) where
     second-long h = let r = schedule-run b (and-true (isSchedule a) (isSchedule b) (schedules-good h) .1) in opens b (r .laid) (r .some) .room
 
     module _ (h : not (x && y) ≡ false) (u : PidWord) (eu : u ≡ pidWord p) where
-      pub schedules-pid : u ≡ pid.TooLarge → sides.BadPid ≡ scheduleSides a p b q
+      pub schedules-none : u ≡ pid.NoPid → sides.NoPid ≡ scheduleSides a p b q
       unfolding scheduleSides
-      schedules-pid z = rw (schedules-good h, ← eu, z)
+      schedules-none z = rw (schedules-good h, ← eu, z)
+
+      pub schedules-pid : u ≡ pid.TooLarge → (w : PidWord) (s : Sides) → w ≡ pidWord q → s ≡ besideBad w → s ≡ scheduleSides a p b q
+      unfolding scheduleSides
+      schedules-pid z w s ew es = rw (schedules-good h, ← eu, z, ← ew) es
 
       module _ (i : ℕ) (z : u ≡ pid.Is i) (w : PidWord) (ew : w ≡ pidWord q) where
+        pub schedules-second-none : w ≡ pid.NoPid → sides.NoPid ≡ scheduleSides a p b q
+        unfolding scheduleSides
+        schedules-second-none y = rw (schedules-good h, ← eu, ← ew, z, y)
+
         pub schedules-second : w ≡ pid.TooLarge → sides.BadPid ≡ scheduleSides a p b q
         unfolding scheduleSides
         schedules-second y = rw (schedules-good h, ← eu, ← ew, z, y)
@@ -250,7 +266,11 @@ module _ (a b : List ℕ) (n : ℕ) (h : Holder) (e : h ≡ heldBy a b n) (part 
 
 -- what two alike sides are
 keyed-alike : (key : ℕ → List ℕ → Key) (u w : PidWord) (a b : List ℕ) → keyed key u w a b ≡ sides.Alike → (p : ℕ) × (q : ℕ) × (sameKey (key p a) (key q b) ≡ true)
-keyed-alike key pid.TooLarge w a b e = let z : _≡_ {A = ℕ} 0 1 = cc in absurd (omega arith)
+keyed-alike key pid.NoPid w a b e = let z : _≡_ {A = ℕ} 0 1 = cc in absurd (omega arith)
+keyed-alike key pid.TooLarge pid.NoPid a b e = let z : _≡_ {A = ℕ} 0 1 = cc in absurd (omega arith)
+keyed-alike key pid.TooLarge pid.TooLarge a b e = let z : _≡_ {A = ℕ} 0 1 = cc in absurd (omega arith)
+keyed-alike key pid.TooLarge (pid.Is q) a b e = let z : _≡_ {A = ℕ} 0 1 = cc in absurd (omega arith)
+keyed-alike key (pid.Is p) pid.NoPid a b e = let z : _≡_ {A = ℕ} 0 1 = cc in absurd (omega arith)
 keyed-alike key (pid.Is p) pid.TooLarge a b e = let z : _≡_ {A = ℕ} 0 1 = cc in absurd (omega arith)
 keyed-alike key (pid.Is p) (pid.Is q) a b e = go (sameKey (key p a) (key q b)) refl e
   where
@@ -284,6 +304,10 @@ module _ (a b : List ℕ) (p q : MaybePid) where
     unfolding compared
     compare-not z h = h ∙ rw (← e, z)
 
+    pub compare-none : s ≡ sides.NoPid → r ≡ refused answer.NoPid → r ≡ compared a p b q room
+    unfolding compared
+    compare-none z h = h ∙ rw (← e, z)
+
     pub compare-pid : s ≡ sides.BadPid → r ≡ refused answer.BadPid → r ≡ compared a p b q room
     unfolding compared
     compare-pid z h = h ∙ rw (← e, z)
@@ -304,6 +328,10 @@ module _ (a b : List ℕ) (p q : MaybePid) where
   unfolding listed
   listed-not s list e z = rw (← e, z)
 
+  pub listed-none : (s : Sides) (list : List ℕ) → s ≡ setSides a p b q → s ≡ sides.NoPid → list ≡ listed a p b q list
+  unfolding listed
+  listed-none s list e z = rw (← e, z)
+
   pub listed-pid : (s : Sides) (list : List ℕ) → s ≡ setSides a p b q → s ≡ sides.BadPid → list ≡ listed a p b q list
   unfolding listed
   listed-pid s list e z = rw (← e, z)
@@ -317,6 +345,10 @@ module _ (a b : List ℕ) (p q : MaybePid) where
     pub schedules-no : s ≡ sides.NotSets → r ≡ refused answer.NotSets → r ≡ comparedSchedules a p b q room
     unfolding comparedSchedules
     schedules-no z h = h ∙ rw (← e, z)
+
+    pub schedules-without : s ≡ sides.NoPid → r ≡ refused answer.NoPid → r ≡ comparedSchedules a p b q room
+    unfolding comparedSchedules
+    schedules-without z h = h ∙ rw (← e, z)
 
     pub schedules-bad : s ≡ sides.BadPid → r ≡ refused answer.BadPid → r ≡ comparedSchedules a p b q room
     unfolding comparedSchedules
@@ -335,6 +367,10 @@ module _ (a b : List ℕ) (p q : MaybePid) where
     unfolding listedSchedules
     list-no z = rw (← e, z)
 
+    pub list-without : s ≡ sides.NoPid → list ≡ listedSchedules a p b q list
+    unfolding listedSchedules
+    list-without z = rw (← e, z)
+
     pub list-bad : s ≡ sides.BadPid → list ≡ listedSchedules a p b q list
     unfolding listedSchedules
     list-bad z = rw (← e, z)
@@ -351,6 +387,10 @@ module _ (a b : List ℕ) (p q : MaybePid) where
     pub tables-no : s ≡ sides.NotSets → tables ≡ tablesOf a p b q room tables
     unfolding tablesOf
     tables-no z = rw (← e, z)
+
+    pub tables-without : s ≡ sides.NoPid → tables ≡ tablesOf a p b q room tables
+    unfolding tablesOf
+    tables-without z = rw (← e, z)
 
     pub tables-bad : s ≡ sides.BadPid → tables ≡ tablesOf a p b q room tables
     unfolding tablesOf

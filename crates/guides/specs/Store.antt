@@ -34,6 +34,8 @@ compareNo answer.Differ = 8
 compareNo answer.Same = 9
 -- bytes that are no set, or no schedule
 compareNo answer.NotSets = 10
+-- a side without a PID
+compareNo answer.NoPid = 41
 -- a PID of 8192 or more
 compareNo answer.BadPid = 12
 -- two keys
@@ -54,9 +56,17 @@ heldNo held-answer.NotSets = 10
 abbrev pub sameSides : Key → Key → Sides
 sameSides j k = cond (sameKey j k) sides.Alike sides.OtherKey
 
--- 12, then 33
+-- the first side has a number that is no PID: 41 where the second has no PID, else 12
+abbrev pub besideBad : PidWord → Sides
+besideBad pid.NoPid = sides.NoPid
+besideBad pid.TooLarge = sides.BadPid
+besideBad (pid.Is q) = sides.BadPid
+
+-- 41, then 12, then 33
 abbrev pub keyed : (ℕ → List ℕ → Key) → PidWord → PidWord → List ℕ → List ℕ → Sides
-keyed key pid.TooLarge q a b = sides.BadPid
+keyed key pid.NoPid q a b = sides.NoPid
+keyed key pid.TooLarge q a b = besideBad q
+keyed key (pid.Is p) pid.NoPid a b = sides.NoPid
 keyed key (pid.Is p) pid.TooLarge a b = sides.BadPid
 keyed key (pid.Is p) (pid.Is q) a b = sameSides (key p a) (key q b)
 
@@ -82,6 +92,7 @@ toldOf room count versions lasts = told (cond (ltb room count) answer.NoRoom (co
 -- the sides, the list's room in entries, the entries, and whether versions and last numbers agree
 abbrev pub comparedBy : Sides → ℕ → List Entry → Bool → Bool → Compared
 comparedBy sides.NotSets room es v l = refused answer.NotSets
+comparedBy sides.NoPid room es v l = refused answer.NoPid
 comparedBy sides.BadPid room es v l = refused answer.BadPid
 comparedBy sides.OtherKey room es v l = refused answer.OtherKey
 comparedBy sides.Alike room es v l = toldOf room (length es) v l
@@ -95,6 +106,7 @@ listIf es list = cond (ltb (length list / 4) (length es)) list (written list (wo
 
 abbrev pub listBy : Sides → List Entry → List ℕ → List ℕ
 listBy sides.NotSets es list = list
+listBy sides.NoPid es list = list
 listBy sides.BadPid es list = list
 listBy sides.OtherKey es list = list
 listBy sides.Alike es list = listIf es list
@@ -105,6 +117,7 @@ tablesIf room es words tables = cond (ltb room (length es)) tables words
 
 abbrev pub tablesBy : Sides → List Entry → ℕ → List ℕ → List ℕ → List ℕ
 tablesBy sides.NotSets es room words tables = tables
+tablesBy sides.NoPid es room words tables = tables
 tablesBy sides.BadPid es room words tables = tables
 tablesBy sides.OtherKey es room words tables = tables
 tablesBy sides.Alike es room words tables = tablesIf room es words tables

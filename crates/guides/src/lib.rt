@@ -10,17 +10,18 @@ mod inner;
 ghost use mathlib.Core.Path.{_≡_};
 ghost use Prim.Native.Nat.{_/_};
 ghost use lib.ListN.{length};
-ghost use Rattle.guides.specs.Store.{compareNo, heldNo, sameSides, setSides, scheduleSides, refused};
+ghost use Rattle.guides.specs.Store.{compareNo, heldNo, besideBad, sameSides, setSides, scheduleSides, refused};
 ghost use Rattle.guides.specs.Store.{compared, listed, comparedSchedules, listedSchedules, tablesOf, setOrEmpty, heldBy, sectionOf, tablePart};
 
 // The words of an entry of the list: table_id, section number, kind, place.
 pub const ENTRY_WORDS: usize = 4;
 
-// What a comparison answers: 8 they differ, 9 they do not; 10, 12, 33 and 34.
+// What a comparison answers: 8 they differ, 9 they do not; 10, 41, 12, 33 and 34.
 pub enum CompareAnswer {
     Differ,
     Same,
     NotSets,
+    NoPid,
     BadPid,
     OtherKey,
     NoRoom,
@@ -49,9 +50,10 @@ pub struct Holder {
     pub length: usize,
 }
 
-// What is asked of two sides before their sections are looked at: 10, 12, 33, or nothing is amiss.
+// What is asked of two sides before their sections are looked at: 10, 41, 12, 33, or nothing is amiss.
 pub enum Sides {
     NotSets,
+    NoPid,
     BadPid,
     OtherKey,
     Alike,
@@ -65,6 +67,7 @@ impl CompareAnswer {
             CompareAnswer::Differ => 8,
             CompareAnswer::Same => 9,
             CompareAnswer::NotSets => 10,
+            CompareAnswer::NoPid => 41,
             CompareAnswer::BadPid => 12,
             CompareAnswer::OtherKey => 33,
             CompareAnswer::NoRoom => 34,
@@ -99,6 +102,7 @@ pub fn compare(
 {
     match set_sides(first, first_pid, second, second_pid) {
         Sides::NotSets => refused(CompareAnswer::NotSets),
+        Sides::NoPid => refused(CompareAnswer::NoPid),
         Sides::BadPid => refused(CompareAnswer::BadPid),
         Sides::OtherKey => refused(CompareAnswer::OtherKey),
         Sides::Alike => inner::compare_sets(first, second, list),
@@ -121,6 +125,7 @@ pub fn compare_schedules(
 {
     match schedule_sides(first, first_pid, second, second_pid) {
         Sides::NotSets => refused(CompareAnswer::NotSets),
+        Sides::NoPid => refused(CompareAnswer::NoPid),
         Sides::BadPid => refused(CompareAnswer::BadPid),
         Sides::OtherKey => refused(CompareAnswer::OtherKey),
         Sides::Alike => inner::compare_tables(first, second, tables, list),
@@ -172,8 +177,10 @@ fn set_sides(first: &[u8], first_pid: MaybePid, second: &[u8], second_pid: Maybe
         return Sides::NotSets;
     }
     match laid::pid_word(first_pid) {
-        PidWord::TooLarge => Sides::BadPid,
+        PidWord::NoPid => Sides::NoPid,
+        PidWord::TooLarge => beside_bad(laid::pid_word(second_pid)),
         PidWord::Is(p) => match laid::pid_word(second_pid) {
+            PidWord::NoPid => Sides::NoPid,
             PidWord::TooLarge => Sides::BadPid,
             PidWord::Is(q) => keyed(laid::key_in(p, first), laid::key_in(q, second)),
         },
@@ -187,14 +194,27 @@ fn schedule_sides(first: &[u8], first_pid: MaybePid, second: &[u8], second_pid: 
         return Sides::NotSets;
     }
     match laid::pid_word(first_pid) {
-        PidWord::TooLarge => Sides::BadPid,
+        PidWord::NoPid => Sides::NoPid,
+        PidWord::TooLarge => beside_bad(laid::pid_word(second_pid)),
         PidWord::Is(p) => match laid::pid_word(second_pid) {
+            PidWord::NoPid => Sides::NoPid,
             PidWord::TooLarge => Sides::BadPid,
             PidWord::Is(q) => keyed(
                 laid::schedule_key_in(p, first),
                 laid::schedule_key_in(q, second),
             ),
         },
+    }
+}
+
+// The first side has a number that is no PID: 41 where the second has no PID, else 12.
+fn beside_bad(second: PidWord) -> Sides
+    ensures { λ r. ⌜ r ≡ besideBad second ⌝ }
+{
+    match second {
+        PidWord::NoPid => Sides::NoPid,
+        PidWord::TooLarge => Sides::BadPid,
+        PidWord::Is(_) => Sides::BadPid,
     }
 }
 

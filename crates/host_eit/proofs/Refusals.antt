@@ -13,6 +13,7 @@ use Rattle.host_words.specs.Inputs.{inputNumber}
 use Rattle.host_words.specs.Pids.{maybePid}
 use Rattle.host_words.proofs.Refusals.{refused-open, refused-next}
 use Rattle.eit_state.specs.State.{Store, store, wholeOf}
+use Rattle.eit_pids.specs.Rows.{anyWithout}
 use Rattle.eit.specs.Store as eit
 use Rattle.eit.specs.Store.{Told, a-set, a-schedule, number, After, after, clearedOf, pushedOf, droppedOf, nextOf, nextInOf}
 use Rattle.eit.proofs.Refusals.{push-keeps, drop-keeps}
@@ -28,21 +29,24 @@ pub eit-open-refused :
 unfolding eitOpened
 eit-open-refused words limit size count heads slots cells schedule-heads units answer e h = refused-open answer _ _ words e h
 
--- 10
+-- 10 and 41
 pub eit-clear-refused :
     (words heads slots cells schedule-heads units : List ℕ) (answer : ℕ) → length words ≡ 7 →
     answer ≡ (eitCleared words heads slots cells schedule-heads units) .answer → (answer ≡ 7 → ⊥) →
     eitCleared words heads slots cells schedule-heads units ≡ answers.words answer words
 unfolding eitCleared clearedOf
-eit-clear-refused words heads slots cells schedule-heads units answer n e h = go (wholeOf (store (eitOf words) heads slots cells schedule-heads units)) _ e
+eit-clear-refused words heads slots cells schedule-heads units answer n e h = go (wholeOf (store (eitOf words) heads slots cells schedule-heads units)) (anyWithout (eitOf words) heads schedule-heads) _ e
   where
-    go :
-        (whole : Bool) (s : Store) →
-        answer ≡ (clearedAs words (cond whole (after eit.done s) (after (eit.refused refusal.NotWhole) (store (eitOf words) heads slots cells schedule-heads units)))) .answer →
-        clearedAs words (cond whole (after eit.done s) (after (eit.refused refusal.NotWhole) (store (eitOf words) heads slots cells schedule-heads units)))
-        ≡ answers.words answer words
-    go true s e = absurd (h e)
-    go false s e = rw (e, eit-same words n)
+    before : Store
+    before = store (eitOf words) heads slots cells schedule-heads units
+
+    left : (whole without : Bool) → Store → After
+    left whole without s = cond whole (cond without (after (eit.refused refusal.NoPid) before) (after eit.done s)) (after (eit.refused refusal.NotWhole) before)
+
+    go : (whole without : Bool) (s : Store) → answer ≡ (clearedAs words (left whole without s)) .answer → clearedAs words (left whole without s) ≡ answers.words answer words
+    go true true s e = rw (e, eit-same words n)
+    go true false s e = absurd (h e)
+    go false without s e = rw (e, eit-same words n)
 
 no-row : (t : Told) (row : List ℕ) → 10 ≤ number t → rowAfter t row ≡ row
 no-row eit.done row h = refl
@@ -70,7 +74,7 @@ eit-push-refused words heads slots cells schedule-heads units input pid section 
         pushedAs words row l ≡ eitLeft answer words heads slots cells schedule-heads units row
     go l q a e = rw (q, e, eit-same words n, no-row (l .told) row a)
 
--- 10 and 12
+-- 10, 41, 12 and 37
 pub eit-drop-refused :
     (words heads slots cells schedule-heads units filter : List ℕ) (answer : ℕ) → length words ≡ 7 →
     answer ≡ (eitDropped words heads slots cells schedule-heads units filter) .answer → 10 ≤ answer →
@@ -87,7 +91,7 @@ eit-drop-refused words heads slots cells schedule-heads units filter answer n e 
         droppedAs words l ≡ eitDroppedTo answer words heads slots schedule-heads units
     go l q e = rw (q, e, eit-same words n)
 
--- 9 and 10
+-- 9, 10 and 41
 pub eit-next-refused :
     (words heads slots cells schedule-heads units : List ℕ) (row from : ℕ) (next : List ℕ) (answer : ℕ) →
     answer ≡ (eitNext words heads slots cells schedule-heads units row from next) .answer → (answer ≡ 8 → ⊥) →

@@ -31,7 +31,7 @@ pub fn open(
     host_eit_words::write_opened(eit, opened)
 }
 
-// Offers a section, with the input and the PID that it came on or, for PID 0xFFFFFFFF, without a PID. 5 writes the set's row into `row`, 6 the schedule's.
+// Offers a section, with the input and the PID that it came on; PID 0xFFFFFFFF stands for none, which is refused (41). 5 writes the set's row into `row`, 6 the schedule's.
 pub fn push(
     eit: &mut [u64; 7],
     heads: &mut [u64],
@@ -63,7 +63,7 @@ pub fn push(
     host_eit_words::write_pushed(eit, row, pushed)
 }
 
-// Every set and every schedule leaves: 7, or 10.
+// Every set and every schedule leaves: 7, 10 or 41.
 pub fn clear(
     eit: &mut [u64; 7],
     heads: &[u64],
@@ -79,8 +79,8 @@ pub fn clear(
     host_eit_words::write_turned(eit, cleared)
 }
 
-// Sets and schedules that match the filter go: 7, 10, 12 for a PID of the filter that is none, or 37 for such an input. A word with all 64 bits set is free, the PID 0xFFFFFFFF
-// is "exactly none".
+// Sets and schedules that match the filter go: 7, 10, 41, 12 for a PID of the filter that is none, or 37 for such an input. A word with all 64 bits set is free, the PID
+// 0xFFFFFFFF is "exactly none", which is refused (41).
 pub fn drop(
     eit: &mut [u64; 7],
     heads: &mut [u64],
@@ -98,7 +98,7 @@ pub fn drop(
     host_eit_words::write_turned(eit, dropped)
 }
 
-// Has the set in a row another section, from a slot on? 8, 9 or 10; 8 writes its number into `next`, and where its bytes are in the cells.
+// Has the set in a row another section, from a slot on? 8, 9, 10 or 41; 8 writes its number into `next`, and where its bytes are in the cells.
 pub fn next(
     eit: &[u64; 7],
     heads: &[u64],

@@ -126,7 +126,7 @@ fn wanted(word: u64) -> Wanted
     }
 }
 
-// The PID of a filter: free, 0xFFFFFFFF for "exactly none", or exactly that one.
+// The PID of a filter: free, 0xFFFFFFFF for "exactly none", which a drop refuses (41), or exactly that one.
 fn wanted_pid(word: u64) -> WantedPid
     ensures { λ r. ⌜ r ≡ wantedPidOf word ⌝ }
 {

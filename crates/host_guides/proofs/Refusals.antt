@@ -1,4 +1,4 @@
--- 10, 12 and 33 leave everything that is lent as it was, 34 the list and the words of the tables, 9 and 10 of one section its three words.
+-- 10, 41, 12 and 33 leave everything that is lent as it was, 34 the list and the words of the tables, 9 and 10 of one section its three words.
 -- Assumes nothing.
 use Prim.Native.Nat.{ℕ, _/_, _≤_}
 use mathlib.Core.Path.{_≡_, refl, sym, ap, _∙_}
@@ -33,6 +33,7 @@ by-sides :
     (s : Sides) (es : List Entry) (v l : Bool) (list told : List ℕ) (n : ℕ) → n ≡ compareNo ((comparedBy s (length list / 4) es v l) .answer) → tells n ≡ false →
     handed (comparedBy s (length list / 4) es v l) told (listBy s es list) ≡ comparison n told list
 by-sides sides.NotSets es v l list told n e h = rw e
+by-sides sides.NoPid es v l list told n e h = rw e
 by-sides sides.BadPid es v l list told n e h = rw e
 by-sides sides.OtherKey es v l list told n e h = rw e
 by-sides sides.Alike es v l list told n e h = let z : _≡_ {A = Bool} true false = sym (ap tells e ∙ told-tells (length list / 4) (length es) v l) ∙ h in cc
@@ -41,12 +42,13 @@ by-kinds :
     (s : Sides) (es : List Entry) (v l : Bool) (ws tables list told : List ℕ) (n : ℕ) → n ≡ compareNo ((comparedBy s (length list / 4) es v l) .answer) → tells n ≡ false →
     handedTables (comparedBy s (length list / 4) es v l) told (tablesBy s es (length list / 4) ws tables) (listBy s es list) ≡ comparisons n told tables list
 by-kinds sides.NotSets es v l ws tables list told n e h = rw e
+by-kinds sides.NoPid es v l ws tables list told n e h = rw e
 by-kinds sides.BadPid es v l ws tables list told n e h = rw e
 by-kinds sides.OtherKey es v l ws tables list told n e h = rw e
 by-kinds sides.Alike es v l ws tables list told n e h = let z : _≡_ {A = Bool} true false = sym (ap tells e ∙ told-tells (length list / 4) (length es) v l) ∙ h in cc
 
 module _ (first : List ℕ) (p : ℕ) (second : List ℕ) (q : ℕ) (n : ℕ) where
-  -- 10, 12 and 33
+  -- 10, 41, 12 and 33
   pub compare-refused : (list told : List ℕ) → n ≡ (setsCompared first p second q list told) .answer → tells n ≡ false → setsCompared first p second q list told ≡ comparison n told list
   unfolding setsCompared compared listed
   compare-refused list told e h = by-sides (setSides first (maybePid p) second (maybePid q)) (setEntries first second) (sameVersion first second) (sameLast first second) list told n e h
@@ -60,6 +62,7 @@ module _ (first : List ℕ) (p : ℕ) (second : List ℕ) (q : ℕ) (n : ℕ) wh
 -- 34
 full-list : (s : Sides) (es : List Entry) (v l : Bool) (list : List ℕ) → compareNo ((comparedBy s (length list / 4) es v l) .answer) ≡ 34 → listBy s es list ≡ list
 full-list sides.NotSets es v l list e = refl
+full-list sides.NoPid es v l list e = refl
 full-list sides.BadPid es v l list e = refl
 full-list sides.OtherKey es v l list e = refl
 full-list sides.Alike es v l list e = go (ltb (length list / 4) (length es)) refl
@@ -74,6 +77,7 @@ full-list sides.Alike es v l list e = go (ltb (length list / 4) (length es)) ref
 
 full-tables : (s : Sides) (es : List Entry) (v l : Bool) (ws tables list : List ℕ) → compareNo ((comparedBy s (length list / 4) es v l) .answer) ≡ 34 → tablesBy s es (length list / 4) ws tables ≡ tables
 full-tables sides.NotSets es v l ws tables list e = refl
+full-tables sides.NoPid es v l ws tables list e = refl
 full-tables sides.BadPid es v l ws tables list e = refl
 full-tables sides.OtherKey es v l ws tables list e = refl
 full-tables sides.Alike es v l ws tables list e = go (ltb (length list / 4) (length es)) refl

@@ -19,7 +19,7 @@ flag b = cond b 1 0
 abbrev pub tells : ℕ → Bool
 tells n = eqb n 8 || eqb n 9 || eqb n 34
 
--- the three words: 0 how many entries there are, 1 whether versions agree, 2 whether last numbers agree. 10, 12 and 33 leave them as they were
+-- the three words: 0 how many entries there are, 1 whether versions agree, 2 whether last numbers agree. 10, 41, 12 and 33 leave them as they were
 abbrev pub comparedAfter : Compared → List ℕ → List ℕ
 comparedAfter c w = cond (tells (compareNo (c .answer))) (c .count ∷ flag (c .versions) ∷ flag (c .lasts) ∷ []) w
 

@@ -18,7 +18,7 @@ fn flag(on: bool) -> u64
     if on { 1 } else { 0 }
 }
 
-// Writes how many entries there are, and whether versions and last numbers agree; gives the answer's number. 10, 12 and 33 leave the words.
+// Writes how many entries there are, and whether versions and last numbers agree; gives the answer's number. 10, 41, 12 and 33 leave the words.
 fn write_compared(compared: &mut [u64; 3], told: Compared) -> u8
     ensures { λ r. ⌜ words r (now (compared .exit)) ≡ tellsCompared told (now (compared .entry)) ⌝ }
 {
@@ -30,7 +30,7 @@ fn write_compared(compared: &mut [u64; 3], told: Compared) -> u8
     number
 }
 
-// Compares two sets: 8, 9, 10, 12, 33 or 34. A PID of 0xFFFFFFFF stands for none.
+// Compares two sets: 8, 9, 10, 12, 33, 34 or 41. A PID of 0xFFFFFFFF stands for none, which is refused (41).
 pub fn compare(
     first: &[u8],
     first_pid: u32,

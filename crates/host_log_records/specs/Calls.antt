@@ -84,7 +84,7 @@ offerMade a rule input pid s r t =
     cond (ltb 4098 (length s)) (made 42 r t)
     (cond (ruleKnown rule) (madeOf (offerBytes (answerOf a) (ruleOf rule) (inputNumber input) (pidNumber pid) s) r) (made 13 r t))
 
--- the record of a set; none of a section under 12 bytes and where there is no such input or PID
+-- the record of a set; none of a section under 12 bytes, where there is no such input or PID, and without a PID
 unfoldable pub setBytes : (input : ℕ) → MaybePid → Bytes → Bytes
 setBytes input pid s = cond (isSource input pid && leb 12 (length s)) (setRecordOf input pid s) []
 

@@ -119,7 +119,7 @@ pub fn offer_record(
     13
 }
 
-// The record of the set that a section completed, 10 or 8 bytes: 7. 0 bytes where there is none.
+// The record of the set that a section completed, 10 bytes: 7. 0 bytes where there is none, and without a PID.
 pub fn set_record(
     input: u32,
     pid: u32,

@@ -5,6 +5,8 @@ use Prim.Native.Nat.{ℕ}
 use mathlib.Core.List.{List, [], _∷_}
 use mathlib.Core.Bool.{Bool, cond, not, _||_}
 use lib.Dec.{eqb, ltb}
+use Rattle.log_state.specs.declared.Pids.{Pids}
+use Rattle.log_state.specs.declared.Pids.the-variants as pids
 use Rattle.log_state.specs.declared.Settings.{Settings}
 use Rattle.log_check.specs.Check.{checkNo}
 use Rattle.log_check.specs.declared.Checked.{Checked}
@@ -12,11 +14,15 @@ use Rattle.log_write.specs.Write.{writeNo}
 use Rattle.log_write.specs.declared.Written.{Written}
 use Rattle.host_words.specs.Answers.{at, Words, words}
 
--- a word that says neither with nor without a PID is refused as a change rule that there is not
-abbrev pub ruleFor : (rule without : ℕ) → ℕ
-ruleFor rule without = cond (ltb without 2) rule 0
+-- a word that does not say how sets are taken is refused as a change rule that there is not
+abbrev pub ruleFor : (rule n : ℕ) → ℕ
+ruleFor rule n = cond (ltb n 3) rule 0
 
--- 0 capacity, 1 repeats (not 0: on), 2 change rule, 3 limit, 4 cell size, 5 cell count, 6 sets without a PID (0 or 1)
+-- 0 with PIDs, 1 without, 2 by the older definition
+abbrev pub pidsFor : ℕ → Pids
+pidsFor n = cond (eqb n 1) pids.Without (cond (eqb n 2) pids.Before pids.With)
+
+-- 0 capacity, 1 repeats (not 0: on), 2 change rule, 3 limit, 4 cell size, 5 cell count, 6 how sets are taken (0, 1 or 2)
 unfoldable pub settingsOf : List ℕ → Settings
 settingsOf w = record {
   capacity = at w 0;
@@ -25,7 +31,7 @@ settingsOf w = record {
   limit = at w 3;
   size = at w 4;
   count = at w 5;
-  pids = eqb (at w 6) 0;
+  pids = pidsFor (at w 6);
 }
 
 -- 38, 39 and 40 tell a place

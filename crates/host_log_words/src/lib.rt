@@ -1,19 +1,33 @@
 // What the words of a host stand for in the calls on logs (docs/RULES.md, "Logs"): seven words of settings, and the word that a call tells a place or a length in.
 use log_check::Checked;
+use log_state::Pids;
 use log_state::Settings;
 use log_write::Written;
 ghost use mathlib.Core.Path.{_≡_};
 ghost use Rattle.host_words.specs.Answers.{words};
-ghost use Rattle.host_log_words.specs.Words.{settingsOf, ruleFor, tellsChecked, tellsWritten};
+ghost use Rattle.host_log_words.specs.Words.{settingsOf, ruleFor, pidsFor, tellsChecked, tellsWritten};
 
-// The change rule, and none where it is not said whether sets are taken with a PID: opening refuses that.
-fn rule_for(rule: u64, without: u64) -> u64
-    ensures { λ r. ⌜ r ≡ ruleFor rule without ⌝ }
+// The change rule, and none where it is not said how sets are taken: opening refuses that.
+fn rule_for(rule: u64, pids: u64) -> u64
+    ensures { λ r. ⌜ r ≡ ruleFor rule pids ⌝ }
 {
-    if without < 2 { rule } else { 0 }
+    if pids < 3 { rule } else { 0 }
 }
 
-// The settings that seven words are: capacity, repeats, change rule, limit, cell size, cell count, and 1 where sets are taken without a PID.
+// How sets are taken: 1 without PIDs, 2 by the older definition, else with them.
+fn pids_for(pids: u64) -> Pids
+    ensures { λ r. ⌜ r ≡ pidsFor pids ⌝ }
+{
+    if pids == 1 {
+        return Pids::Without;
+    }
+    if pids == 2 {
+        return Pids::Before;
+    }
+    Pids::With
+}
+
+// The settings that seven words are: capacity, repeats, change rule, limit, cell size, cell count, and how sets are taken.
 pub fn settings_of(w: &[u64; 7]) -> Settings
     ensures { λ r. ⌜ r ≡ settingsOf (now (w .entry)) ⌝ }
 {
@@ -24,7 +38,7 @@ pub fn settings_of(w: &[u64; 7]) -> Settings
         limit: w[3] as usize,
         size: w[4] as usize,
         count: w[5] as usize,
-        pids: w[6] == 0,
+        pids: pids_for(w[6]),
     }
 }
 

@@ -3,7 +3,7 @@ ghost use mathlib.Core.Path.{_≡_};
 ghost use Rattle.log_sections.specs.Steps.{memory};
 ghost use Rattle.host_logs.specs.Calls.{checkLeft, logChecked, writeLeft, logWritten};
 
-// Is the log exactly that of the sections? 8, 10, 13, 38, 39, 40 or 42. 42, 10 and 13 leave the memory of the run.
+// Is the log exactly that of the sections? 8, 10, 13, 38, 39, 40, 41 or 42. 42, 10, 41 and 13 leave the memory of the run.
 pub fn check(
     settings: &[u64; 7],
     sections: &[u8],
@@ -22,7 +22,7 @@ pub fn check(
     host_log_words::write_place(place, told)
 }
 
-// Writes the log of the sections into the room: 7, 10, 13, 42 or 44. All but 7 leave the room, 42, 10 and 13 the memory of the run too.
+// Writes the log of the sections into the room: 7, 10, 13, 41, 42 or 44. All but 7 leave the room, 42, 10, 41 and 13 the memory of the run too.
 pub fn write(
     settings: &[u64; 7],
     sections: &[u8],

@@ -4,9 +4,9 @@ use Prim.Native.Nat.{ℕ}
 use mathlib.Core.Path.{_≡_, ap}
 use mathlib.Core.Logic.{_≢_}
 use mathlib.Core.List.{List, [], _∷_}
-use mathlib.Core.Bool.{true, false}
+use mathlib.Core.Bool.{true, false, _||_}
 use lib.Dec.{eqb}
-use borrow.Author.Tests.{eq-eqb, ne-eqb}
+use borrow.Author.Tests.{ne-eqb}
 use Rattle.store.specs.Store.{store}
 use Rattle.store.specs.declared.Sets.{Sets}
 use Rattle.rules_networks.specs.declared.Table.{Table}
@@ -43,11 +43,11 @@ module _ (n : ℕ) where
 -- ---- the three words
 
 module _ (s : Read) (w : List ℕ) (n : ℕ) (e : n ≡ readNumber (s .answer)) where
-  pub read-kept : n ≡ 10 → words n w ≡ tellsRead s w
-  read-kept h = rw (← e, eq-eqb n 10 h)
+  pub read-kept : (eqb n 10 || eqb n 41) ≡ true → words n w ≡ tellsRead s w
+  read-kept h = rw (← e, h)
 
-  pub read-written : n ≢ 10 → words n (s .count ∷ s .section ∷ s .place ∷ []) ≡ tellsRead s w
-  read-written h = rw (← e, ne-eqb n 10 h)
+  pub read-written : (eqb n 10 || eqb n 41) ≡ false → words n (s .count ∷ s .section ∷ s .place ∷ []) ≡ tellsRead s w
+  read-written h = rw (← e, h)
 
 -- ---- the calls
 

@@ -1,4 +1,4 @@
--- 10 leaves the list and the three words as they were, whatever the lent words hold; 35 and 36 leave the list.
+-- 10 and 41 leave the list and the three words as they were, whatever the lent words hold; 35 and 36 leave the list.
 -- Assumes nothing.
 use Prim.Native.Nat.{ℕ}
 use mathlib.Core.Path.{_≡_, sym, ap, _∙_}
@@ -20,12 +20,13 @@ unfolding sectionRead
 entries-refused reader section skip list listed e = section-as-before (readerOf reader) section skip list e
 
 module _ (reader : ℕ) (sets heads slots cells : List ℕ) (row skip : ℕ) (list listed : List ℕ) where
-  -- 10, 35 and 36
+  -- 10, 41, 35 and 36
   pub sets-entries-refused : isNot (setRead reader sets heads slots cells row skip list listed .answer) ≡ true → setRead reader sets heads slots cells row skip list listed .list ≡ list
   unfolding setRead
   sets-entries-refused e = set-as-before (readerOf reader) (store (setsOf sets) heads slots cells) row skip list e
 
-  -- 10
-  pub sets-entries-kept : setRead reader sets heads slots cells row skip list listed .answer ≡ 10 → setRead reader sets heads slots cells row skip list listed .listed ≡ listed
+  -- 10 and 41
+  pub sets-entries-kept : (eqb (setRead reader sets heads slots cells row skip list listed .answer) 10 || eqb (setRead reader sets heads slots cells row skip list listed .answer) 41) ≡ true
+      → setRead reader sets heads slots cells row skip list listed .listed ≡ listed
   unfolding setRead
   sets-entries-kept e = rw e

@@ -7,8 +7,10 @@ ghost use Rattle.host_words.specs.Answers.{words};
 ghost use Rattle.host_showing.specs.Calls.{listing};
 ghost use Rattle.host_networks.specs.Calls.{readerOf, tellsRead, sectionRead, setRead};
 
-// The number of the refusal that tells nothing: a store that is not whole.
+// The numbers of the refusals that tell nothing: a store that is not whole, and one in which a row has no PID.
 const NOT_WHOLE: u8 = 10;
+
+const NO_PID: u8 = 41;
 
 // The reader of a number: 1 networks', 2 bouquets', 3 services'; any other number names none.
 fn reader_of(reader: u32) -> Table
@@ -26,13 +28,13 @@ fn reader_of(reader: u32) -> Table
     Table::None
 }
 
-// Writes how many entries there are, and with 35 and 36 the section and the place in it; gives the answer's number. 10 leaves the words.
+// Writes how many entries there are, and with 35 and 36 the section and the place in it; gives the answer's number. 10 and 41 leave the words.
 fn write_read(listed: &mut [u64; 3], read: Read) -> u8
     ensures { λ r. ⌜ words r (now (listed .exit)) ≡ tellsRead read (now (listed .entry)) ⌝ }
 {
     let answer = read.answer;
     let number = answer.number();
-    if number == NOT_WHOLE {
+    if (number == NOT_WHOLE) | (number == NO_PID) {
         return number;
     }
     *listed = [read.count as u64, read.section as u64, read.place as u64];
@@ -54,7 +56,7 @@ pub fn entries(
     write_read(listed, read)
 }
 
-// The same of the set in a row that was handed out: 8, 9, 10, 35 or 36.
+// The same of the set in a row that was handed out: 8, 9, 10, 35, 36 or 41.
 pub fn sets_entries(
     reader: u32,
     sets: &[u64; 5],

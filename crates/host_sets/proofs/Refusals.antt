@@ -9,11 +9,12 @@ use native.Mathlib.Omega.{arith}
 use lib.ListN.{length}
 use Rattle.answers.specs.Answers.{refusalNo}
 use Rattle.answers.specs.declared.Refusal.{Refusal}
-use Rattle.answers.specs.declared.Refusal.the-variants.{NotWhole, Conflict}
+use Rattle.answers.specs.declared.Refusal.the-variants.{NotWhole, NoPid, Conflict}
 use Rattle.host_words.specs.Answers as answers
 use Rattle.host_words.specs.Inputs.{inputNumber}
 use Rattle.host_words.specs.Pids.{maybePid}
 use Rattle.host_words.proofs.Refusals.{refused-open, refused-next}
+use Rattle.without_pid.specs.Pids.{withoutPid}
 use Rattle.store.specs.Store.{Store, store, wholeOf}
 use Rattle.sets_settle.specs.Settle.{Told, done, nothing, handed, refused, toldNo, SetsAfter, after}
 use Rattle.sets.specs.Store.{clearedOf, pushedOf, nextOf}
@@ -30,20 +31,24 @@ pub sets-open-refused :
 unfolding setsOpened
 sets-open-refused words limit size count heads slots cells answer e h = refused-open answer _ _ words e h
 
--- 10
+-- 10 and 41
 pub sets-clear-refused :
     (words heads slots cells : List ℕ) (answer : ℕ) → length words ≡ 5 →
     answer ≡ (setsCleared words heads slots cells) .answer → (answer ≡ 7 → ⊥) →
     setsCleared words heads slots cells ≡ answers.words answer words
 unfolding setsCleared clearedOf
-sets-clear-refused words heads slots cells answer n e h = go (wholeOf (store (setsOf words) heads slots cells)) _ e
+sets-clear-refused words heads slots cells answer n e h = go (wholeOf (store (setsOf words) heads slots cells)) (withoutPid heads (setsOf words .used)) _ e
   where
-    go :
-        (whole : Bool) (s : Store) →
-        answer ≡ (clearedAs words (cond whole (after done s) (after (refused NotWhole) (store (setsOf words) heads slots cells)))) .answer →
-        clearedAs words (cond whole (after done s) (after (refused NotWhole) (store (setsOf words) heads slots cells))) ≡ answers.words answer words
-    go true s e = absurd (h e)
-    go false s e = rw (e, sets-same words n)
+    before : Store
+    before = store (setsOf words) heads slots cells
+
+    left : (whole without : Bool) → Store → SetsAfter
+    left whole without s = cond whole (cond without (after (refused NoPid) before) (after done s)) (after (refused NotWhole) before)
+
+    go : (whole without : Bool) (s : Store) → answer ≡ (clearedAs words (left whole without s)) .answer → clearedAs words (left whole without s) ≡ answers.words answer words
+    go true true s e = rw (e, sets-same words n)
+    go true false s e = absurd (h e)
+    go false without s e = rw (e, sets-same words n)
 
 -- a refusal other than 22 leaves the store and the row's word
 kept-as :
@@ -73,7 +78,7 @@ sets-push-refused words heads slots cells input pid section row answer n e h k =
         pushedAs words row l ≡ setsLeft answer words heads slots cells row
     go l q a e = rw (q, e, sets-same words n, a)
 
--- 9 and 10
+-- 9, 10 and 41
 pub sets-next-refused :
     (words heads slots cells : List ℕ) (row from : ℕ) (next : List ℕ) (answer : ℕ) →
     answer ≡ (setsNext words heads slots cells row from next) .answer → (answer ≡ 8 → ⊥) →

@@ -53,6 +53,6 @@ pushedAs sets row l =
 unfoldable pub setsPushed : List ℕ → List ℕ → List ℕ → List ℕ → (input pid : ℕ) → List ℕ → List ℕ → SetsLeft
 setsPushed sets heads slots cells input pid section row = pushedAs sets row (pushedOf (store (setsOf sets) heads slots cells) (inputNumber input) (maybePid pid) section)
 
--- 8 writes number, start and length of the section that is told of; 9 and 10 leave the three words as they were
+-- 8 writes number, start and length of the section that is told of; 9, 10 and 41 leave the three words as they were
 unfoldable pub setsNext : List ℕ → List ℕ → List ℕ → List ℕ → ℕ → ℕ → List ℕ → Words
 setsNext sets heads slots cells row from next = tellsNext (nextOf (store (setsOf sets) heads slots cells) row from) next

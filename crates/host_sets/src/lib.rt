@@ -27,7 +27,7 @@ pub fn open(
     host_sets_words::write_opened(sets, opened)
 }
 
-// Offers a section, with the input and the PID that it came on or, for PID 0xFFFFFFFF, without a PID. 5 writes the set's row into `row`.
+// Offers a section, with the input and the PID that it came on; PID 0xFFFFFFFF stands for none, which is refused (41). 5 writes the set's row into `row`.
 pub fn push(
     sets: &mut [u64; 5],
     heads: &mut [u64],
@@ -47,7 +47,7 @@ pub fn push(
     host_sets_words::write_pushed(sets, row, pushed)
 }
 
-// Empties all rows: 7, or 10.
+// Empties all rows: 7, 10 or 41.
 pub fn clear(sets: &mut [u64; 5], heads: &[u64], slots: &[u32], cells: &[u8]) -> u8
     ensures { λ r. ⌜ words r (now (sets .exit)) ≡ setsCleared (now (sets .entry)) (now (heads .entry)) (now (slots .entry)) (now (cells .entry)) ⌝ }
 {
@@ -56,7 +56,7 @@ pub fn clear(sets: &mut [u64; 5], heads: &[u64], slots: &[u32], cells: &[u8]) ->
     host_sets_words::write_cleared(sets, cleared)
 }
 
-// Has the set in a row another section, from a slot on? 8, 9 or 10; 8 writes its number into `next`, and where its bytes are in the cells.
+// Has the set in a row another section, from a slot on? 8, 9, 10 or 41; 8 writes its number into `next`, and where its bytes are in the cells.
 pub fn next(
     sets: &[u64; 5],
     heads: &[u64],

@@ -22,10 +22,10 @@ use Rattle.host_showing.specs.Calls.{tellsListed, listing, handed, secti
 -- ---- the three words
 
 module _ (s : Shown) (w : List ℕ) (n : ℕ) (e : n ≡ showNumber (s .answer)) where
-  pub listed-kept : (eqb n 10 || eqb n 14) ≡ true → words n w ≡ tellsListed s w
+  pub listed-kept : ((eqb n 10 || eqb n 41) || eqb n 14) ≡ true → words n w ≡ tellsListed s w
   listed-kept h = rw (← e, h)
 
-  pub listed-written : (eqb n 10 || eqb n 14) ≡ false → words n (s .count ∷ s .section ∷ s .place ∷ []) ≡ tellsListed s w
+  pub listed-written : ((eqb n 10 || eqb n 41) || eqb n 14) ≡ false → words n (s .count ∷ s .section ∷ s .place ∷ []) ≡ tellsListed s w
   listed-written h = rw (← e, h)
 
 -- ---- the calls

@@ -1,7 +1,7 @@
 -- What the readers of events answer and leave in what a host lends: what showing/specs/Store.antt says, of the collector that the words hold.
 use Prim.Native.Nat.{ℕ, _+_, _*_}
 use mathlib.Core.List.{List, [], _∷_}
-use mathlib.Core.Bool.{cond, _||_}
+use mathlib.Core.Bool.{Bool, cond, _||_}
 use lib.Dec.{eqb, ltb}
 use Rattle.times.specs.Times.{dateOf}
 use Rattle.times.specs.declared.Date.{Date}
@@ -15,9 +15,12 @@ use Rattle.host_eit_words.specs.Words.{eitOf}
 
 -- ---- what a listing hands to a host
 
--- the three words: 0 how many entries there are, 1 the section's number and 2 the place in it where the listing ended early. 10 and 14 leave them as they were
+-- the three words: 0 how many entries there are, 1 the section's number and 2 the place in it where the listing ended early. 10, 41 and 14 leave them as they were
+abbrev pub tellsNothing : (number : ℕ) → Bool
+tellsNothing number = (eqb number 10 || eqb number 41) || eqb number 14
+
 abbrev pub listedAfter : (number : ℕ) → Shown → List ℕ → List ℕ
-listedAfter number s w = cond (eqb number 10 || eqb number 14) w (s .count ∷ s .section ∷ s .place ∷ [])
+listedAfter number s w = cond (tellsNothing number) w (s .count ∷ s .section ∷ s .place ∷ [])
 
 abbrev pub tellsListed : Shown → List ℕ → Words
 tellsListed s w = words (showNumber (s .answer)) (listedAfter (showNumber (s .answer)) s w)

@@ -7,18 +7,20 @@ ghost use mathlib.Core.Path.{_≡_};
 ghost use Rattle.host_words.specs.Answers.{words};
 ghost use Rattle.host_showing.specs.Calls.{tellsListed, listing, sectionListed, setListed, tableListed, dateWord, dateNumber};
 
-// The numbers of the refusals that tell nothing: a store that is not whole, and what is no section.
+// The numbers of the refusals that tell nothing: a store that is not whole, one in which a row has no PID, and what is no section.
 const NOT_WHOLE: u8 = 10;
+
+const NO_PID: u8 = 41;
 
 const MALFORMED: u8 = 14;
 
-// Writes how many entries there are, and the section and the place in it where the listing ended early; gives the answer's number. 10 and 14 leave the words.
+// Writes how many entries there are, and the section and the place in it where the listing ended early; gives the answer's number. 10, 41 and 14 leave the words.
 fn write_listed(listed: &mut [u64; 3], shown: Shown) -> u8
     ensures { λ r. ⌜ words r (now (listed .exit)) ≡ tellsListed shown (now (listed .entry)) ⌝ }
 {
     let answer = shown.answer;
     let number = answer.number();
-    if (number == NOT_WHOLE) | (number == MALFORMED) {
+    if (number == NOT_WHOLE) | (number == NO_PID) | (number == MALFORMED) {
         return number;
     }
     *listed = [shown.count as u64, shown.section as u64, shown.place as u64];
@@ -33,7 +35,7 @@ pub fn events(section: &[u8], skip: u64, list: &mut [u32], listed: &mut [u64; 3]
     write_listed(listed, shown)
 }
 
-// The events of the set in a row: 8, 9, 10, 18, 19 or 32.
+// The events of the set in a row: 8, 9, 10, 18, 19, 32 or 41.
 pub fn eit_events(
     eit: &[u64; 7],
     heads: &[u64],

@@ -38,7 +38,7 @@ word-none m h = rw h
 pub pid-some : (pid : MaybePid) (v : ℕ) (m : Made) (r : PidWord) → pid ≡ maybe.Some v → m ≡ pidMade v → r ≡ wordOf m → r ≡ pidWord pid
 pid-some pid v m r h e j = rw (h, ← e) j
 
-pub pid-none : (pid : MaybePid) → pid ≡ maybe.None → word.Is 8192 ≡ pidWord pid
+pub pid-none : (pid : MaybePid) → pid ≡ maybe.None → word.NoPid ≡ pidWord pid
 pid-none pid h = rw h
 
 -- ---- keys

@@ -54,16 +54,16 @@ ofSchedule t = leb 0x50 t && leb t 0x6F
 abbrev pub kindFirst : ℕ → ℕ
 kindFirst t = t / 16 * 16
 
--- the PID word of a key: of one without a PID it is 8192; a number that is no PID has none
+-- the PID word of a key: a side without a PID has none, and so has a number that is no PID
 abbrev pub wordOf : Made → PidWord
 wordOf (made.One p) = word.Is (p .0)
 wordOf made.TooLarge = word.TooLarge
 
 abbrev pub pidWord : MaybePid → PidWord
-pidWord maybe.None = word.Is 8192
+pidWord maybe.None = word.NoPid
 pidWord (maybe.Some v) = wordOf (pidMade v)
 
--- the key of a section on this PID (8192: none), its table under this number: an EIT has its transport stream and its original network in it
+-- the key of a section on this PID, its table under this number: an EIT has its transport stream and its original network in it
 abbrev pub keyOf : ℕ → ℕ → List ℕ → Key
 keyOf table pid s = record {
   from = record { input = 0; pid = pid };

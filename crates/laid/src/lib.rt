@@ -23,9 +23,10 @@ pub const NO_RANK: usize = 65536;
 
 // ---- keys
 
-// The PID word of a side's key, or none where the number is no PID (12).
+// The PID word of a side's key, or why there is none: the side has no PID (41), or the number is no PID (12).
 pub enum PidWord {
     Is(u64),
+    NoPid,
     TooLarge,
 }
 
@@ -33,7 +34,7 @@ pub fn pid_word(pid: MaybePid) -> PidWord
     ensures { λ r. ⌜ r ≡ pidWord pid ⌝ }
 {
     match pid {
-        MaybePid::None => PidWord::Is(Origin::NO_PID),
+        MaybePid::None => PidWord::NoPid,
         MaybePid::Some(v) => made_word(Pid::make(v)),
     }
 }

@@ -22,7 +22,7 @@ use Rattle.log_list.proofs.Laws.{none-left, from-start}
 use Rattle.log_prepare.specs.Prepare.{preparedOf}
 use Rattle.log_prepare.specs.declared.Prepared.{Prepared}
 use Rattle.log_prepare.specs.declared.Prepared.the-variants as prepared
-use Rattle.log_prepare.proofs.Ways.{Ready, long-only, cut-only, little-only, ready-only}
+use Rattle.log_prepare.proofs.Ways.{Ready, long-only, cut-only, without-only, little-only, ready-only}
 use Rattle.log_state.specs.State.{Lent}
 use Rattle.log_state.specs.declared.Run.{Run}
 use Rattle.log_state.specs.declared.Settings.{Settings}
@@ -129,9 +129,13 @@ module _ (s : Settings) (list log : Bytes) (m : Memory) {x : Prepared}
   unfolding checkedOf
   check-cut q p = rw (cut-only s _ _ _ _ _ (sectionsIn list) (sym e ∙ q), p) refl
 
+  pub check-without : {r : Checked} → x ≡ prepared.NoPid → r ≡ refusedBy answer.NoPid → checkAs r m ≡ checkedOf s list log m
+  unfolding checkedOf
+  check-without q p = let w = without-only s _ _ _ _ _ (sectionsIn list) (sym e ∙ q) in rw (w .is, w .without, p) refl
+
   pub check-little : {r : Checked} → x ≡ prepared.TooLittle → r ≡ refusedBy answer.TooLittle → checkAs r m ≡ checkedOf s list log m
   unfolding checkedOf
-  check-little q p = let w = little-only s _ _ _ _ _ (sectionsIn list) (sym e ∙ q) in rw (w .is, w .opens, p) refl
+  check-little q p = let w = little-only s _ _ _ _ _ (sectionsIn list) (sym e ∙ q) in rw (w .is, w .opens, w .taken, p) refl
 
   module _ {run : Run} (q : x ≡ prepared.Ready run) where
     ready : Ready s (length (m .keys)) (length (m .changes)) (length (m .heads)) (length (m .slots)) (length (m .cells)) (sectionsIn list) run
@@ -144,4 +148,4 @@ module _ (s : Settings) (list log : Bytes) (m : Memory) {x : Prepared}
     unfolding checkedOf
     check-walked {seen = seen} {r = r} n w p =
         let a : checkAs r n ≡ ranOver log (over run m) (givensFrom list 0) = rw (p, w .says, w .leaves) refl in
-        a ∙ rw (ready .list .is, ready .list .opens, ready .opened) refl
+        a ∙ rw (ready .list .is, ready .list .opens, ready .list .taken, ready .opened) refl

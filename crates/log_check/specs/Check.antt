@@ -13,7 +13,7 @@ use Rattle.log_compare.specs.Compare.{isNone, saidOf, passed, Laid}
 use Rattle.log_compare.specs.declared.Seen.{Seen}
 use Rattle.log_entries.specs.declared.Entry.{Entry}
 use Rattle.log_list.specs.List.{givensFrom}
-use Rattle.log_state.specs.State.{Lent, runOf}
+use Rattle.log_state.specs.State.{isWithout, Lent, runOf}
 use Rattle.log_state.specs.declared.Settings.{Settings}
 use Rattle.log_run.specs.Store.{Taking}
 use Rattle.log_sections.specs.Steps.{takes, recordsBy, shownIn, Memory, over, memoryIn, opens}
@@ -30,6 +30,7 @@ checkNo answer.TooMany = 40
 checkNo answer.Differs = 40
 checkNo answer.TooLong = 42
 checkNo answer.SectionsCut = 10
+checkNo answer.NoPid = 41
 checkNo answer.TooLittle = 13
 
 abbrev pub told : CheckAnswer → ℕ → Checked
@@ -75,11 +76,13 @@ checkAs r m = record { checked = r; memory = m }
 abbrev pub ranOver : (log : Bytes) → Lent → List Given → Check
 ranOver log s gs = checkAs (answered (verdict 0 log (recordsBy s gs))) (memoryIn (lookedAt log 0 s gs))
 
--- 42, 10, 13, then the verdict
+-- 42, 10, 41, 13, then the verdict
 abbrev pub checkedBy : Settings → (log : Bytes) → Memory → Listed → Check
 checkedBy s log m tooLong = checkAs (refusedBy answer.TooLong) m
 checkedBy s log m cut = checkAs (refusedBy answer.SectionsCut) m
-checkedBy s log m (sections gs) = cond (opens s m) (ranOver log (over (runOf s) m) gs) (checkAs (refusedBy answer.TooLittle) m)
+checkedBy s log m (sections gs) =
+    cond (isWithout (s .pids)) (checkAs (refusedBy answer.NoPid) m)
+    (cond (opens s m) (ranOver log (over (runOf s) m) gs) (checkAs (refusedBy answer.TooLittle) m))
 
 unfoldable pub checkedOf : Settings → (list log : Bytes) → Memory → Check
 checkedOf s list log m = checkedBy s log m (sectionsIn list)

@@ -13,8 +13,8 @@ ghost use Rattle.log_state.specs.State.{lent};
 ghost use Rattle.log_sections.specs.Steps.{shownIn, memory};
 ghost use Rattle.log_check.specs.Check.{checkNo, refusedBy, toldOf, IsEntry, Walked, checkAs, checkedOf};
 
-// Yes (8); a record of no kind (38), cut off (39), missing, too many or another one (40); the list has too long a section (42), is cut (10), or the memory
-// lent is too little for the settings (13).
+// Yes (8); a record of no kind (38), cut off (39), missing, too many or another one (40); the list has too long a section (42), is cut (10), sets would be
+// taken without PIDs (41), or the memory lent is too little for the settings (13).
 pub enum CheckAnswer {
     Yes,
     Unknown,
@@ -24,6 +24,7 @@ pub enum CheckAnswer {
     Differs,
     TooLong,
     SectionsCut,
+    NoPid,
     TooLittle,
 }
 
@@ -46,6 +47,7 @@ impl CheckAnswer {
             CheckAnswer::Differs => 40,
             CheckAnswer::TooLong => 42,
             CheckAnswer::SectionsCut => 10,
+            CheckAnswer::NoPid => 41,
             CheckAnswer::TooLittle => 13,
         }
     }
@@ -128,8 +130,8 @@ fn walk(
     log_compare::finish(log, at)
 }
 
-// Whether the log is exactly what the sections give with these settings. The memory lent is for the run alone: it is as before where the answer is 42, 10 or
-// 13.
+// Whether the log is exactly what the sections give with these settings. The memory lent is for the run alone: it is as before where the answer is 42, 10, 41
+// or 13.
 pub fn check(
     settings: Settings,
     sections: &[u8],
@@ -146,6 +148,7 @@ pub fn check(
     match prepared {
         Prepared::TooLong => refused(CheckAnswer::TooLong),
         Prepared::Cut => refused(CheckAnswer::SectionsCut),
+        Prepared::NoPid => refused(CheckAnswer::NoPid),
         Prepared::TooLittle => refused(CheckAnswer::TooLittle),
         Prepared::Ready(run) => {
             let seen = walk(run, keys, changes, heads, slots, cells, sections, log);

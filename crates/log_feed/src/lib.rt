@@ -100,3 +100,8 @@ pub fn say_changed() {
 pub fn say_too_little() {
     entry_lines::say(b"13 too-little\n");
 }
+
+// Sets without PIDs are given up.
+pub fn say_no_pid() {
+    entry_lines::say(b"41 no-pid\n");
+}

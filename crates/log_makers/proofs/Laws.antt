@@ -25,7 +25,7 @@ use Rattle.gate_state.specs.declared.Answer.{Answer}
 use Rattle.gate_state.specs.declared.Answer.the-variants as answer
 use Rattle.answers.specs.declared.Refusal.{Refusal}
 use Rattle.rules_logs.specs.Records.{Bytes, seenRecord, failedRecord, setRecord, bareSetRecord}
-use Rattle.log_makers.specs.Makers.{hasParts, checkedIn, partsIn, seenOr, offerRecord, offerNoted, notedOf, isSource, setRecordOf, setEntry}
+use Rattle.log_makers.specs.Makers.{hasParts, checkedIn, partsIn, seenOr, offerRecord, offerNoted, notedOf, isSource, setRecordOf, setEntry, bareRecordOf, bareSetEntry}
 use Rattle.log_entries.specs.Entries.{entryWith, failedKind}
 use Rattle.log_entries.specs.declared.Entry.{Entry}
 use Rattle.log_makers.specs.declared.Found.{Found}
@@ -132,9 +132,9 @@ module _ (input : ℕ) (s : List ℕ) (o : (leb 16 input || ltb (length s) 12) �
   good-input = lt-ltb input 16 (leb-false 16 input (or-false (leb 16 input) (ltb (length s) 12) o .0))
 
   module _ (p : MaybePid) (r : Entry) where
-    pub set-bare : (h : Header) (b : Bytes) → p ≡ maybe.None → h ≡ headerOf s → b ≡ bareSetRecord input h → r ≡ entryWith b → r ≡ setEntry input p s
+    pub set-no-pid : p ≡ maybe.None → r ≡ entryWith [] → r ≡ setEntry input p s
     unfolding setEntry
-    set-bare h b n e k j = rw (n, good-input, le-leb 12 (length s) long-enough, ← e, ← k) j
+    set-no-pid n j = rw n j
 
     pub set-pid : (v : ℕ) (h : Header) (b : Bytes) → p ≡ maybe.Some v → v < 8192 → h ≡ headerOf s → b ≡ setRecord input v h → r ≡ entryWith b → r ≡ setEntry input p s
     unfolding setEntry
@@ -149,9 +149,28 @@ unfolding setEntry
 set-none input p s r o j = j ∙ ap entryWith (go p (leb 16 input) (ltb (length s) 12) refl refl o)
   where
     go : (p : MaybePid) (a b : Bool) → a ≡ leb 16 input → b ≡ ltb (length s) 12 → (a || b) ≡ true → [] ≡ cond (isSource input p && leb 12 (length s)) (setRecordOf input p s) []
-    go maybe.None true b x y z = rw (le-ltb input 16 (leb-true _ _ (sym x)))
-    go maybe.None false true x y z = rw (lt-leb 12 (length s) (ltb-true _ _ (sym y)), and-none (ltb input 16))
-    go maybe.None false false x y z = absurd (true≢false (sym z))
+    go maybe.None a b x y z = refl
     go (maybe.Some v) true b x y z = rw (le-ltb input 16 (leb-true _ _ (sym x)))
     go (maybe.Some v) false true x y z = rw (lt-leb 12 (length s) (ltb-true _ _ (sym y)), and-none (isSource input (maybe.Some v)))
     go (maybe.Some v) false false x y z = absurd (true≢false (sym z))
+
+-- ---- by the older definition
+
+module _ (input : ℕ) (s : List ℕ) (o : (ltb (length s) 12 || leb 16 input) ≡ false) where
+  pub bare-long-enough : 12 ≤ length s
+  bare-long-enough = ltb-false (length s) 12 (or-false (ltb (length s) 12) (leb 16 input) o .0)
+
+  pub bare-made : (h : Header) (b : Bytes) (r : Entry) → h ≡ headerOf s → b ≡ bareSetRecord input h → r ≡ entryWith b → r ≡ bareSetEntry input s
+  unfolding bareSetEntry
+  bare-made h b r e k j =
+      let good : ltb input 16 ≡ true = lt-ltb input 16 (leb-false 16 input (or-false (ltb (length s) 12) (leb 16 input) o .1)) in
+      rw (good, le-leb 12 (length s) bare-long-enough, ← e, ← k) j
+
+pub bare-none : (input : ℕ) (s : List ℕ) (r : Entry) → (ltb (length s) 12 || leb 16 input) ≡ true → r ≡ entryWith [] → r ≡ bareSetEntry input s
+unfolding bareSetEntry
+bare-none input s r o j = j ∙ ap entryWith (go (ltb (length s) 12) (leb 16 input) refl refl o)
+  where
+    go : (a b : Bool) → a ≡ ltb (length s) 12 → b ≡ leb 16 input → (a || b) ≡ true → [] ≡ cond (ltb input 16 && leb 12 (length s)) (bareRecordOf input s) []
+    go true b x y z = rw (lt-leb 12 (length s) (ltb-true _ _ (sym x)), and-none (ltb input 16))
+    go false true x y z = rw (le-ltb input 16 (leb-true _ _ (sym y)))
+    go false false x y z = absurd (true≢false (sym z))

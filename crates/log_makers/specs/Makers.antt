@@ -77,16 +77,25 @@ notingNo TooLong = 42
 
 -- ---- of a set
 
--- the set that this section completed: with its PID (5) or without (6)
+-- the set that this section completed, with its PID (5); none without one
 abbrev pub setRecordOf : (input : ℕ) → MaybePid → Bytes → Bytes
 setRecordOf input (maybe.Some pid) s = setRecord input pid (headerOf s)
-setRecordOf input maybe.None s = bareSetRecord input (headerOf s)
+setRecordOf input maybe.None s = []
 
--- an input that there is, and a PID that there is, or none
+-- an input and a PID that there are
 abbrev pub isSource : (input : ℕ) → MaybePid → Bool
 isSource input (maybe.Some pid) = isOrigin input pid
-isSource input maybe.None = ltb input 16
+isSource input maybe.None = false
 
 -- none of a section under 12 bytes, which completes no set
 unfoldable pub setEntry : (input : ℕ) → MaybePid → Bytes → Entry
 setEntry input pid s = entryWith (cond (isSource input pid && leb 12 (length s)) (setRecordOf input pid s) [])
+
+-- ---- by the older definition, which knows no PIDs
+
+-- the set that this section completed (6)
+abbrev pub bareRecordOf : (input : ℕ) → Bytes → Bytes
+bareRecordOf input s = bareSetRecord input (headerOf s)
+
+unfoldable pub bareSetEntry : (input : ℕ) → Bytes → Entry
+bareSetEntry input s = entryWith (cond (ltb input 16 && leb 12 (length s)) (bareRecordOf input s) [])

@@ -13,7 +13,7 @@ ghost use lib.ListN.{length};
 ghost use Rattle.section.specs.Header.{versionOf, storedCrc, headerOf};
 ghost use Rattle.section.specs.Judged.{checkedChange, bareParts, headedParts};
 ghost use Rattle.log_entries.specs.Entries.{entryWith};
-ghost use Rattle.log_makers.specs.Makers.{checkedIn, partsIn, seenOr, offerNoted, notedOf, notingNo, setEntry};
+ghost use Rattle.log_makers.specs.Makers.{checkedIn, partsIn, seenOr, offerNoted, notedOf, notingNo, setEntry, bareSetEntry};
 
 // Noted (7), or a section of more than 4,098 bytes (42).
 pub enum Noting {
@@ -188,7 +188,8 @@ fn header_of(s: &[u8]) -> Header
     }
 }
 
-// The record of the set that this section completed, 10 or 8 bytes; 0 of a section under 12 bytes, and where there is no such input or PID.
+// The record of the set that this section completed, 10 bytes; 0 of a section under 12 bytes, where there is no such input or PID, and without a PID: the push
+// before it was answered 41.
 pub fn set_record(input: u8, pid: MaybePid, section: &[u8]) -> Entry
     ensures { λ r. ⌜ r ≡ setEntry input pid (now (section .entry)) ⌝ }
 {
@@ -196,7 +197,7 @@ pub fn set_record(input: u8, pid: MaybePid, section: &[u8]) -> Entry
         return log_entries::none();
     }
     match pid {
-        MaybePid::None => log_entries::of_8(log_records::bare_set(input, header_of(section))),
+        MaybePid::None => log_entries::none(),
         MaybePid::Some(v) => {
             if v < 8192 {
                 log_entries::of_10(log_records::set(input, v, header_of(section)))
@@ -205,4 +206,14 @@ pub fn set_record(input: u8, pid: MaybePid, section: &[u8]) -> Entry
             }
         }
     }
+}
+
+// The same by the older definition, which knows no PIDs: 8 bytes. A part of a run of a log.
+pub fn bare_set_record(input: u8, section: &[u8]) -> Entry
+    ensures { λ r. ⌜ r ≡ bareSetEntry input (now (section .entry)) ⌝ }
+{
+    if (section.len() < 12) | (16 <= input) {
+        return log_entries::none();
+    }
+    log_entries::of_8(log_records::bare_set(input, header_of(section)))
 }

@@ -6,20 +6,19 @@ use mathlib.Core.List.{List, [], _∷_, append-nil}
 use mathlib.Core.Bool.{Bool}
 use lib.ListN.{length}
 use borrow.Author.Tests.{lt-ltb}
-use Rattle.section.specs.declared.ids.MaybePid.{MaybePid}
+use Rattle.rows.specs.declared.Origin.{Origin}
 use Rattle.ring.specs.Store.{stampOf, seenOf, keysAfter, changesAfter}
 use Rattle.ring.specs.declared.Seen.{Seen}
 use Rattle.store.specs.Store.{Store, store}
 use Rattle.sets_settle.specs.Settle.{afterPush}
 use Rattle.sets_settle.specs.declared.Pushed.{Pushed}
-use Rattle.sets.specs.Store.{pushedOf}
 use Rattle.rules_logs.specs.Records.{Bytes, seenRecord, failedRecord}
 use Rattle.rules_logs.specs.Verdict.{logOf}
 use Rattle.log_entries.specs.Entries.{entryWith, failedKind}
 use Rattle.log_entries.specs.declared.Entry.{Entry}
-use Rattle.log_steps.specs.Steps.{pidFor, seenKind, setRecords, seenNoted, PushedOk}
+use Rattle.log_steps.specs.Steps.{fromFor, gatheredOf, seenKind, setRecords, seenNoted, PushedOk}
 use Rattle.log_steps.proofs.Records.{seen-made}
-use Rattle.log_state.specs.State.{Lent, lent, setsIn, rulingBy, rulingOf, Arrives, RulingOk}
+use Rattle.log_state.specs.State.{isWith, Lent, lent, setsIn, rulingBy, rulingOf, Arrives, RulingOk}
 use Rattle.log_state.specs.declared.Run.{Run}
 use Rattle.log_state.specs.declared.Sight.{Sight}
 use Rattle.log_state.specs.declared.TakeAnswer.{TakeAnswer}
@@ -30,26 +29,27 @@ use Rattle.log_run.specs.Store.{Shown, shown, afterTake, runWith, seenIn
 
 -- ---- a section that arrived
 
-pub seen-left : (s : Lent) (input pid : ℕ) (section : Bytes) (x : Sight) (told : MaybePid) (seen : Seen) (ks cs : List ℕ) (pushed : Pushed) (hs ss zs : List ℕ) (kind : ℕ) (e : Entry)
+pub seen-left : (s : Lent) (input pid : ℕ) (section : Bytes) (x : Sight) (with : Bool) (from : Origin) (seen : Seen) (ks cs : List ℕ) (pushed : Pushed) (hs ss zs : List ℕ) (kind : ℕ) (e : Entry)
     → input < 16 → pid < 8192
-    → told ≡ pidFor (s .run .pids) pid
+    → with ≡ isWith (s .run .pids)
+    → from ≡ fromFor with input pid
     → seen ≡ seenOf (s .run .ring) (s .keys) (s .changes) (x .key) (stampOf (x .parts .version) (x .parts .change))
     → ks ≡ keysAfter (s .run .ring) (s .keys) (x .key)
     → cs ≡ changesAfter (s .run .ring) (s .keys) (s .changes) (x .key) (stampOf (x .parts .version) (x .parts .change))
-    → afterPush pushed hs ss zs ≡ pushedOf (setsIn s) input told section
+    → afterPush pushed hs ss zs ≡ gatheredOf (setsIn s) from section
     → PushedOk section (pushed .answer)
     → kind ≡ seenKind (seen .changed) (s .run .repeats)
-    → e ≡ seenNoted kind input pid (x .parts) told section (pushed .answer)
+    → e ≡ seenNoted kind input pid (x .parts) with section (pushed .answer)
     → afterTake (record { answer = take.Done; entry = e; run = runWith (s .run) (seen .ring) (pushed .sets) }) ks cs hs ss zs ≡ shown (seenIn s input pid section x)
 unfolding seenIn
-seen-left s input pid section x told seen ks cs pushed hs ss zs kind e i p t a k c push o n j =
-    let pids : Bool = s .run .pids in
+seen-left s input pid section x with from seen ks cs pushed hs ss zs kind e i p t f a k c push o n j =
+    let pids : Bool = isWith (s .run .pids) in
     let repeats : Bool = s .run .repeats in
-    let left : afterPush pushed hs ss zs ≡ pushedOf (setsIn s) input (pidFor pids pid) section =
-    push ∙ ap (λ (m : MaybePid). pushedOf (setsIn s) input m section) t in
+    let left : afterPush pushed hs ss zs ≡ gatheredOf (setsIn s) (fromFor pids input pid) section =
+    push ∙ ap (λ (o : Origin). gatheredOf (setsIn s) o section) (f ∙ ap (λ (b : Bool). fromFor b input pid) t) in
     let made = seen-made input pid pids section (lt-ltb input 16 i) (lt-ltb pid 8192 p) (seenKind (seen .changed) repeats) (x .parts) (pushed .answer) (store (pushed .sets) hs ss zs) o in
     let entry = j ∙ (λ z. seenNoted (n z) input pid (x .parts) (t z) section (pushed .answer)) ∙ made
-    ∙ (λ z. entryWith (logOf (seenRecord (seenKind (a z .changed) repeats) input pid (x .parts) ∷ setRecords input (pidFor pids pid) section (left z .told)))) in
+    ∙ (λ z. entryWith (logOf (seenRecord (seenKind (a z .changed) repeats) input pid (x .parts) ∷ setRecords pids input pid section (left z .told)))) in
     λ z. record {
       answer = take.Done;
       entry = entry z;

@@ -6,13 +6,12 @@ use lib.ListN.{length-append}
 use native.Mathlib.Omega.{arith}
 use Rattle.ring.specs.Store.{stampOf, seenOf}
 use Rattle.ring.specs.declared.Seen.{Seen}
-use Rattle.sets.specs.Store.{pushedOf}
 use Rattle.sets_settle.specs.Settle.{Told}
 use Rattle.rules_logs.specs.Records.{Bytes, seenRecord, failedRecord}
 use Rattle.rules_logs.specs.Verdict.{logOf, AllRecords}
-use Rattle.log_steps.specs.Steps.{pidFor, seenKind, setRecords}
+use Rattle.log_steps.specs.Steps.{fromFor, gatheredOf, seenKind, setRecords}
 use Rattle.log_steps.proofs.Records.{seen-13, sets-small, seen-is-record, failed-is-record, sets-are-records}
-use Rattle.log_state.specs.State.{Lent, setsIn, rulingOf}
+use Rattle.log_state.specs.State.{isWith, Lent, setsIn, rulingOf}
 use Rattle.log_state.specs.declared.Ruling.{Ruling}
 use Rattle.log_state.specs.declared.Ruling.the-variants as ruling
 use Rattle.log_run.specs.Store.{seenIn, ruled, taking}
@@ -27,8 +26,8 @@ module _ (s : Lent) (input pid : ℕ) (section : Bytes) where
       go (ruling.Failed short) = (failed-is-record short input pid (length section), tt)
       go (ruling.Arrived x) =
           let seen : Seen = seenOf (s .run .ring) (s .keys) (s .changes) (x .key) (stampOf (x .parts .version) (x .parts .change)) in
-          let told : Told = (pushedOf (setsIn s) input (pidFor (s .run .pids) pid) section) .told in
-          (seen-is-record (seen .changed) (s .run .repeats) input pid (x .parts), sets-are-records input (pidFor (s .run .pids) pid) section told)
+          let told : Told = (gatheredOf (setsIn s) (fromFor (isWith (s .run .pids)) input pid) section) .told in
+          (seen-is-record (seen .changed) (s .run .repeats) input pid (x .parts), sets-are-records (isWith (s .run .pids)) input pid section told)
 
   pub entry-fits : length (logOf ((taking s input pid section) .records)) ≤ 23
   unfolding taking ruled seenIn logOf failedRecord
@@ -39,7 +38,7 @@ module _ (s : Lent) (input pid : ℕ) (section : Bytes) where
       go (ruling.Failed short) = omega arith
       go (ruling.Arrived x) =
           let seen : Seen = seenOf (s .run .ring) (s .keys) (s .changes) (x .key) (stampOf (x .parts .version) (x .parts .change)) in
-          let told : Told = (pushedOf (setsIn s) input (pidFor (s .run .pids) pid) section) .told in
+          let told : Told = (gatheredOf (setsIn s) (fromFor (isWith (s .run .pids)) input pid) section) .told in
           let one : Bytes = seenRecord (seenKind (seen .changed) (s .run .repeats)) input pid (x .parts) in
-          let more : Bytes = logOf (setRecords input (pidFor (s .run .pids) pid) section told) in
-          omega (arith, length-append one more, seen-13 (seenKind (seen .changed) (s .run .repeats)) input pid (x .parts), sets-small input (pidFor (s .run .pids) pid) section told)
+          let more : Bytes = logOf (setRecords (isWith (s .run .pids)) input pid section told) in
+          omega (arith, length-append one more, seen-13 (seenKind (seen .changed) (s .run .repeats)) input pid (x .parts), sets-small (isWith (s .run .pids)) input pid section told)

@@ -8,13 +8,12 @@ use Rattle.ring.specs.declared.Ring.{Ring}
 use Rattle.ring.specs.declared.Seen.{Seen}
 use Rattle.store.specs.declared.Sets.{Sets}
 use Rattle.sets_settle.specs.Settle.{SetsAfter}
-use Rattle.sets.specs.Store.{pushedOf}
 use Rattle.rules_logs.specs.Records.{Bytes, seenRecord, failedRecord}
 use Rattle.rules_logs.specs.Verdict.{logOf}
 use Rattle.log_entries.specs.Entries.{entryWith, failedKind}
 use Rattle.log_entries.specs.declared.Entry.{Entry}
-use Rattle.log_state.specs.State.{Lent, lent, setsIn, rulingOf}
-use Rattle.log_steps.specs.Steps.{pidFor, seenKind, setRecords}
+use Rattle.log_state.specs.State.{isWith, Lent, lent, setsIn, rulingOf}
+use Rattle.log_steps.specs.Steps.{fromFor, gatheredOf, seenKind, setRecords}
 use Rattle.log_state.specs.declared.Run.{Run}
 use Rattle.log_state.specs.declared.Sight.{Sight}
 use Rattle.log_state.specs.declared.Ruling.{Ruling}
@@ -45,18 +44,18 @@ afterTake r keys changes heads slots cells = record { answer = r .answer; entry 
 abbrev pub runWith : Run → Ring → Sets → Run
 runWith run ring sets = record { ring = ring; repeats = run .repeats; rule = run .rule; sets = sets; pids = run .pids }
 
--- a section that arrived: it is looked up, and the collector gets it, emitted or suppressed
+-- a section that arrived: it is looked up, and the collector gets it, emitted or suppressed, with its PID or by the older definition
 unfoldable pub seenIn : Lent → (input pid : ℕ) → Bytes → Sight → Taking
 seenIn s input pid section x =
     let run : Run = s .run in
     let number : ℕ = stampOf (x .parts .version) (x .parts .change) in
     let seen : Seen = seenOf (run .ring) (s .keys) (s .changes) (x .key) number in
-    let pushed : SetsAfter = pushedOf (setsIn s) input (pidFor (run .pids) pid) section in
+    let pushed : SetsAfter = gatheredOf (setsIn s) (fromFor (isWith (run .pids)) input pid) section in
     record {
       answer = take.Done;
       records =
           seenRecord (seenKind (seen .changed) (run .repeats)) input pid (x .parts)
-          ∷ setRecords input (pidFor (run .pids) pid) section (pushed .told);
+          ∷ setRecords (isWith (run .pids)) input pid section (pushed .told);
       left =
           lent (runWith run (seen .ring) (pushed .store .sets)) (keysAfter (run .ring) (s .keys) (x .key))
           (changesAfter (run .ring) (s .keys) (s .changes) (x .key) number)

@@ -36,12 +36,14 @@ fn admit(
     let ring = run.ring;
     let sets = run.sets;
     let parts = sight.parts;
-    let told = log_steps::pid_for(run.pids, pid);
+    let pids = run.pids;
+    let with = pids.is_with();
+    let from = log_steps::origin_for(with, input, pid);
     let seen = ring::admit(ring, keys, changes, sight.key, parts.version, parts.change);
-    let pushed = log_steps::gather(sets, heads, slots, cells, input, told, section);
+    let pushed = log_steps::gather(sets, heads, slots, cells, from, section);
     let kind = log_steps::seen_kind(seen.changed, run.repeats);
     let answer = pushed.answer;
-    let entry = log_steps::note(kind, input, pid, parts, told, section, answer);
+    let entry = log_steps::note(kind, input, pid, parts, with, section, answer);
     let ring_then = seen.ring;
     let sets_then = pushed.sets;
     Taken {
@@ -52,7 +54,7 @@ fn admit(
             repeats: run.repeats,
             rule: run.rule,
             sets: sets_then,
-            pids: run.pids,
+            pids,
         },
     }
 }

@@ -3,7 +3,7 @@
 use Prim.Native.Nat.{ℕ, _<_, _≤_}
 use mathlib.Core.Path.{_≡_, refl, sym, ap, _∙_}
 use mathlib.Core.List.{List}
-use mathlib.Core.Bool.{Bool, true, false, _&&_}
+use mathlib.Core.Bool.{Bool, true, false, not, _&&_}
 use lib.ListN.{length}
 use lib.Dec.{leb}
 use native.Mathlib.Omega.{arith}
@@ -29,7 +29,7 @@ use Rattle.store.specs.Store.{Store, asked, settingsFit}
 use Rattle.store.specs.Store.{wholeOf as setsWhole}
 use Rattle.store.proofs.Whole.{whole-means}
 use Rattle.offers.specs.Offers.{readAs, readOf}
-use Rattle.log_state.specs.State.{canOpen, runOf, openedOf, gateWhole, ruledBy, rulingBy, RulingOk, FromOk}
+use Rattle.log_state.specs.State.{isWithout, canOpen, runOf, openedOf, gateWhole, ruledBy, rulingBy, RulingOk, FromOk}
 use Rattle.log_state.specs.declared.Settings.{Settings}
 use Rattle.log_state.specs.declared.Run.{Run}
 use Rattle.log_state.specs.declared.Opened.{Opened}
@@ -40,18 +40,23 @@ use Rattle.log_state.specs.declared.Ruling.the-variants as ruling
 -- ---- opening
 
 module _ (s : Settings) (keys changes heads slots cells : ℕ) where
-  pub can-open : (all : ℕ) (k f : Bool) → all ≡ roomOf (s .capacity) → k ≡ ruleKnown (s .rule) → f ≡ settingsFit (asked (s .limit) (s .size) (s .count)) heads slots cells
-      → (leb all keys && leb all changes && k && f) ≡ canOpen s keys changes heads slots cells
-  can-open all k f a b c = rw (a, b, c) refl
+  pub can-open : (all : ℕ) (k f w : Bool) → all ≡ roomOf (s .capacity) → k ≡ ruleKnown (s .rule) → f ≡ settingsFit (asked (s .limit) (s .size) (s .count)) heads slots cells
+      → w ≡ isWithout (s .pids) → (leb all keys && leb all changes && k && f && not w) ≡ canOpen s keys changes heads slots cells
+  can-open all k f w a b c d = rw (a, b, c, d) refl
 
-  module _ (run : Run) (o : Bool) (e : run ≡ runOf s) (d : o ≡ canOpen s keys changes heads slots cells) where
-    pub opened-done : o ≡ true → _≡_ {A = Opened} (record { answer = outcome.Done; run = run }) (openedOf s keys changes heads slots cells)
+  module _ (run : Run) (w : Bool) (e : run ≡ runOf s) (p : w ≡ isWithout (s .pids)) where
+    pub opened-without : w ≡ true → _≡_ {A = Opened} (record { answer = outcome.Refused refusal.NoPid; run = run }) (openedOf s keys changes heads slots cells)
     unfolding openedOf
-    opened-done h = rw (← d, h, e)
+    opened-without h = rw (← p, h, e)
 
-    pub opened-little : o ≡ false → _≡_ {A = Opened} (record { answer = outcome.Refused refusal.TooLittle; run = run }) (openedOf s keys changes heads slots cells)
-    unfolding openedOf
-    opened-little h = rw (← d, h, e)
+    module _ (n : w ≡ false) (o : Bool) (d : o ≡ canOpen s keys changes heads slots cells) where
+      pub opened-done : o ≡ true → _≡_ {A = Opened} (record { answer = outcome.Done; run = run }) (openedOf s keys changes heads slots cells)
+      unfolding openedOf
+      opened-done h = rw (← d, ← p, n, h, e)
+
+      pub opened-little : o ≡ false → _≡_ {A = Opened} (record { answer = outcome.Refused refusal.TooLittle; run = run }) (openedOf s keys changes heads slots cells)
+      unfolding openedOf
+      opened-little h = rw (← d, ← p, n, h, e)
 
 -- ---- 31 and 3
 
@@ -126,7 +131,9 @@ module _ (run : Run) (keys changes : ℕ) (sets : Store) (input pid : ℕ) (sect
             go (ruling.Refused a) o = tt
             go (ruling.Failed short) o = omega (arith, n)
             go (ruling.Arrived x) o = record {
-              rows = ring-whole (run .ring) keys changes (ringWhole (run .ring) keys changes) refl (and-true (ringWhole (run .ring) keys changes) (ruleKnown (run .rule)) (sym e ∙ h) .0);
+              rows =
+                  let taken : (ringWhole (run .ring) keys changes && ruleKnown (run .rule)) ≡ true = and-true _ (not (isWithout (run .pids))) (sym e ∙ h) .0 in
+                  ring-whole (run .ring) keys changes (ringWhole (run .ring) keys changes) refl (and-true (ringWhole (run .ring) keys changes) (ruleKnown (run .rule)) taken .0);
               ready = record { whole = whole-means sets (sym d ∙ k); counts = f };
               is-input = o .0;
               is-pid = o .1;

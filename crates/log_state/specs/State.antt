@@ -3,7 +3,7 @@
 -- Assumes nothing.
 use Prim.Native.Nat.{ℕ, _<_}
 use mathlib.Core.List.{List}
-use mathlib.Core.Bool.{Bool, cond, _&&_}
+use mathlib.Core.Bool.{Bool, true, false, cond, not, _&&_}
 use lib.ListN.{length}
 use lib.Dec.{leb, ltb, eqb}
 use Rattle.answers.specs.Answers.{refusalNo}
@@ -19,6 +19,8 @@ use Rattle.sets_plan.specs.Plan.{Ready}
 use Rattle.offers.specs.Offers.{isShort, readOf}
 use Rattle.offers.specs.declared.Verdict.{Verdict}
 use Rattle.offers.specs.declared.Verdict.the-variants as verdict
+use Rattle.log_state.specs.declared.Pids.{Pids}
+use Rattle.log_state.specs.declared.Pids.the-variants as pids
 use Rattle.log_state.specs.declared.Settings.{Settings}
 use Rattle.log_state.specs.declared.Run.{Run}
 use Rattle.log_state.specs.declared.Opened.{Opened}
@@ -45,19 +47,35 @@ setsIn s = store (s .run .sets) (s .heads) (s .slots) (s .cells)
 
 -- ---- opening
 
+-- sets are taken with their PIDs
+abbrev pub isWith : Pids → Bool
+isWith pids.With = true
+isWith pids.Without = false
+isWith pids.Before = false
+
+-- sets without PIDs are given up
+abbrev pub isWithout : Pids → Bool
+isWithout pids.With = false
+isWithout pids.Without = true
+isWithout pids.Before = false
+
 -- a run as it is asked for: no rows, counts 0
 abbrev pub runOf : Settings → Run
 runOf s = record { ring = emptyRing (s .capacity); repeats = s .repeats; rule = s .rule; sets = asked (s .limit) (s .size) (s .count); pids = s .pids }
 
--- not 13: max(1, capacity) rows of each slice, a change rule that there is, and what the collector's opening asks for
+-- neither 41 nor 13: max(1, capacity) rows of each slice, a change rule that there is, what the collector's opening asks for, and sets that are taken
 abbrev pub canOpen : Settings → (keys changes heads slots cells : ℕ) → Bool
 canOpen s keys changes heads slots cells =
     leb (roomOf (s .capacity)) keys && leb (roomOf (s .capacity)) changes && ruleKnown (s .rule) && settingsFit (asked (s .limit) (s .size) (s .count)) heads slots cells
+    && not (isWithout (s .pids))
 
--- 13, else 7, by the lengths of the slices, which are neither read nor written
+-- 41 where sets would be taken without PIDs, 13, else 7, by the lengths of the slices, which are neither read nor written
 unfoldable pub openedOf : Settings → (keys changes heads slots cells : ℕ) → Opened
 openedOf s keys changes heads slots cells =
-    record { answer = cond (canOpen s keys changes heads slots cells) outcome.Done (outcome.Refused refusal.TooLittle); run = runOf s }
+    record {
+      answer = cond (isWithout (s .pids)) (outcome.Refused refusal.NoPid) (cond (canOpen s keys changes heads slots cells) outcome.Done (outcome.Refused refusal.TooLittle));
+      run = runOf s;
+    }
 
 -- ---- what a section comes to
 
@@ -66,9 +84,9 @@ takeNo take.Done = 7
 takeNo take.TooLong = 42
 takeNo (take.Refused r) = refusalNo r
 
--- the gate's rows fit slices of these lengths, and there is such a change rule
+-- the gate's rows fit slices of these lengths, there is such a change rule, and sets are taken: a run without PIDs came from no opening
 abbrev pub gateWhole : Run → (keys changes : ℕ) → Bool
-gateWhole run keys changes = ringWhole (run .ring) keys changes && ruleKnown (run .rule)
+gateWhole run keys changes = ringWhole (run .ring) keys changes && ruleKnown (run .rule) && not (isWithout (run .pids))
 
 -- not 10: nor is the collector broken
 abbrev pub wholeBy : Run → (keys changes : ℕ) → Store → Bool

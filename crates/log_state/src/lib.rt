@@ -14,7 +14,14 @@ ghost use lib.ListN.{length};
 ghost use Rattle.section.specs.Judged.{ruleOf, judgedOf};
 ghost use Rattle.store.specs.Store.{store};
 ghost use Rattle.offers.specs.Offers.{readAs, readOf};
-ghost use Rattle.log_state.specs.State.{runOf, canOpen, openedOf, takeNo, gateWhole, ruledBy, rulingBy, RulingOk, FromOk};
+ghost use Rattle.log_state.specs.State.{isWith, isWithout, runOf, canOpen, openedOf, takeNo, gateWhole, ruledBy, rulingBy, RulingOk, FromOk};
+
+// How sets are taken: with their PIDs; without, which is given up (41); or as before it was given up, by the older definition, which knows no PIDs.
+pub enum Pids {
+    With,
+    Without,
+    Before,
+}
 
 // What a log is made with.
 pub struct Settings {
@@ -30,8 +37,8 @@ pub struct Settings {
     pub size: usize,
     // How many cells there are.
     pub count: usize,
-    // Whether sets are taken with a PID.
-    pub pids: bool,
+    // How sets are taken.
+    pub pids: Pids,
 }
 
 pub struct Run {
@@ -39,7 +46,7 @@ pub struct Run {
     pub repeats: bool,
     pub rule: u64,
     pub sets: Sets,
-    pub pids: bool,
+    pub pids: Pids,
 }
 
 pub struct Opened {
@@ -79,9 +86,32 @@ impl TakeAnswer {
     }
 }
 
+impl Pids {
+    pub fn is_with(self) -> bool
+        ensures { λ r. ⌜ r ≡ isWith self ⌝ }
+    {
+        match self {
+            Pids::With => true,
+            Pids::Without => false,
+            Pids::Before => false,
+        }
+    }
+
+    pub fn is_without(self) -> bool
+        ensures { λ r. ⌜ r ≡ isWithout self ⌝ }
+    {
+        match self {
+            Pids::With => false,
+            Pids::Without => true,
+            Pids::Before => false,
+        }
+    }
+}
+
 fn run_of(settings: Settings) -> Run
     ensures { λ r. ⌜ r ≡ runOf settings ⌝ }
 {
+    let pids = settings.pids;
     Run {
         ring: Ring {
             capacity: settings.capacity,
@@ -97,11 +127,11 @@ fn run_of(settings: Settings) -> Run
             used: 0,
             evictions: 0,
         },
-        pids: settings.pids,
+        pids,
     }
 }
 
-// Not 13, by how much is lent.
+// Neither 41 nor 13, by how much is lent.
 fn can_open(
     settings: Settings,
     keys: usize,
@@ -113,6 +143,7 @@ fn can_open(
     ensures { λ r. ⌜ r ≡ canOpen settings keys changes heads slots cells ⌝ }
 {
     let all = ring::room(settings.capacity);
+    let pids = settings.pids;
     let sets = Sets {
         limit: settings.limit,
         size: settings.size,
@@ -124,9 +155,10 @@ fn can_open(
         & (all <= changes)
         & ChangeRule::is_known(settings.rule)
         & store::settings_fit(sets, heads, slots, cells)
+        & !pids.is_without()
 }
 
-// Opens a run: no rows, counts 0. Nothing lent is read or written; a refusal gives back the run that was asked for.
+// Opens a run: no rows, counts 0; 41, 13 or 7. Nothing lent is read or written; a refusal gives back the run that was asked for.
 pub fn open(
     settings: Settings,
     keys: &[u64],
@@ -138,6 +170,13 @@ pub fn open(
     ensures { λ r. ⌜ r ≡ openedOf settings (length (now (keys .entry))) (length (now (changes .entry))) (length (now (heads .entry))) (length (now (slots .entry))) (length (now (cells .entry))) ⌝ }
 {
     let run = run_of(settings);
+    let pids = settings.pids;
+    if pids.is_without() {
+        return Opened {
+            answer: Outcome::Refused(Refusal::NoPid),
+            run,
+        };
+    }
     if can_open(
         settings,
         keys.len(),
@@ -157,12 +196,13 @@ pub fn open(
     }
 }
 
-// Whether the gate's rows fit, and there is such a change rule.
+// Whether the gate's rows fit, there is such a change rule, and sets are taken: a run without PIDs came from no opening.
 fn gate_whole(run: Run, keys: usize, changes: usize) -> bool
     ensures { λ r. ⌜ r ≡ gateWhole run keys changes ⌝ }
 {
     let ring = run.ring;
-    ring::is_whole(ring, keys, changes) & ChangeRule::is_known(run.rule)
+    let pids = run.pids;
+    ring::is_whole(ring, keys, changes) & ChangeRule::is_known(run.rule) & !pids.is_without()
 }
 
 // 31 where the section is too short for its CRC, 3 where the CRC does not fit.

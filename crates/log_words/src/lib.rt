@@ -1,4 +1,5 @@
-// The words of `check_log` and `write_log`: CAPACITY REPEATS RULE LIMIT SIZE COUNT with|without.
+// The words of `check_log` and `write_log`: CAPACITY REPEATS RULE LIMIT SIZE COUNT with|without|before.
+use log_state::Pids;
 use log_state::Settings;
 ghost use Prim.Native.Nat.{_≤_};
 ghost use lib.ListN.{length};
@@ -68,6 +69,17 @@ pub fn is_word(i: usize, word: &[u8]) -> bool {
     cells::same_bytes(&text[0..n], word)
 }
 
+// How sets are taken: with PIDs but where the word says otherwise.
+fn pids_of(without: bool, before: bool) -> Pids {
+    if without {
+        return Pids::Without;
+    }
+    if before {
+        return Pids::Before;
+    }
+    Pids::With
+}
+
 fn gathered(
     a: Number,
     b: Number,
@@ -77,6 +89,7 @@ fn gathered(
     f: Number,
     with: bool,
     without: bool,
+    before: bool,
 ) -> Words {
     Words {
         good: a.good
@@ -86,7 +99,7 @@ fn gathered(
             & e.good
             & f.good
             & (b.value < 2)
-            & (with | without),
+            & (with | without | before),
         settings: Settings {
             capacity: a.value,
             repeats: b.value == 1,
@@ -94,7 +107,7 @@ fn gathered(
             limit: d.value as usize,
             size: e.value as usize,
             count: f.value as usize,
-            pids: with,
+            pids: pids_of(without, before),
         },
     }
 }
@@ -110,5 +123,6 @@ pub fn settings() -> Words {
         number_at(6),
         is_word(7, b"with"),
         is_word(7, b"without"),
+        is_word(7, b"before"),
     )
 }

@@ -15,7 +15,9 @@ use Rattle.log_list.proofs.Laws.{from-start}
 use Rattle.log_prepare.specs.Prepare.{preparedOf}
 use Rattle.log_prepare.specs.declared.Prepared.{Prepared}
 use Rattle.log_prepare.specs.declared.Prepared.the-variants as prepared
-use Rattle.log_prepare.proofs.Ways.{Ready, long-only, cut-only, little-only, ready-only}
+use Rattle.log_prepare.proofs.Ways.{Ready, long-only, cut-only, without-only, little-only, ready-only}
+use Rattle.log_state.specs.State.{isWith}
+use Rattle.log_state.specs.declared.Pids.the-variants as pids
 use Rattle.log_state.specs.declared.Run.{Run}
 use Rattle.log_state.specs.declared.Settings.{Settings}
 use Rattle.log_sections.specs.Steps.{Memory, over}
@@ -24,7 +26,7 @@ use Rattle.log_measure.specs.declared.Measured.{Measured}
 use Rattle.log_fill.specs.Fill.{FilledBy}
 use Rattle.log_write.specs.declared.WriteAnswer.the-variants as answer
 use Rattle.log_write.specs.declared.Written.{Written}
-use Rattle.log_write.specs.Write.{told, refusedBy, Write, writeAs, wrote, ranTwice, writtenOf}
+use Rattle.log_write.specs.Write.{told, refusedBy, Write, writeAs, wrote, asWriter, ranTwice, writtenBy, writtenOf}
 
 -- ---- with an opened run
 
@@ -57,19 +59,33 @@ module _ (list room : Bytes) (run : Run) (m : Memory) {x : Measured} {n : Memory
 
 -- ---- the whole call
 
-module _ (s : Settings) (list room : Bytes) (m : Memory) {x : Prepared}
+module _ (s₀ : Settings) (list room : Bytes) (m : Memory) {s : Settings} (a : s ≡ asWriter s₀) {x : Prepared}
     (e : x ≡ preparedOf s (sectionsIn list) (length (m .keys)) (length (m .changes)) (length (m .heads)) (length (m .slots)) (length (m .cells))) where
-  pub write-long : {r : Written} → x ≡ prepared.TooLong → r ≡ refusedBy answer.TooLong → writeAs r room m ≡ writtenOf s list room m
+  by : writtenBy s room m (sectionsIn list) ≡ writtenOf s₀ list room m
   unfolding writtenOf
-  write-long q p = rw (long-only s _ _ _ _ _ (sectionsIn list) (sym e ∙ q), p) refl
+  by = ap (λ (t : Settings). writtenBy t room m (sectionsIn list)) a
 
-  pub write-cut : {r : Written} → x ≡ prepared.Cut → r ≡ refusedBy answer.SectionsCut → writeAs r room m ≡ writtenOf s list room m
-  unfolding writtenOf
-  write-cut q p = rw (cut-only s _ _ _ _ _ (sectionsIn list) (sym e ∙ q), p) refl
+  pub write-long : {r : Written} → x ≡ prepared.TooLong → r ≡ refusedBy answer.TooLong → writeAs r room m ≡ writtenOf s₀ list room m
+  write-long {r = r} q p =
+      let b : writeAs r room m ≡ writtenBy s room m (sectionsIn list) = rw (long-only s _ _ _ _ _ (sectionsIn list) (sym e ∙ q), p) refl in
+      b ∙ by
 
-  pub write-little : {r : Written} → x ≡ prepared.TooLittle → r ≡ refusedBy answer.TooLittle → writeAs r room m ≡ writtenOf s list room m
-  unfolding writtenOf
-  write-little q p = let w = little-only s _ _ _ _ _ (sectionsIn list) (sym e ∙ q) in rw (w .is, w .opens, p) refl
+  pub write-cut : {r : Written} → x ≡ prepared.Cut → r ≡ refusedBy answer.SectionsCut → writeAs r room m ≡ writtenOf s₀ list room m
+  write-cut {r = r} q p =
+      let b : writeAs r room m ≡ writtenBy s room m (sectionsIn list) = rw (cut-only s _ _ _ _ _ (sectionsIn list) (sym e ∙ q), p) refl in
+      b ∙ by
+
+  pub write-without : {r : Written} → x ≡ prepared.NoPid → r ≡ refusedBy answer.NoPid → writeAs r room m ≡ writtenOf s₀ list room m
+  write-without {r = r} q p =
+      let w = without-only s _ _ _ _ _ (sectionsIn list) (sym e ∙ q) in
+      let b : writeAs r room m ≡ writtenBy s room m (sectionsIn list) = rw (w .is, w .without, p) refl in
+      b ∙ by
+
+  pub write-little : {r : Written} → x ≡ prepared.TooLittle → r ≡ refusedBy answer.TooLittle → writeAs r room m ≡ writtenOf s₀ list room m
+  write-little {r = r} q p =
+      let w = little-only s _ _ _ _ _ (sectionsIn list) (sym e ∙ q) in
+      let b : writeAs r room m ≡ writtenBy s room m (sectionsIn list) = rw (w .is, w .opens, w .taken, p) refl in
+      b ∙ by
 
   module _ {run : Run} (q : x ≡ prepared.Ready run) where
     ready : Ready s (length (m .keys)) (length (m .changes)) (length (m .heads)) (length (m .slots)) (length (m .cells)) (sectionsIn list) run
@@ -78,6 +94,17 @@ module _ (s : Settings) (list room : Bytes) (m : Memory) {x : Prepared}
     pub write-whole : WholeFrom list 0
     write-whole = from-start list (ready .list .whole)
 
-    pub write-ran : (w : Write) → w ≡ ranTwice run room m (givensFrom list 0) → w ≡ writtenOf s list room m
-    unfolding writtenOf
-    write-ran w p = p ∙ rw (ready .list .is, ready .list .opens, ready .opened) refl
+    pub write-ran : (w : Write) → w ≡ ranTwice run room m (givensFrom list 0) → w ≡ writtenOf s₀ list room m
+    write-ran w p =
+        let b : ranTwice run room m (givensFrom list 0) ≡ writtenBy s room m (sectionsIn list) = rw (ready .list .is, ready .list .opens, ready .list .taken, ready .opened) refl in
+        p ∙ b ∙ by
+
+-- ---- the settings that a writer opens with
+
+module _ (s : Settings) (w : Bool) (e : w ≡ isWith (s .pids)) where
+  pub writer-with : w ≡ true → s ≡ asWriter s
+  writer-with h = rw (← e, h) refl
+
+  pub writer-else : w ≡ false
+      → _≡_ {A = Settings} (record { capacity = s .capacity; repeats = s .repeats; rule = s .rule; limit = s .limit; size = s .size; count = s .count; pids = pids.Without }) (asWriter s)
+  writer-else h = rw (← e, h) refl

@@ -9,7 +9,8 @@ use lib.ListN.{length}
 use lib.Seq.{sets}
 use Rattle.rules_logs.specs.Records.{Bytes}
 use Rattle.rules_logs.specs.Sections.{Given, Listed, tooLong, cut, sections, sectionsIn}
-use Rattle.log_state.specs.State.{runOf}
+use Rattle.log_state.specs.State.{isWith, isWithout, runOf}
+use Rattle.log_state.specs.declared.Pids.the-variants as pids
 use Rattle.log_state.specs.declared.Run.{Run}
 use Rattle.log_state.specs.declared.Settings.{Settings}
 use Rattle.log_sections.specs.Steps.{leftBy, Memory, over, memoryIn, opens}
@@ -23,6 +24,7 @@ writeNo answer.Done = 7
 writeNo answer.NoRoom = 44
 writeNo answer.TooLong = 42
 writeNo answer.SectionsCut = 10
+writeNo answer.NoPid = 41
 writeNo answer.TooLittle = 13
 
 abbrev pub told : WriteAnswer → (length : ℕ) → Written
@@ -60,11 +62,19 @@ ranTwice run room m gs =
     let after : Memory = measuredIn run (length room) m gs in
     cond (ltb (length room) size) (writeAs (refusedBy answer.NoRoom) room after) (wrote run room size after gs)
 
--- 42, 10, 13, then 44 or 7
+-- a writer writes with PIDs alone: any other setting is without, which is 41
+abbrev pub asWriter : Settings → Settings
+asWriter s =
+    cond (isWith (s .pids)) s
+    (record { capacity = s .capacity; repeats = s .repeats; rule = s .rule; limit = s .limit; size = s .size; count = s .count; pids = pids.Without })
+
+-- 42, 10, 41, 13, then 44 or 7
 abbrev pub writtenBy : Settings → (room : Bytes) → Memory → Listed → Write
 writtenBy s room m tooLong = writeAs (refusedBy answer.TooLong) room m
 writtenBy s room m cut = writeAs (refusedBy answer.SectionsCut) room m
-writtenBy s room m (sections gs) = cond (opens s m) (ranTwice (runOf s) room m gs) (writeAs (refusedBy answer.TooLittle) room m)
+writtenBy s room m (sections gs) =
+    cond (isWithout (s .pids)) (writeAs (refusedBy answer.NoPid) room m)
+    (cond (opens s m) (ranTwice (runOf s) room m gs) (writeAs (refusedBy answer.TooLittle) room m))
 
 unfoldable pub writtenOf : Settings → (list room : Bytes) → Memory → Write
-writtenOf s list room m = writtenBy s room m (sectionsIn list)
+writtenOf s list room m = writtenBy (asWriter s) room m (sectionsIn list)

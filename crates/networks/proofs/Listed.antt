@@ -1,5 +1,5 @@
 -- What the two calls come to: `entries` answers neither 35 nor 36 exactly where the section is whole, and then lists the entries of its loops; the place of 36 is the first in
--- byte order; 10, 35 and 36 leave the list.
+-- byte order; 10, 41, 35 and 36 leave the list.
 -- Assumes nothing.
 use mathlib.Core.Path.{_≡_, refl, sym, ap, _∙_, subst}
 use mathlib.Core.Logic.{_≢_}
@@ -14,6 +14,7 @@ use Rattle.laws.specs.Lists.{any}
 use Rattle.answers.specs.declared.Refusal.the-variants as refusal
 use Rattle.section.specs.Header.{byteAt}
 use Rattle.rows.specs.Rows.{rowSlots}
+use Rattle.without_pid.specs.Pids.{withoutPid}
 use Rattle.store.specs.Store.{Store, wholeOf}
 use Rattle.handed.specs.Handed.{setOut}
 use Rattle.listing.specs.Rules.{page, joined}
@@ -168,9 +169,9 @@ pub section-as-before : (t : Table) (s : List ℕ) (skip : ℕ) (list : List ℕ
 unfolding readSection
 section-as-before t s skip list e = as-before skip (readAs t s) list (told-fault skip (readAs t s) list e)
 
--- so do 10, 35 and 36 of a set
+-- so do 10, 41, 35 and 36 of a set
 abbrev pub isNot : (answer : ℕ) → Bool
-isNot n = eqb n 10 || isFault n
+isNot n = eqb n 10 || (eqb n 41 || isFault n)
 
 ended-not : (skip count : ℕ) → isNot (readNumber (endedAt skip count .answer)) ≡ false
 ended-not skip count = go (ltb skip count)
@@ -186,15 +187,19 @@ told-not skip (entries es) list e = absurd (true≢false (sym e ∙ ended-not sk
 
 pub set-as-before : (t : Table) (s : Store) (row skip : ℕ) (list : List ℕ) → isNot (answerOf (readSet t s row skip list)) ≡ true → readSet t s row skip list .1 ≡ list
 unfolding readSet
-set-as-before t s row skip list e = go (wholeOf s) (setOut (s .heads) (s .sets .used) row) e
+set-as-before t s row skip list e = go (wholeOf s) (withoutPid (s .heads) (s .sets .used)) (setOut (s .heads) (s .sets .used) row) e
   where
     told : Told
     told = slotsTold t (s .cells) (s .sets .size) (rowSlots (s .heads) (s .slots) row) 0
 
-    said : (b c : Bool) → Read × List ℕ
-    said b c = cond b (cond c (saidOf skip told list) (nothingRead No, list)) (nothingRead (Refused refusal.NotWhole), list)
+    said : (b w c : Bool) → Read × List ℕ
+    said b w c =
+        cond b
+        (cond w (nothingRead (Refused refusal.NoPid), list) (cond c (saidOf skip told list) (nothingRead No, list)))
+        (nothingRead (Refused refusal.NotWhole), list)
 
-    go : (b c : Bool) → isNot (answerOf (said b c)) ≡ true → said b c .1 ≡ list
-    go true true f = told-not skip told list f
-    go true false f = refl
-    go false c f = refl
+    go : (b w c : Bool) → isNot (answerOf (said b w c)) ≡ true → said b w c .1 ≡ list
+    go true true c f = refl
+    go true false true f = told-not skip told list f
+    go true false false f = refl
+    go false w c f = refl

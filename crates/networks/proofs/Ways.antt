@@ -17,6 +17,7 @@ use Rattle.cells.specs.Cells.{allWhole}
 use Rattle.section.specs.Header.{byteAt, sectionLength}
 use Rattle.rows.specs.Rows.{rowSlots, slotsAt, slotCount, lastOf}
 use Rattle.rows.proofs.Whole.{rows-get}
+use Rattle.without_pid.specs.Pids.{withoutPid}
 use Rattle.store.specs.Store.{Store, store, wholeOf, Whole}
 use Rattle.store.specs.declared.Sets.{Sets}
 use Rattle.store.proofs.Whole.{is-whole-means}
@@ -125,12 +126,16 @@ module _ (t : Table) (s : Store) (row skip : ℕ) (list : List ℕ) (b : Bool) (
   unfolding readSet
   set-refused z r f = rw (← e, z, f)
 
-  module _ (z : b ≡ true) (o : Bool) (g : o ≡ setOut (s .heads) (s .sets .used) row) where
+  pub set-without : b ≡ true → (w : Bool) → w ≡ withoutPid (s .heads) (s .sets .used) → w ≡ true → (r : Read) → r ≡ nothingRead (Refused refusal.NoPid) → (r, list) ≡ readSet t s row skip list
+  unfolding readSet
+  set-without z w p v r f = rw (← e, z, ← p, v, f)
+
+  module _ (z : b ≡ true) (w : Bool) (p : w ≡ withoutPid (s .heads) (s .sets .used)) (v : w ≡ false) (o : Bool) (g : o ≡ setOut (s .heads) (s .sets .used) row) where
     pub set-none : o ≡ false → (r : Read) → r ≡ nothingRead No → (r, list) ≡ readSet t s row skip list
     unfolding readSet
-    set-none y r f = rw (← e, z, ← g, y, f)
+    set-none y r f = rw (← e, z, ← p, v, ← g, y, f)
 
     pub set-read : o ≡ true → (part : List ℕ) → part ≡ rowSlots (s .heads) (s .slots) row → (r : Read) (l : List ℕ)
         → (r, l) ≡ saidOf skip (slotsTold t (s .cells) (s .sets .size) part 0) list → (r, l) ≡ readSet t s row skip list
     unfolding readSet
-    set-read y part p r l f = rw (← e, z, ← g, y, ← p) f
+    set-read y part q r l f = rw (← e, z, ← p, v, ← g, y, ← q) f

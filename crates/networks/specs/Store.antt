@@ -4,6 +4,7 @@ use mathlib.Core.List.{List}
 use mathlib.Core.Bool.{cond}
 use Rattle.answers.specs.declared.Refusal.the-variants as refusal
 use Rattle.rows.specs.Rows.{rowSlots}
+use Rattle.without_pid.specs.Pids.{withoutPid}
 use Rattle.store.specs.Store.{Store, wholeOf}
 use Rattle.handed.specs.Handed.{setOut}
 use Rattle.rules_networks.specs.declared.Table.{Table}
@@ -16,9 +17,10 @@ use Rattle.network_sets.specs.Sets.{nothingRead, saidOf, slotsTold}
 unfoldable pub readSection : Table → (section : List ℕ) → (skip : ℕ) → (list : List ℕ) → Read × List ℕ
 readSection table section skip list = saidOf skip (readAs table section) list
 
--- a set: 10 first, then 9 where it is not one that is out, then its sections by rising number
+-- a set: 10 first, then 41 where a row has no PID, then 9 where it is not one that is out, then its sections by rising number
 unfoldable pub readSet : Table → Store → (row skip : ℕ) → (list : List ℕ) → Read × List ℕ
 readSet table s row skip list =
     cond (wholeOf s)
-    (cond (setOut (s .heads) (s .sets .used) row) (saidOf skip (slotsTold table (s .cells) (s .sets .size) (rowSlots (s .heads) (s .slots) row) 0) list) (nothingRead No, list))
+    (cond (withoutPid (s .heads) (s .sets .used)) (nothingRead (Refused refusal.NoPid), list)
+    (cond (setOut (s .heads) (s .sets .used) row) (saidOf skip (slotsTold table (s .cells) (s .sets .size) (rowSlots (s .heads) (s .slots) row) 0) list) (nothingRead No, list)))
     (nothingRead (Refused refusal.NotWhole), list)

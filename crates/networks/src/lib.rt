@@ -1,6 +1,6 @@
 // What a NIT, BAT or SDT section and a set that was handed out say (docs/RULES.md, "Entries"; EN 300 468, 5.2.1 to 5.2.3): every transport stream or service and every
 // descriptor, one entry of twelve words each, into a lent list. The list is a window: it shows entries from `skip` on as far as there is room, and `count` says how many
-// there are. Every call takes any content of what is lent and has one answer; 10, 35 and 36 leave the list as it was.
+// there are. Every call takes any content of what is lent and has one answer; 10, 41, 35 and 36 leave the list as it was.
 use answers::Refusal;
 use network_sets::Read;
 use network_sets::ReadAnswer;
@@ -51,6 +51,10 @@ pub fn entries_of_set(
 {
     let whole = store::is_whole(sets, heads, slots, cells);
     if whole {
+        let without = without_pid::any_without_pid(heads, sets.used);
+        if without {
+            return network_sets::nothing(ReadAnswer::Refused(Refusal::NoPid));
+        }
         if handed::is_set_out(heads, sets.used, row) {
             let part = rows::row_slots(heads, slots, row);
             return network_sets::read_slots(table, part, sets.size, cells, skip, list);

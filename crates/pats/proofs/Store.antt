@@ -24,6 +24,7 @@ use Rattle.section.specs.declared.ids.MaybePid.the-variants as maybe
 use Rattle.rows.specs.Rows.{touched}
 use Rattle.rows.specs.declared.Entry.{Entry}
 use Rattle.rows.specs.declared.Origin.{Origin}
+use Rattle.without_pid.specs.Pids.{withoutPid}
 use Rattle.store.specs.Store.{Store, store, WholeStore}
 use Rattle.store.specs.declared.Sets.{Sets}
 use Rattle.store.proofs.Whole.{means-whole}
@@ -39,7 +40,7 @@ use Rattle.sets_settle.specs.declared.PushAnswer.the-variants.{Nothing, Set, Re
 use Rattle.sets_settle.specs.declared.Pushed.{Pushed as Answered}
 use Rattle.sets_push.specs.Pushing.{wholePushed, admitted}
 use Rattle.sets.specs.Store.{pushedOf}
-use Rattle.sets.proofs.Stays.{push-stays}
+use Rattle.sets.proofs.Stays.{whole-stays}
 use Rattle.pats.specs.Store.{Record, recordOf, patSets, patHead, patStore, withStore, pushedBy, pushedIn, PatsReady, Arrives, RowThere, Pushed}
 
 -- ---- the counts and the head are where they were put
@@ -137,37 +138,15 @@ row-there Nothing s o = tt
 row-there (Set i) s o = o
 row-there (Refused r) s o = tt
 
--- ---- pushing is the set collector's push, once 10 and 11 have been asked
+-- ---- pushing is the set collector's push, once 10, 11 and 41 have been asked
 
-pub pushed-as : (s : Store) → Ready s → (input : ℕ) (pid : MaybePid) (bytes : List ℕ) (e : Entry) → setArrival input pid bytes ≡ arrival.Arrived e → pushedOf s input pid bytes ≡ wholePushed s e bytes
+pub pushed-as : (s : Store) → Ready s → withoutPid (s .heads) (s .sets .used) ≡ false → (input : ℕ) (pid : MaybePid) (bytes : List ℕ) (e : Entry) → setArrival input pid bytes ≡ arrival.Arrived e
+    → pushedOf s input pid bytes ≡ wholePushed s e bytes
 unfolding pushedOf admitted
-pushed-as s o input pid bytes e q = rw (means-whole s (o .whole), ne-eqb (s .sets .evictions) 18446744073709551615 (o .counts), q)
-
--- a section that arrived has its last_section_number in byte 7
-last-byte : (input : ℕ) (bytes : List ℕ) (e : Entry) → setArrival input (maybe.Some 0) bytes ≡ arrival.Arrived e → e .last ≡ getD bytes 7 0
-unfolding setArrival headerOf
-last-byte input bytes e q = by-origin (originMade input 0) q
-  where
-    by-read : (from : Origin) (c : Collected) → collectedOf bytes ≡ c → setRead from c ≡ arrival.Arrived e → e .last ≡ getD bytes 7 0
-    by-read from collected.Malformed p f = let z : _≡_ {A = ℕ} 0 1 = cc in absurd (omega arith)
-    by-read from collected.ShortForm p f = let z : _≡_ {A = ℕ} 0 1 = cc in absurd (omega arith)
-    by-read from collected.BadNumber p f = let z : _≡_ {A = ℕ} 0 1 = cc in absurd (omega arith)
-    by-read from collected.BadCrc p f = let z : _≡_ {A = ℕ} 0 1 = cc in absurd (omega arith)
-    by-read from (collected.Good h) p f =
-        let t = takes bytes h (collectedOf bytes) refl p in
-        let z : h .last ≡ e .last = cc in
-        sym z ∙ ap (λ (x : Header). x .last) (t .header)
-
-    by-origin : (m : OriginMade) → setJudged (madeWords m) bytes ≡ arrival.Arrived e → e .last ≡ getD bytes 7 0
-    by-origin (made.One o) f = by-read (record { input = o .input .0; pid = o .pid .0 }) (collectedOf bytes) refl f
-    by-origin made.BadPid f = let z : _≡_ {A = ℕ} 0 1 = cc in absurd (omega arith)
-    by-origin made.BadInput f = let z : _≡_ {A = ℕ} 0 1 = cc in absurd (omega arith)
+pushed-as s o n input pid bytes e q = rw (means-whole s (o .whole), ne-eqb (s .sets .evictions) 18446744073709551615 (o .counts), n, q)
 
 pub pushed-whole : (s : Store) (e : Entry) (bytes : List ℕ) → Ready s → Arrives bytes e → WholeStore ((wholePushed s e bytes) .store)
-pushed-whole s e bytes o a =
-    let l = a .taken .numbered .last in
-    subst (λ (k : SetsAfter). WholeStore (k .store)) (pushed-as s o (a .input) (maybe.Some 0) bytes e (a .read))
-    (push-stays s (a .input) (maybe.Some 0) bytes (rw (← last-byte (a .input) bytes e (a .read)) l) (o .whole))
+pushed-whole s e bytes o a = whole-stays s e bytes (o .whole) (a .taken)
 
 -- ---- the push of the crate: the part comes back, the counts are written
 

@@ -283,7 +283,7 @@ pub extern "C" fn petrizolu_sets_open(
     host_sets::open(sets, limit, size, count, heads, slots, cells)
 }
 
-// Offers a section, with the input and the PID that it came on or, for PID 0xFFFFFFFF, without a PID. 5 writes the set's row into `row`.
+// Offers a section, with the input and the PID that it came on; PID 0xFFFFFFFF stands for none, which is refused (41). 5 writes the set's row into `row`.
 #[no_mangle]
 pub extern "C" fn petrizolu_sets_push(
     sets: &mut [u64; 5],
@@ -300,7 +300,7 @@ pub extern "C" fn petrizolu_sets_push(
     host_sets::push(sets, heads, slots, cells, input, pid, section, row)
 }
 
-// Empties all rows: 7, or 10.
+// Empties all rows: 7, 10, or 41 where a row has no PID.
 #[no_mangle]
 pub extern "C" fn petrizolu_sets_clear(
     sets: &mut [u64; 5],
@@ -313,7 +313,7 @@ pub extern "C" fn petrizolu_sets_clear(
     host_sets::clear(sets, heads, slots, cells)
 }
 
-// Has the set in a row another section, from a slot on? 8, 9 or 10; 8 writes its number into `next`, and where its bytes are in the cells.
+// Has the set in a row another section, from a slot on? 8, 9, 10 or 41; 8 writes its number into `next`, and where its bytes are in the cells.
 #[no_mangle]
 pub extern "C" fn petrizolu_sets_next(
     sets: &[u64; 5],
@@ -357,7 +357,7 @@ pub extern "C" fn petrizolu_eit_open(
     )
 }
 
-// Offers a section, with the input and the PID that it came on or, for PID 0xFFFFFFFF, without a PID. 5 writes the set's row into `row`, 6 the schedule's.
+// Offers a section, with the input and the PID that it came on; PID 0xFFFFFFFF stands for none, which is refused (41). 5 writes the set's row into `row`, 6 the schedule's.
 #[no_mangle]
 pub extern "C" fn petrizolu_eit_push(
     eit: &mut [u64; 7],
@@ -387,7 +387,7 @@ pub extern "C" fn petrizolu_eit_push(
     )
 }
 
-// Every set and every schedule leaves: 7, or 10.
+// Every set and every schedule leaves: 7, 10, or 41 where one has no PID.
 #[no_mangle]
 pub extern "C" fn petrizolu_eit_clear(
     eit: &mut [u64; 7],
@@ -402,8 +402,8 @@ pub extern "C" fn petrizolu_eit_clear(
     host_eit::clear(eit, heads, slots, cells, schedule_heads, units)
 }
 
-// Sets and schedules that match the filter go: 7, 10, 12 for a PID of the filter that is none, or 37 for such an input. A word with all 64 bits set is free, the PID 0xFFFFFFFF
-// is "exactly none".
+// Sets and schedules that match the filter go: 7, 10, 41, 12 for a PID of the filter that is none, or 37 for such an input. A word with all 64 bits set is free, the PID 0xFFFFFFFF
+// is "exactly none", which is refused (41).
 #[no_mangle]
 pub extern "C" fn petrizolu_eit_drop(
     eit: &mut [u64; 7],
@@ -419,7 +419,7 @@ pub extern "C" fn petrizolu_eit_drop(
     host_eit::drop(eit, heads, slots, cells, schedule_heads, units, filter)
 }
 
-// Has the set in a row another section, from a slot on? 8, 9 or 10; 8 writes its number into `next`, and where its bytes are in the cells.
+// Has the set in a row another section, from a slot on? 8, 9, 10 or 41; 8 writes its number into `next`, and where its bytes are in the cells.
 #[no_mangle]
 pub extern "C" fn petrizolu_eit_next(
     eit: &[u64; 7],
@@ -491,7 +491,7 @@ pub extern "C" fn petrizolu_events(
     host_showing::events(section, skip, list, listed)
 }
 
-// The same of the set in a row that was handed out: 8, 9, 10, 18, 19 or 32. 10 leaves all.
+// The same of the set in a row that was handed out: 8, 9, 10, 18, 19, 32 or 41. 10 and 41 leave all.
 #[no_mangle]
 pub extern "C" fn petrizolu_eit_events(
     eit: &[u64; 7],
@@ -576,7 +576,7 @@ pub extern "C" fn petrizolu_entries(
     host_networks::entries(reader, section, skip, list, listed)
 }
 
-// The same of the set in a row that was handed out: 8, 9, 10, 35 or 36. 10 leaves all.
+// The same of the set in a row that was handed out: 8, 9, 10, 35, 36 or 41. 10 and 41 leave all.
 #[no_mangle]
 pub extern "C" fn petrizolu_sets_entries(
     reader: u32,
@@ -594,8 +594,8 @@ pub extern "C" fn petrizolu_sets_entries(
     host_networks::sets_entries(reader, sets, heads, slots, cells, row, skip, list, listed)
 }
 
-// Compares two sets, each as its sections by rising number in its own bytes: 8 they differ, 9 they do not, 10, 12, 33 or 34. The list has four words for each number that one
-// side alone holds, or both with other bytes. `compared` tells how many entries there are, and whether versions and last numbers agree; 10, 12 and 33 leave it, and 34 the list.
+// Compares two sets, each as its sections by rising number in its own bytes: 8 they differ, 9 they do not, 10, 12, 33, 34 or 41. The list has four words for each number that one
+// side alone holds, or both with other bytes. `compared` tells how many entries there are, and whether versions and last numbers agree; 10, 12, 33 and 41 leave it, and 34 the list.
 #[no_mangle]
 pub extern "C" fn petrizolu_compare(
     first: &[u8],
@@ -639,8 +639,8 @@ pub extern "C" fn petrizolu_held_by_one(
     host_guides::held_by_one(first, second, number, held)
 }
 
-// Is a log exactly that of a section list? 8, 10, 13, 38, 39, 40 or 42. `settings` are capacity, repeats, change rule, limit, cell size, cell count, and 1 where sets are taken without a PID.
-// 38, 39 and 40 write the place; 42, 10 and 13 leave all.
+// Is a log exactly that of a section list? 8, 10, 13, 38, 39, 40, 41 or 42. `settings` are capacity, repeats, change rule, limit, cell size, cell count, and how sets are taken: 0 with PIDs, 1 without (41), 2 as before.
+// 38, 39 and 40 write the place; 42, 10, 41 and 13 leave all.
 #[no_mangle]
 pub extern "C" fn petrizolu_log_check(
     settings: &[u64; 7],
@@ -668,7 +668,7 @@ pub extern "C" fn petrizolu_log_check(
     )
 }
 
-// Writes the log of a section list into the room: 7 writes its length, 44 where it is longer than the room, 10, 13 or 42. All but 7 leave the room and the length.
+// Writes the log of a section list into the room: 7 writes its length, 44 where it is longer than the room, 10, 13, 41 or 42. All but 7 leave the room and the length.
 #[no_mangle]
 pub extern "C" fn petrizolu_log_write(
     settings: &[u64; 7],
@@ -712,7 +712,7 @@ pub extern "C" fn petrizolu_log_offer_record(
     host_log_records::offer_record(answer, change_rule, input, pid, section, bytes, told)
 }
 
-// The record of the set that a section completed, with its PID or, for PID 0xFFFFFFFF, without one: 7 with 0, 8 or 10 bytes.
+// The record of the set that a section completed: 7 with 10 bytes, or with 0 where there is none; PID 0xFFFFFFFF stands for none.
 #[no_mangle]
 pub extern "C" fn petrizolu_log_set_record(
     input: u32,

@@ -6,7 +6,7 @@ use mathlib.Core.List.{List, [], _∷_, _++_, map}
 use Prim.Native.Nat.{ℕ, _<_}
 use lib.ListN.{length}
 use borrow.Author.Tests.{lt-ltb}
-use Rattle.rules_shared.specs.Same.{sameBytes, samePid, sameOrigin}
+use Rattle.rules_shared.specs.Same.{sameBytes, sameOrigin}
 use Rattle.rules_shared.specs.Slots.{isHeld, present}
 use Rattle.rules_shared.specs.Touch.{oldestGone, room, leaves, count, find, remove, others, evicts, untouched, aside, newest}
 use Rattle.rules_shared.specs.Row.{fresh, fits, start, slotOf, keep, marked, putOver, put}
@@ -66,7 +66,7 @@ loses-A = refl
 -- ---- the set collector
 
 loses-B : collectorKeys 2 (10 ∷ 11 ∷ 10 ∷ 12 ∷ []) ≡ tableKey 10 ∷ tableKey 12 ∷ []
-unfolding collectorKeys storeAfter collects step admit push finish judge judged metRow whole full partOf sameKey sameBytes samePid sameOrigin isHeld present oldestGone room leaves count find remove others evicts untouched aside newest fresh fits start slotOf keep marked putOver put
+unfolding collectorKeys storeAfter collects step admit push finish judge judged metRow whole full partOf sameKey sameBytes sameOrigin isHeld present oldestGone room leaves count find remove others evicts untouched aside newest fresh fits start slotOf keep marked putOver put
 loses-B = refl
 
 -- ---- the PAT

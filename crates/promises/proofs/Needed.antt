@@ -26,8 +26,9 @@ use Rattle.rules_shared.specs.Cells.{Settings}
 use native.Mathlib.Nat.{le-of-eq}
 use Rattle.ties_sets.proofs.History.{opened-reached, acts-seen}
 use Rattle.sets.specs.Store.{openedOf}
-use Rattle.ties_sets.specs.View.{readsAs, readSection, reads, seen, acts}
-use Rattle.promises.specs.Demand3.{Collector, StartsEmpty, EqualCellSize, LimitNoLarger, Calls, SectionsOfBytes, answersOf, RefusesNoneAsConflicting, RefusesNoneForItsStore, HandsOut, HandedOutSinceTheLastClear}
+use Rattle.ties_sets.specs.View.{readsAs, readSection, reads, seen}
+use Rattle.promises.specs.Demand3.{Collector, StartsEmpty, EqualCellSize, LimitNoLarger, made, acts, Calls, SectionsOfBytes, answersOf, RefusesNoneAsConflicting, RefusesNoneForItsStore, HandsOut, HandedOutSinceTheLastClear}
+use Rattle.promises.proofs.Demand3.{readAll}
 use Rattle.promises.proofs.Runs.{numbered, on, said, set-of, bytesIn, of-bytes, collector, shown, runs, never, no-conflict, unrefused}
 
 -- the end of demand 3
@@ -97,7 +98,7 @@ clash = A-7 ∷ B-7 ∷ A-6 ∷ A-8 ∷ []
 abbrev clash-said : List Call
 clash-said = said 0x40 0 1 A-7 ∷ said 0x42 0 1 B-7 ∷ said 0x40 0 1 A-6 ∷ said 0x40 1 1 A-8 ∷ []
 
-clash-reads : map reads (map on clash) ≡ clash-said
+clash-reads : readAll (map on clash) ≡ clash-said
 unfolding reads readSection readsAs collectedOf collectedLong malformed headerOf storedCrc workedCrc crcFrom bitsIn bitIn
 clash-reads = refl
 
@@ -158,7 +159,7 @@ driven = A-7 ∷ B-7 ∷ A-8 ∷ []
 abbrev driven-said : List Call
 driven-said = said 0x40 0 1 A-7 ∷ said 0x42 0 1 B-7 ∷ said 0x40 1 1 A-8 ∷ []
 
-driven-reads : map reads (map on driven) ≡ driven-said
+driven-reads : readAll (map on driven) ≡ driven-said
 unfolding reads readSection readsAs collectedOf collectedLong malformed headerOf storedCrc workedCrc crcFrom bitsIn bitIn
 driven-reads = refl
 
@@ -212,7 +213,7 @@ alone = C-9 ∷ []
 abbrev alone-said : List Call
 alone-said = said 0x46 0 0 C-9 ∷ []
 
-alone-reads : map reads (map on alone) ≡ alone-said
+alone-reads : readAll (map on alone) ≡ alone-said
 unfolding reads readSection readsAs collectedOf collectedLong malformed headerOf storedCrc workedCrc crcFrom bitsIn bitIn
 alone-reads = refl
 
@@ -292,7 +293,7 @@ wanting = D-1 ∷ D-2 ∷ B-7 ∷ D-3 ∷ C-9 ∷ B-6 ∷ B-8 ∷ []
 abbrev wanting-said : List Call
 wanting-said = said 0x40 0 2 D-1 ∷ said 0x40 1 2 D-2 ∷ said 0x42 0 1 B-7 ∷ said 0x40 2 2 D-3 ∷ said 0x46 0 0 C-9 ∷ said 0x42 0 1 B-6 ∷ said 0x42 1 1 B-8 ∷ []
 
-wanting-reads : map reads (map on wanting) ≡ wanting-said
+wanting-reads : readAll (map on wanting) ≡ wanting-said
 unfolding reads readSection readsAs collectedOf collectedLong malformed headerOf storedCrc workedCrc crcFrom bitsIn bitIn
 wanting-reads = refl
 
@@ -346,7 +347,7 @@ both = A-7 ∷ A-8 ∷ []
 abbrev both-said : List Call
 both-said = said 0x40 0 1 A-7 ∷ said 0x40 1 1 A-8 ∷ []
 
-both-reads : map reads (map on both) ≡ both-said
+both-reads : readAll (map on both) ≡ both-said
 unfolding reads readSection readsAs collectedOf collectedLong malformed headerOf storedCrc workedCrc crcFrom bitsIn bitIn
 both-reads = refl
 
@@ -360,7 +361,7 @@ second = A-8 ∷ []
 abbrev second-said : List Call
 second-said = said 0x40 1 1 A-8 ∷ []
 
-second-reads : map reads (map on second) ≡ second-said
+second-reads : readAll (map on second) ≡ second-said
 unfolding reads readSection readsAs collectedOf collectedLong malformed headerOf storedCrc workedCrc crcFrom bitsIn bitIn
 second-reads = refl
 
@@ -408,8 +409,8 @@ begun-answers = ap (λ (as′ : List Answer). drop 1 as′) both-small
 settings-stay : (begun .sets .size ≡ 16) × (begun .sets .limit ≡ 1)
 unfolding seen
 settings-stay =
-    let e = ap (λ (q : Shown). q .settings) (acts-seen (collector 1 16 2) (opened-reached (collector 1 16 2) both-small-opened) (on A-7) (of-bytes both both-bytes 0 (on A-7) refl))
-    ∙ stays (seen (collector 1 16 2)) (reads (on A-7)) in
+    let e = ap (λ (q : Shown). q .settings) (acts-seen (collector 1 16 2) (opened-reached (collector 1 16 2) both-small-opened) (made (on A-7)) (of-bytes both both-bytes 0 (on A-7) refl))
+    ∙ stays (seen (collector 1 16 2)) (reads (made (on A-7))) in
     (ap (λ (o : Settings). o .cellSize) e, ap (λ (o : Settings). o .limit) e)
 
 pub empty-start-needed : ¬ ((smaller larger : Collector) → StartsEmpty larger → EqualCellSize smaller larger → LimitNoLarger smaller larger → (calls : Calls) → SectionsOfBytes calls → RefusesNoneAsConflicting larger calls → RefusesNoneForItsStore smaller calls → RefusesNoneForItsStore larger calls → Follows smaller larger calls)

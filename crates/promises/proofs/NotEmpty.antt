@@ -19,6 +19,7 @@ use Rattle.ages.specs.Slots.{upFrom, cellsSeen}
 use Rattle.sets.specs.Store.{openedOf}
 use Rattle.ties_sets.specs.View.{readsAs, readSection, reads, seen}
 use Rattle.promises.specs.Demand3.{Collector, StartsEmpty, EqualCellSize, LimitNoLarger, Calls, SectionsOfBytes, answersOf, RefusesNoneAsConflicting, RefusesNoneForItsStore, HandsOut}
+use Rattle.promises.proofs.Demand3.{readAll}
 use Rattle.promises.proofs.Runs.{numbered, on, said, set-of, bytesIn, of-bytes, collector, shown, runs, no-conflict, unrefused}
 
 -- ---- the sections: each twelve bytes, the last four the CRC
@@ -41,7 +42,7 @@ calls = map on given
 abbrev read : List Call
 read = said 0x40 0 1 A₀ ∷ said 0x42 0 0 B₀ ∷ said 0x40 1 1 A₁ ∷ said 0x40 0 1 A₀ ∷ []
 
-reads-so : map reads calls ≡ read
+reads-so : readAll calls ≡ read
 unfolding reads readSection readsAs collectedOf collectedLong malformed headerOf storedCrc workedCrc crcFrom bitsIn bitIn
 reads-so = refl
 

@@ -2,7 +2,7 @@
 -- Assumes nothing.
 use mathlib.Core.Path.{_≡_, refl, ap, subst, _∙_}
 use mathlib.Core.Bool.{Bool, true, false, _&&_}
-use mathlib.Core.Option.{some, Option·some-injective}
+use mathlib.Core.Option.{Option·some-injective}
 use mathlib.Core.List.{List, [], _∷_, map}
 use Prim.Native.Nat.{ℕ, zero, suc, _*_, _<_, _≤_}
 use native.Mathlib.Omega.{arith}
@@ -18,24 +18,22 @@ use Rattle.rules_shared.specs.Same.{Bytes}
 use Rattle.rules_shared.specs.Touch.{untouched}
 use Rattle.laws.specs.Runs.{At, Never}
 use Rattle.section.specs.Facts.{Bytes as AllBytes}
-use Rattle.section.specs.declared.ids.MaybePid.the-variants as maybe
 use Rattle.rules_sets.specs.Rules.{Key, Call, offer, Whole, Answer, cleared, nothing, handout, refused, conflict, notWhole, counterFull, noCell, numberOf}
 use Rattle.rules_sets.specs.Cells.{Store as Shown}
 use Rattle.rules_sets.specs.Demand.{run, withCells}
 use Rattle.rules_sets.proofs.Examples.{replies}
 use Rattle.store.specs.Store.{store, asked}
-use Rattle.sets.specs.History.{Call as Given, offer as section, Bytes as OfBytes}
-use Rattle.ties_sets.specs.View.{reads, seen}
-use Rattle.promises.specs.Demand3.{Collector, StartsEmpty, Calls, SectionsOfBytes, answersOf, RefusesNoneAsConflicting, RefusesNoneForItsStore}
-use Rattle.promises.proofs.Demand3.{as-rules}
+use Rattle.ties_sets.specs.View.{seen}
+use Rattle.promises.specs.Demand3.{Collector, StartsEmpty, Given, section, OfBytes, Calls, SectionsOfBytes, answersOf, RefusesNoneAsConflicting, RefusesNoneForItsStore}
+use Rattle.promises.proofs.Demand3.{readAll, as-rules}
 
 -- ---- sections: on PID 0x10, extension 1, version 0, current
 
 abbrev pub on : Bytes → Given
-on bytes = section 0 (maybe.Some 0x10) bytes
+on bytes = section 0 0x10 bytes
 
 abbrev pub key : ℕ → Key
-key table = record { from = record { input = 0; pid = some 0x10 }; tableId = table; extension = 1; currentNext = true }
+key table = record { from = record { input = 0; pid = 0x10 }; tableId = table; extension = 1; currentNext = true }
 
 -- what such a section says
 abbrev pub said : (table number last : ℕ) → Bytes → Call
@@ -72,10 +70,10 @@ shown limit size count = record { settings = record { limit = limit; cellSize = 
 
 -- ---- the answers
 
-pub runs : (s : Collector) → StartsEmpty s → (v : Shown) → seen s ≡ v → (bs : List Bytes) → bytesIn bs ≡ true → (said : List Call) → map reads (map on bs) ≡ said
+pub runs : (s : Collector) → StartsEmpty s → (v : Shown) → seen s ≡ v → (bs : List Bytes) → bytesIn bs ≡ true → (said : List Call) → readAll (map on bs) ≡ said
     → answersOf s (map on bs) ≡ replies v said
 unfolding replies
-runs s o v e bs b said r = as-rules s o (map on bs) (of-bytes bs b) ∙ ap (λ (q : Shown). run withCells q (map reads (map on bs))) e ∙ ap (run withCells v) r
+runs s o v e bs b said r = as-rules s o (map on bs) (of-bytes bs b) ∙ ap (λ (q : Shown). run withCells q (readAll (map on bs))) e ∙ ap (run withCells v) r
 
 -- the answer has one of these numbers
 unfoldable pub numbered : List ℕ → Answer → Bool

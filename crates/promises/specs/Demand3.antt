@@ -12,10 +12,13 @@ use Prim.Native.Nat.{ℕ, _≤_}
 use mathlib.Core.Path.{_≡_}
 use mathlib.Core.List.{List}
 use Rattle.laws.specs.Runs.{answers, At, Never, GivenBy}
+use Rattle.rules_shared.specs.Same.{Bytes}
 use Rattle.rules_sets.specs.Rules.{Whole, Answer, handout, conflict, notWhole, counterFull, noCell}
+use Rattle.section.specs.declared.ids.MaybePid.the-variants as maybe
 use Rattle.store.specs.Store.{Store}
-use Rattle.sets.specs.History.{Call as Given, empty as clears, Bytes as OfBytes}
-use Rattle.ties_sets.specs.View.{tells, acts, Opened}
+use Rattle.sets.specs.History as sets
+use Rattle.ties_sets.specs.View as ties
+use Rattle.ties_sets.specs.View.{Opened}
 
 -- "Two set collectors": the settings and counts of a collector, with the content of the memory that is lent to it
 abbrev pub Collector : Type 0
@@ -33,8 +36,27 @@ EqualCellSize smaller larger = smaller .sets .size ≡ larger .sets .size
 abbrev pub LimitNoLarger : (smaller larger : Collector) → Type 0
 LimitNoLarger smaller larger = smaller .sets .limit ≤ larger .sets .limit
 
+-- a call: a clear, or a section with the input that it came in by and its PID, a number
+pub data Given : Type 0 where
+  clears : Given
+  section : (input pid : ℕ) → (bytes : Bytes) → Given
+
+-- .. as `clear` and `push` take it
+abbrev pub made : Given → sets.Call
+made clears = sets.empty
+made (section input pid bytes) = sets.offer input (maybe.Some pid) bytes
+
+abbrev pub OfBytes : Given → Type 0
+OfBytes i = sets.Bytes (made i)
+
+abbrev pub tells : Collector → Given → Answer
+tells s i = ties.tells s (made i)
+
+abbrev pub acts : Collector → Given → Collector
+acts s i = ties.acts s (made i)
+
 -- "Both get the same sections with the same PIDs in the same order, and are cleared at the same places if at all": one list of calls for both, each a
--- clear or a section, with a PID or without
+-- clear or a section with its PID
 abbrev pub Calls : Type 0
 Calls = List Given
 

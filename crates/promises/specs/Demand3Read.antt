@@ -12,9 +12,9 @@ use Rattle.rows.specs.Rows.{keyAt, versionOf, lastOf}
 use Rattle.reading.specs.Reading.{Reads}
 use Rattle.sets_settle.specs.Settle.{Handed, Told, handed}
 use Rattle.sets.specs.Store.{nextOf}
-use Rattle.sets.specs.History.{empty as clears, called}
-use Rattle.ties_sets.specs.View.{keyShown, acts}
-use Rattle.promises.specs.Demand3.{Collector, StartsEmpty, EqualCellSize, LimitNoLarger, Calls, SectionsOfBytes, RefusesNoneAsConflicting, RefusesNoneForItsStore}
+use Rattle.sets.specs.History.{called}
+use Rattle.ties_sets.specs.View.{keyShown}
+use Rattle.promises.specs.Demand3.{Collector, StartsEmpty, EqualCellSize, LimitNoLarger, clears, made, acts, Calls, SectionsOfBytes, RefusesNoneAsConflicting, RefusesNoneForItsStore}
 
 -- the collector with its memory as call number t left it
 abbrev pub after : Collector → Calls → ℕ → Collector
@@ -22,7 +22,7 @@ after s calls t = storeAfter acts s (take (suc t) calls)
 
 -- call number t was answered 5 and told this row
 abbrev pub TellsRow : Collector → Calls → ℕ → (row : ℕ) → Type 0
-TellsRow s calls t row = (h : Handed) × At (answers (λ c i. (called c i) .told) acts s calls) t (handed h) × (h .row ≡ row)
+TellsRow s calls t row = (h : Handed) × At (answers (λ c i. (called c (made i)) .told) acts s calls) t (handed h) × (h .row ≡ row)
 
 -- after call number t a host reads this set out of the row that it was told of: key, version and last_section_number from the row's head; and asking for
 -- the next section from 0 on, and then behind each number, the sections' bytes in order, each a part of the cells, until the answer is no

@@ -3,7 +3,6 @@
 use Prim.Native.Nat.{ℕ, _-_, _^_, _<_}
 use mathlib.Core.Path.{_≡_}
 use mathlib.Core.Bool.{true}
-use mathlib.Core.Option.{some}
 use mathlib.Core.List.{List, [], _∷_, map}
 use lib.ListN.{replicate}
 use Rattle.rules_shared.specs.Touch.{Entry}
@@ -40,7 +39,7 @@ gateKeys capacity keys = map (λ (r : Row). r .key) (heldAfter capacity keys [])
 -- the keys that a set collector of this limit holds in the end, the least recently touched first, given a section of each of these tables one after
 -- another: section 0 of 0 and 1, so that no set is complete
 abbrev pub tableKey : ℕ → Key
-tableKey table = record { from = record { input = 0; pid = some 0x12 }; tableId = table; extension = 1; currentNext = true }
+tableKey table = record { from = record { input = 0; pid = 0x12 }; tableId = table; extension = 1; currentNext = true }
 
 abbrev pub sectionOf : ℕ → Call
 sectionOf table = offer (record { key = tableKey table; version = 0; number = 0; last = 1; bytes = replicate 12 0 })

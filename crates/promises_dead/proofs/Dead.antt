@@ -39,6 +39,7 @@ use Rattle.eit_drop.specs.declared.Drop.{Drop}
 use Rattle.eit_drop.specs.declared.Drop.the-variants as drop
 use Rattle.eit_drop.specs.Drop.{matchingGone}
 use Rattle.eit_admit.specs.Admitting.{dropOf, admitted}
+use Rattle.eit_pids.specs.Rows.{anyWithout}
 use Rattle.eit.specs.Store.{After, after, done, refused, clearedOf, carriedDrop, droppedOf, pushedAs, pushedOf}
 use Rattle.promises_dead.specs.Dead.{GoesOnWith, Reaches, BelowItsKind, FullAndEmpty}
 
@@ -126,11 +127,15 @@ limit-stays-drop s f = dropped-limit s (dropOf s f)
 
 pub limit-stays-clear : (s : Store) → clearedOf s .store .eit .sets .limit ≡ s .eit .sets .limit
 unfolding clearedOf
-limit-stays-clear s = go (wholeOf s)
+limit-stays-clear s = go (wholeOf s) (anyWithout (s .eit) (s .heads) (s .schedule-heads))
   where
-    left : Bool → After
-    left b = cond b (after done (store (emptyEit (s .eit)) (s .heads) (s .slots) (s .cells) (s .schedule-heads) (s .units))) (after (refused refusal.NotWhole) s)
+    left : Bool → Bool → After
+    left b w =
+        cond b
+        (cond w (after (refused refusal.NoPid) s) (after done (store (emptyEit (s .eit)) (s .heads) (s .slots) (s .cells) (s .schedule-heads) (s .units))))
+        (after (refused refusal.NotWhole) s)
 
-    go : (b : Bool) → left b .store .eit .sets .limit ≡ s .eit .sets .limit
-    go true = refl
-    go false = refl
+    go : (b w : Bool) → left b w .store .eit .sets .limit ≡ s .eit .sets .limit
+    go true true = refl
+    go true false = refl
+    go false w = refl

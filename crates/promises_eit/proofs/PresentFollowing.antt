@@ -13,6 +13,7 @@ use Rattle.laws.proofs.Tests.{none≢some}
 use Rattle.rules_shared.specs.Row.{put}
 use Rattle.rules_shared.specs.Cells.{Settings}
 use Rattle.laws.specs.Runs.{answers, At, Never, GivenBy, Obeys, bars, does}
+use Rattle.laws.proofs.Runs.{answers-read}
 use Rattle.eit_section.specs.Segment.{segmentEnd as endOfSegment}
 use Rattle.rules_eit.specs.Keys.{Kind, kindOf, SetKey}
 use Rattle.rules_eit.specs.Segments.{segmentEnd}
@@ -21,15 +22,18 @@ use Rattle.rules_eit.specs.Rules.{tells as rulesTell, acts as rulesAct, opened 
 use Rattle.answers.specs.declared.Refusal.{Refusal}
 use Rattle.answers.specs.declared.Refusal.the-variants as refusal
 use Rattle.rules_eit.proofs.Judged.{Verdict, shown, incomplete, presents, outside, enters, schedules, verdict}
-use Rattle.ties_eit.specs.View.{Given, clears, reads, settingsOf, seen}
+use Rattle.ties_eit.specs.View as ties
+use Rattle.ties_eit.specs.View.{settingsOf, seen, Reached}
 use Rattle.rules_eit.specs.Cells.{Store as Shown, view, callTells, callActs}
 use Rattle.rules_eit.proofs.Cells.{obeys-rules}
 use Rattle.present.proofs.Five.{OfPresentFollowing, five-of-rules}
-use Rattle.ties_eit.proofs.History.{opened-reached, same-answers, never-not-whole, history}
+use Rattle.ties_eit.proofs.History as histories
+use Rattle.ties_eit.proofs.History.{opened-reached}
+use Rattle.promises.proofs.Demand3.{each-map}
 use Rattle.present.specs.Demand.{run, Smaller, NoConflict}
 use Rattle.present.specs.Demand as rules
 use Rattle.present.proofs.Demand as of-rules
-use Rattle.promises_eit.specs.PresentFollowing.{Collector, StartsEmpty, EqualCellSize, LimitNoLarger, Calls, CallsFit, answersOf, RefusesNoneAsConflicting, RefusesNoneForItsStore, Accepted, OfOneSegment, SegmentsAgree, NoneAboveItsSegment, HandsOut, HandedOutSinceTheLastClear, PresentFollowing, PresentFollowingWithDrops, PresentFollowingOpened, FiveIsPresentFollowing}
+use Rattle.promises_eit.specs.PresentFollowing.{Collector, StartsEmpty, EqualCellSize, LimitNoLarger, Given, clears, made, reads, Calls, CallsFit, answersOf, RefusesNoneAsConflicting, RefusesNoneForItsStore, Accepted, OfOneSegment, SegmentsAgree, NoneAboveItsSegment, HandsOut, HandedOutSinceTheLastClear, PresentFollowing, PresentFollowingWithDrops, PresentFollowingOpened, FiveIsPresentFollowing}
 
 -- ---- an EIT's section that is no longer than a cell is refused with 22 or 23 alone
 
@@ -80,10 +84,36 @@ read-from (j ∷ js) (suc t) i e = read-from js t i e
 
 -- a clear is read as a clear
 reads-clear : (calls : Calls) (t : ℕ) → At calls t clears → At (map reads calls) t clear
-unfolding reads
+unfolding ties.reads
 reads-clear [] t e = absurd (none≢some refl e)
 reads-clear (i ∷ is) zero e = ap (λ (j : Given). some (reads j)) (Option·some-injective i clears e)
 reads-clear (i ∷ is) (suc t) e = reads-clear is t e
+
+-- ---- the histories of these calls
+
+made-read : (calls : Calls) → map ties.reads (map made calls) ≡ map reads calls
+made-read [] = refl
+made-read (i ∷ is) = ap (λ (l : List Call). reads i ∷ l) (made-read is)
+
+module _ (calls : Calls) (fit : CallsFit calls) (s : Collector) where
+  as-made : answersOf s calls ≡ answers ties.tells ties.acts s (map made calls)
+  as-made = answers-read ties.tells ties.acts made s calls
+
+  made-fit : histories.EachFitting (map made calls)
+  made-fit = each-map ties.Fitting made calls fit
+
+  -- the answers are those of the rules with cells
+  pub same-answers : Reached s → answersOf s calls ≡ answers callTells callActs (seen s) (map reads calls)
+  same-answers z = as-made ∙ histories.same-answers (map made calls) made-fit s z ∙ ap (answers callTells callActs (seen s)) (made-read calls)
+
+  -- and, where no count is at its end and no cell is wanting, those of the rules
+  by-rules : StartsEmpty s → Never (refused refusal.CounterFull) (answersOf s calls) → Never (refused refusal.NoCell) (answersOf s calls) → answersOf s calls ≡ run (settingsOf s) (map reads calls)
+  by-rules o nf nc =
+      as-made ∙ histories.history s o (map made calls) made-fit (subst (Never (refused refusal.CounterFull)) as-made nf) (subst (Never (refused refusal.NoCell)) as-made nc)
+      ∙ ap (run (settingsOf s)) (made-read calls)
+
+  never-not-whole : StartsEmpty s → Never (refused refusal.NotWhole) (answersOf s calls)
+  never-not-whole o = subst (Never (refused refusal.NotWhole)) (sym as-made) (histories.never-not-whole s o (map made calls) made-fit)
 
 module _ (larger : Collector) (calls : Calls) (q : answersOf larger calls ≡ run (settingsOf larger) (map reads calls)) (nc : RefusesNoneAsConflicting larger calls) where
   -- what the rules accept, the larger accepts
@@ -123,8 +153,8 @@ module _ (larger : Collector) (calls : Calls) (q : answersOf larger calls ≡ ru
 
 pub present-following-with-drops : PresentFollowingWithDrops
 present-following-with-drops smaller larger os ol size limit calls fit nc ns nl sa na t set h =
-    let p = history smaller os calls fit (ns .counter) (ns .cells) in
-    let q = history larger ol calls fit (nl .counter) (nl .cells) in
+    let p = by-rules calls fit smaller os (ns .counter) (ns .cells) in
+    let q = by-rules calls fit larger ol (nl .counter) (nl .cells) in
     let le : Smaller (settingsOf smaller) (settingsOf larger) = record { sameCells = size; noLarger = limit } in
     let g : GivenBy clear handout (run (settingsOf larger) (map reads calls)) (map reads calls) t set =
     of-rules.present-following (settingsOf smaller) (settingsOf larger) le (map reads calls) (subst NoConflict q nc) (agree larger calls q nc sa) (inside larger calls q nc na) t set
@@ -144,8 +174,8 @@ present-following smaller larger os ol size limit calls fit nc ns nl nd sa na = 
 pub present-following-opened : PresentFollowingOpened
 present-following-opened smaller larger os ol size limit calls fit nc ns nl =
     present-following-with-drops smaller larger os ol size limit calls fit nc
-    (record { cells = ns .0; counter = ns .1; wholeness = never-not-whole smaller os calls fit })
-    (record { cells = nl .0; counter = nl .1; wholeness = never-not-whole larger ol calls fit })
+    (record { cells = ns .0; counter = ns .1; wholeness = never-not-whole calls fit smaller os })
+    (record { cells = nl .0; counter = nl .1; wholeness = never-not-whole calls fit larger ol })
 
 -- ---- answer 5 comes with present/following sets alone, whatever else was answered
 

@@ -14,18 +14,21 @@ use Rattle.rules_eit.specs.Rules.{Whole, Answer, handout}
 use Rattle.rows.specs.Rows.{keyAt, versionOf, lastOf}
 use Rattle.reading.specs.Reading.{Reads}
 use Rattle.reading.proofs.Reading.{one-reading}
-use Rattle.answers.specs.declared.Refusal.the-variants.{NotWhole}
+use Rattle.answers.specs.declared.Refusal.the-variants.{NotWhole, NoPid}
+use Rattle.section.specs.declared.ids.MaybePid.the-variants as maybe
 use Rattle.eit_state.specs.State.{Store, store, wholeOf}
+use Rattle.eit_pids.specs.Rows.{anyWithout}
 use Rattle.eit_drop.specs.declared.Filter.{Filter}
 use Rattle.eit_drop.specs.declared.Drop.{Drop}
 use Rattle.eit_drop.specs.declared.Drop.the-variants as drop
 use Rattle.eit.specs.Store.{SetOut, setOut, Told, done, nothing, a-set, a-schedule, refused, after as leaves, clearedOf, carriedDrop, droppedOf, nextOf}
 use Rattle.eit_state.specs.State.{emptyEit}
 use Rattle.eit_admit.specs.Admitting.{dropOf}
-use Rattle.ties_eit.specs.View.{Given, clears, drops, section, called, keyShown, answerTold, tells, acts, Fitting, Reached}
+use Rattle.ties_eit.specs.View as ties
+use Rattle.ties_eit.specs.View.{called, keyShown, answerTold, Reached}
 use Rattle.ties_eit.proofs.History.{opened-reached, opened-whole, stays-whole, acts-reached}
 use Rattle.ties_reading.proofs.Eit.{told-set, read-handed}
-use Rattle.promises_eit.specs.PresentFollowing.{Collector, Calls, CallsFit, HandsOut}
+use Rattle.promises_eit.specs.PresentFollowing.{Collector, Given, clears, drops, section, made, Fitting, tells, acts, Calls, CallsFit, HandsOut}
 use Rattle.promises_eit.specs.PresentFollowingRead.{after, ReadsOut, ReadOutSinceTheLastClear, PresentFollowingRead}
 use Rattle.promises_eit.proofs.PresentFollowing.{present-following-with-drops}
 
@@ -34,11 +37,13 @@ use Rattle.promises_eit.proofs.PresentFollowing.{present-following-with
 -- a clear hands out nothing
 clear-none : (s : Store) (h : SetOut) → (clearedOf s) .told ≡ a-set h → ⊥
 unfolding clearedOf
-clear-none s h e = go (wholeOf s) e
+clear-none s h e = go (wholeOf s) (anyWithout (s .eit) (s .heads) (s .schedule-heads)) e
   where
-    go : (b : Bool) → (cond b (leaves done (store (emptyEit (s .eit)) (s .heads) (s .slots) (s .cells) (s .schedule-heads) (s .units))) (leaves (refused NotWhole) s)) .told ≡ a-set h → ⊥
-    go true q = let z : _≡_ {A = ℕ} 0 1 = cc in omega arith
-    go false q = let z : _≡_ {A = ℕ} 0 1 = cc in omega arith
+    go : (b n : Bool)
+        → (cond b (cond n (leaves (refused NoPid) s) (leaves done (store (emptyEit (s .eit)) (s .heads) (s .slots) (s .cells) (s .schedule-heads) (s .units)))) (leaves (refused NotWhole) s)) .told ≡ a-set h → ⊥
+    go true true q = let z : _≡_ {A = ℕ} 0 1 = cc in omega arith
+    go true false q = let z : _≡_ {A = ℕ} 0 1 = cc in omega arith
+    go false n q = let z : _≡_ {A = ℕ} 0 1 = cc in omega arith
 
 -- nor does a drop
 drop-none : (s : Store) (f : Filter) (h : SetOut) → (droppedOf s f) .told ≡ a-set h → ⊥
@@ -50,11 +55,11 @@ drop-none s f h e = go (dropOf s f) e
     go (drop.Matching g) q = let z : _≡_ {A = ℕ} 0 1 = cc in omega arith
 
 -- what is told is in its row, and what is read there are its sections
-call-out : (s : Store) → Reached s → wholeOf s ≡ true → (i : Given) → Fitting i → (h : SetOut) → (called s i) .told ≡ a-set h
-    → (h ≡ setOut ((called s i) .store) (h .row)) × Reads (nextOf ((called s i) .store) (h .row)) (((called s i) .store) .cells) 0 (h .sections) No
+call-out : (s : Store) → Reached s → wholeOf s ≡ true → (i : Given) → Fitting i → (h : SetOut) → (called s (made i)) .told ≡ a-set h
+    → (h ≡ setOut ((called s (made i)) .store) (h .row)) × Reads (nextOf ((called s (made i)) .store) (h .row)) (((called s (made i)) .store) .cells) 0 (h .sections) No
 call-out s z w clears b h e = absurd (clear-none s h e)
 call-out s z w (drops f) b h e = absurd (drop-none s f h e)
-call-out s z w (section input pid bytes) b h e = (told-set s w input pid bytes h e .set, read-handed s z w input pid bytes b h e)
+call-out s z w (section input pid bytes) b h e = (told-set s w input (maybe.Some pid) bytes h e .set, read-handed s z w input (maybe.Some pid) bytes b h e)
 
 -- the set as the rules have it
 abbrev shown : SetOut → Whole
@@ -78,10 +83,10 @@ told-whole (refused r) set e = let z : _≡_ {A = ℕ} 0 1 = cc in absurd (omega
 -- ---- what a call hands out is what is read after it, and the other way round
 
 pub read-out : (calls : Calls) → CallsFit calls → (s : Collector) → Reached s → wholeOf s ≡ true → (t : ℕ) (set : Whole) → HandsOut s calls t set → ReadsOut s calls t set
-unfolding answers storeAfter tells acts setOut
+unfolding answers storeAfter ties.tells ties.acts setOut
 read-out [] b s z w t set e = absurd (none≢some refl e)
 read-out (i ∷ is) b s z w zero set e =
-    let q = told-whole ((called s i) .told) set (Option·some-injective (tells s i) (handout set) e) in
+    let q = told-whole ((called s (made i)) .told) set (Option·some-injective (tells s i) (handout set) e) in
     let h : SetOut = q .0 in
     let o = call-out s z w i (b 0 i refl) h (q .1) in
     record {
@@ -90,28 +95,28 @@ read-out (i ∷ is) b s z w zero set e =
       key = ap (λ (x : SetOut). keyShown (x .key)) (sym (o .0)) ∙ ap (λ (x : Whole). x .key) (q .2);
       version = ap (λ (x : SetOut). x .version) (sym (o .0)) ∙ ap (λ (x : Whole). x .version) (q .2);
       last = ap (λ (x : SetOut). x .last) (sym (o .0)) ∙ ap (λ (x : Whole). x .last) (q .2);
-      sections = subst (λ (l : List (List ℕ)). Reads (nextOf ((called s i) .store) (h .row)) (((called s i) .store) .cells) 0 l No) (ap (λ (x : Whole). x .sections) (q .2)) (o .1);
+      sections = subst (λ (l : List (List ℕ)). Reads (nextOf ((called s (made i)) .store) (h .row)) (((called s (made i)) .store) .cells) 0 l No) (ap (λ (x : Whole). x .sections) (q .2)) (o .1);
     }
 read-out (i ∷ is) b s z w (suc t) set e =
-    let r = read-out is (λ u j k. b (suc u) j k) (acts s i) (acts-reached s z i (b 0 i refl)) (stays-whole s z w i (b 0 i refl)) t set e in
+    let r = read-out is (λ u j k. b (suc u) j k) (acts s i) (acts-reached s z (made i) (b 0 i refl)) (stays-whole s z w (made i) (b 0 i refl)) t set e in
     record { row = r .row; told = r .told; key = r .key; version = r .version; last = r .last; sections = r .sections }
 
 pub handed-out : (calls : Calls) → CallsFit calls → (s : Collector) → Reached s → wholeOf s ≡ true → (t : ℕ) (set : Whole) → ReadsOut s calls t set → HandsOut s calls t set
-unfolding answers storeAfter tells acts answerTold setOut
+unfolding answers storeAfter ties.tells ties.acts answerTold setOut
 handed-out [] b s z w t set r = absurd (none≢some refl (r .told .1))
 handed-out (i ∷ is) b s z w zero set r =
     let h : SetOut = r .told .0 in
-    let p : (called s i) .told ≡ a-set h = Option·some-injective ((called s i) .told) (a-set h) (r .told .1) in
+    let p : (called s (made i)) .told ≡ a-set h = Option·some-injective ((called s (made i)) .told) (a-set h) (r .told .1) in
     let o = call-out s z w i (b 0 i refl) h p in
     let row : r .row ≡ h .row = sym (r .told .2) in
-    let m : Store = (called s i) .store in
+    let m : Store = (called s (made i)) .store in
     let k : keyShown (h .key) ≡ set .key = ap (λ (x : SetOut). keyShown (x .key)) (o .0) ∙ ap (λ (n : ℕ). keyShown (keyAt (m .heads) n)) (sym row) ∙ r .key in
     let v : h .version ≡ set .version = ap (λ (x : SetOut). x .version) (o .0) ∙ ap (versionOf (m .heads)) (sym row) ∙ r .version in
     let l : h .last ≡ set .last = ap (λ (x : SetOut). x .last) (o .0) ∙ ap (lastOf (m .heads)) (sym row) ∙ r .last in
     let c : h .sections ≡ set .sections = one-reading (o .1) (subst (λ (n : ℕ). Reads (nextOf m n) (m .cells) 0 (set .sections) No) row (r .sections)) .0 in
     ap some (ap answerTold p ∙ (λ j. handout (record { key = k j; version = v j; last = l j; sections = c j })))
 handed-out (i ∷ is) b s z w (suc t) set r =
-    handed-out is (λ u j k. b (suc u) j k) (acts s i) (acts-reached s z i (b 0 i refl)) (stays-whole s z w i (b 0 i refl)) t set
+    handed-out is (λ u j k. b (suc u) j k) (acts s i) (acts-reached s z (made i) (b 0 i refl)) (stays-whole s z w (made i) (b 0 i refl)) t set
     (record { row = r .row; told = r .told; key = r .key; version = r .version; last = r .last; sections = r .sections })
 
 pub present-following-read : PresentFollowingRead

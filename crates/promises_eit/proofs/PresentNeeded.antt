@@ -3,7 +3,7 @@
 -- Assumes nothing.
 use mathlib.Core.Path.{_≡_, refl, sym, ap, subst, _∙_}
 use mathlib.Core.Bool.{Bool, true, false, _&&_, _||_}
-use mathlib.Core.Option.{none, some, Option·some-injective}
+use mathlib.Core.Option.{some, Option·some-injective}
 use mathlib.Core.List.{List, [], _∷_, map}
 use Prim.Native.Nat.{ℕ, zero, suc, _+_, _*_, _/_, _≤_}
 use native.Mathlib.Omega.{arith}
@@ -25,7 +25,6 @@ use Rattle.section.specs.Header.{storedCrc, workedCrc, headerOf}
 use Rattle.section.specs.Judged.{malformed, collectedLong, collectedOf}
 use Rattle.eit_section.specs.Eit.{eitAs, eitOf}
 use Rattle.eit_section.specs.Segment.{segmentEnd}
-use Rattle.section.specs.declared.ids.MaybePid.the-variants as maybe
 use Rattle.laws.specs.Entries.{wholeEntries, entriesIn}
 use Rattle.answers.specs.Answers.{refusalNo}
 use Rattle.answers.specs.declared.Refusal.the-variants as refusal
@@ -37,10 +36,12 @@ use Rattle.ages.specs.Order.{downFrom, inOrder, rowsSeen}
 use Rattle.ages.specs.Slots.{upFrom, cellsSeen}
 use Rattle.eit_state.specs.State.{store, asked}
 use Rattle.eit.specs.Store.{openedOf}
-use Rattle.ties_eit.specs.View.{settingsOf, acts, Given, section, drops, Fitting, sectionOf, readsEit, readsAs, readSection, reads, seen}
-use Rattle.ties_eit.proofs.History.{opened-reached, same-answers, acts-settings}
+use Rattle.ties_eit.specs.View as ties
+use Rattle.ties_eit.specs.View.{settingsOf, sectionOf, readsEit, readsAs, readSection, seen}
+use Rattle.ties_eit.proofs.History.{opened-reached, acts-settings}
 use Rattle.promises.proofs.Runs.{bytesIn, byte-test}
-use Rattle.promises_eit.specs.PresentFollowing.{Collector, StartsEmpty, EqualCellSize, LimitNoLarger, Calls, CallsFit, answersOf, RefusesNoneAsConflicting, RefusesNoneForItsStore, NothingDropped, Accepted, OfOneSegment, SegmentsAgree, NoneAboveItsSegment, HandsOut, HandedOutSinceTheLastClear}
+use Rattle.promises_eit.specs.PresentFollowing.{Collector, StartsEmpty, EqualCellSize, LimitNoLarger, Given, section, drops, made, Fitting, reads, acts, Calls, CallsFit, answersOf, RefusesNoneAsConflicting, RefusesNoneForItsStore, NothingDropped, Accepted, OfOneSegment, SegmentsAgree, NoneAboveItsSegment, HandsOut, HandedOutSinceTheLastClear}
+use Rattle.promises_eit.proofs.PresentFollowing.{same-answers}
 
 -- ---- sections: present/following actual, PID 0x12, transport stream 1, network 1, version 0, current
 
@@ -66,11 +67,11 @@ abbrev z0 : Bytes
 z0 = 0x4E ∷ 0xB0 ∷ 0x0F ∷ 0x00 ∷ 0x01 ∷ 0xC1 ∷ 0x00 ∷ 0x01 ∷ 0x00 ∷ 0x01 ∷ 0x00 ∷ 0x01 ∷ 0x01 ∷ 0x4E ∷ 0x51 ∷ 0xC1 ∷ 0x2E ∷ 0x43 ∷ []
 
 abbrev on : Bytes → Given
-on bytes = section 0 (maybe.Some 0x12) bytes
+on bytes = section 0 0x12 bytes
 
 abbrev says : (service number last segmentLast lastTable : ℕ) → Bytes → Section
 says service number last segmentLast lastTable bytes = record {
-  from = record { input = 0; pid = some 0x12 };
+  from = record { input = 0; pid = 0x12 };
   tableId = 0x4E;
   serviceId = service;
   transportStreamId = 1;
@@ -89,7 +90,7 @@ said service number last segmentLast lastTable bytes = offer (says service numbe
 
 abbrev set-of : (service last : ℕ) → List Bytes → Whole
 set-of service last sections = record {
-  key = record { schedule = record { from = record { input = 0; pid = some 0x12 }; kind = presentActual; serviceId = service; transportStreamId = 1; originalNetworkId = 1; currentNext = true }; tableId = 0x4E };
+  key = record { schedule = record { from = record { input = 0; pid = 0x12 }; kind = presentActual; serviceId = service; transportStreamId = 1; originalNetworkId = 1; currentNext = true }; tableId = 0x4E };
   version = 0;
   last = last;
   sections = sections;
@@ -221,7 +222,7 @@ abbrev apart-said : List Call
 apart-said = said 1 1 1 1 0x4E x1 ∷ said 2 0 0 0 0x4E B ∷ said 1 0 1 0 0x4E x0 ∷ []
 
 apart-reads : map reads (map on apart) ≡ apart-said
-unfolding reads readSection readsAs readsEit sectionOf collectedOf collectedLong malformed headerOf storedCrc workedCrc crcFrom bitsIn bitIn eitOf eitAs wholeEntries entriesIn
+unfolding ties.reads readSection readsAs readsEit sectionOf collectedOf collectedLong malformed headerOf storedCrc workedCrc crcFrom bitsIn bitIn eitOf eitAs wholeEntries entriesIn
 apart-reads = refl
 
 apart-bytes : bytesIn apart ≡ true
@@ -260,7 +261,7 @@ abbrev above-said : List Call
 above-said = said 1 1 1 0 0x4E y1 ∷ said 2 0 0 0 0x4E B ∷ said 1 0 1 0 0x4E x0 ∷ []
 
 above-reads : map reads (map on above) ≡ above-said
-unfolding reads readSection readsAs readsEit sectionOf collectedOf collectedLong malformed headerOf storedCrc workedCrc crcFrom bitsIn bitIn eitOf eitAs wholeEntries entriesIn
+unfolding ties.reads readSection readsAs readsEit sectionOf collectedOf collectedLong malformed headerOf storedCrc workedCrc crcFrom bitsIn bitIn eitOf eitAs wholeEntries entriesIn
 above-reads = refl
 
 above-bytes : bytesIn above ≡ true
@@ -299,7 +300,7 @@ abbrev clash-said : List Call
 clash-said = said 1 0 0 0 0x4E c0 ∷ said 2 0 0 0 0x4E B ∷ said 1 0 0 0 0x4F c1 ∷ []
 
 clash-reads : map reads (map on clash) ≡ clash-said
-unfolding reads readSection readsAs readsEit sectionOf collectedOf collectedLong malformed headerOf storedCrc workedCrc crcFrom bitsIn bitIn eitOf eitAs wholeEntries entriesIn
+unfolding ties.reads readSection readsAs readsEit sectionOf collectedOf collectedLong malformed headerOf storedCrc workedCrc crcFrom bitsIn bitIn eitOf eitAs wholeEntries entriesIn
 clash-reads = refl
 
 clash-bytes : bytesIn clash ≡ true
@@ -339,7 +340,7 @@ abbrev later-said : List Call
 later-said = said 1 0 1 1 0x4E z0 ∷ said 2 0 0 0 0x4E B ∷ said 1 1 1 1 0x4E x1 ∷ said 1 0 1 1 0x4E z0 ∷ []
 
 later-reads : map reads (map on later) ≡ later-said
-unfolding reads readSection readsAs readsEit sectionOf collectedOf collectedLong malformed headerOf storedCrc workedCrc crcFrom bitsIn bitIn eitOf eitAs wholeEntries entriesIn
+unfolding ties.reads readSection readsAs readsEit sectionOf collectedOf collectedLong malformed headerOf storedCrc workedCrc crcFrom bitsIn bitIn eitOf eitAs wholeEntries entriesIn
 later-reads = refl
 
 later-bytes : bytesIn later ≡ true
@@ -408,7 +409,7 @@ abbrev soon-said : List Call
 soon-said = said 1 0 1 1 0x4E z0 ∷ said 2 0 0 0 0x4E B ∷ said 1 1 1 1 0x4E x1 ∷ []
 
 soon-reads : map reads (map on soon) ≡ soon-said
-unfolding reads readSection readsAs readsEit sectionOf collectedOf collectedLong malformed headerOf storedCrc workedCrc crcFrom bitsIn bitIn eitOf eitAs wholeEntries entriesIn
+unfolding ties.reads readSection readsAs readsEit sectionOf collectedOf collectedLong malformed headerOf storedCrc workedCrc crcFrom bitsIn bitIn eitOf eitAs wholeEntries entriesIn
 soon-reads = refl
 
 soon-bytes : bytesIn soon ≡ true
@@ -452,7 +453,7 @@ abbrev both-said : List Call
 both-said = said 1 0 1 1 0x4E z0 ∷ said 1 1 1 1 0x4E x1 ∷ []
 
 both-reads : map reads (map on both) ≡ both-said
-unfolding reads readSection readsAs readsEit sectionOf collectedOf collectedLong malformed headerOf storedCrc workedCrc crcFrom bitsIn bitIn eitOf eitAs wholeEntries entriesIn
+unfolding ties.reads readSection readsAs readsEit sectionOf collectedOf collectedLong malformed headerOf storedCrc workedCrc crcFrom bitsIn bitIn eitOf eitAs wholeEntries entriesIn
 both-reads = refl
 
 both-bytes : bytesIn both ≡ true
@@ -473,7 +474,7 @@ abbrev second-said : List Call
 second-said = said 1 1 1 1 0x4E x1 ∷ []
 
 second-reads : map reads (map on second) ≡ second-said
-unfolding reads readSection readsAs readsEit sectionOf collectedOf collectedLong malformed headerOf storedCrc workedCrc crcFrom bitsIn bitIn eitOf eitAs wholeEntries entriesIn
+unfolding ties.reads readSection readsAs readsEit sectionOf collectedOf collectedLong malformed headerOf storedCrc workedCrc crcFrom bitsIn bitIn eitOf eitAs wholeEntries entriesIn
 second-reads = refl
 
 second-bytes : bytesIn second ≡ true
@@ -495,7 +496,7 @@ unfolding answers
 begun-answers = ap (λ (as′ : List Answer). skip 1 as′) both-answers
 
 settings-stay : settingsOf begun ≡ settingsOf (collector 1)
-settings-stay = acts-settings (collector 1) (opened-reached (collector 1) opened-1) (on z0) (fit both both-bytes 0 (on z0) refl)
+settings-stay = acts-settings (collector 1) (opened-reached (collector 1) opened-1) (made (on z0)) (fit both both-bytes 0 (on z0) refl)
 
 pub empty-start-needed : ¬ ((smaller larger : Collector) → StartsEmpty larger → EqualCellSize smaller larger → LimitNoLarger smaller larger → (calls : Calls) → CallsFit calls → RefusesNoneAsConflicting larger calls → RefusesNoneForItsStore smaller calls → RefusesNoneForItsStore larger calls → NothingDropped calls → SegmentsAgree larger calls → NoneAboveItsSegment larger calls → (t : ℕ) (set : Whole) → HandsOut smaller calls t set → HandedOutSinceTheLastClear larger calls t set)
 unfolding anyOf sameBytes segmentEnd numberOf

@@ -16,10 +16,13 @@ use Rattle.laws.specs.Runs.{answers, At, Never, GivenBy}
 use Rattle.eit_section.specs.Segment.{segmentEnd}
 use Rattle.answers.specs.declared.Refusal.{Refusal}
 use Rattle.answers.specs.declared.Refusal.the-variants as refusal
-use Rattle.rules_eit.specs.Rules.{Section, offer, Whole, Answer, refused, handout}
+use Rattle.rules_shared.specs.Same.{Bytes}
+use Rattle.rules_eit.specs.Rules.{Section, Call, offer, Whole, Answer, refused, handout}
+use Rattle.section.specs.declared.ids.MaybePid.the-variants as maybe
 use Rattle.eit_state.specs.State.{Store}
 use Rattle.eit_drop.specs.declared.Filter.{Filter}
-use Rattle.ties_eit.specs.View.{Given, clears, drops, Fitting, reads, tells, acts, Opened}
+use Rattle.ties_eit.specs.View as ties
+use Rattle.ties_eit.specs.View.{Opened}
 
 -- "Two EIT collectors": the settings and counts of a collector, with the content of the memory that is lent to it
 abbrev pub Collector : Type 0
@@ -36,6 +39,30 @@ EqualCellSize smaller larger = smaller .eit .sets .size ≡ larger .eit .sets .s
 -- "one limit no larger than the other"
 abbrev pub LimitNoLarger : (smaller larger : Collector) → Type 0
 LimitNoLarger smaller larger = smaller .eit .sets .limit ≤ larger .eit .sets .limit
+
+-- a call: a clear, a drop by a filter, or a section with the input that it came in by and its PID, a number
+pub data Given : Type 0 where
+  clears : Given
+  drops : Filter → Given
+  section : (input pid : ℕ) → (bytes : Bytes) → Given
+
+-- .. as `clear`, `drop` and `push` take it
+abbrev pub made : Given → ties.Given
+made clears = ties.clears
+made (drops f) = ties.drops f
+made (section input pid bytes) = ties.section input (maybe.Some pid) bytes
+
+abbrev pub Fitting : Given → Type 0
+Fitting i = ties.Fitting (made i)
+
+abbrev pub reads : Given → Call
+reads i = ties.reads (made i)
+
+abbrev pub tells : Collector → Given → Answer
+tells s i = ties.tells s (made i)
+
+abbrev pub acts : Collector → Given → Collector
+acts s i = ties.acts s (made i)
 
 -- ".. are fed alike": one list of calls for both, each a clear, a drop or a section with its PID
 abbrev pub Calls : Type 0

@@ -11,8 +11,8 @@ use Rattle.rules_eit.specs.Rules.{Whole}
 use Rattle.rows.specs.Rows.{keyAt, versionOf, lastOf}
 use Rattle.reading.specs.Reading.{Reads}
 use Rattle.eit.specs.Store.{SetOut, Told, a-set, nextOf}
-use Rattle.ties_eit.specs.View.{clears, called, keyShown, acts}
-use Rattle.promises_eit.specs.PresentFollowing.{Collector, StartsEmpty, EqualCellSize, LimitNoLarger, Calls, CallsFit, RefusesNoneAsConflicting, RefusesNoneForItsStore, SegmentsAgree, NoneAboveItsSegment}
+use Rattle.ties_eit.specs.View.{called, keyShown}
+use Rattle.promises_eit.specs.PresentFollowing.{Collector, StartsEmpty, EqualCellSize, LimitNoLarger, clears, made, acts, Calls, CallsFit, RefusesNoneAsConflicting, RefusesNoneForItsStore, SegmentsAgree, NoneAboveItsSegment}
 
 -- the collector with its memory as call number t left it
 abbrev pub after : Collector → Calls → ℕ → Collector
@@ -20,7 +20,7 @@ after s calls t = storeAfter acts s (take (suc t) calls)
 
 -- call number t was answered 5 and told this row
 abbrev pub TellsRow : Collector → Calls → ℕ → (row : ℕ) → Type 0
-TellsRow s calls t row = (h : SetOut) × At (answers (λ c i. (called c i) .told) acts s calls) t (a-set h) × (h .row ≡ row)
+TellsRow s calls t row = (h : SetOut) × At (answers (λ c i. (called c (made i)) .told) acts s calls) t (a-set h) × (h .row ≡ row)
 
 -- after call number t a host reads this set out of the row that it was told of: key, version and last_section_number from the row's head; and asking for
 -- the next section from 0 on, and then behind each number, the sections' bytes in order, each a part of the cells, until the answer is no

@@ -13,7 +13,9 @@ use Rattle.store.specs.declared.Sets.{Sets}
 use Rattle.store.proofs.Whole as sets-whole
 use Rattle.units.specs.Units.{isPresent, unitSlots}
 use Rattle.schedules.specs.Schedules.{tablesOf}
+use Rattle.without_pid.specs.Pids.{withoutPid}
 use Rattle.eit_state.specs.State as eit
+use Rattle.eit_pids.specs.Rows.{anyWithout}
 use Rattle.eit_state.specs.declared.Eit.{Eit}
 use Rattle.eit_state.proofs.Whole.{is-whole-means}
 use Rattle.reader_rows.specs.Rows.{setSlots, eitSlots, unitTaken, tableSlots}
@@ -21,13 +23,18 @@ use Rattle.reader_rows.specs.Rows.{setSlots, eitSlots, unitTaken, tableS
 -- ---- a set
 
 module _ (s : sets.Store) (row : ℕ) (b : Bool) (q : List ℕ) (e : b ≡ sets.wholeOf s) where
-  pub set-there : b ≡ true → row < s .sets .used → q ≡ rowSlots (s .heads) (s .slots) row → q ≡ setSlots s row
-  unfolding setSlots
-  set-there t h f = rw (← e, t, lt-ltb row (s .sets .used) h) f
+  module _ (t : b ≡ true) (w : Bool) (o : w ≡ withoutPid (s .heads) (s .sets .used)) where
+    pub set-without : w ≡ true → q ≡ [] → q ≡ setSlots s row
+    unfolding setSlots
+    set-without v f = rw (← e, t, ← o, v) f
 
-  pub set-none : b ≡ true → s .sets .used ≤ row → q ≡ [] → q ≡ setSlots s row
-  unfolding setSlots
-  set-none t h f = rw (← e, t, le-ltb row (s .sets .used) h) f
+    pub set-there : w ≡ false → row < s .sets .used → q ≡ rowSlots (s .heads) (s .slots) row → q ≡ setSlots s row
+    unfolding setSlots
+    set-there v h f = rw (← e, t, ← o, v, lt-ltb row (s .sets .used) h) f
+
+    pub set-none : w ≡ false → s .sets .used ≤ row → q ≡ [] → q ≡ setSlots s row
+    unfolding setSlots
+    set-none v h f = rw (← e, t, ← o, v, le-ltb row (s .sets .used) h) f
 
   pub set-broken : b ≡ false → q ≡ [] → q ≡ setSlots s row
   unfolding setSlots
@@ -37,16 +44,24 @@ pub set-row : (s : Sets) (heads slots cells : List ℕ) (b : Bool) (row : ℕ) �
     → (row * 12 + 12 ≤ length heads) × (row * 288 + 288 ≤ length slots)
 set-row s heads slots cells b row e t h = let w = sets-whole.is-whole-means s heads slots cells b e t in (omega arith, omega arith)
 
+pub set-heads : (s : Sets) (heads slots cells : List ℕ) (b : Bool) → b ≡ sets.wholeOf (sets.store s heads slots cells) → b ≡ true → s .used * 12 ≤ length heads
+set-heads s heads slots cells b e t = let w = sets-whole.is-whole-means s heads slots cells b e t in omega arith
+
 -- ---- an EIT set, and a table of a schedule
 
 module _ (s : eit.Store) (row : ℕ) (b : Bool) (q : List ℕ) (e : b ≡ eit.wholeOf s) where
-  pub eit-there : b ≡ true → row < s .eit .sets .used → q ≡ rowSlots (s .heads) (s .slots) row → q ≡ eitSlots s row
-  unfolding eitSlots
-  eit-there t h f = rw (← e, t, lt-ltb row (s .eit .sets .used) h) f
+  module _ (t : b ≡ true) (w : Bool) (o : w ≡ anyWithout (s .eit) (s .heads) (s .schedule-heads)) where
+    pub eit-without : w ≡ true → q ≡ [] → q ≡ eitSlots s row
+    unfolding eitSlots
+    eit-without v f = rw (← e, t, ← o, v) f
 
-  pub eit-none : b ≡ true → s .eit .sets .used ≤ row → q ≡ [] → q ≡ eitSlots s row
-  unfolding eitSlots
-  eit-none t h f = rw (← e, t, le-ltb row (s .eit .sets .used) h) f
+    pub eit-there : w ≡ false → row < s .eit .sets .used → q ≡ rowSlots (s .heads) (s .slots) row → q ≡ eitSlots s row
+    unfolding eitSlots
+    eit-there v h f = rw (← e, t, ← o, v, lt-ltb row (s .eit .sets .used) h) f
+
+    pub eit-none : w ≡ false → s .eit .sets .used ≤ row → q ≡ [] → q ≡ eitSlots s row
+    unfolding eitSlots
+    eit-none v h f = rw (← e, t, ← o, v, le-ltb row (s .eit .sets .used) h) f
 
   pub eit-broken : b ≡ false → q ≡ [] → q ≡ eitSlots s row
   unfolding eitSlots
@@ -57,17 +72,22 @@ module _ (s : eit.Store) (row : ℕ) (b : Bool) (q : List ℕ) (e : b ≡ eit.wh
     unfolding tableSlots
     table-broken t f = rw (← e, t) f
 
-    pub table-no-row : b ≡ true → s .eit .schedules ≤ row → q ≡ [] → q ≡ tableSlots s row table
-    unfolding tableSlots
-    table-no-row t h f = rw (← e, t, le-ltb row (s .eit .schedules) h) f
+    module _ (t : b ≡ true) (w : Bool) (o : w ≡ anyWithout (s .eit) (s .heads) (s .schedule-heads)) where
+      pub table-without : w ≡ true → q ≡ [] → q ≡ tableSlots s row table
+      unfolding tableSlots
+      table-without v f = rw (← e, t, ← o, v) f
 
-    pub table-past : (n : ℕ) → b ≡ true → row < s .eit .schedules → n ≡ tablesOf (s .schedule-heads) row → n ≤ table → q ≡ [] → q ≡ tableSlots s row table
-    unfolding tableSlots
-    table-past n t h g k f = rw (← e, t, lt-ltb row (s .eit .schedules) h, ← g, le-ltb table n k) f
+      pub table-no-row : w ≡ false → s .eit .schedules ≤ row → q ≡ [] → q ≡ tableSlots s row table
+      unfolding tableSlots
+      table-no-row v h f = rw (← e, t, ← o, v, le-ltb row (s .eit .schedules) h) f
 
-    pub table-there : (n : ℕ) → b ≡ true → row < s .eit .schedules → n ≡ tablesOf (s .schedule-heads) row → table < n → q ≡ unitTaken (s .units) (row * 16 + table) → q ≡ tableSlots s row table
-    unfolding tableSlots
-    table-there n t h g k f = rw (← e, t, lt-ltb row (s .eit .schedules) h, ← g, lt-ltb table n k) f
+      pub table-past : (n : ℕ) → w ≡ false → row < s .eit .schedules → n ≡ tablesOf (s .schedule-heads) row → n ≤ table → q ≡ [] → q ≡ tableSlots s row table
+      unfolding tableSlots
+      table-past n v h g k f = rw (← e, t, ← o, v, lt-ltb row (s .eit .schedules) h, ← g, le-ltb table n k) f
+
+      pub table-there : (n : ℕ) → w ≡ false → row < s .eit .schedules → n ≡ tablesOf (s .schedule-heads) row → table < n → q ≡ unitTaken (s .units) (row * 16 + table) → q ≡ tableSlots s row table
+      unfolding tableSlots
+      table-there n v h g k f = rw (← e, t, ← o, v, lt-ltb row (s .eit .schedules) h, ← g, lt-ltb table n k) f
 
 module _ (units : List ℕ) (u : ℕ) (b : Bool) (q : List ℕ) (e : b ≡ isPresent units u) where
   pub unit-there : b ≡ true → q ≡ unitSlots units u → q ≡ unitTaken units u

@@ -1,5 +1,5 @@
-// The slots that a reader (crate readers) is given, where the store is whole: those of a set in use, of an EIT set in use, and of a table of a schedule in
-// use. None else. While they are lent the store can't change, so a host asks once for a whole set.
+// The slots that a reader (crate readers) is given, where the store is whole and every row in use has a PID: those of a set in use, of an EIT set in use, and of a
+// table of a schedule in use. None else. While they are lent the store can't change, so a host asks once for a whole set.
 use eit_state::Eit;
 use store::Sets;
 ghost use mathlib.Core.Path.{_≡_};
@@ -27,6 +27,9 @@ pub fn set_slots<'a>(
     ensures { λ r. ⌜ now r ≡ setSlots (store sets (now (heads .entry)) (now (slots .entry)) (now (cells .entry))) row ⌝ }
 {
     if store::is_whole(sets, heads, slots, cells) {
+        if without_pid::any_without_pid(heads, sets.used) {
+            return none_of(slots);
+        }
         if row < sets.used {
             return rows::row_slots(heads, slots, row);
         }
@@ -49,6 +52,9 @@ pub fn eit_slots<'a>(
 {
     let held = eit.sets;
     if eit_state::is_whole(eit, heads, slots, cells, schedule_heads, units) {
+        if eit_pids::any_row_without_pid(eit, heads, schedule_heads) {
+            return none_of(slots);
+        }
         if row < held.used {
             return rows::row_slots(heads, slots, row);
         }
@@ -82,6 +88,9 @@ pub fn table_slots<'a>(
     ensures { λ r. ⌜ now r ≡ tableSlots (eitStore eit (now (heads .entry)) (now (slots .entry)) (now (cells .entry)) (now («schedule_heads» .entry)) (now (units .entry))) row table ⌝ }
 {
     if eit_state::is_whole(eit, heads, slots, cells, schedule_heads, units) {
+        if eit_pids::any_row_without_pid(eit, heads, schedule_heads) {
+            return none_of(units);
+        }
         if eit.schedules <= row {
             return none_of(units);
         }

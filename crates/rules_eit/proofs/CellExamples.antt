@@ -39,7 +39,7 @@ unfolding replies
 one-cell = refl
 
 -- 20 comes after 18; the schedule's cell is free once the schedule is dropped
-long-and-dropped : map numberOf (replies (store 1 1) (offer (record { from = record { input = 0; pid = none }; tableId = 0x4e; serviceId = 1; transportStreamId = 1; originalNetworkId = 1; currentNext = true; version = 0; number = 0; last = 0; segmentLast = 0; lastTable = 0; bytes = replicate 21 1 })
+long-and-dropped : map numberOf (replies (store 1 1) (offer (record { from = record { input = 0; pid = 18 }; tableId = 0x4e; serviceId = 1; transportStreamId = 1; originalNetworkId = 1; currentNext = true; version = 0; number = 0; last = 0; segmentLast = 0; lastTable = 0; bytes = replicate 21 1 })
     ∷ one 1 0x50 0 0x51 7 ∷ one 2 0x4e 0 0 9 ∷ drop free ∷ one 2 0x4e 0 0 9 ∷ [])) ≡ 20 ∷ 4 ∷ 21 ∷ 7 ∷ 5 ∷ []
 unfolding replies free
 long-and-dropped = refl

@@ -1,4 +1,4 @@
--- What the answers of the EIT collector with cells mean, for every store: 21 exactly, what is as before, what a conflict changes, which cell is used and
+-- What the answers of the EIT collector with cells mean, for every store: when 41 is told, 21 exactly, what is as before, what a conflict changes, which cell is used and
 -- when a cell changes.
 -- Assumes nothing.
 use mathlib.Core.Path.{_≡_, refl, sym, ap, _∙_, subst}
@@ -19,8 +19,8 @@ use Rattle.rules_shared.specs.Cells.{Held, bytesOf}
 use Rattle.rules_shared.proofs.All.{held-stays}
 use Rattle.rules_shared.proofs.Row.{slot-on, start-held}
 use Rattle.rules_shared.proofs.Cells.{LowestFree, AllTaken, Kept, kept-parts, parts-kept}
-use Rattle.rules_eit.specs.Keys.{Kind, kindOf, SetKey, sameSet}
-use Rattle.rules_eit.specs.Rules.{EitOf, Section, keyOf, partOf, Call, offer, Answer, done, refused, nothing, handout, schedule, asBefore, metRow, setAside, setNewest, isKept}
+use Rattle.rules_eit.specs.Keys.{Kind, kindOf, SetKey, sameSet, badFilter}
+use Rattle.rules_eit.specs.Rules.{EitOf, Section, keyOf, partOf, Call, clear, drop, refuse, offer, Answer, done, refused, nothing, handout, schedule, asBefore, metRow, setAside, setNewest, isKept}
 use Rattle.rules_eit.specs.Cells.{Store, Turn, onAnswer, view, taken, storeWhole, ended, shows, rest, roomFor, callTells, callActs}
 use Rattle.rules_eit.proofs.Views.{met-on}
 use Rattle.rules_eit.proofs.Outcome.{row, slot, Asks, Outcome, broken, stopped, clears, drops, keepsAll, refuses, foreign, long, keyless, lacks, keeps, ignores, conflicts, outcome, isRange, accepting, judge-accepts, accepts-not, bytes-not}
@@ -58,6 +58,7 @@ range-changes refusal.NoCell p q = true≢false (sym p)
 range-changes refusal.Conflict p q = true≢false (sym p)
 range-changes refusal.Range p q = true≢false (sym q)
 range-changes refusal.BadInput p q = true≢false (sym p)
+range-changes refusal.NoPid p q = true≢false (sym p)
 
 -- what judging a row answers changes something
 accepts-changes : (a : Answer) → accepting a ≡ true → asBefore a ≡ true → ⊥
@@ -67,6 +68,41 @@ accepts-changes (handout w) p q = true≢false (sym q)
 accepts-changes (schedule g) p q = true≢false (sym q)
 accepts-changes done p q = true≢false (sym p)
 accepts-changes (refused r) p q = range-changes r p q
+
+-- ---- 41
+
+-- a call that says no PID: a filter that asks for exactly none, or a section that came without one
+abbrev pub SaysNone : Call → Type 0
+SaysNone clear = ⊥
+SaysNone (drop f) = badFilter f ≡ some refusal.NoPid
+SaysNone (refuse r b) = r ≡ refusal.NoPid
+SaysNone (offer x) = ⊥
+
+abbrev refusalIn : Answer → Refusal
+refusalIn done = refusal.NotWhole
+refusalIn nothing = refusal.NotWhole
+refusalIn (handout w) = refusal.NotWhole
+refusalIn (schedule g) = refusal.NotWhole
+refusalIn (refused r) = r
+
+pub only-then-41 : (s : Store) (i : Call) → callTells s i ≡ (refused refusal.NoPid) → SaysNone i
+unfolding callTells accepting onAnswer shows
+only-then-41 s i e = go (outcome s i) e
+  where
+    go : {j : Call} {t : Turn} → Outcome s j t → t .answer ≡ (refused refusal.NoPid) → SaysNone j
+    go (broken j w) e = let z : _≡_ {A = ℕ} 0 1 = cc in absurd (omega arith)
+    go (stopped j w q) e = let z : _≡_ {A = ℕ} 0 1 = cc in absurd (omega arith)
+    go (clears w) e = let z : _≡_ {A = ℕ} 0 1 = cc in absurd (omega arith)
+    go (drops f w h) e = let z : _≡_ {A = ℕ} 0 1 = cc in absurd (omega arith)
+    go (keepsAll f r b w h) e = h ∙ ap (λ (a : Answer). some (refusalIn a)) e
+    go (refuses r b w) e = ap refusalIn e
+    go (foreign x w h) e = let z : _≡_ {A = ℕ} 0 1 = cc in absurd (omega arith)
+    go (long x kind w h l) e = let z : _≡_ {A = ℕ} 0 1 = cc in absurd (omega arith)
+    go (keyless x kind w h l q) e = let z : _≡_ {A = ℕ} 0 1 = cc in absurd (omega arith)
+    go (lacks x k a q f) e = let z : _≡_ {A = ℕ} 0 1 = cc in absurd (omega arith)
+    go (keeps x k a q c f) e = absurd (accepts-not _ _ (judge-accepts _ (s .settings .limit) (rest s k) k (x .lastTable) _) refl e)
+    go (ignores x k a h q f) e = absurd (accepts-not _ _ (judge-accepts _ (s .settings .limit) (rest s k) k (x .lastTable) _) refl e)
+    go (conflicts x k a h q f) e = let z : _≡_ {A = ℕ} 0 1 = cc in absurd (omega arith)
 
 -- ---- 21
 

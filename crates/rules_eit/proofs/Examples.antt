@@ -7,12 +7,12 @@ use mathlib.Core.List.{List, [], _∷_, map}
 use Prim.Native.Nat.{ℕ}
 use lib.ListN.{getElem?, replicate}
 use Rattle.answers.specs.declared.Refusal.the-variants as refusal
-use Rattle.rules_shared.specs.Same.{Bytes, sameBytes, samePid, sameOrigin}
+use Rattle.rules_shared.specs.Same.{Bytes, sameBytes, sameOrigin}
 use Rattle.rules_shared.specs.Slots.{isHeld, present}
 use Rattle.rules_shared.specs.Touch.{Entry, oldestGone, room, leaves, count, retain, find, remove, others, evicts, untouched, aside, newest, touch, emptied, retained}
 use Rattle.rules_shared.specs.Row.{fresh, fits, start, slotOf, keep, marked, putOver, put}
 use Rattle.laws.specs.Runs.{answers, storeAfter}
-use Rattle.rules_eit.specs.Keys.{Kind, presentActual, presentOther, scheduleActual, scheduleOther, between, kindOf, firstOf, kindNumber, sameKind, ScheduleKey, SetKey, sameSchedule, sameSet, Filter, anyPid, exactly, badPid, badInput, badFilter, pidPasses, passes, fromPasses, matches}
+use Rattle.rules_eit.specs.Keys.{Kind, presentActual, presentOther, scheduleActual, scheduleOther, between, kindOf, firstOf, kindNumber, sameKind, ScheduleKey, SetKey, sameSchedule, sameSet, Filter, anyPid, exactlyNone, exactly, noPid, badPid, badInput, badFilter, pidPasses, passes, fromPasses, matches}
 use Rattle.rules_eit.specs.Segments.{segmentEnd, SetOf, heldFrom, segmentFull, segmentsFull, complete}
 use Rattle.rules_eit.specs.Schedules.{ScheduleOf, copyOf, whole, copied, refill, begin, enter, allTables, wholes, guide}
 use Rattle.rules_eit.specs.Rules.{refused, scheduleOf, keyOf, partOf, Call, clear, drop, refuse, offer, Whole, Answer, nothing, handout, schedule, numberOf, metRow, setAside, setNewest, scheduleTouched, told, ranged, ready, judged, judge, cleared, dropped, Eit, finish, push, admit, offered, dropping, step, tells, acts, opened}
@@ -36,7 +36,7 @@ bytes-of b = replicate 18 b
 unfoldable pub sect : (service table version number last segmentLast lastTable byte : ℕ) → Call
 unfolding bytes-of
 sect s t v n last g z b = offer (record {
-  from = record { input = 0; pid = some 18 };
+  from = record { input = 0; pid = 18 };
   tableId = t;
   serviceId = s;
   transportStreamId = 1;
@@ -55,7 +55,7 @@ unfoldable pub one : (service table version lastTable byte : ℕ) → Call
 one s t v z b = sect s t v 0 0 0 z b
 
 unfoldable pub key-of : ℕ → Kind → ScheduleKey
-key-of s k = record { from = record { input = 0; pid = some 18 }; kind = k; serviceId = s; transportStreamId = 1; originalNetworkId = 1; currentNext = true }
+key-of s k = record { from = record { input = 0; pid = 18 }; kind = k; serviceId = s; transportStreamId = 1; originalNetworkId = 1; currentNext = true }
 
 unfoldable pub set-of : (service : ℕ) → Kind → (table version last : ℕ) → List ℕ → Whole
 unfolding key-of bytes-of
@@ -68,7 +68,7 @@ guide-of s k z ws = schedule (record { key = key-of s k; lastTable = z; tables =
 -- ---- runs, with every definition open
 
 unfoldable pub gives : (limit : ℕ) → List Call → List Answer
-unfolding sect one set-of guide-of sameBytes samePid sameOrigin isHeld present oldestGone room leaves count retain find remove others evicts untouched aside newest touch emptied retained fresh fits start slotOf keep marked putOver put between kindOf firstOf kindNumber sameKind sameSchedule sameSet badPid badInput badFilter pidPasses passes fromPasses matches segmentEnd heldFrom segmentFull segmentsFull complete copyOf whole copied refill begin enter allTables wholes guide scheduleOf keyOf partOf numberOf metRow setAside setNewest scheduleTouched told ranged ready judged judge cleared dropped finish push admit offered dropping step tells acts answers
+unfolding sect one set-of guide-of sameBytes sameOrigin isHeld present oldestGone room leaves count retain find remove others evicts untouched aside newest touch emptied retained fresh fits start slotOf keep marked putOver put between kindOf firstOf kindNumber sameKind sameSchedule sameSet noPid badPid badInput badFilter pidPasses passes fromPasses matches segmentEnd heldFrom segmentFull segmentsFull complete copyOf whole copied refill begin enter allTables wholes guide scheduleOf keyOf partOf numberOf metRow setAside setNewest scheduleTouched told ranged ready judged judge cleared dropped finish push admit offered dropping step tells acts answers
 gives limit calls = answers (tells (record { limit = limit; cellSize = 20 })) (acts (record { limit = limit; cellSize = 20 })) opened calls
 
 leaves-behind : (limit : ℕ) → List Call → Eit
@@ -108,7 +108,7 @@ unfolding gives
 sparse = refl
 
 -- not an EIT; a section that its bytes refuse; longer than a cell; limit 0, looked at after 20; a filter with a PID that there is none of
-refusals : map numberOf (gives 0 (one 1 0x42 0 0x42 7 ∷ refuse refusal.BadCrc refl ∷ one 1 0x4e 0 0x4e 7 ∷ drop (record { pid = exactly (some 8192); kind = none; serviceId = none; transportStreamId = none; originalNetworkId = none; currentNext = none; input = none }) ∷ []))
+refusals : map numberOf (gives 0 (one 1 0x42 0 0x42 7 ∷ refuse refusal.BadCrc refl ∷ one 1 0x4e 0 0x4e 7 ∷ drop (record { pid = exactly 8192; kind = none; serviceId = none; transportStreamId = none; originalNetworkId = none; currentNext = none; input = none }) ∷ []))
     ≡ 18 ∷ 17 ∷ 4 ∷ 12 ∷ []
 unfolding gives
 refusals = refl
@@ -212,19 +212,26 @@ counts-schedules = refl
 unfoldable pub free : Filter
 free = record { pid = anyPid; kind = none; serviceId = none; transportStreamId = none; originalNetworkId = none; currentNext = none; input = none }
 
--- everything; what has no PID; service 2
+-- everything; what has no PID, which is refused; service 2
 drop-all : leaves-behind 4 (one 1 0x50 0 0x50 7 ∷ drop free ∷ []) ≡ opened
 unfolding leaves-behind free
 drop-all = refl
 
-drop-none : services (leaves-behind 4 (one 1 0x50 0 0x50 7 ∷ one 2 0x50 0 0x50 7
-    ∷ drop (record { pid = exactly none; kind = none; serviceId = none; transportStreamId = none; originalNetworkId = none; currentNext = none; input = none }) ∷ [])) ≡ 1 ∷ 2 ∷ []
-unfolding leaves-behind services
+-- an input that there is none of is looked at after that
+without : Filter
+without = record { pid = exactlyNone; kind = none; serviceId = none; transportStreamId = none; originalNetworkId = none; currentNext = none; input = some 16 }
+
+drop-none : services (leaves-behind 4 (one 1 0x50 0 0x50 7 ∷ one 2 0x50 0 0x50 7 ∷ drop without ∷ [])) ≡ 1 ∷ 2 ∷ []
+unfolding leaves-behind services without
 drop-none = refl
+
+drop-none-refused : map numberOf (gives 4 (one 1 0x50 0 0x50 7 ∷ drop without ∷ refuse refusal.NoPid refl ∷ [])) ≡ 6 ∷ 41 ∷ 41 ∷ []
+unfolding gives without
+drop-none-refused = refl
 
 one-service : List Call
 one-service = one 1 0x50 0 0x50 7 ∷ one 2 0x50 0 0x50 7 ∷ one 2 0x4e 0 0 7
-    ∷ drop (record { pid = exactly (some 18); kind = some scheduleActual; serviceId = some 2; transportStreamId = none; originalNetworkId = some 1; currentNext = some true; input = none }) ∷ []
+    ∷ drop (record { pid = exactly 18; kind = some scheduleActual; serviceId = some 2; transportStreamId = none; originalNetworkId = some 1; currentNext = some true; input = none }) ∷ []
 
 drop-service : services (leaves-behind 4 one-service) ≡ 1 ∷ 2 ∷ []
 unfolding leaves-behind one-service services

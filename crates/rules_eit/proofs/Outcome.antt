@@ -16,7 +16,7 @@ use Rattle.rules_shared.specs.Same.{Bytes}
 use Rattle.rules_shared.specs.Row.{slotOf, keep}
 use Rattle.rules_shared.specs.Cells.{Held, bytesOf, write, Place, heldIn}
 use Rattle.rules_shared.proofs.Cells.{LowestFree, AllTaken, Placed, laid, lacking, alike, unlike, placed}
-use Rattle.rules_eit.specs.Keys.{Kind, kindOf, firstOf, SetKey, Filter, badPid, badInput, badFilter}
+use Rattle.rules_eit.specs.Keys.{Kind, kindOf, firstOf, SetKey, Filter, noPid, badPid, badInput, badFilter}
 use Rattle.rules_eit.specs.Segments.{SetOf, complete}
 use Rattle.rules_eit.specs.Schedules.{ScheduleOf, allTables}
 use Rattle.rules_eit.specs.Rules.{fromBytes, EitOf, Section, keyOf, partOf, Call, clear, drop, refuse, offer, done, refused, nothing, handout, schedule, metRow, told, ranged, ready, judged, judge, cleared, dropped, Answer}
@@ -25,12 +25,13 @@ use Rattle.rules_eit.specs.Cells.{Store, Turn, onAnswer, taken, storeWho
 -- a filter is refused by what it is given alone
 bad-given : (f : Filter) (r : Refusal) → badFilter f ≡ some r → fromBytes r ≡ true
 unfolding badFilter
-bad-given f r = go (badPid (f .pid)) (badInput (f .input))
+bad-given f r = go (noPid (f .pid)) (badPid (f .pid)) (badInput (f .input))
   where
-    go : (p i : Bool) → cond p (some refusal.BadPid) (cond i (some refusal.BadInput) none) ≡ some r → fromBytes r ≡ true
-    go true i e = ap fromBytes (sym (Option·some-injective refusal.BadPid r e))
-    go false true e = ap fromBytes (sym (Option·some-injective refusal.BadInput r e))
-    go false false e = absurd (none≢some refl e)
+    go : (n p i : Bool) → cond n (some refusal.NoPid) (cond p (some refusal.BadPid) (cond i (some refusal.BadInput) none)) ≡ some r → fromBytes r ≡ true
+    go true p i e = ap fromBytes (sym (Option·some-injective refusal.NoPid r e))
+    go false true i e = ap fromBytes (sym (Option·some-injective refusal.BadPid r e))
+    go false false true e = ap fromBytes (sym (Option·some-injective refusal.BadInput r e))
+    go false false false e = absurd (none≢some refl e)
 
 -- the row that a section meets
 abbrev pub row : Store → Section → SetKey → SetOf Held
@@ -133,6 +134,7 @@ isRange refusal.NoCell = false
 isRange refusal.Conflict = false
 isRange refusal.Range = true
 isRange refusal.BadInput = false
+isRange refusal.NoPid = false
 
 -- 4, 5, 6 or 23: what judging a row answers
 unfoldable pub accepting : Answer → Bool

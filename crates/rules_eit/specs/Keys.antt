@@ -6,7 +6,7 @@ use Prim.Native.Nat.{ℕ}
 use lib.Dec.{leb, eqb}
 use Rattle.answers.specs.declared.Refusal.{Refusal}
 use Rattle.answers.specs.declared.Refusal.the-variants as refusal
-use Rattle.rules_shared.specs.Same.{Origin, samePid, sameOrigin}
+use Rattle.rules_shared.specs.Same.{Origin, sameOrigin}
 
 -- ---- kinds
 
@@ -50,7 +50,7 @@ pub record ScheduleKey : Type 0 where
   pub originalNetworkId : ℕ
   pub currentNext : Bool
 
--- "EIT set key adds kind, transport_stream_id, original_network_id" to PID or none, table_id, extension and current_next
+-- "EIT set key adds kind, transport_stream_id, original_network_id" to PID, table_id, extension and current_next
 pub record SetKey : Type 0 where
   pub schedule : ScheduleKey
   pub tableId : ℕ
@@ -68,9 +68,10 @@ sameSet a b = sameSchedule (a .schedule) (b .schedule) && eqb (a .tableId) (b .t
 -- the PID is free, exactly none, or exactly p
 pub data PidTest : Type 0 where
   anyPid : PidTest
-  exactly : Option ℕ → PidTest
+  exactlyNone : PidTest
+  exactly : ℕ → PidTest
 
--- "PID or none, kind, service_id, transport_stream_id, original_network_id and current_next, each exact or free", and the input; none is free
+-- "PID, kind, service_id, transport_stream_id, original_network_id and current_next, each exact or free", and the input; none is free
 pub record Filter : Type 0 where
   pub pid : PidTest
   pub kind : Option Kind
@@ -80,24 +81,32 @@ pub record Filter : Type 0 where
   pub currentNext : Option Bool
   pub input : Option ℕ
 
+-- 41: exactly none. No row is without a PID
+unfoldable pub noPid : PidTest → Bool
+noPid anyPid = false
+noPid exactlyNone = true
+noPid (exactly p) = false
+
 -- 12: an exact PID of 8192 or more
 unfoldable pub badPid : PidTest → Bool
 badPid anyPid = false
-badPid (exactly none) = false
-badPid (exactly (some p)) = leb 8192 p
+badPid exactlyNone = false
+badPid (exactly p) = leb 8192 p
 
 -- 37: an exact input of 16 or more
 unfoldable pub badInput : Option ℕ → Bool
 badInput none = false
 badInput (some i) = leb 16 i
 
--- why a filter is refused: "37 .. directly after 12"
+-- why a filter is refused: 41 before 12, "37 .. directly after 12"
 unfoldable pub badFilter : Filter → Option Refusal
-badFilter f = cond (badPid (f .pid)) (some refusal.BadPid) (cond (badInput (f .input)) (some refusal.BadInput) none)
+badFilter f =
+    cond (noPid (f .pid)) (some refusal.NoPid) (cond (badPid (f .pid)) (some refusal.BadPid) (cond (badInput (f .input)) (some refusal.BadInput) none))
 
-unfoldable pub pidPasses : PidTest → Option ℕ → Bool
+unfoldable pub pidPasses : PidTest → ℕ → Bool
 pidPasses anyPid p = true
-pidPasses (exactly q) p = samePid q p
+pidPasses exactlyNone p = false
+pidPasses (exactly q) p = eqb q p
 
 unfoldable pub passes : {A : Type 0} → (A → A → Bool) → Option A → A → Bool
 passes same none a = true

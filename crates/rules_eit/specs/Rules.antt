@@ -62,7 +62,7 @@ partOf x = record {
   noted = λ lasts. set lasts (segmentOf (x .number)) (some (x .segmentLast));
 }
 
--- the refusals that where a section came from and its bytes give, whatever the collector holds: 12, 37, 14 to 17 and 19. Whether its table_id is one of an EIT (18)
+-- the refusals that where a section came from and its bytes give, whatever the collector holds: 41, 12, 37, 14 to 17 and 19. Whether its table_id is one of an EIT (18)
 -- is for the rules to say
 abbrev pub fromBytes : Refusal → Bool
 fromBytes refusal.NotWhole = false
@@ -80,6 +80,7 @@ fromBytes refusal.NoCell = false
 fromBytes refusal.Conflict = false
 fromBytes refusal.Range = false
 fromBytes refusal.BadInput = true
+fromBytes refusal.NoPid = true
 
 -- a call: a clear; a drop by filter; a section that its PID or its bytes refuse; any other section
 pub data Call : Type 0 where
@@ -221,7 +222,7 @@ unfoldable pub offered : Settings → Eit → Section → Option Kind → Step
 offered o e x none = gives (refused refusal.NotEit) e
 offered o e x (some kind) = admit (o .limit) e x (keyOf x kind) (leb (length (x .bytes)) (o .cellSize))
 
--- 12, 37: the filter asks for a PID or an input that there is none of
+-- 41, 12, 37: the filter asks for no PID, or for a PID or an input that there is none of
 unfoldable pub dropping : Eit → Filter → (bad : Option Refusal) → Step
 dropping e f (some r) = gives (refused r) e
 dropping e f none = gives done (dropped f e)

@@ -62,7 +62,7 @@ pub worked-example : logOf (settings true) feed
 unfolding log
 worked-example = refl
 
--- without PIDs the set of A is kind 6
+-- by the older definition the set of A is kind 6
 pub bare-example : logOf (settings false) (given 0 0x11 A ∷ [])
     ≡ 0x01 ∷ 0x00 ∷ 0x00 ∷ 0x11 ∷ 0x42 ∷ 0x00 ∷ 0x01 ∷ 0x00 ∷ 0x03 ∷ 0xE7 ∷ 0x22 ∷ 0xAD ∷ 0x04
     ∷ 0x06 ∷ 0x00 ∷ 0x42 ∷ 0x00 ∷ 0x01 ∷ 0x01 ∷ 0x03 ∷ 0x00 ∷ []
@@ -73,3 +73,30 @@ bare-example = refl
 pub in-turns : map (λ (e : Bytes). getD e 0 0) (recordsOf one-key (given 0 0x11 A ∷ given 1 0x11 A ∷ given 0 0x11 A ∷ [])) ≡ 1 ∷ 5 ∷ 1 ∷ 5 ∷ 2 ∷ 5 ∷ []
 unfolding log
 in-turns = refl
+
+-- the kinds of the records
+abbrev kinds : List Bytes → List ℕ
+kinds es = map (λ (e : Bytes). getD e 0 0) es
+
+-- A on PID 0x11 and then on 0x10 is two sets with their PIDs; by the older definition it is one
+pub two-pids : kinds (recordsOf (settings true) (given 0 0x11 A ∷ given 0 0x10 A ∷ [])) ≡ 1 ∷ 5 ∷ 1 ∷ 5 ∷ []
+unfolding log
+two-pids = refl
+
+pub two-pids-before : kinds (recordsOf (settings false) (given 0 0x11 A ∷ given 0 0x10 A ∷ [])) ≡ 1 ∷ 6 ∷ 1 ∷ []
+unfolding log
+two-pids-before = refl
+
+-- sections 0 and 1 of one table, each on a PID of its own: by the older definition they make a set, with their PIDs they make none
+abbrev mixed : List Given
+mixed =
+    given 0 0x11 (0x42 ∷ 0xB0 ∷ 0x0A ∷ 0x00 ∷ 0x01 ∷ 0xC7 ∷ 0x00 ∷ 0x01 ∷ 0x61 ∷ 0x35 ∷ 0x3B ∷ 0x6C ∷ 0xD8 ∷ [])
+    ∷ given 0 0x10 (0x42 ∷ 0xB0 ∷ 0x0A ∷ 0x00 ∷ 0x01 ∷ 0xC7 ∷ 0x01 ∷ 0x01 ∷ 0x61 ∷ 0x34 ∷ 0xE3 ∷ 0xC0 ∷ 0x5F ∷ []) ∷ []
+
+pub mixed-apart : kinds (recordsOf (settings true) mixed) ≡ 1 ∷ 1 ∷ []
+unfolding log
+mixed-apart = refl
+
+pub mixed-before : kinds (recordsOf (settings false) mixed) ≡ 1 ∷ 1 ∷ 6 ∷ []
+unfolding log
+mixed-before = refl

@@ -2,7 +2,6 @@
 -- Assumes nothing.
 use mathlib.Core.Path.{refl}
 use mathlib.Core.Bool.{Bool, true, false, cond, _||_}
-use mathlib.Core.Option.{Option, none, some}
 use mathlib.Core.List.{List, [], _∷_, _++_}
 use Prim.Native.Nat.{ℕ}
 use native.Mathlib.Omega.{arith}
@@ -25,23 +24,23 @@ unfolding seenRecord recordSize
 seen-is true input pid p = record { known = omega arith; sized = refl }
 seen-is false input pid p = record { known = omega arith; sized = refl }
 
-line-is : (input : ℕ) (pid : Option ℕ) (h : Header) → IsRecord (setLine input pid h)
+line-is : (pids : Bool) (input pid : ℕ) (h : Header) → IsRecord (setLine pids input pid h)
 unfolding setLine setRecord bareSetRecord recordSize
-line-is input (some pid) h = record { known = omega arith; sized = refl }
-line-is input none h = record { known = omega arith; sized = refl }
+line-is true input pid h = record { known = omega arith; sized = refl }
+line-is false input pid h = record { known = omega arith; sized = refl }
 
-sets-are : (a : Answer) → AllRecords (setRecords a)
+sets-are : (pids : Bool) (a : Answer) → AllRecords (setRecords pids a)
 unfolding setRecords
-sets-are cleared = tt
-sets-are nothing = tt
-sets-are (handout w) = (line-is (w .key .from .input) (w .key .from .pid) (setHeader w), tt)
-sets-are (refused r) = tt
+sets-are pids cleared = tt
+sets-are pids nothing = tt
+sets-are pids (handout w) = (line-is pids (w .key .from .input) (w .key .from .pid) (setHeader w), tt)
+sets-are pids (refused r) = tt
 
 judged-are : (o : Settings) (k : Kept) (g : Given) (j : Judged) → AllRecords ((judged o k g j) .records)
 unfolding judged sound failedRecord recordSize
 judged-are o k g Short = (record { known = omega arith; sized = refl }, tt)
 judged-are o k g (Mismatch stored worked) = (record { known = omega arith; sized = refl }, tt)
-judged-are o k g (Sound p) = (seen-is (changed (rowOf g p) (k .rows) || o .repeats) (g .input) (g .pid) p, sets-are (callTells (k .sets) (pushed o g)))
+judged-are o k g (Sound p) = (seen-is (changed (rowOf g p) (k .rows) || o .repeats) (g .input) (g .pid) p, sets-are (o .pids) (callTells (k .sets) (pushed o g)))
 
 pub entry-are : (o : Settings) (k : Kept) (g : Given) → AllRecords ((entryOf o k g) .records)
 unfolding entryOf

@@ -2,3 +2,4 @@ pub mod Run
 pub mod Gate
 pub mod Lists
 pub mod Entries
+pub mod Older

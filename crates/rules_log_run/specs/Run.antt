@@ -3,8 +3,7 @@
 -- Assumes nothing.
 use Prim.Native.Nat.{ℕ}
 use mathlib.Core.List.{List, [], _∷_, _++_}
-use mathlib.Core.Bool.{Bool, cond, _||_}
-use mathlib.Core.Option.{Option, none, some}
+use mathlib.Core.Bool.{Bool, true, false, cond, _||_}
 use lib.Dec.{ltb}
 use lib.ListN.{length, replicate}
 use Rattle.section.specs.Ids.{originOf}
@@ -24,7 +23,8 @@ use Rattle.rules_logs.specs.Records.{Bytes, seenRecord, failedRecord, setRecord
 use Rattle.rules_logs.specs.Sections.{Given}
 use Rattle.rules_logs.specs.Verdict as records
 
--- what a log is made by: the gate's capacity, repeats and change rule; the collector's limit, cell size and number of cells; whether sets are taken with a PID
+-- what a log is made by: the gate's capacity, repeats and change rule; the collector's limit, cell size and number of cells; whether sets are taken with
+-- their PIDs, or else by the older definition, which knows no PIDs
 pub record Settings : Type 0 where
   pub capacity : ℕ
   pub repeats : Bool
@@ -54,9 +54,13 @@ pub record Entry : Type 0 where
 
 -- ---- the set collector
 
--- the section with its input and its PID, or without a PID; 14 to 17, or what it says
+-- the number that a section's key has of a PID: its PID; by the older definition 8192, a number that no PID has
+abbrev pub pidOf : Settings → Given → ℕ
+pidOf o g = cond (o .pids) (g .pid) 8192
+
+-- the section with its input and that number; 14 to 17, or what it says
 unfoldable pub pushed : Settings → Given → Call
-pushed o g = readsAs (record { input = g .input; pid = cond (o .pids) (some (g .pid)) none }) (g .section) (collectedOf (g .section))
+pushed o g = readsAs (record { input = g .input; pid = pidOf o g }) (g .section) (collectedOf (g .section))
 
 -- what a set says of itself; no record has a section_number of it
 abbrev pub setHeader : Whole → Header
@@ -69,17 +73,17 @@ setHeader w = record {
   last = w .last;
 }
 
--- 5 with the PID of its key, 6 where that has none
-unfoldable pub setLine : (input : ℕ) → (pid : Option ℕ) → Header → Bytes
-setLine input (some pid) h = setRecord input pid h
-setLine input none h = bareSetRecord input h
+-- 5 with the PID of its key, by the older definition 6
+unfoldable pub setLine : (pids : Bool) → (input pid : ℕ) → Header → Bytes
+setLine true input pid h = setRecord input pid h
+setLine false input pid h = bareSetRecord input h
 
 -- a set gives a record, every other answer none
-unfoldable pub setRecords : Answer → List Bytes
-setRecords cleared = []
-setRecords nothing = []
-setRecords (handout w) = setLine (w .key .from .input) (w .key .from .pid) (setHeader w) ∷ []
-setRecords (refused r) = []
+unfoldable pub setRecords : (pids : Bool) → Answer → List Bytes
+setRecords pids cleared = []
+setRecords pids nothing = []
+setRecords pids (handout w) = setLine pids (w .key .from .input) (w .key .from .pid) (setHeader w) ∷ []
+setRecords pids (refused r) = []
 
 -- ---- the gate
 
@@ -94,7 +98,7 @@ kindOf o rows n = cond (changed n rows || o .repeats) 1 2
 -- emitted or suppressed: its record, and then the collector is asked
 unfoldable pub sound : Settings → Kept → Given → Parts → Entry
 sound o k g p = record {
-  records = seenRecord (kindOf o (k .rows) (rowOf g p)) (g .input) (g .pid) p ∷ setRecords (callTells (k .sets) (pushed o g));
+  records = seenRecord (kindOf o (k .rows) (rowOf g p)) (g .input) (g .pid) p ∷ setRecords (o .pids) (callTells (k .sets) (pushed o g));
   kept = record { rows = offeredTo (o .capacity) (rowOf g p) (k .rows); sets = callActs (k .sets) (pushed o g) };
 }
 

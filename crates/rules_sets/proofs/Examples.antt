@@ -2,14 +2,13 @@
 -- Assumes nothing.
 use mathlib.Core.Path.{_≡_, refl}
 use mathlib.Core.Bool.{Bool, true, false}
-use mathlib.Core.Option.{some}
 use mathlib.Core.List.{List, [], _∷_, map}
 use Prim.Native.Nat.{ℕ}
 use native.Mathlib.Omega.{arith}
 use lib.ListN.{replicate}
 use Rattle.laws.proofs.Facts.{anyOf, not-among}
 use Rattle.answers.specs.declared.Refusal.the-variants.{Malformed, BadCrc}
-use Rattle.rules_shared.specs.Same.{Bytes, sameBytes, samePid, sameOrigin}
+use Rattle.rules_shared.specs.Same.{Bytes, sameBytes, sameOrigin}
 use Rattle.rules_shared.specs.Slots.{isHeld, present, someHeld, everyHeld, onSlots}
 use Rattle.rules_shared.specs.Touch.{Entry, oldestGone, room, leaves, count, someRow, everyRow, seenAs, find, remove, others, evicts, untouched, aside, newest, touch, emptied, onOrder}
 use Rattle.rules_shared.specs.Row.{fresh, fits, start, slotOf, keep, marked, onRow, putOver, put}
@@ -24,7 +23,7 @@ unfoldable pub twelve : ℕ → Bytes
 twelve b = replicate 12 b
 
 unfoldable pub key : ℕ → Key
-key t = record { from = record { input = 0; pid = some 18 }; tableId = t; extension = 1; currentNext = true }
+key t = record { from = record { input = 0; pid = 18 }; tableId = t; extension = 1; currentNext = true }
 
 -- section n of last of table t, version v
 unfoldable pub sect : (table version last number byte : ℕ) → Call
@@ -38,7 +37,7 @@ set-of t v last bs = record { key = key t; version = v; last = last; sections = 
 -- ---- runs, with every definition open
 
 unfoldable pub by-rules : (limit : ℕ) → List Call → List Answer
-unfolding sect set-of sameBytes samePid sameOrigin isHeld present oldestGone room leaves count find remove others evicts untouched aside newest touch emptied fresh fits start slotOf keep marked putOver put sameKey partOf full whole metRow judged judge finish push admit step tells acts answers
+unfolding sect set-of sameBytes sameOrigin isHeld present oldestGone room leaves count find remove others evicts untouched aside newest touch emptied fresh fits start slotOf keep marked putOver put sameKey partOf full whole metRow judged judge finish push admit step tells acts answers
 by-rules limit calls = answers (tells (record { limit = limit; cellSize = 16 })) (acts (record { limit = limit; cellSize = 16 })) opened calls
 
 unfoldable pub after-rules : (limit : ℕ) → List Call → Sets
@@ -91,7 +90,7 @@ again = refl
 -- the inputs of a card share the rows: at limit 1 a set on input 1 drives the one on input 0 out, which goes out anew when it comes again
 unfoldable pub sect-on : (input : ℕ) → Call
 unfolding twelve
-sect-on i = offer (record { key = record { from = record { input = i; pid = some 18 }; tableId = 1; extension = 1; currentNext = true }; version = 0; number = 0; last = 0; bytes = twelve 7 })
+sect-on i = offer (record { key = record { from = record { input = i; pid = 18 }; tableId = 1; extension = 1; currentNext = true }; version = 0; number = 0; last = 0; bytes = twelve 7 })
 
 pub neighbour-evicts : map numberOf (by-rules 1 (sect-on 0 ∷ sect-on 1 ∷ sect-on 0 ∷ [])) ≡ 5 ∷ 5 ∷ 5 ∷ []
 unfolding by-rules numberOf sect-on

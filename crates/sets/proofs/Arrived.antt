@@ -16,9 +16,7 @@ use Rattle.section.proofs.Facts.{takes}
 use Rattle.section.specs.declared.header.Header.{Header}
 use Rattle.section.specs.declared.header.Collected.{Collected}
 use Rattle.section.specs.declared.header.Collected.the-variants as collected
-use Rattle.section.specs.Ids.{inputMade, originMade}
-use Rattle.section.specs.declared.ids.InputMade.{InputMade}
-use Rattle.section.specs.declared.ids.InputMade.the-variants as input-made
+use Rattle.section.specs.Ids.{originMade}
 use Rattle.section.specs.declared.ids.OriginMade.{OriginMade}
 use Rattle.section.specs.declared.ids.OriginMade.the-variants as made
 use Rattle.section.specs.declared.ids.MaybePid.{MaybePid}
@@ -26,15 +24,15 @@ use Rattle.section.specs.declared.ids.MaybePid.the-variants as maybe
 use Rattle.rows.specs.declared.Origin.{Origin}
 use Rattle.rows.specs.declared.Key.{Key}
 use Rattle.arrivals.specs.declared.SetArrival.the-variants as set-arrival
-use Rattle.arrivals.specs.Arrivals.{inputWords, madeWords, entryOf, setRead, setJudged, setArrival, Taken}
+use Rattle.arrivals.specs.Arrivals.{madeWords, entryOf, setRead, setJudged, setArrival, Taken}
 
 pub entry-taken : (s : List ℕ) (h : Header) (key : Key) → collectedOf s ≡ collected.Good h → getD s 7 0 < 256 → Taken s (entryOf key h)
 unfolding headerOf
 entry-taken s h key e b = let t = takes s h (collectedOf s) refl e in rw (t .header) (record { numbered = record { number = t .numbered; last = b }; long = t .room })
 
--- ---- by what a section is refused: 12, 37, 14 to 17
+-- ---- by what a section is refused: 41, 12, 37, 14 to 17
 
-module _ (s : List ℕ) (P : Refusal → Type 0) (pid : P refusal.BadPid) (input : P refusal.BadInput) (malformed : P refusal.Malformed) (short : P refusal.ShortForm) (number : P refusal.BadNumber) (crc : P refusal.BadCrc) where
+module _ (s : List ℕ) (P : Refusal → Type 0) (no-pid : P refusal.NoPid) (pid : P refusal.BadPid) (input : P refusal.BadInput) (malformed : P refusal.Malformed) (short : P refusal.ShortForm) (number : P refusal.BadNumber) (crc : P refusal.BadCrc) where
   read-by : (p : Origin) (c : Collected) (r : Refusal) → setRead p c ≡ set-arrival.Refused r → P r
   read-by p collected.Malformed r q = let z : refusal.Malformed ≡ r = cc in subst P z malformed
   read-by p collected.ShortForm r q = let z : refusal.ShortForm ≡ r = cc in subst P z short
@@ -47,15 +45,11 @@ module _ (s : List ℕ) (P : Refusal → Type 0) (pid : P refusal.BadPid) (input
   made-by made.BadPid r q = let z : refusal.BadPid ≡ r = cc in subst P z pid
   made-by made.BadInput r q = let z : refusal.BadInput ≡ r = cc in subst P z input
 
-  input-by : (m : InputMade) (r : Refusal) → setJudged (inputWords m) s ≡ set-arrival.Refused r → P r
-  input-by (input-made.One i) r q = read-by (record { input = i .0; pid = 8192 }) (collectedOf s) r q
-  input-by input-made.TooLarge r q = let z : refusal.BadInput ≡ r = cc in subst P z input
-
   pub set-refused-by : (i : ℕ) (m : MaybePid) (r : Refusal) → setArrival i m s ≡ set-arrival.Refused r → P r
   unfolding setArrival
-  set-refused-by i maybe.None r q = input-by (inputMade i) r q
+  set-refused-by i maybe.None r q = let z : refusal.NoPid ≡ r = cc in subst P z no-pid
   set-refused-by i (maybe.Some v) r q = made-by (originMade i v) r q
 
 -- so not by 10
 pub set-not-ten : (input : ℕ) (pid : MaybePid) (s : List ℕ) (r : Refusal) → setArrival input pid s ≡ set-arrival.Refused r → eqb (refusalNo r) 10 ≡ false
-set-not-ten input pid s r q = set-refused-by s (λ r. eqb (refusalNo r) 10 ≡ false) refl refl refl refl refl refl input pid r q
+set-not-ten input pid s r q = set-refused-by s (λ r. eqb (refusalNo r) 10 ≡ false) refl refl refl refl refl refl refl input pid r q

@@ -14,7 +14,7 @@ use lib.ListN.{length, getD}
 use lib.Seq.{paste, length-paste}
 use Rattle.answers.specs.Answers.{refusalNo}
 use Rattle.answers.specs.declared.Refusal.{Refusal}
-use Rattle.answers.specs.declared.Refusal.the-variants.{NotWhole, CounterFull, TooLittle, TooLong, NoCell, Conflict}
+use Rattle.answers.specs.declared.Refusal.the-variants.{NotWhole, CounterFull, TooLittle, NoPid, TooLong, NoCell, Conflict}
 use Rattle.section.specs.declared.ids.MaybePid.{MaybePid}
 use Rattle.cells.specs.Cells.{slotWord, slotWhole, lowestFree}
 use Rattle.rows.specs.Rows.{touched, goneRow, keptHeads, slotsAt, slotCount, keptSlots, rowsWhole, takenIn, lastOf, withMark}
@@ -22,7 +22,8 @@ use Rattle.rows.proofs.Words.{put-not, length-put, length-touched, touched-not,
 use Rattle.rows.proofs.Whole.{slot-get, slot-all}
 use Rattle.rows.specs.declared.Entry.{Entry}
 use Rattle.rows.specs.declared.Room.{Room}
-use Rattle.store.specs.Store.{Store, store, settingsFit, wholeOf, Whole, WholeStore}
+use Rattle.without_pid.specs.Pids.{withoutPid}
+use Rattle.store.specs.Store.{Store, store, emptySets, settingsFit, wholeOf, Whole, WholeStore}
 use Rattle.store.specs.declared.Sets.{Sets}
 use Rattle.store.proofs.Whole.{long, means-whole, cell-fits}
 use Rattle.arrivals.specs.Arrivals.{setArrival, Taken}
@@ -35,7 +36,7 @@ use Rattle.sets_plan.specs.declared.Keeping.{Keeping}
 use Rattle.sets_plan.specs.declared.Plan.{Plan}
 use Rattle.sets_plan.specs.declared.Plan.the-variants as plan
 use Rattle.sets_plan.specs.Plan.{planKeep, planOf, KeepOk, PlanOk}
-use Rattle.sets_settle.specs.Settle.{Told, done, nothing, handed, refused, answerOf, goesOut, settledAnswer, settledHeads, settled, keptIn, carried}
+use Rattle.sets_settle.specs.Settle.{Told, done, nothing, handed, refused, after, answerOf, goesOut, settledAnswer, settledHeads, settled, keptIn, carried}
 use Rattle.sets_push.specs.Pushing.{wholePushed, admitted, AdmittedOk}
 use Rattle.sets.specs.Store.{pushedAs, pushedOf, clearedOf, openedOf}
 use Rattle.sets.specs.History.{Call, offer, empty, called, afterAll, Bytes, AllBytes, OpenedStore}
@@ -178,10 +179,14 @@ carried-whole s bytes w (plan.Conflict i) o =
 carried-whole s bytes w (plan.Repeat i) o = settled-whole s i w
 carried-whole s bytes w (plan.Keep k) o = settled-whole (keptIn s bytes k) (k .room .row) (kept-whole s bytes k o)
 
-pushed-whole : (s : Store) (bytes : List ℕ) → WholeStore s → (a : SetArrival) → AdmittedOk s bytes a → WholeStore ((pushedAs s bytes a) .store)
+-- the part behind the refusals: whatever a section came with, a store that is whole stays whole
+pub whole-stays : (s : Store) (e : Entry) (bytes : List ℕ) → WholeStore s → Taken bytes e → WholeStore ((wholePushed s e bytes) .store)
 unfolding wholePushed
+whole-stays s e bytes w t = carried-whole s bytes w (planOf s e bytes) (plan-ok s w e bytes t)
+
+pushed-whole : (s : Store) (bytes : List ℕ) → WholeStore s → (a : SetArrival) → AdmittedOk s bytes a → WholeStore ((pushedAs s bytes a) .store)
 pushed-whole s bytes w (arrival.Refused r) o = w
-pushed-whole s bytes w (arrival.Arrived e) o = carried-whole s bytes w (planOf s e bytes) (plan-ok s w e bytes (o .1))
+pushed-whole s bytes w (arrival.Arrived e) o = whole-stays s e bytes w (o .1)
 
 pub push-stays : (s : Store) (input : ℕ) (pid : MaybePid) (bytes : List ℕ) → getD bytes 7 0 < 256 → WholeStore s → WholeStore ((pushedOf s input pid bytes) .store)
 unfolding pushedOf
@@ -189,19 +194,23 @@ push-stays s input pid bytes b w = pushed-whole s bytes w (admitted s input pid 
 
 pub clear-stays : (s : Store) → WholeStore s → WholeStore ((clearedOf s) .store)
 unfolding clearedOf
-clear-stays s w = rw (means-whole s w) (record {
-  size-low = w .size-low;
-  size-high = w .size-high;
-  few = w .few;
-  used = omega arith;
-  heads-long = w .heads-long;
-  slots-long = w .slots-long;
-  cells-long = w .cells-long;
-  rows = none (s .heads) (s .slots) (s .sets .count) (s .sets .size);
-})
+clear-stays s w = rw (means-whole s w) (go (withoutPid (s .heads) (s .sets .used)))
   where
     none : (heads slots : List ℕ) (count size : ℕ) → rowsWhole heads slots count size 0 ≡ true
     none heads slots count size = slot-all heads slots count size 0 (omega arith) (λ i k h l. absurd (omega arith))
+
+    go : (n : Bool) → WholeStore ((cond n (after (refused NoPid) s) (after done (store (emptySets (s .sets)) (s .heads) (s .slots) (s .cells)))) .store)
+    go true = w
+    go false = record {
+      size-low = w .size-low;
+      size-high = w .size-high;
+      few = w .few;
+      used = omega arith;
+      heads-long = w .heads-long;
+      slots-long = w .slots-long;
+      cells-long = w .cells-long;
+      rows = none (s .heads) (s .slots) (s .sets .count) (s .sets .size);
+    }
 
 pub call-stays : (s : Store) (c : Call) → Bytes c → WholeStore s → WholeStore ((called s c) .store)
 call-stays s (offer input pid bytes) b w = push-stays s input pid bytes (b 7) w
@@ -279,22 +288,27 @@ ten-planned s e bytes = plan-by s e bytes (λ p. ten ((carried s bytes p) .told)
 
 ten-pushed : (s : Store) (input : ℕ) (pid : MaybePid) (bytes : List ℕ) → wholeOf s ≡ true → ten ((pushedOf s input pid bytes) .told) ≡ false
 unfolding pushedOf admitted ten
-ten-pushed s input pid bytes w = rw w (go (eqb (s .sets .evictions) 18446744073709551615))
+ten-pushed s input pid bytes w = rw w (go (eqb (s .sets .evictions) 18446744073709551615) (withoutPid (s .heads) (s .sets .used)))
   where
     arrived : (a : SetArrival) → setArrival input pid bytes ≡ a → ten ((pushedAs s bytes a) .told) ≡ false
     arrived (arrival.Refused r) q = set-not-ten input pid bytes r q
     arrived (arrival.Arrived e) q = ten-planned s e bytes
 
-    go : (b : Bool) → ten ((pushedAs s bytes (cond b (arrival.Refused CounterFull) (setArrival input pid bytes))) .told) ≡ false
-    go true = refl
-    go false = arrived (setArrival input pid bytes) refl
+    go : (b n : Bool) → ten ((pushedAs s bytes (cond b (arrival.Refused CounterFull) (cond n (arrival.Refused NoPid) (setArrival input pid bytes)))) .told) ≡ false
+    go true n = refl
+    go false true = refl
+    go false false = arrived (setArrival input pid bytes) refl
 
 pub push-not-ten : (s : Store) (input : ℕ) (pid : MaybePid) (bytes : List ℕ) → WholeStore s → (pushedOf s input pid bytes) .told ≢ refused NotWhole
 push-not-ten s input pid bytes w = not-ten ((pushedOf s input pid bytes) .told) (ten-pushed s input pid bytes (means-whole s w))
 
 pub clear-not-ten : (s : Store) → WholeStore s → (clearedOf s) .told ≢ refused NotWhole
 unfolding clearedOf
-clear-not-ten s w = rw (means-whole s w) (λ (q : done ≡ refused NotWhole). let z : _≡_ {A = ℕ} 0 1 = cc in omega arith)
+clear-not-ten s w = rw (means-whole s w) (go (withoutPid (s .heads) (s .sets .used)))
+  where
+    go : (n : Bool) → (cond n (after (refused NoPid) s) (after done (store (emptySets (s .sets)) (s .heads) (s .slots) (s .cells)))) .told ≢ refused NotWhole
+    go true q = let e : NoPid ≡ NotWhole = cc in let z : refusalNo NoPid ≡ refusalNo NotWhole = ap refusalNo e in omega (arith, z)
+    go false q = let z : _≡_ {A = ℕ} 0 1 = cc in omega arith
 
 -- after every sequence of calls on an opened collector, the next call does not answer 10
 pub never-ten : (s : Store) → OpenedStore s → (cs : List Call) → AllBytes cs → (c : Call) → (called (afterAll s cs) c) .told ≢ refused NotWhole

@@ -5,13 +5,14 @@ use mathlib.Core.List.{List}
 use mathlib.Core.Bool.{cond}
 use lib.ListN.{length}
 use lib.Dec.{ltb}
-use Rattle.answers.specs.declared.Refusal.the-variants.{NotWhole, TooLittle}
+use Rattle.answers.specs.declared.Refusal.the-variants.{NotWhole, TooLittle, NoPid}
 use Rattle.answers.specs.declared.Outcome.{Outcome}
 use Rattle.answers.specs.declared.Outcome.the-variants as outcome
 use Rattle.answers.specs.declared.Reply.the-variants as reply
 use Rattle.section.specs.declared.ids.MaybePid.{MaybePid}
 use Rattle.cells.specs.Cells.{nextFilled}
 use Rattle.rows.specs.Rows.{rowSlots}
+use Rattle.without_pid.specs.Pids.{withoutPid}
 use Rattle.store.specs.Store.{Store, store, emptySets, settingsFit, wholeOf}
 use Rattle.arrivals.specs.declared.SetArrival.{SetArrival}
 use Rattle.arrivals.specs.declared.SetArrival.the-variants as arrival
@@ -41,9 +42,12 @@ afterClear r heads slots cells = after (outcomeOf (r .answer)) (store (r .sets) 
 unfoldable pub openedOf : Store → SetsAfter
 openedOf s = after (cond (settingsFit (s .sets) (length (s .heads)) (length (s .slots)) (length (s .cells))) done (refused TooLittle)) s
 
--- 10, else 7
+-- 10, 41 where a row has no PID, else 7
 unfoldable pub clearedOf : Store → SetsAfter
-clearedOf s = cond (wholeOf s) (after done (store (emptySets (s .sets)) (s .heads) (s .slots) (s .cells))) (after (refused NotWhole) s)
+clearedOf s =
+    cond (wholeOf s)
+    (cond (withoutPid (s .heads) (s .sets .used)) (after (refused NoPid) s) (after done (store (emptySets (s .sets)) (s .heads) (s .slots) (s .cells))))
+    (after (refused NotWhole) s)
 
 -- ---- a section is pushed
 
@@ -56,11 +60,12 @@ pushedOf s input pid bytes = pushedAs s bytes (admitted s input pid bytes)
 
 -- ---- the sections of a set, one after another
 
--- 8 with the first filled slot at or after `from`; 9 where there is none or the row is not in use
+-- 10, 41 where a row has no PID; 8 with the first filled slot at or after `from`; 9 where there is none or the row is not in use
 unfoldable pub nextOf : Store → ℕ → ℕ → Next
 nextOf s row from =
     cond (wholeOf s)
+    (cond (withoutPid (s .heads) (s .sets .used)) (noSection (reply.Refused NoPid))
     (cond (ltb row (s .sets .used))
     (slotTold (s .sets .size) (rowSlots (s .heads) (s .slots) row) (nextFilled (rowSlots (s .heads) (s .slots) row) from))
-    (noSection reply.No))
+    (noSection reply.No)))
     (noSection (reply.Refused NotWhole))

@@ -79,12 +79,18 @@ pub fn push(
     }
 }
 
-// Empties all rows. The count of evictions stays.
+// Empties all rows: 10, 41 where a row has no PID, else 7. The count of evictions stays.
 pub fn clear(sets: Sets, heads: &[u64], slots: &[u32], cells: &[u8]) -> Cleared
     ensures { λ r. ⌜ afterClear r (now (heads .entry)) (now (slots .entry)) (now (cells .entry)) ≡ clearedOf (store sets (now (heads .entry)) (now (slots .entry)) (now (cells .entry))) ⌝ }
 {
     if store::is_whole(sets, heads, slots, cells) {
-        Cleared {
+        if without_pid::any_without_pid(heads, sets.used) {
+            return Cleared {
+                answer: Outcome::Refused(Refusal::NoPid),
+                sets,
+            };
+        }
+        return Cleared {
             answer: Outcome::Done,
             sets: Sets {
                 limit: sets.limit,
@@ -93,16 +99,15 @@ pub fn clear(sets: Sets, heads: &[u64], slots: &[u32], cells: &[u8]) -> Cleared
                 used: 0,
                 evictions: sets.evictions,
             },
-        }
-    } else {
-        Cleared {
-            answer: Outcome::Refused(Refusal::NotWhole),
-            sets,
-        }
+        };
+    }
+    Cleared {
+        answer: Outcome::Refused(Refusal::NotWhole),
+        sets,
     }
 }
 
-// Has the set in a row another section? The first filled slot at or after `from`: its number, and where its bytes are in the cells.
+// Has the set in a row another section (10, 41 where a row has no PID, 8 or 9)? The first filled slot at or after `from`: its number, and where its bytes are in the cells.
 pub fn next_section(
     sets: Sets,
     heads: &[u64],
@@ -114,6 +119,9 @@ pub fn next_section(
     ensures { λ r. ⌜ r ≡ nextOf (store sets (now (heads .entry)) (now (slots .entry)) (now (cells .entry))) row from ⌝ }
 {
     if store::is_whole(sets, heads, slots, cells) {
+        if without_pid::any_without_pid(heads, sets.used) {
+            return readers::no_section(Reply::Refused(Refusal::NoPid));
+        }
         if row < sets.used {
             return readers::next_slot(rows::row_slots(heads, slots, row), sets.size, from);
         }

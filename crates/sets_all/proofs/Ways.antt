@@ -1,4 +1,4 @@
--- A push into a store that is known to be whole, and one after another over a list: one law for each way out.
+-- A push into a store that is known to be whole and to have PIDs alone, and one after another over a list: one law for each way out.
 -- Assumes nothing.
 use mathlib.Core.Path.{_≡_, refl, sym, ap, subst, _∙_}
 use mathlib.Core.List.{List, [], _∷_}
@@ -12,13 +12,14 @@ use lib.Seq.{length-take-le}
 use Rattle.answers.specs.Answers.{refusalNo}
 use Rattle.answers.proofs.Laws.{refused-from-10}
 use Rattle.answers.specs.declared.Refusal.{Refusal}
-use Rattle.answers.specs.declared.Refusal.the-variants.{NotWhole, CounterFull}
+use Rattle.answers.specs.declared.Refusal.the-variants.{NotWhole, CounterFull, NoPid}
 use Rattle.section.specs.declared.ids.MaybePid.{MaybePid}
 use Rattle.section.specs.declared.ids.MaybePid.the-variants as maybe
 use Rattle.rows.specs.declared.Entry.{Entry}
-use Rattle.store.specs.Store.{Store, store, wholeOf, Whole, WholeStore}
+use Rattle.without_pid.specs.Pids.{withoutPid}
+use Rattle.store.specs.Store.{Store, store, wholeOf}
 use Rattle.store.specs.declared.Sets.{Sets}
-use Rattle.store.proofs.Whole.{means-whole}
+use Rattle.store.proofs.Whole.{means-whole, is-whole-means}
 use Rattle.arrivals.specs.Arrivals.{setArrival, SetTaken, Taken}
 use Rattle.arrivals.specs.declared.SetArrival.{SetArrival}
 use Rattle.arrivals.specs.declared.SetArrival.the-variants as arrival
@@ -31,6 +32,7 @@ use Rattle.sets_push.proofs.Ways.{admit-full, admit-section}
 use Rattle.sets.specs.Store.{pushedOf}
 use Rattle.sets.proofs.Admit.{pushed-refused, pushed-arrived}
 use Rattle.sets.proofs.Stays.{push-stays}
+use Rattle.sets.proofs.Pids.{has-pids, none-without, push-pids}
 use Rattle.rules_logs.specs.Records.{Bytes}
 use Rattle.rules_logs.specs.Sections.{Given, Listed, tooLong, cut, sections, sectionsIn}
 use Rattle.log_list.specs.List.{judgedOf, givensOf, givensFrom, givenAt, WholeFrom, PlacedAt}
@@ -40,33 +42,38 @@ use Rattle.log_list.specs.declared.Judged.the-variants as judged
 use Rattle.log_list.proofs.Laws.{none-left, from-start}
 use Rattle.sets_all.specs.declared.AllAnswer.the-variants as answer
 use Rattle.sets_all.specs.declared.AllPushed.{AllPushed}
-use Rattle.sets_all.specs.All.{of, overlong, AllAfter, allAfter, afterAll, isNothing, pushedGiven, pushedEach, pushedSections, pushedList, pushedAll}
+use Rattle.sets_all.specs.All.{of, overlong, AllAfter, allAfter, afterAll, isNothing, pushedGiven, pushedEach, pushedSections, Pushable, pushedList, pushedAll}
 
 -- ---- one push
 
-module _ (sets : Sets) (heads slots cells : List ℕ) (w : Whole sets heads slots cells) (input : ℕ) (pid : MaybePid) (bytes : List ℕ) where
+module _ (sets : Sets) (heads slots cells : List ℕ) (w : Pushable sets heads slots cells) (input : ℕ) (pid : MaybePid) (bytes : List ℕ) where
   abbrev here : Store
   here = store sets heads slots cells
 
   whole : true ≡ wholeOf here
-  whole = sym (means-whole here w)
+  whole = sym (means-whole here (w .whole))
 
-  -- it stays whole, by the equation
-  pub ready-stays : getD bytes 7 0 < 256 → (k : SetsAfter) → k ≡ pushedOf here input pid bytes → WholeStore (k .store)
-  ready-stays b k e = subst (λ (x : SetsAfter). WholeStore (x .store)) (sym e) (push-stays here input pid bytes b w)
+  -- it stays so, by the equation
+  pub ready-stays : getD bytes 7 0 < 256 → (k : SetsAfter) → k ≡ pushedOf here input pid bytes → Pushable (k .store .sets) (k .store .heads) (k .store .slots) (k .store .cells)
+  ready-stays b k e =
+      subst (λ (x : SetsAfter). Pushable (x .store .sets) (x .store .heads) (x .store .slots) (x .store .cells)) (sym e)
+      (record {
+        whole = push-stays here input pid bytes b (w .whole);
+        pids = none-without ((pushedOf here input pid bytes) .store) (push-pids here input pid bytes b (has-pids here (w .pids)));
+      })
 
   pub ready-full : sets .evictions ≡ 18446744073709551615 → afterPush (record { answer = push-answer.Refused CounterFull; sets = sets }) heads slots cells ≡ pushedOf here input pid bytes
   ready-full h = pushed-refused here input pid bytes (arrival.Refused CounterFull) (admit-full here input pid bytes true whole refl h) CounterFull refl
 
   pub ready-refused : (a : SetArrival) → (sets .evictions ≡ 18446744073709551615 → ⊥) → a ≡ setArrival input pid bytes → (r : Refusal) → a ≡ arrival.Refused r
       → afterPush (record { answer = push-answer.Refused r; sets = sets }) heads slots cells ≡ pushedOf here input pid bytes
-  ready-refused a ne e r q = pushed-refused here input pid bytes a (admit-section here input pid bytes true whole a refl ne e) r q
+  ready-refused a ne e r q = pushed-refused here input pid bytes a (admit-section here input pid bytes true whole false a refl ne (sym (w .pids)) refl e) r q
 
   pub ready-arrived : (a : SetArrival) → (sets .evictions ≡ 18446744073709551615 → ⊥) → a ≡ setArrival input pid bytes → (x : Entry) → a ≡ arrival.Arrived x → (k : SetsAfter) → k ≡ wholePushed here x bytes → k ≡ pushedOf here input pid bytes
-  ready-arrived a ne e x q k f = pushed-arrived here input pid bytes a (admit-section here input pid bytes true whole a refl ne e) x k q f
+  ready-arrived a ne e x q k f = pushed-arrived here input pid bytes a (admit-section here input pid bytes true whole false a refl ne (sym (w .pids)) refl e) x k q f
 
   pub ready-may : (a : SetArrival) → (sets .evictions ≡ 18446744073709551615 → ⊥) → SetTaken bytes a → (x : Entry) → a ≡ arrival.Arrived x → Ready here × Taken bytes x
-  ready-may a ne t x q = (record { whole = w; counts = ne }, subst (SetTaken bytes) q t)
+  ready-may a ne t x q = (record { whole = w .whole; counts = ne }, subst (SetTaken bytes) q t)
 
 -- ---- one after another
 
@@ -110,17 +117,32 @@ at-pushed s list r k e = let z : r .start + r .length - r .start ≡ r .length =
 
 -- ---- the call
 
-pub listed-whole : (s : Store) (gs : List Given) (w : Bool) (k : AllAfter) → w ≡ wholeOf s → w ≡ true → k ≡ pushedEach 0 s gs → k ≡ pushedSections s gs
-unfolding pushedSections
-listed-whole s gs w k e t q = rw (← e, t) q
+-- nothing pushed
+abbrev none : Refusal → Sets → AllPushed
+none n sets = record { answer = answer.Pushed (push-answer.Refused n); sets = sets; taken = 0 }
 
--- 10, nothing pushed
-abbrev ten : Sets → AllPushed
-ten sets = record { answer = answer.Pushed (push-answer.Refused NotWhole); sets = sets; taken = 0 }
+module _ (sets : Sets) (heads slots cells : List ℕ) (gs : List Given) (w : Bool) (e : w ≡ wholeOf (store sets heads slots cells)) where
+  pub listed-broken : (r : AllPushed) → w ≡ false → r ≡ none NotWhole sets → afterAll r heads slots cells ≡ pushedSections (store sets heads slots cells) gs
+  unfolding pushedSections
+  listed-broken r t q = rw (q, ← e, t)
 
-pub listed-broken : (s : Store) (gs : List Given) (w : Bool) (r : AllPushed) → w ≡ wholeOf s → w ≡ false → r ≡ ten (s .sets) → afterAll r (s .heads) (s .slots) (s .cells) ≡ pushedSections s gs
-unfolding pushedSections
-listed-broken s gs w r e t q = rw (q, ← e, t)
+  pub listed-full : (r : AllPushed) → w ≡ true → sets .evictions ≡ 18446744073709551615 → r ≡ none CounterFull sets → afterAll r heads slots cells ≡ pushedSections (store sets heads slots cells) gs
+  unfolding pushedSections
+  listed-full r t h q = rw (q, ← e, t, eq-eqb (sets .evictions) 18446744073709551615 h)
+
+  pub listed-without : (n : Bool) (r : AllPushed) → w ≡ true → (sets .evictions ≡ 18446744073709551615 → ⊥) → n ≡ withoutPid heads (sets .used) → n ≡ true → r ≡ none NoPid sets
+      → afterAll r heads slots cells ≡ pushedSections (store sets heads slots cells) gs
+  unfolding pushedSections
+  listed-without n r t h f y q = rw (q, ← e, t, ne-eqb (sets .evictions) 18446744073709551615 h, ← f, y)
+
+  pub listed-each : (n : Bool) (k : AllAfter) → w ≡ true → (sets .evictions ≡ 18446744073709551615 → ⊥) → n ≡ withoutPid heads (sets .used) → n ≡ false → k ≡ pushedEach 0 (store sets heads slots cells) gs
+      → k ≡ pushedSections (store sets heads slots cells) gs
+  unfolding pushedSections
+  listed-each n k t h f y q = rw (← e, t, ne-eqb (sets .evictions) 18446744073709551615 h, ← f, y) q
+
+-- a store that passed both looks
+pub looked : (s : Sets) (heads slots cells : List ℕ) (w n : Bool) → w ≡ wholeOf (store s heads slots cells) → w ≡ true → n ≡ withoutPid heads (s .used) → n ≡ false → Pushable s heads slots cells
+looked s heads slots cells w n e t f y = record { whole = is-whole-means s heads slots cells w e t; pids = sym f ∙ y }
 
 module _ (s : Store) (list : Bytes) (j : Judged) (e : j ≡ judgedOf (sectionsIn list)) where
   pub all-pushed : (k : AllAfter) → j ≡ judged.Whole → k ≡ pushedSections s (givensFrom list 0) → k ≡ pushedAll s list
@@ -132,7 +154,7 @@ module _ (s : Store) (list : Bytes) (j : Judged) (e : j ≡ judgedOf (sectionsIn
       go cut w g = absurd (let z : _≡_ {A = ℕ} 0 1 = cc in omega arith)
       go (sections gs) w g = g
 
-  pub all-cut : (r : AllPushed) → j ≡ judged.Cut → r ≡ ten (s .sets) → afterAll r (s .heads) (s .slots) (s .cells) ≡ pushedAll s list
+  pub all-cut : (r : AllPushed) → j ≡ judged.Cut → r ≡ none NotWhole (s .sets) → afterAll r (s .heads) (s .slots) (s .cells) ≡ pushedAll s list
   unfolding pushedAll
   all-cut r q f = rw f (go (sectionsIn list) (sym e ∙ q))
     where

@@ -2,12 +2,16 @@
 -- (docs/RULES.md, "Collectors", and "Logs" for a section list). `cond test a b` is a where the test is true, else b.
 -- Assumes nothing.
 use Prim.Native.Nat.{ℕ, _+_}
+use mathlib.Core.Path.{_≡_}
 use mathlib.Core.List.{List, [], _∷_}
 use mathlib.Core.Bool.{Bool, true, false, cond}
+use lib.Dec.{eqb}
 use lib.ListN.{length}
-use Rattle.answers.specs.declared.Refusal.the-variants.{NotWhole}
+use Rattle.answers.specs.declared.Refusal.the-variants.{NotWhole, CounterFull, NoPid}
 use Rattle.section.specs.declared.ids.MaybePid.the-variants as maybe
-use Rattle.store.specs.Store.{Store, store, wholeOf}
+use Rattle.without_pid.specs.Pids.{withoutPid}
+use Rattle.store.specs.Store.{Store, store, wholeOf, Whole}
+use Rattle.store.specs.declared.Sets.{Sets}
 use Rattle.sets_settle.specs.Settle.{Told, done, nothing, handed, refused, SetsAfter, answerOf, pushNo}
 use Rattle.sets.specs.Store.{pushedOf}
 use Rattle.rules_logs.specs.Records.{Bytes}
@@ -53,16 +57,25 @@ pushedEach n s (g ∷ gs) =
     let m : ℕ = n + (5 + length (g .section)) in
     cond (isNothing (l .told)) (pushedEach m (l .store) gs) (allAfter (of (l .told)) (l .store) m)
 
--- 10 where the store is not whole
+-- 10 where the store is not whole, 11 where its count is at its end, 41 where a row in use has no PID; then one by one
 unfoldable pub pushedSections : Store → List Given → AllAfter
-pushedSections s gs = cond (wholeOf s) (pushedEach 0 s gs) (allAfter (of (refused NotWhole)) s 0)
+pushedSections s gs =
+    cond (wholeOf s)
+    (cond (eqb (s .sets .evictions) 18446744073709551615) (allAfter (of (refused CounterFull)) s 0)
+    (cond (withoutPid (s .heads) (s .sets .used)) (allAfter (of (refused NoPid)) s 0) (pushedEach 0 s gs)))
+    (allAfter (of (refused NotWhole)) s 0)
+
+-- what holds of a store from one section of a list to the next: it is whole, and every row in use has a PID
+pub record Pushable (s : Sets) (heads slots cells : List ℕ) : Type 0 where
+  pub whole : Whole s heads slots cells
+  pub pids : withoutPid heads (s .used) ≡ false
 
 abbrev pub pushedList : Store → Listed → AllAfter
 pushedList s tooLong = allAfter overlong s 0
 pushedList s cut = allAfter (of (refused NotWhole)) s 0
 pushedList s (sections gs) = pushedSections s gs
 
--- 42 and 10 of the list, 10 of the store, then its sections
+-- 42 and 10 of the list, 10, 11 and 41 of the store, then its sections
 unfoldable pub pushedAll : Store → Bytes → AllAfter
 pushedAll s list = pushedList s (sectionsIn list)
 

@@ -12,11 +12,11 @@ ghost use mathlib.Core.Path.{_≡_};
 ghost use Prim.Native.Nat.{_+_, _≤_};
 ghost use lib.ListN.{length, take, drop};
 ghost use Rattle.section.specs.declared.ids.MaybePid.the-variants as maybe;
-ghost use Rattle.store.specs.Store.{store, Whole};
+ghost use Rattle.store.specs.Store.{store};
 ghost use Rattle.sets_settle.specs.Settle.{afterPush};
 ghost use Rattle.sets.specs.Store.{pushedOf};
 ghost use Rattle.log_list.specs.List.{givenAt, givensFrom, WholeFrom};
-ghost use Rattle.sets_all.specs.All.{allNo, afterAll, pushedEach, pushedAll, pushedGiven, pushedSections};
+ghost use Rattle.sets_all.specs.All.{allNo, afterAll, pushedEach, pushedAll, pushedGiven, pushedSections, Pushable};
 
 // What the section answered that was pushed last: 4 where all of them did, and where there is none. Or a section of more than 4,098 bytes (42).
 pub enum AllAnswer {
@@ -42,7 +42,7 @@ pub struct AllPushed {
     pub taken: usize,
 }
 
-// As `push`, of a store that is known to be whole: 11, then what the section's bytes and its PID say. It stays whole.
+// As `push`, of a store that is known to be whole, with a PID in every row in use: 11, then what the section's PID and its bytes say. It stays so.
 fn push_ready(
     sets: Sets,
     heads: &mut [u64],
@@ -52,9 +52,9 @@ fn push_ready(
     pid: MaybePid,
     bytes: &[u8],
 ) -> Pushed
-    requires { ⌜ Whole sets (now heads) (now slots) (now cells) ⌝ }
+    requires { ⌜ Pushable sets (now heads) (now slots) (now cells) ⌝ }
     ensures { λ r. ⌜ afterPush r (now (heads .exit)) (now (slots .exit)) (now (cells .exit)) ≡ pushedOf (store sets (now (heads .entry)) (now (slots .entry)) (now (cells .entry))) input pid (now (bytes .entry)) ⌝ }
-    ensures { λ r. ⌜ Whole (r .sets) (now (heads .exit)) (now (slots .exit)) (now (cells .exit)) ⌝ }
+    ensures { λ r. ⌜ Pushable (r .sets) (now (heads .exit)) (now (slots .exit)) (now (cells .exit)) ⌝ }
 {
     if sets.evictions == u64::MAX {
         return Pushed {
@@ -82,10 +82,10 @@ fn push_at(
     list: &[u8],
     place: Place,
 ) -> Pushed
-    requires { ⌜ Whole sets (now heads) (now slots) (now cells) ⌝ }
+    requires { ⌜ Pushable sets (now heads) (now slots) (now cells) ⌝ }
     requires { ⌜ place .start + place .length ≤ length (now list) ⌝ }
     ensures { λ r. ⌜ afterPush r (now (heads .exit)) (now (slots .exit)) (now (cells .exit)) ≡ pushedGiven (store sets (now (heads .entry)) (now (slots .entry)) (now (cells .entry))) (givenAt (now (list .entry)) place) ⌝ }
-    ensures { λ r. ⌜ Whole (r .sets) (now (heads .exit)) (now (slots .exit)) (now (cells .exit)) ⌝ }
+    ensures { λ r. ⌜ Pushable (r .sets) (now (heads .exit)) (now (slots .exit)) (now (cells .exit)) ⌝ }
 {
     let start = place.start;
     let end = start + place.length;
@@ -108,7 +108,7 @@ fn push_each(
     cells: &mut [u8],
     list: &[u8],
 ) -> AllPushed
-    requires { ⌜ Whole sets (now heads) (now slots) (now cells) ⌝ }
+    requires { ⌜ Pushable sets (now heads) (now slots) (now cells) ⌝ }
     requires { ⌜ WholeFrom (now list) 0 ⌝ }
     ensures { λ r. ⌜ afterAll r (now (heads .exit)) (now (slots .exit)) (now (cells .exit)) ≡ pushedEach 0 (store sets (now (heads .entry)) (now (slots .entry)) (now (cells .entry))) (givensFrom (now (list .entry)) 0) ⌝ }
 {
@@ -146,7 +146,7 @@ fn refuse(answer: AllAnswer, sets: Sets) -> AllPushed
     }
 }
 
-// A list that is whole, over any store: 10, else its sections.
+// A list that is whole, over any store: 10, 11, 41 where a row has no PID, else its sections.
 fn push_listed(
     sets: Sets,
     heads: &mut [u64],
@@ -158,6 +158,16 @@ fn push_listed(
     ensures { λ r. ⌜ afterAll r (now (heads .exit)) (now (slots .exit)) (now (cells .exit)) ≡ pushedSections (store sets (now (heads .entry)) (now (slots .entry)) (now (cells .entry))) (givensFrom (now (list .entry)) 0) ⌝ }
 {
     if store::is_whole(sets, heads, slots, cells) {
+        let evictions = sets.evictions;
+        if evictions == u64::MAX {
+            return refuse(
+                AllAnswer::Pushed(PushAnswer::Refused(Refusal::CounterFull)),
+                sets,
+            );
+        }
+        if without_pid::any_without_pid(heads, sets.used) {
+            return refuse(AllAnswer::Pushed(PushAnswer::Refused(Refusal::NoPid)), sets);
+        }
         return push_each(sets, heads, slots, cells, list);
     }
     refuse(
@@ -166,7 +176,7 @@ fn push_listed(
     )
 }
 
-// Offers the sections of a list, each with its input and its PID: 42 and 10 of the list, judged from its start, 10 of the store, then what the section
+// Offers the sections of a list, each with its input and its PID: 42 and 10 of the list, judged from its start, 10, 11 and 41 of the store, then what the section
 // answered that did not answer 4. Refused as a whole, it pushes nothing.
 pub fn push_all(
     sets: Sets,

@@ -3,15 +3,18 @@
 use mathlib.Core.Path.{_≡_, refl, sym, _∙_}
 use mathlib.Core.List.{List}
 use mathlib.Core.Bool.{Bool, true, false, cond}
-use Prim.Native.Nat.{ℕ, _<_}
+use Prim.Native.Nat.{ℕ, _*_, _≤_, _<_}
 use borrow.Author.Tests.{eq-eqb, ne-eqb, eqb-false}
 use lib.Dec.{eqb}
-use lib.ListN.{getD}
-use Rattle.answers.specs.declared.Refusal.the-variants.{NotWhole, CounterFull}
+use native.Mathlib.Omega.{arith}
+use lib.ListN.{length, getD}
+use Rattle.answers.specs.declared.Refusal.the-variants.{NotWhole, CounterFull, NoPid}
 use Rattle.section.specs.declared.ids.MaybePid.{MaybePid}
 use Rattle.rows.specs.declared.Entry.{Entry}
-use Rattle.store.specs.Store.{Store, wholeOf}
-use Rattle.store.proofs.Whole.{whole-means}
+use Rattle.without_pid.specs.Pids.{withoutPid}
+use Rattle.store.specs.Store.{Store, store, wholeOf}
+use Rattle.store.specs.declared.Sets.{Sets}
+use Rattle.store.proofs.Whole.{whole-means, is-whole-means}
 use Rattle.arrivals.specs.Arrivals.{setArrival, SetTaken}
 use Rattle.arrivals.specs.declared.SetArrival.{SetArrival}
 use Rattle.arrivals.specs.declared.SetArrival.the-variants as arrival
@@ -22,7 +25,7 @@ use Rattle.sets_settle.specs.Settle.{SetsAfter, carried}
 use Rattle.sets_settle.specs.declared.PushAnswer.the-variants.{Refused}
 use Rattle.sets_push.specs.Pushing.{wholePushed, admitted, AdmittedOk}
 
--- ---- 10, 11, and what the section says
+-- ---- 10, 11, 41, and what the section says
 
 module _ (s : Store) (input : ℕ) (pid : MaybePid) (bytes : List ℕ) (w : Bool) (e : w ≡ wholeOf s) where
   pub admit-broken : w ≡ false → arrival.Refused NotWhole ≡ admitted s input pid bytes
@@ -33,9 +36,17 @@ module _ (s : Store) (input : ℕ) (pid : MaybePid) (bytes : List ℕ) (w : Bool
   unfolding admitted
   admit-full t h = rw (← e, t, eq-eqb (s .sets .evictions) 18446744073709551615 h)
 
-  pub admit-section : (a : SetArrival) → w ≡ true → (s .sets .evictions ≡ 18446744073709551615 → ⊥) → a ≡ setArrival input pid bytes → a ≡ admitted s input pid bytes
+  pub admit-without : (n : Bool) → w ≡ true → (s .sets .evictions ≡ 18446744073709551615 → ⊥) → n ≡ withoutPid (s .heads) (s .sets .used) → n ≡ true → arrival.Refused NoPid ≡ admitted s input pid bytes
   unfolding admitted
-  admit-section a t h q = rw (← e, t, ne-eqb (s .sets .evictions) 18446744073709551615 h) q
+  admit-without n t h f y = rw (← e, t, ne-eqb (s .sets .evictions) 18446744073709551615 h, ← f, y)
+
+  pub admit-section : (n : Bool) (a : SetArrival) → w ≡ true → (s .sets .evictions ≡ 18446744073709551615 → ⊥) → n ≡ withoutPid (s .heads) (s .sets .used) → n ≡ false → a ≡ setArrival input pid bytes → a ≡ admitted s input pid bytes
+  unfolding admitted
+  admit-section n a t h f y q = rw (← e, t, ne-eqb (s .sets .evictions) 18446744073709551615 h, ← f, y) q
+
+-- the heads of a store that is whole have all rows in use
+pub rows-lent : (s : Sets) (heads slots cells : List ℕ) (w : Bool) → w ≡ wholeOf (store s heads slots cells) → w ≡ true → s .used * 12 ≤ length heads
+rows-lent s heads slots cells w e t = let o = is-whole-means s heads slots cells w e t in let u = o .used in let l = o .heads-long in omega (arith, u, l)
 
 -- what arrived at a store that is whole
 module _ (s : Store) (bytes : List ℕ) where
@@ -48,13 +59,14 @@ module _ (s : Store) (bytes : List ℕ) where
 
   pub admitted-ok : (input : ℕ) (pid : MaybePid) → getD bytes 7 0 < 256 → AdmittedOk s bytes (admitted s input pid bytes)
   unfolding admitted
-  admitted-ok input pid b = go (wholeOf s) (eqb (s .sets .evictions) 18446744073709551615) refl refl
+  admitted-ok input pid b = go (wholeOf s) (eqb (s .sets .evictions) 18446744073709551615) (withoutPid (s .heads) (s .sets .used)) refl refl
     where
-      go : (w t : Bool) → wholeOf s ≡ w → eqb (s .sets .evictions) 18446744073709551615 ≡ t
-          → AdmittedOk s bytes (cond w (cond t (arrival.Refused CounterFull) (setArrival input pid bytes)) (arrival.Refused NotWhole))
-      go false t p q = tt
-      go true true p q = tt
-      go true false p q = admitted-may true (setArrival input pid bytes) (sym p) refl (eqb-false (s .sets .evictions) 18446744073709551615 q) (set-taken bytes b input pid)
+      go : (w t n : Bool) → wholeOf s ≡ w → eqb (s .sets .evictions) 18446744073709551615 ≡ t
+          → AdmittedOk s bytes (cond w (cond t (arrival.Refused CounterFull) (cond n (arrival.Refused NoPid) (setArrival input pid bytes))) (arrival.Refused NotWhole))
+      go false t n p q = tt
+      go true true n p q = tt
+      go true false true p q = tt
+      go true false false p q = admitted-may true (setArrival input pid bytes) (sym p) refl (eqb-false (s .sets .evictions) 18446744073709551615 q) (set-taken bytes b input pid)
 
 pub pushed-whole : (s : Store) (e : Entry) (bytes : List ℕ) (p : Plan) (k : SetsAfter) → p ≡ planOf s e bytes → k ≡ carried s bytes p → k ≡ wholePushed s e bytes
 unfolding wholePushed

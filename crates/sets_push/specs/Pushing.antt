@@ -4,9 +4,10 @@ use Prim.Native.Nat.{ℕ}
 use mathlib.Core.List.{List}
 use mathlib.Core.Bool.{cond}
 use lib.Dec.{eqb}
-use Rattle.answers.specs.declared.Refusal.the-variants.{NotWhole, CounterFull}
+use Rattle.answers.specs.declared.Refusal.the-variants.{NotWhole, CounterFull, NoPid}
 use Rattle.section.specs.declared.ids.MaybePid.{MaybePid}
 use Rattle.rows.specs.declared.Entry.{Entry}
+use Rattle.without_pid.specs.Pids.{withoutPid}
 use Rattle.store.specs.Store.{Store, wholeOf}
 use Rattle.arrivals.specs.Arrivals.{setArrival, Taken}
 use Rattle.arrivals.specs.declared.SetArrival.{SetArrival}
@@ -18,10 +19,13 @@ use Rattle.sets_settle.specs.Settle.{SetsAfter, carried}
 unfoldable pub wholePushed : Store → Entry → List ℕ → SetsAfter
 wholePushed s e bytes = carried s bytes (planOf s e bytes)
 
--- 10, 11, then what the section's bytes and its PID say
+-- 10, 11, 41 where a row has no PID, then what the section's PID (41 where it has none) and bytes say
 unfoldable pub admitted : Store → (input : ℕ) → MaybePid → List ℕ → SetArrival
 admitted s input pid bytes =
-    cond (wholeOf s) (cond (eqb (s .sets .evictions) 18446744073709551615) (arrival.Refused CounterFull) (setArrival input pid bytes)) (arrival.Refused NotWhole)
+    cond (wholeOf s)
+    (cond (eqb (s .sets .evictions) 18446744073709551615) (arrival.Refused CounterFull)
+    (cond (withoutPid (s .heads) (s .sets .used)) (arrival.Refused NoPid) (setArrival input pid bytes)))
+    (arrival.Refused NotWhole)
 
 -- what holds of the store and of the section where it was admitted
 abbrev pub AdmittedOk : Store → List ℕ → SetArrival → Type 0

@@ -12,7 +12,7 @@ ghost use Rattle.sets_plan.specs.Plan.{Ready};
 ghost use Rattle.sets_settle.specs.Settle.{afterPush};
 ghost use Rattle.sets_push.specs.Pushing.{admitted, wholePushed, AdmittedOk};
 
-// 10, 11, then what the section's bytes and its PID say.
+// 10, 11, 41 where a row has no PID, then what the section's PID and bytes say.
 pub fn admit(
     sets: Sets,
     heads: &[u64],
@@ -28,6 +28,9 @@ pub fn admit(
     if store::is_whole(sets, heads, slots, cells) {
         if sets.evictions == u64::MAX {
             return SetArrival::Refused(Refusal::CounterFull);
+        }
+        if without_pid::any_without_pid(heads, sets.used) {
+            return SetArrival::Refused(Refusal::NoPid);
         }
         return arrivals::set_arrival(input, pid, bytes);
     }

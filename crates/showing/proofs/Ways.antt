@@ -18,6 +18,7 @@ use Rattle.handed.specs.Handed.{setOut}
 use Rattle.units.specs.Units.{unitSlots}
 use Rattle.schedules.specs.Schedules.{tablesOf, tablesThere}
 use Rattle.eit_state.specs.State.{Store, store, wholeOf}
+use Rattle.eit_pids.specs.Rows.{anyWithout}
 use Rattle.shown_sections.specs.Shown.{Show, nothingShown, sectionShow, slotsShow, reachedAs, shownFrom, toldBy, laid, Kept}
 use Rattle.shown_sections.specs.declared.Shown.{Shown}
 use Rattle.shown_sections.specs.declared.ShowAnswer.the-variants.{No, Refused}
@@ -53,15 +54,20 @@ module _ (s : Store) (row skip : ℕ) (list : List ℕ) (b : Bool) (e : b ≡ wh
   unfolding shownSet
   set-refused t r f = rw (← e, t, f)
 
-  module _ (t : b ≡ true) (o : Bool) (g : o ≡ setOut (s .heads) (s .eit .sets .used) row) where
+  pub set-without : b ≡ true → (w : Bool) → w ≡ anyWithout (s .eit) (s .heads) (s .schedule-heads) → w ≡ true → (r : Shown) → r ≡ nothingShown (Refused refusal.NoPid)
+      → (r, list) ≡ shownSet s row skip list
+  unfolding shownSet
+  set-without t w o v r f = rw (← e, t, ← o, v, f)
+
+  module _ (t : b ≡ true) (w : Bool) (p : w ≡ anyWithout (s .eit) (s .heads) (s .schedule-heads)) (v : w ≡ false) (o : Bool) (g : o ≡ setOut (s .heads) (s .eit .sets .used) row) where
     pub set-none : o ≡ false → (r : Shown) → r ≡ nothingShown No → (r, list) ≡ shownSet s row skip list
     unfolding shownSet
-    set-none y r f = rw (← e, t, ← g, y, f)
+    set-none y r f = rw (← e, t, ← p, v, ← g, y, f)
 
     pub set-listed : o ≡ true → (part : List ℕ) → part ≡ rowSlots (s .heads) (s .slots) row → (r : Shown) (l : List ℕ)
         → (r, l) ≡ laid skip (slotsShow (s .cells) (s .eit .sets .size) part 0) list → (r, l) ≡ shownSet s row skip list
     unfolding shownSet
-    set-listed y part p r l f = rw (← e, t, ← g, y, ← p) f
+    set-listed y part q r l f = rw (← e, t, ← p, v, ← g, y, ← q) f
 
 -- ---- a table of a schedule
 
@@ -88,12 +94,17 @@ module _ (s : Store) (row table skip : ℕ) (list : List ℕ) (b : Bool) (e : b 
   unfolding shownTable
   table-refused t r f = rw (← e, t, f)
 
-  module _ (t : b ≡ true) (o : Bool) (g : o ≡ tableOut (s .schedule-heads) (s .units) (s .eit .schedules) row table) where
+  pub table-without : b ≡ true → (w : Bool) → w ≡ anyWithout (s .eit) (s .heads) (s .schedule-heads) → w ≡ true → (r : Shown) → r ≡ nothingShown (Refused refusal.NoPid)
+      → (r, list) ≡ shownTable s row table skip list
+  unfolding shownTable
+  table-without t w o v r f = rw (← e, t, ← o, v, f)
+
+  module _ (t : b ≡ true) (w : Bool) (p : w ≡ anyWithout (s .eit) (s .heads) (s .schedule-heads)) (v : w ≡ false) (o : Bool) (g : o ≡ tableOut (s .schedule-heads) (s .units) (s .eit .schedules) row table) where
     pub table-none : o ≡ false → (r : Shown) → r ≡ nothingShown No → (r, list) ≡ shownTable s row table skip list
     unfolding shownTable
-    table-none y r f = rw (← e, t, ← g, y, f)
+    table-none y r f = rw (← e, t, ← p, v, ← g, y, f)
 
     pub table-listed : o ≡ true → (part : List ℕ) → part ≡ unitSlots (s .units) (row * 16 + table) → (r : Shown) (l : List ℕ)
         → (r, l) ≡ laid skip (slotsShow (s .cells) (s .eit .sets .size) part 0) list → (r, l) ≡ shownTable s row table skip list
     unfolding shownTable
-    table-listed y part p r l f = rw (← e, t, ← g, y, ← p) f
+    table-listed y part q r l f = rw (← e, t, ← p, v, ← g, y, ← q) f

@@ -14,6 +14,7 @@ use Rattle.handed.specs.Handed.{setOut}
 use Rattle.units.specs.Units.{unitSlots}
 use Rattle.schedules.specs.Schedules.{tablesOf, tablesThere}
 use Rattle.eit_state.specs.State.{Store, wholeOf}
+use Rattle.eit_pids.specs.Rows.{anyWithout}
 use Rattle.shown_sections.specs.Shown.{Show, nothingShown, sectionShow, slotsShow, laid}
 use Rattle.shown_sections.specs.declared.Shown.{Shown}
 use Rattle.shown_sections.specs.declared.ShowAnswer.the-variants.{No, Refused}
@@ -24,12 +25,13 @@ unfoldable pub shownSection : (section : List ℕ) → (skip : ℕ) → (list : 
 shownSection section skip list =
     cond (malformed section) (nothingShown (Refused refusal.Malformed), list) (laid skip (sectionShow section 0 (length section) (byteAt section 6)) list)
 
--- ---- a set: 10 first, then 9 where it is not one that was handed out
+-- ---- a set: 10 first, then 41 where a set or a schedule has no PID, then 9 where it is not one that was handed out
 
 unfoldable pub shownSet : Store → (row skip : ℕ) → (list : List ℕ) → Shown × List ℕ
 shownSet s row skip list =
     cond (wholeOf s)
-    (cond (setOut (s .heads) (s .eit .sets .used) row) (laid skip (slotsShow (s .cells) (s .eit .sets .size) (rowSlots (s .heads) (s .slots) row) 0) list) (nothingShown No, list))
+    (cond (anyWithout (s .eit) (s .heads) (s .schedule-heads)) (nothingShown (Refused refusal.NoPid), list)
+    (cond (setOut (s .heads) (s .eit .sets .used) row) (laid skip (slotsShow (s .cells) (s .eit .sets .size) (rowSlots (s .heads) (s .slots) row) 0) list) (nothingShown No, list)))
     (nothingShown (Refused refusal.NotWhole), list)
 
 -- ---- a table of a schedule
@@ -50,7 +52,8 @@ tableOut schedule-heads units schedules row table =
 unfoldable pub shownTable : Store → (row table skip : ℕ) → (list : List ℕ) → Shown × List ℕ
 shownTable s row table skip list =
     cond (wholeOf s)
+    (cond (anyWithout (s .eit) (s .heads) (s .schedule-heads)) (nothingShown (Refused refusal.NoPid), list)
     (cond (tableOut (s .schedule-heads) (s .units) (s .eit .schedules) row table)
     (laid skip (slotsShow (s .cells) (s .eit .sets .size) (unitSlots (s .units) (row * 16 + table)) 0) list)
-    (nothingShown No, list))
+    (nothingShown No, list)))
     (nothingShown (Refused refusal.NotWhole), list)

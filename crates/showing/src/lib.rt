@@ -55,6 +55,10 @@ pub fn events_of_set(
     let sets = eit.sets;
     let whole = eit_state::is_whole(eit, heads, slots, cells, schedule_heads, units);
     if whole {
+        let without = eit_pids::any_row_without_pid(eit, heads, schedule_heads);
+        if without {
+            return shown_sections::nothing(ShowAnswer::Refused(Refusal::NoPid));
+        }
         if handed::is_set_out(heads, sets.used, row) {
             let part = rows::row_slots(heads, slots, row);
             return shown_sections::show_slots(part, sets.size, cells, skip, list);
@@ -115,6 +119,9 @@ pub fn events_of_table(
 {
     let sets = eit.sets;
     if eit_state::is_whole(eit, heads, slots, cells, schedule_heads, units) {
+        if eit_pids::any_row_without_pid(eit, heads, schedule_heads) {
+            return shown_sections::nothing(ShowAnswer::Refused(Refusal::NoPid));
+        }
         if is_table_out(schedule_heads, units, eit.schedules, row, table) {
             let part = units::unit_slots(units, row * schedules::TABLES + table);
             return shown_sections::show_slots(part, sets.size, cells, skip, list);

@@ -117,14 +117,15 @@ module _ (s : List ℕ) (h : Header) (q : collectedOf s ≡ collected.Good h) wh
   unfolding headerOf
   numbers b = rw (taken .header) (taken .numbered, b)
 
-  pub arrives : getD s 7 0 < 256 → (from : Words) (x : Read) → kindRead (byteAt s 0) ≡ maybe.Some x → (k : Kind) × Arrives (arrivalOf from h (fieldsOf s x)) k
-  arrives b from x e =
+  pub arrives : getD s 7 0 < 256 → (from : Words) → (from .pid ≡ 8192 → ⊥) → (x : Read) → kindRead (byteAt s 0) ≡ maybe.Some x → (k : Kind) × Arrives (arrivalOf from h (fieldsOf s x)) k
+  arrives b from p x e =
       let n = numbers b in
       let k = the-kind (kindRead (byteAt s 0)) (kindOf (byteAt s 0)) (kinds-agree (byteAt s 0)) x e in (
         k .0,
         record {
           numbered = record { number = n .0; last = n .1 };
           version = version-small;
+          pid = p;
           bit = bit-bit (h .«current_next»);
           table = rw table-is (k .1);
           number = k .2;

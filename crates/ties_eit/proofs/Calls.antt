@@ -34,7 +34,6 @@ use Rattle.eit_section.specs.declared.Reading.{Reading}
 use Rattle.eit_section.specs.declared.Reading.the-variants as reading
 use Rattle.section.specs.declared.ids.MaybePid.{MaybePid}
 use Rattle.section.specs.declared.ids.MaybePid.the-variants as maybe
-use Rattle.section.specs.declared.ids.InputMade.the-variants as input-made
 use Rattle.section.specs.declared.ids.OriginMade.the-variants as made
 use Rattle.cells.specs.Cells.{allWhole}
 use Rattle.rows.specs.declared.Origin.{Origin as Words}
@@ -49,7 +48,7 @@ use Rattle.ages.proofs.Origins.{shown-pid}
 use Rattle.ages.proofs.Slots.{held-whole, rows-whole}
 use Rattle.ages.proofs.Cells.{cells-length}
 use Rattle.store.specs.Store as sets
-use Rattle.arrivals.specs.Arrivals.{inputWords, madeWords, eitFields, eitRead, eitJudged, eitArrival}
+use Rattle.arrivals.specs.Arrivals.{madeWords, eitFields, eitRead, eitJudged, eitArrival}
 use Rattle.store.proofs.Whole.{long}
 use Rattle.placing.specs.Places.{placeOf as placeIn}
 use Rattle.schedules.specs.Schedules.{schedulesWhole}
@@ -69,6 +68,7 @@ use Rattle.eit.specs.Store as eit
 use Rattle.eit.specs.Store.{after, toldStep, clearedOf, carriedDrop, droppedOf, pushedAs, pushedOf}
 use Rattle.eit_state.specs.State.{emptyEit}
 use Rattle.eit_admit.specs.Admitting.{dropOf, admitted}
+use Rattle.eit_pids.specs.Rows.{anyWithout}
 use Rattle.eit_carry.specs.Carried.{pushedWhole}
 use Rattle.eit_state.proofs.Whole.{whole-store, units-whole, can-count}
 use Rattle.eit_state.proofs.Whole.{long as schedules-long}
@@ -80,6 +80,7 @@ use Rattle.ties_eit.proofs.Settle.{Arrives}
 use Rattle.ties_eit.proofs.Keep.{sectionFor}
 use Rattle.ties_eit.proofs.Placed.{placed-tied}
 use Rattle.ties_eit.proofs.Dropping.{drop-tied}
+use Rattle.ties_eit.proofs.Pids.{each-has-pid}
 use Rattle.ties_eit.proofs.Arrivals.{good-length, Read-as, not-eit, broken, good as read-good, read-as, not-kind, arrives, section-same}
 
 -- ---- lists of rows
@@ -186,7 +187,7 @@ module _ (s : Store) (z : Reached s) where
 
   pub clear-tied : Tied (clearedOf s) (call (seen s) clear)
   unfolding clearedOf call guarded ended answerTold
-  clear-tied = rw whole-seen (go (wholeOf s))
+  clear-tied = rw (whole-seen, each-has-pid s z) (go (wholeOf s))
     where
       go : (b : Bool) → Tied (cond b (after eit.done (store (emptyEit (s .eit)) (s .heads) (s .slots) (s .cells) (s .schedule-heads) (s .units))) (after (eit.refused refusal.NotWhole) s)) (guarded b false (seen s) clear)
       go true = emptied-tied
@@ -225,39 +226,36 @@ module _ (s : Store) (z : Reached s) where
             rw (le-leb (length bytes) (s .eit .sets .size) l) (limited l (s .eit .sets .limit) refl)
 
     -- 18 and 19
-    read-tied : AllBytes bytes → (from : Words) (h : Header) → collectedOf bytes ≡ collected.Good h → (r : Reading) → Read-as bytes r
+    read-tied : AllBytes bytes → (from : Words) → (from .pid ≡ 8192 → ⊥) → (h : Header) → collectedOf bytes ≡ collected.Good h → (r : Reading) → Read-as bytes r
         → Tied (pushedAs s bytes (eitFields from h r)) (good (seen s) (readsEit (originShown from) bytes h r))
     unfolding readsEit good offerIn shows onAnswer answerTold seen sectionOf
-    read-tied o from h q r (not-eit e) = rw (not-kind bytes h q e) (record { told = refl; shown = refl; reached = z })
-    read-tied o from h q r broken = record { told = refl; shown = refl; reached = z }
-    read-tied o from h q r (read-good kind e) =
-        let k = arrives bytes h q (o 7) from kind e in
+    read-tied o from n h q r (not-eit e) = rw (not-kind bytes h q e) (record { told = refl; shown = refl; reached = z })
+    read-tied o from n h q r broken = record { told = refl; shown = refl; reached = z }
+    read-tied o from n h q r (read-good kind e) =
+        let k = arrives bytes h q (o 7) from n kind e in
         subst (λ (x : Section). Tied (toldStep (pushedWhole s bytes (arrivalOf from h (fieldsOf bytes kind)))) (good (seen s) (offer x))) (section-same from bytes h (fieldsOf bytes kind))
         (good-tied (arrivalOf from h (fieldsOf bytes kind)) (k .0) (k .1) (good-length bytes h q))
 
     -- 14 to 17
-    judged-tied : AllBytes bytes → (from : Words) (c : Collected) → collectedOf bytes ≡ c → Tied (pushedAs s bytes (eitRead from bytes c)) (good (seen s) (readsAs (originShown from) bytes c))
+    judged-tied : AllBytes bytes → (from : Words) → (from .pid ≡ 8192 → ⊥) → (c : Collected) → collectedOf bytes ≡ c → Tied (pushedAs s bytes (eitRead from bytes c)) (good (seen s) (readsAs (originShown from) bytes c))
     unfolding readsAs good shows onAnswer answerTold seen
-    judged-tied o from collected.Malformed q = record { told = refl; shown = refl; reached = z }
-    judged-tied o from collected.ShortForm q = record { told = refl; shown = refl; reached = z }
-    judged-tied o from collected.BadNumber q = record { told = refl; shown = refl; reached = z }
-    judged-tied o from collected.BadCrc q = record { told = refl; shown = refl; reached = z }
-    judged-tied o from (collected.Good h) q = read-tied o from h q (eitOf bytes) (read-as bytes)
+    judged-tied o from n collected.Malformed q = record { told = refl; shown = refl; reached = z }
+    judged-tied o from n collected.ShortForm q = record { told = refl; shown = refl; reached = z }
+    judged-tied o from n collected.BadNumber q = record { told = refl; shown = refl; reached = z }
+    judged-tied o from n collected.BadCrc q = record { told = refl; shown = refl; reached = z }
+    judged-tied o from n (collected.Good h) q = read-tied o from n h q (eitOf bytes) (read-as bytes)
 
-    -- 12
+    -- 41, then 12
     pid-tied : AllBytes bytes → (input : ℕ) (pid : MaybePid) → Tied (pushedAs s bytes (eitArrival input pid bytes)) (good (seen s) (readSection input pid bytes))
     unfolding eitArrival readSection good shows onAnswer answerTold seen originShown
-    pid-tied o input maybe.None = go (ltb input 16)
-      where
-        go : (b : Bool) → Tied (pushedAs s bytes (eitJudged (inputWords (cond b (input-made.One (record { 0 = input })) input-made.TooLarge)) bytes))
-            (good (seen s) (cond b (readsAs (record { input = input; pid = none }) bytes (collectedOf bytes)) (refuse refusal.BadInput refl)))
-        go true = judged-tied o (record { input = input; pid = 8192 }) (collectedOf bytes) refl
-        go false = record { told = refl; shown = refl; reached = z }
+    pid-tied o input maybe.None = record { told = refl; shown = refl; reached = z }
     pid-tied o input (maybe.Some v) = go (ltb v 8192) (ltb input 16) refl
       where
         go : (b c : Bool) → ltb v 8192 ≡ b → Tied (pushedAs s bytes (eitJudged (madeWords (cond b (cond c (made.One (originOf input v)) made.BadInput) made.BadPid)) bytes))
-            (good (seen s) (cond b (cond c (readsAs (record { input = input; pid = some v }) bytes (collectedOf bytes)) (refuse refusal.BadInput refl)) (refuse refusal.BadPid refl)))
-        go true true q = rw (← (shown-pid input v (ltb-true v 8192 q))) (judged-tied o (record { input = input; pid = v }) (collectedOf bytes) refl)
+            (good (seen s) (cond b (cond c (readsAs (record { input = input; pid = v }) bytes (collectedOf bytes)) (refuse refusal.BadInput refl)) (refuse refusal.BadPid refl)))
+        go true true q =
+            let l = ltb-true v 8192 q in
+            rw (← (shown-pid input v l)) (judged-tied o (record { input = input; pid = v }) (λ (t : v ≡ 8192). absurd (omega arith)) (collectedOf bytes) refl)
         go true false q = record { told = refl; shown = refl; reached = z }
         go false c q = record { told = refl; shown = refl; reached = z }
 
@@ -286,18 +284,18 @@ module _ (s : Store) (z : Reached s) where
 
   ended-read : (input : ℕ) (pid : MaybePid) (bytes : Bytes) → ended (seen s) (readSection input pid bytes) ≡ anyAtEnd (seen s)
   unfolding readSection ended
-  ended-read input maybe.None bytes = ended-on bytes (record { input = input; pid = none })
+  ended-read input maybe.None bytes = refl
   ended-read input (maybe.Some v) bytes = go (ltb v 8192)
     where
-      go : (b : Bool) → ended (seen s) (cond b (readOn (record { input = input; pid = some v }) bytes) (refuse refusal.BadPid refl)) ≡ anyAtEnd (seen s)
-      go true = ended-on bytes (record { input = input; pid = some v })
+      go : (b : Bool) → ended (seen s) (cond b (readOn (record { input = input; pid = v }) bytes) (refuse refusal.BadPid refl)) ≡ anyAtEnd (seen s)
+      go true = ended-on bytes (record { input = input; pid = v })
       go false = refl
 
-  -- 10, then 11
+  -- 10, then 11; no set and no schedule is without a PID
   pub push-tied : (input : ℕ) (pid : MaybePid) (bytes : Bytes) → AllBytes bytes → Tied (pushedOf s input pid bytes) (call (seen s) (readSection input pid bytes))
   unfolding pushedOf admitted call guarded answerTold
   push-tied input pid bytes o =
-      rw (whole-seen s z, ended-read input pid bytes, ended-seen s z) (go (wholeOf s) (countersFull (s .eit)) refl refl)
+      rw (whole-seen s z, ended-read input pid bytes, ended-seen s z, each-has-pid s z) (go (wholeOf s) (countersFull (s .eit)) refl refl)
     where
       go : (w t : Bool) → wholeOf s ≡ w → countersFull (s .eit) ≡ t
           → Tied (pushedAs s bytes (cond w (cond t (arrival.Refused refusal.CounterFull) (eitArrival input pid bytes)) (arrival.Refused refusal.NotWhole))) (guarded w t (seen s) (readSection input pid bytes))
@@ -309,10 +307,10 @@ module _ (s : Store) (z : Reached s) where
           let d = can-count (s .eit) false (sym q) refl (omega arith) (omega arith) in
           pid-tied (whole-store s p) (units-whole s p) (d .sets) (d .schedules) bytes o input pid
 
-  -- 10, then a drop's 12 and 7; a drop asks for no count
+  -- 10, then a drop's 41, 12, 37 and 7; a drop asks for no count
   dropped-tied : (f : Filter) → FilterFits f → Tied (droppedOf s f) (call (seen s) (drop (filterShown f)))
   unfolding droppedOf dropOf call guarded ended good answerTold
-  dropped-tied f fit = rw (whole-seen s z) (go (wholeOf s) refl)
+  dropped-tied f fit = rw (whole-seen s z, each-has-pid s z) (go (wholeOf s) refl)
     where
       go : (b : Bool) → wholeOf s ≡ b
           → Tied (carriedDrop s (cond b (dropWanted f) (plan-drop.Refuse refusal.NotWhole)))

@@ -12,7 +12,7 @@ use lib.Dec.{ltb, leb}
 use lib.ListN.{length, take, drop, getD}
 use Rattle.rules_shared.specs.Touch.{retained}
 use Rattle.answers.specs.declared.Refusal.the-variants as refusal
-use Rattle.rules_eit.specs.Keys.{kindNumber, ScheduleKey, SetKey, badPid, badInput, badFilter, pidPasses, fromPasses, matches as keyMatches}
+use Rattle.rules_eit.specs.Keys.{kindNumber, ScheduleKey, SetKey, noPid, badPid, badInput, badFilter, pidPasses, fromPasses, matches as keyMatches}
 use Rattle.rules_eit.specs.Rules.{done, gives, dropped}
 use Rattle.rules_eit.specs.Cells.{onAnswer, shows, dropIn}
 use Rattle.section.specs.declared.ids.Made.the-variants as made
@@ -45,7 +45,7 @@ use Rattle.ties_eit.proofs.Rows.{row-as}
 use Rattle.ties_eit.proofs.Units.{copy-as}
 use Rattle.ties_eit.proofs.Entered.{Tied, fits-schedules}
 use Rattle.ties_eit.proofs.Retained.{Stays, stays}
-use Rattle.ties_eit.proofs.Filters.{pid-any, pid-without, pid-exactly, from-wanted, sets-match, schedules-match, kind-word}
+use Rattle.ties_eit.proofs.Filters.{pid-any, pid-exactly, from-wanted, sets-match, schedules-match, kind-word}
 
 -- ---- what the row shows that takes another's place
 
@@ -204,14 +204,14 @@ module _ (f : Filter) (fit : FilterFits f) (w : WantedOrigin) (from : (o : Words
     unfolding matchingGone shows onAnswer answerTold
     matching-tied = record { told = refl; shown = shown-after; reached = reached-after }
 
--- ---- 12, then 37, then 7
+-- ---- 41, then 12, then 37, then 7
 
 module _ (s : Store) (z : Reached s) (g : Whole s) (f : Filter) (fit : FilterFits f) where
   abbrev leaves : Drop → After
   leaves d = carriedDrop s d
 
   pub drop-tied : Tied (leaves (dropFrom f (wantedOrigin (f .input) (f .pid)))) (dropIn (seen s) (filterShown f) (badFilter (filterShown f)))
-  unfolding filterShown badFilter badPid badInput dropIn shows onAnswer answerTold seen
+  unfolding filterShown badFilter noPid badPid badInput dropIn shows onAnswer answerTold seen
   drop-tied = go (f .pid) refl
     where
       -- 37, once the PID is one that there is
@@ -235,7 +235,8 @@ module _ (s : Store) (z : Reached s) (g : Whole s) (f : Filter) (fit : FilterFit
       exactly-tied v e false q = rw (le-leb 8192 v (ltb-false v 8192 q)) (record { told = refl; shown = refl; reached = z })
 
       go : (p : WantedPid) → f .pid ≡ p → Tied (leaves (dropFrom f (wantedOrigin (f .input) p)))
-          (dropIn (seen s) (filterShown f) (cond (badPid (pidTest p)) (some refusal.BadPid) (cond (badInput (wantedAs (λ (x : ℕ). x) (f .input))) (some refusal.BadInput) none)))
+          (dropIn (seen s) (filterShown f)
+          (cond (noPid (pidTest p)) (some refusal.NoPid) (cond (badPid (pidTest p)) (some refusal.BadPid) (cond (badInput (wantedAs (λ (x : ℕ). x) (f .input))) (some refusal.BadInput) none))))
       go wanted-pid.Any e = input-tied wanted.Any (λ o. pid-any o ∙ ap (λ (t : WantedPid). pidPasses (pidTest t) ((originShown o) .pid)) (sym e)) (f .input) refl
-      go wanted-pid.Without e = input-tied (wanted.Exactly 8192) (λ o. pid-without o ∙ ap (λ (t : WantedPid). pidPasses (pidTest t) ((originShown o) .pid)) (sym e)) (f .input) refl
+      go wanted-pid.Without e = record { told = refl; shown = refl; reached = z }
       go (wanted-pid.Exactly v) e = exactly-tied v e (ltb v 8192) refl

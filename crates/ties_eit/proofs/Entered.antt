@@ -48,7 +48,7 @@ use Rattle.eit_enter.specs.Entering.{Settled, scheduleEntry, enteredAnswer, ent
 use Rattle.eit_carry.specs.Carried.{stepped}
 use Rattle.eit.specs.Store.{After, toldStep, answerOf, scheduleOut, tablesOut, a-schedule}
 use Rattle.ties_eit.specs.View.{keyShown, scheduleShown, keyWords, scheduleWords, rowSeen, copySeen, placeSeen, scheduleSeen, seen, answerTold, tablesShown, HeadFits, Reached}
-use Rattle.ties_eit.proofs.Keys.{schedule-self, set-self, Bit, key-reads, schedule-reads, schedule-of, number-kind, InKind}
+use Rattle.ties_eit.proofs.Keys.{schedule-self, set-self, HasPid, Bit, key-reads, schedule-reads, schedule-of, number-kind, InKind}
 use Rattle.ties_eit.proofs.Rows.{complete-is}
 use Rattle.ties_eit.proofs.Units.{set-length, set-other, set-own, without-length, without-other, without-own, copyFor, refill-length, refill-other, refill-own}
 use Rattle.ties_eit.proofs.Places.{heldPasses, copyWhole, copy-whole, place-in, place-past, place-whole, schedules-get, tables-there, present-get, copy-there, tables-out}
@@ -86,6 +86,7 @@ pub record Entering (L : Store) (a : Arrival) (kind : Kind) (first i : ℕ) : Ty
   pub in-kind : InKind kind first (a .entry .key .«table_id»)
   pub table : kindOf (a .entry .key .«table_id») ≡ some kind
   pub number : a .kind ≡ kindNumber kind
+  pub pid : HasPid (a .entry .key)
   pub bit : Bit (a .entry .key .«current_next»)
   pub range : a .entry .key .«table_id» ≤ a .tables
   pub row : i < L .eit .sets .used
@@ -173,7 +174,7 @@ module _ (L : Store) (z : Reached L) (a : Arrival) (kind : Kind) (first i : ℕ)
   skey-shown = rw (h .number) (schedule-of key kind (h .table))
 
   skey-proper : scheduleWords (scheduleShown skey) ≡ skey
-  skey-proper = schedule-reads skey (h .bit) (rw (h .number) (ap kindNumber (number-kind kind)))
+  skey-proper = schedule-reads skey (h .pid) (h .bit) (rw (h .number) (ap kindNumber (number-kind kind)))
 
   rows-fit : (r : ℕ) → r < L .eit .sets .used → HeadFits (L .heads) r
   rows-fit = z .heads-fit
@@ -213,11 +214,11 @@ module _ (L : Store) (z : Reached L) (a : Arrival) (kind : Kind) (first i : ℕ)
           → copied (find sameSet (keyShown key′) ((seen L) .eit .sets .rows)) ≡ cond (b && setComplete (L .heads) (L .slots) (rowFor j)) (some (copyOf (rowSeen (L .heads) (L .slots) (rowFor j)))) none
       go true q =
           let m = ltb-true (rowFor j) (L .eit .sets .used) q in
-          ap copied (finds-known keyShown keyWords sameSet sameSet-true set-self (L .heads) limit (L .eit .sets .used) (L .eit .sets .evictions) key′ (z .sets) (key-reads key′ (h .bit)) (rowSeen (L .heads) (L .slots))
+          ap copied (finds-known keyShown keyWords sameSet sameSet-true set-self (L .heads) limit (L .eit .sets .used) (L .eit .sets .evictions) key′ (z .sets) (key-reads key′ (h .pid) (h .bit)) (rowSeen (L .heads) (L .slots))
           (rowFor j) m (row-has-key (L .heads) key′ (L .eit .sets .used) m)) ∙ copied-some (rowFor j) m
       go false q =
           let m = ltb-false (rowFor j) (L .eit .sets .used) q in
-          ap copied (finds-none keyShown keyWords sameSet sameSet-true set-self (L .heads) limit (L .eit .sets .used) (L .eit .sets .evictions) key′ (z .sets) (key-reads key′ (h .bit)) (rowSeen (L .heads) (L .slots))
+          ap copied (finds-none keyShown keyWords sameSet sameSet-true set-self (L .heads) limit (L .eit .sets .used) (L .eit .sets .evictions) key′ (z .sets) (key-reads key′ (h .pid) (h .bit)) (rowSeen (L .heads) (L .slots))
           (no-row-has-key (L .heads) key′ (L .eit .sets .used) m)) ∙ copied-none
 
   -- the first table_id of the kind

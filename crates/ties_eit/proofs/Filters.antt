@@ -8,7 +8,6 @@ use native.Mathlib.Omega.{arith}
 use borrow.Author.Tests.{eqb-true, ne-eqb}
 use lib.Dec.{eqb}
 use Rattle.laws.proofs.Tests.{eqb-sym}
-use Rattle.rules_shared.specs.Same.{samePid}
 use Rattle.rules_eit.specs.Keys.{Kind, presentActual, presentOther, scheduleActual, scheduleOther, between, kindOf, kindNumber, sameKind, anyPid, exactly, pidPasses, passes, fromPasses, matches as keyMatches}
 use Rattle.eit_section.specs.Eit.{within}
 use Rattle.rows.specs.declared.Origin.{Origin as Words}
@@ -64,20 +63,14 @@ pub pid-any : (o : Words) → wants wanted.Any (o .pid) ≡ pidPasses anyPid ((o
 unfolding pidPasses
 pid-any o = refl
 
-pub pid-without : (o : Words) → wants (wanted.Exactly 8192) (o .pid) ≡ pidPasses (exactly none) ((originShown o) .pid)
-unfolding pidPasses originShown samePid
-pid-without o = go (eqb (o .pid) 8192)
-  where
-    go : (b : Bool) → b ≡ samePid none (cond b none (some (o .pid)))
-    go true = refl
-    go false = refl
-
-pub pid-exactly : (v : ℕ) → v < 8192 → (o : Words) → wants (wanted.Exactly v) (o .pid) ≡ pidPasses (exactly (some v)) ((originShown o) .pid)
-unfolding pidPasses originShown samePid
+pub pid-exactly : (v : ℕ) → v < 8192 → (o : Words) → wants (wanted.Exactly v) (o .pid) ≡ pidPasses (exactly v) ((originShown o) .pid)
+unfolding pidPasses originShown
 pid-exactly v h o = go (eqb (o .pid) 8192) refl
   where
-    go : (b : Bool) → eqb (o .pid) 8192 ≡ b → eqb (o .pid) v ≡ samePid (some v) (cond b none (some (o .pid)))
-    go true e = let q = eqb-true (o .pid) 8192 e in ne-eqb (o .pid) v (λ (t : o .pid ≡ v). absurd (omega arith))
+    go : (b : Bool) → eqb (o .pid) 8192 ≡ b → eqb (o .pid) v ≡ eqb v (cond b 8193 (o .pid))
+    go true e =
+        let q = eqb-true (o .pid) 8192 e in
+        ne-eqb (o .pid) v (λ (t : o .pid ≡ v). absurd (omega arith)) ∙ sym (ne-eqb v 8193 (λ (t : v ≡ 8193). absurd (omega arith)))
     go false e = eqb-sym (o .pid) v
 
 -- what is wanted of where sections came from

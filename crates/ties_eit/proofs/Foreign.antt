@@ -26,12 +26,14 @@ use Rattle.eit_drop.specs.declared.OriginWanted.the-variants as origin-wanted
 use Rattle.eit_state.specs.State.{Store, wholeOf}
 use Rattle.eit_drop.specs.Drop.{wantedOrigin, fieldsOf, dropFrom, matchingGone}
 use Rattle.eit_admit.specs.Admitting.{dropOf}
+use Rattle.eit_pids.specs.Rows.{anyWithout}
 use Rattle.eit.specs.Store.{carriedDrop, droppedOf}
 use Rattle.rules_eit.specs.Rules.{Answer, done, refused}
 use Rattle.ties_eit.specs.View.{theKind, kindBy, answerTold, tells, acts, drops, Reached}
 use Rattle.ties_eit.proofs.Keys.{Bit}
 use Rattle.ties_eit.proofs.Filters.{kind-word}
 use Rattle.ties_eit.proofs.Dropping.{set-bit, schedule-bit}
+use Rattle.ties_eit.proofs.Pids.{each-has-pid}
 
 -- kinds are 0 to 3, current_next is 0 or 1
 pub data Foreign (f : Filter) : Type 0 where
@@ -101,22 +103,23 @@ module _ (s : Store) (z : Reached s) (f : Filter) (g : Foreign f) (w : WantedOri
 -- nothing is dropped
 pub foreign-drop : (s : Store) → Reached s → (f : Filter) → Foreign f → acts s (drops f) ≡ s
 unfolding acts droppedOf dropOf
-foreign-drop s z f g = go (wholeOf s) (wantedOrigin (f .input) (f .pid))
+foreign-drop s z f g = go (wholeOf s) (anyWithout (s .eit) (s .heads) (s .schedule-heads)) (wantedOrigin (f .input) (f .pid))
   where
-    go : (b : Bool) (p : OriginWanted) → (carriedDrop s (cond b (dropFrom f p) (drop.Refuse refusal.NotWhole))) .store ≡ s
-    go true (origin-wanted.Refused r) = refl
-    go true (origin-wanted.Is w) = gone-stays s z f g w
-    go false p = refl
+    go : (b w : Bool) (p : OriginWanted) → (carriedDrop s (cond b (cond w (drop.Refuse refusal.NoPid) (dropFrom f p)) (drop.Refuse refusal.NotWhole))) .store ≡ s
+    go true true p = refl
+    go true false (origin-wanted.Refused r) = refl
+    go true false (origin-wanted.Is w) = gone-stays s z f g w
+    go false w p = refl
 
--- 12 for a PID of 8192 or more, 37 for an input of 16 or more, else 7, whatever the other fields of the filter are
+-- 41 for no PID, 12 for a PID of 8192 or more, 37 for an input of 16 or more, else 7, whatever the other fields of the filter are
 abbrev pub dropAnswer : OriginWanted → Answer
 dropAnswer (origin-wanted.Refused r) = refused r
 dropAnswer (origin-wanted.Is w) = done
 
 -- a filter that names no kind and no current_next is answered as any other: by its PID and its input alone
-pub drop-answered : (s : Store) → wholeOf s ≡ true → (f : Filter) → tells s (drops f) ≡ dropAnswer (wantedOrigin (f .input) (f .pid))
+pub drop-answered : (s : Store) → Reached s → wholeOf s ≡ true → (f : Filter) → tells s (drops f) ≡ dropAnswer (wantedOrigin (f .input) (f .pid))
 unfolding tells droppedOf dropOf answerTold
-drop-answered s w f = rw w (go (wantedOrigin (f .input) (f .pid)))
+drop-answered s z w f = rw (w, each-has-pid s z) (go (wantedOrigin (f .input) (f .pid)))
   where
     go : (p : OriginWanted) → answerTold ((carriedDrop s (dropFrom f p)) .told) ≡ dropAnswer p
     go (origin-wanted.Refused r) = refl

@@ -1,5 +1,5 @@
 -- Every history of opening, pushes, drops and clears: what the store of the EIT collector answers and shows is what the rules answer and leave; 10 never occurs;
--- refusals but 22 and 23 leave the memory as before; 21 exactly where the rules would keep a section and every cell is named.
+-- refusals but 22 and 23 leave the memory as before; 41 comes only from a call without a PID; 21 exactly where the rules would keep a section and every cell is named.
 -- Assumes nothing.
 use mathlib.Core.Path.{_≡_, refl, sym, ap, subst, _∙_}
 use mathlib.Core.Logic.{_≢_}
@@ -14,15 +14,16 @@ use Rattle.rules_shared.specs.Same.{Bytes, Origin}
 use Rattle.rules_shared.specs.Touch.{untouched, onOrder, seenAs}
 use Rattle.rules_shared.specs.Cells.{Settings}
 use Rattle.laws.specs.Runs.{answers, storeAfter, At, Never, Obeys, bars, does}
+use Rattle.laws.proofs.Tests.{none≢some}
 use Rattle.laws.proofs.Runs.{each-read, answers-read, same-answers as run-same}
-use Rattle.rules_eit.specs.Keys.{Kind, sameSet, sameSchedule}
+use Rattle.rules_eit.specs.Keys.{Kind, sameSet, sameSchedule, exactly, noPid, badPid, badInput, badFilter}
 use Rattle.answers.specs.declared.Refusal.the-variants as refusal
 use Rattle.rules_eit.specs.Rules.{Eit, Section, offer, refuse, Answer, done, refused, nothing, handout, schedule, barred, asBefore, tells as rulesTell, acts as rulesAct, opened as rulesOpened}
 use Rattle.rules_eit.specs.Cells.{Store as Shown, onEit, view, storeWhole, callTells, callActs}
 use Rattle.rules_eit.proofs.Keys.{sameSet-true, sameSchedule-true}
 use Rattle.rules_eit.proofs.Cells.{obeys-rules, settings-stay}
 use Rattle.rules_eit.proofs.Whole.{LongEnough, never-10, whole-stays, opened-whole as rules-opened-whole}
-use Rattle.rules_eit.proofs.Exact.{NeedsCell, only-then-21, then-21}
+use Rattle.rules_eit.proofs.Exact.{NeedsCell, only-then-21, then-21, SaysNone, only-then-41}
 use Rattle.section.specs.Judged.{collectedOf}
 use Rattle.eit_section.specs.Eit.{eitOf}
 use Rattle.section.specs.declared.header.Header.{Header}
@@ -36,6 +37,9 @@ use Rattle.ages.proofs.Touch.{stands-none}
 use Rattle.rows.specs.Rows.{touched}
 use Rattle.schedules.specs.declared.ScheduleRoom.{ScheduleRoom}
 use Rattle.schedules.specs.Schedules.{roomOf, scheduledUnits, tablesThere}
+use Rattle.eit_drop.specs.declared.Filter.{Filter}
+use Rattle.eit_drop.specs.declared.WantedPid.{WantedPid}
+use Rattle.eit_drop.specs.declared.WantedPid.the-variants as wanted-pid
 use Rattle.eit_drop.specs.declared.Drop.{Drop}
 use Rattle.eit_drop.specs.declared.Drop.the-variants as plan-drop
 use Rattle.arrivals.specs.declared.Arrival.{Arrival}
@@ -55,8 +59,10 @@ use Rattle.eit_carry.specs.Carried.{keptAndSettled, carried, pushedWhole}
 use Rattle.eit.specs.Store as eit
 use Rattle.eit.specs.Store.{After, after, toldStep, answerOf, openedOf, clearedOf, carriedDrop, droppedOf, pushedAs, pushedOf}
 use Rattle.eit_admit.specs.Admitting.{dropOf, admitted}
-use Rattle.ties_eit.specs.View.{keyShown, scheduleShown, keyWords, scheduleWords, seen, settingsOf, sectionOf, readsEit, readsAs, readOn, readSection, reads, answerTold, tells, acts, Given, clears, drops, section, Fitting, Opened, Reached}
+use Rattle.eit_pids.specs.Rows.{anyWithout}
+use Rattle.ties_eit.specs.View.{keyShown, scheduleShown, keyWords, scheduleWords, seen, settingsOf, sectionOf, readsEit, readsAs, readOn, readSection, reads, wantedAs, pidTest, filterShown, answerTold, tells, acts, Given, clears, drops, section, Fitting, Opened, Reached}
 use Rattle.ties_eit.proofs.Keys.{set-self, schedule-self}
+use Rattle.ties_eit.proofs.Pids.{each-has-pid}
 use Rattle.ties_eit.proofs.Calls.{tied, room-there, whole-seen}
 use Rattle.ties_eit.proofs.Arrivals.{good-length}
 
@@ -170,14 +176,18 @@ drop-keeps s (plan-drop.Matching f) h = absurd (true≢false (sym h))
 
 pub as-before : (s : Store) (i : Given) → asBefore (tells s i) ≡ true → acts s i ≡ s
 unfolding tells acts asBefore answerTold clearedOf droppedOf pushedOf
-as-before s clears h = go (wholeOf s) h
+as-before s clears h = go (wholeOf s) (anyWithout (s .eit) (s .heads) (s .schedule-heads)) h
   where
-    cleared : Bool → After
-    cleared b = cond b (after eit.done (store (emptyEit (s .eit)) (s .heads) (s .slots) (s .cells) (s .schedule-heads) (s .units))) (after (eit.refused refusal.NotWhole) s)
+    cleared : Bool → Bool → After
+    cleared b w =
+        cond b
+        (cond w (after (eit.refused refusal.NoPid) s) (after eit.done (store (emptyEit (s .eit)) (s .heads) (s .slots) (s .cells) (s .schedule-heads) (s .units))))
+        (after (eit.refused refusal.NotWhole) s)
 
-    go : (b : Bool) → asBefore (answerTold ((cleared b) .told)) ≡ true → (cleared b) .store ≡ s
-    go true h = absurd (true≢false (sym h))
-    go false h = refl
+    go : (b w : Bool) → asBefore (answerTold ((cleared b w) .told)) ≡ true → (cleared b w) .store ≡ s
+    go true true h = refl
+    go true false h = absurd (true≢false (sym h))
+    go false w h = refl
 as-before s (drops f) h = drop-keeps s (dropOf s f) h
 as-before s (section input pid bytes) h = push-keeps s bytes (admitted s input pid bytes) h
 
@@ -228,11 +238,11 @@ reads-long : (i : Given) → LongEnough (reads i)
 unfolding reads readSection
 reads-long clears = tt
 reads-long (drops f) = tt
-reads-long (section input maybe.None bytes) = on-long (record { input = input; pid = none }) bytes
+reads-long (section input maybe.None bytes) = tt
 reads-long (section input (maybe.Some p) bytes) = pick (ltb p 8192)
   where
-    pick : (b : Bool) → LongEnough (cond b (readOn (record { input = input; pid = some p }) bytes) (refuse refusal.BadPid refl))
-    pick true = on-long (record { input = input; pid = some p }) bytes
+    pick : (b : Bool) → LongEnough (cond b (readOn (record { input = input; pid = p }) bytes) (refuse refusal.BadPid refl))
+    pick true = on-long (record { input = input; pid = p }) bytes
     pick false = tt
 
 -- in no history 10 occurs
@@ -253,6 +263,70 @@ pub always-whole : (calls : List Given) → EachFitting calls → (s : Store) �
 unfolding storeAfter
 always-whole [] o s z w = (z, w)
 always-whole (i ∷ is) o s z w = always-whole is (λ t j e. o (suc t) j e) (acts s i) (acts-reached s z i (o 0 i refl)) (stays-whole s z w i (o 0 i refl))
+
+-- ---- 41
+
+-- a call without a PID: a drop of what has none, or a section that came on none
+abbrev pub WithoutPid : Given → Type 0
+WithoutPid clears = ⊥
+WithoutPid (drops f) = f .pid ≡ wanted-pid.Without
+WithoutPid (section input pid bytes) = pid ≡ maybe.None
+
+-- in every history of opening, pushes with and without PIDs, drops and clears no set and no schedule is without a PID
+pub never-41-by-store : (s : Store) → Opened s → (calls : List Given) → EachFitting calls
+    → anyWithout (storeAfter acts s calls .eit) (storeAfter acts s calls .heads) (storeAfter acts s calls .schedule-heads) ≡ false
+never-41-by-store s o calls b = each-has-pid (storeAfter acts s calls) (same-store calls b s (opened-reached s o) .1)
+
+asks-none : (f : Filter) → badFilter (filterShown f) ≡ some refusal.NoPid → f .pid ≡ wanted-pid.Without
+unfolding badFilter filterShown noPid badPid badInput
+asks-none f e = go (f .pid) e
+  where
+    bad : (p i : Bool) → cond p (some refusal.BadPid) (cond i (some refusal.BadInput) none) ≡ some refusal.NoPid → ⊥
+    bad true i e = let z : _≡_ {A = ℕ} 0 1 = cc in omega arith
+    bad false true e = let z : _≡_ {A = ℕ} 0 1 = cc in omega arith
+    bad false false e = none≢some refl e
+
+    go : (p : WantedPid) → cond (noPid (pidTest p)) (some refusal.NoPid) (cond (badPid (pidTest p)) (some refusal.BadPid) (cond (badInput (wantedAs (λ (x : ℕ). x) (f .input))) (some refusal.BadInput) none))
+        ≡ some refusal.NoPid → p ≡ wanted-pid.Without
+    go wanted-pid.Any e = absurd (bad false (badInput (wantedAs (λ (x : ℕ). x) (f .input))) e)
+    go wanted-pid.Without e = refl
+    go (wanted-pid.Exactly v) e = absurd (bad (badPid (exactly v)) (badInput (wantedAs (λ (x : ℕ). x) (f .input))) e)
+
+-- the reading of a section's bytes says nothing of its PID
+eit-says : (from : Origin) (bytes : Bytes) (h : Header) (r : Reading) → SaysNone (readsEit from bytes h r) → ⊥
+unfolding readsEit
+eit-says from bytes h reading.NotEit e = e
+eit-says from bytes h reading.Broken e = let z : _≡_ {A = ℕ} 0 1 = cc in omega arith
+eit-says from bytes h (reading.Good f) e = e
+
+read-says : (from : Origin) (bytes : Bytes) (c : Collected) → SaysNone (readsAs from bytes c) → ⊥
+unfolding readsAs
+read-says from bytes collected.Malformed e = let z : _≡_ {A = ℕ} 0 1 = cc in omega arith
+read-says from bytes collected.ShortForm e = let z : _≡_ {A = ℕ} 0 1 = cc in omega arith
+read-says from bytes collected.BadNumber e = let z : _≡_ {A = ℕ} 0 1 = cc in omega arith
+read-says from bytes collected.BadCrc e = let z : _≡_ {A = ℕ} 0 1 = cc in omega arith
+read-says from bytes (collected.Good h) e = eit-says from bytes h (eitOf bytes) e
+
+reads-none : (i : Given) → SaysNone (reads i) → WithoutPid i
+unfolding reads readSection
+reads-none clears e = e
+reads-none (drops f) e = asks-none f e
+reads-none (section input maybe.None bytes) e = refl
+reads-none (section input (maybe.Some p) bytes) e = absurd (pick (ltb p 8192) (ltb input 16) e)
+  where
+    pick : (b c : Bool) → SaysNone (cond b (cond c (readsAs (record { input = input; pid = p }) bytes (collectedOf bytes)) (refuse refusal.BadInput refl)) (refuse refusal.BadPid refl)) → ⊥
+    pick true true e = read-says (record { input = input; pid = p }) bytes (collectedOf bytes) e
+    pick true false e = let z : _≡_ {A = ℕ} 0 1 = cc in omega arith
+    pick false c e = let z : _≡_ {A = ℕ} 0 1 = cc in omega arith
+
+-- so 41 comes only from a call without one
+pub only-without : (s : Store) → Reached s → (i : Given) → Fitting i → tells s i ≡ refused refusal.NoPid → WithoutPid i
+only-without s z i o e = reads-none i (only-then-41 (seen s) (reads i) (sym (tells-seen s z i o) ∙ e))
+
+-- and leaves memory and view as they were, on every store
+pub no-pid-as-before : (s : Store) (i : Given) → tells s i ≡ refused refusal.NoPid → (acts s i ≡ s) × (seen (acts s i) ≡ seen s)
+unfolding asBefore refusals.asBefore
+no-pid-as-before s i e = let p = as-before s i (ap asBefore e) in (p, ap seen p)
 
 -- ---- the rules without memory
 
@@ -281,6 +355,7 @@ unbarred as′ w f n t (refused refusal.NoCell) e = absurd (n t e)
 unbarred as′ w f n t (refused refusal.Conflict) e = refl
 unbarred as′ w f n t (refused refusal.Range) e = refl
 unbarred as′ w f n t (refused refusal.BadInput) e = refl
+unbarred as′ w f n t (refused refusal.NoPid) e = refl
 
 -- from an opened store the answers are those of the rules without memory, as long as no count is at its end (11) and no cell is wanting (21)
 pub history : (s : Store) → Opened s → (calls : List Given) → EachFitting calls → Never (refused refusal.CounterFull) (answers tells acts s calls) → Never (refused refusal.NoCell) (answers tells acts s calls)

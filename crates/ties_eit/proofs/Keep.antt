@@ -98,7 +98,7 @@ module _ (s : Store) (z : Reached s) (f : Whole s)
   k = keyShown (e .key)
 
   proper : keyWords (keyShown (e .key)) ≡ e .key
-  proper = key-reads (e .key) (arr .bit)
+  proper = key-reads (e .key) (arr .pid) (arr .bit)
 
   within : r .used ≤ s .eit .sets .limit
   within = goes-room g (f .sets .used)

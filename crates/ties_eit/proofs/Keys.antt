@@ -34,6 +34,10 @@ set-self a = rw (schedule-self (a .schedule), eq-passes (a .tableId))
 
 -- ---- a key in use reads back
 
+-- the PID word is that of a PID
+abbrev pub HasPid : Key → Type 0
+HasPid k = k .from .pid ≡ 8192 → ⊥
+
 -- the current_next word is 0 or 1
 abbrev pub Bit : ℕ → Type 0
 Bit w = bitOf (not (eqb w 0)) ≡ w
@@ -46,10 +50,10 @@ pub bit-reads : (b : Bool) → not (eqb (bitOf b) 0) ≡ b
 bit-reads true = refl
 bit-reads false = refl
 
-pub key-reads : (k : Key) → Bit (k .«current_next») → keyWords (keyShown k) ≡ k
+pub key-reads : (k : Key) → HasPid k → Bit (k .«current_next») → keyWords (keyShown k) ≡ k
 unfolding keyWords keyShown
-key-reads k b =
-    let p = origin-reads (k .from) in
+key-reads k n b =
+    let p = origin-reads (k .from) n in
     λ i. record {
       from = p i;
       «table_id» = k .«table_id»;
@@ -59,10 +63,10 @@ key-reads k b =
       «original_network_id» = k .«original_network_id»;
     }
 
-pub schedule-reads : (k : Key) → Bit (k .«current_next») → kindNumber (kindBy (k .«table_id»)) ≡ k .«table_id» → scheduleWords (scheduleShown k) ≡ k
+pub schedule-reads : (k : Key) → HasPid k → Bit (k .«current_next») → kindNumber (kindBy (k .«table_id»)) ≡ k .«table_id» → scheduleWords (scheduleShown k) ≡ k
 unfolding scheduleWords scheduleShown
-schedule-reads k b t =
-    let p = origin-reads (k .from) in
+schedule-reads k n b t =
+    let p = origin-reads (k .from) n in
     λ i. record {
       from = p i;
       «table_id» = t i;

@@ -11,6 +11,7 @@ pub mod Placed
 pub mod Retained
 pub mod Filters
 pub mod Dropping
+pub mod Pids
 pub mod Calls
 pub mod History
 pub mod Leaves

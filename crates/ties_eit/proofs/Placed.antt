@@ -62,7 +62,7 @@ module _ (s : Store) (z : Reached s) (f : Whole s)
   k = keyShown (e .key)
 
   proper : keyWords (keyShown (e .key)) ≡ e .key
-  proper = key-reads (e .key) (arr .bit)
+  proper = key-reads (e .key) (arr .pid) (arr .bit)
 
   abbrev there : ℕ
   there = rowOf (s .heads) (e .key) (s .eit .sets .used)

@@ -45,7 +45,7 @@ use Rattle.eit.specs.Store as eit
 use Rattle.readers.specs.Next.{filledSlots}
 use Rattle.eit.specs.Store.{After, after, a-set, setOut}
 use Rattle.ties_eit.specs.View.{theKind, keyShown, keyWords, rowSeen, seen, answerTold, HeadFits, Reached}
-use Rattle.ties_eit.proofs.Keys.{set-self, Bit, key-reads, Kinds, present, scheduled, kinds, InKind}
+use Rattle.ties_eit.proofs.Keys.{set-self, HasPid, Bit, key-reads, Kinds, present, scheduled, kinds, InKind}
 use Rattle.ties_eit.proofs.Rows.{row-same, row-marked, complete-is, sections-kept}
 use Rattle.ties_eit.proofs.Entered.{Tied, afterSettled, Entering, enter-tied}
 
@@ -53,6 +53,7 @@ use Rattle.ties_eit.proofs.Entered.{Tied, afterSettled, Entering, enter
 pub record Arrives (a : Arrival) (kind : Kind) : Type 0 where
   pub numbered : Numbered (a .entry)
   pub version : a .entry .version < 4294967296
+  pub pid : HasPid (a .entry .key)
   pub bit : Bit (a .entry .key .«current_next»)
   pub table : kindOf (a .entry .key .«table_id») ≡ some kind
   pub number : a .kind ≡ kindNumber kind
@@ -120,7 +121,7 @@ module _ (s : Store) (z : Reached s) (f : Whole s)
   cellsThere = cellsSeen cells₁ (s .eit .sets .size) (s .eit .sets .count)
 
   proper : keyWords (keyShown key) ≡ key
-  proper = key-reads key (arr .bit)
+  proper = key-reads key (arr .pid) (arr .bit)
 
   hi : i < used₁
   hi = goes-row g
@@ -236,6 +237,7 @@ module _ (s : Store) (z : Reached s) (f : Whole s)
       in-kind = in-kind;
       table = arr .table;
       number = arr .number;
+      pid = arr .pid;
       bit = arr .bit;
       range = range;
       row = hi;

@@ -9,7 +9,7 @@ use lib.Dec.{eqb, ltb}
 use lib.ListN.{length, getD}
 use Rattle.rules_shared.specs.Same.{Bytes, Origin}
 use Rattle.rules_shared.specs.Cells.{Settings, Held}
-use Rattle.rules_eit.specs.Keys.{Kind, presentActual, presentOther, scheduleActual, scheduleOther, kindOf, kindNumber, ScheduleKey, SetKey, PidTest, anyPid, exactly, Filter as KeyFilter}
+use Rattle.rules_eit.specs.Keys.{Kind, presentActual, presentOther, scheduleActual, scheduleOther, kindOf, kindNumber, ScheduleKey, SetKey, PidTest, anyPid, exactlyNone, exactly, Filter as KeyFilter}
 use Rattle.rules_eit.specs.Segments.{SetOf}
 use Rattle.rules_eit.specs.Schedules.{CopyOf, ScheduleOf, WholeOf, tableOf}
 use Rattle.answers.specs.declared.Refusal.the-variants as refusal
@@ -162,15 +162,15 @@ Fitting clears = Unit {0}
 Fitting (drops f) = FilterFits f
 Fitting (section input pid bytes) = (i : ℕ) → getD bytes i 0 < 256
 
--- "PID or none, kind, service_id, transport_stream_id, original_network_id and current_next, each exact or free"
+-- "PID, kind, service_id, transport_stream_id, original_network_id and current_next, each exact or free"
 abbrev pub wantedAs : {A : Type 0} → (ℕ → A) → Wanted → Option A
 wantedAs shown wanted.Any = none
 wantedAs shown (wanted.Exactly x) = some (shown x)
 
 abbrev pub pidTest : WantedPid → PidTest
 pidTest wanted-pid.Any = anyPid
-pidTest wanted-pid.Without = exactly none
-pidTest (wanted-pid.Exactly p) = exactly (some p)
+pidTest wanted-pid.Without = exactlyNone
+pidTest (wanted-pid.Exactly p) = exactly p
 
 unfoldable pub filterShown : Filter → KeyFilter
 filterShown f = record {
@@ -218,10 +218,10 @@ readsAs from bytes (collected.Good h) = readsEit from bytes h (eitOf bytes)
 abbrev pub readOn : Origin → Bytes → Call
 readOn from bytes = cond (ltb (from .input) 16) (readsAs from bytes (collectedOf bytes)) (refuse refusal.BadInput refl)
 
--- 12 first: a PID of 8192 or more
+-- 41 first: no PID; then 12: a PID of 8192 or more
 unfoldable pub readSection : (input : ℕ) → MaybePid → Bytes → Call
-readSection input maybe.None bytes = readOn (record { input = input; pid = none }) bytes
-readSection input (maybe.Some p) bytes = cond (ltb p 8192) (readOn (record { input = input; pid = some p }) bytes) (refuse refusal.BadPid refl)
+readSection input maybe.None bytes = refuse refusal.NoPid refl
+readSection input (maybe.Some p) bytes = cond (ltb p 8192) (readOn (record { input = input; pid = p }) bytes) (refuse refusal.BadPid refl)
 
 unfoldable pub reads : Given → Call
 reads clears = clear

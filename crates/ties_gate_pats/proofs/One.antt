@@ -267,7 +267,7 @@ abbrev rowKey : (input stream : ℕ) → ℕ
 rowKey input stream = keyOf (originOf input 0) 0 stream 0
 
 abbrev setKey : (input stream : ℕ) → Key
-setKey input stream = record { from = record { input = input; pid = some 0 }; tableId = 0; extension = stream; currentNext = true }
+setKey input stream = record { from = record { input = input; pid = 0 }; tableId = 0; extension = stream; currentNext = true }
 
 module _ (capacity : ℕ) (p : ℕ → Bool) (input stream : ℕ) where
   abbrev k : ℕ
@@ -514,7 +514,7 @@ module _ (capacity : ℕ) (repeating : Bool) (rule : ℕ) (p : ℕ → Bool) (in
               let v = sym (ap (λ (y : Row). y .version) from-header) in
               read-pat (o .input) (o .section) (z .input) (g .pat) (sound-crc (ruleOf rule) (o .section) (whole-pat .0) (z .parts) (z .sound)) .1
               ∙ rw (m, l)
-              (λ j. offer (single (record { from = record { input = g .on j; pid = some 0 }; tableId = d j; extension = g .extension j; currentNext = whole-pat .1 j }) (v j) (o .section)))
+              (λ j. offer (single (record { from = record { input = g .on j; pid = 0 }; tableId = d j; extension = g .extension j; currentNext = whole-pat .1 j }) (v j) (o .section)))
 
           abbrev pushed : Step
           pushed = push 1 (h .pats) (single (setKey input stream) (x .version) (o .section))

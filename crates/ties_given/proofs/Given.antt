@@ -10,7 +10,7 @@ use lib.Dec.{eqb, ltb}
 use lib.ListN.{length, getD}
 use Rattle.laws.specs.Lists.{sameList}
 use Rattle.laws.proofs.Tests.{and-true}
-use Rattle.answers.specs.declared.Refusal.the-variants.{NotWhole, CounterFull, TooLong, NoCell}
+use Rattle.answers.specs.declared.Refusal.the-variants.{NotWhole, CounterFull, TooLong, NoCell, NoPid}
 use Rattle.section.specs.Header.{headerOf}
 use Rattle.section.specs.Ids.{originOf}
 use Rattle.section.specs.Judged.{collectedOf}
@@ -20,7 +20,6 @@ use Rattle.section.specs.declared.header.Collected.{Collected}
 use Rattle.section.specs.declared.header.Collected.the-variants as collected
 use Rattle.section.specs.declared.ids.MaybePid.{MaybePid}
 use Rattle.section.specs.declared.ids.MaybePid.the-variants as maybe
-use Rattle.section.specs.declared.ids.InputMade.the-variants as input-made
 use Rattle.section.specs.declared.ids.OriginMade.the-variants as made
 use Rattle.cells.specs.Cells.{keptLength, lowestFree, kept}
 use Rattle.rows.specs.declared.Origin.{Origin}
@@ -30,13 +29,14 @@ use Rattle.rows.specs.Rows.{word, keyAt, versionOf, lastOf, ageOf, rowOf, roomI
 use Rattle.rows.proofs.Words.{of-key, put-not, touched-not, kept-fresh, kept-known}
 use Rattle.ages.proofs.Words.{key-same, kept-fresh-key}
 use Rattle.ages.proofs.Touch.{row-has-key}
+use Rattle.without_pid.specs.Pids.{withoutPid}
 use Rattle.store.specs.Store.{Store, store, wholeOf, WholeStore}
 use Rattle.store.proofs.Whole.{whole-means}
 use Rattle.placing.specs.Places.{placeSlot, placeKnown, placeOf, RoomOk, PlaceOk}
 use Rattle.placing.specs.declared.Place.{Place}
 use Rattle.placing.specs.declared.Place.the-variants as place
 use Rattle.placing.proofs.Laws.{place-ok}
-use Rattle.arrivals.specs.Arrivals.{inputWords, madeWords, setKey, entryOf, setRead, setJudged, setArrival}
+use Rattle.arrivals.specs.Arrivals.{madeWords, setKey, entryOf, setRead, setJudged, setArrival}
 use Rattle.arrivals.specs.declared.SetArrival.the-variants as arrival
 use Rattle.sets_plan.specs.declared.Plan.{Plan}
 use Rattle.sets_plan.specs.declared.Plan.the-variants as plan
@@ -45,7 +45,7 @@ use Rattle.sets_settle.specs.declared.PushAnswer.the-variants as push-answer
 use Rattle.sets_settle.specs.Settle.{Handed, nothing, handed, setIn, answerOf, goesOut, settledAnswer, settledHeads, settled, keptIn, carried}
 use Rattle.sets_push.specs.Pushing.{wholePushed, admitted}
 use Rattle.sets.specs.Store.{pushedAs, pushedOf}
-use Rattle.ties_given.specs.Given.{AsGiven, pidWord, IsPid}
+use Rattle.ties_given.specs.Given.{AsRead, AsGiven}
 
 -- row i is of the section's set: its key, version and last number
 record Ours (heads : List ℕ) (i : ℕ) (e : Entry) : Type 0 where
@@ -195,57 +195,62 @@ module _ (s : Store) (f : WholeStore s) (e : Entry) (bytes : List ℕ) where
 -- ---- what a section says
 
 module _ (bytes : List ℕ) (w : Handed) where
-  header-given : (from : Origin) (input : ℕ) (pid : MaybePid) (h : Header) → collectedOf bytes ≡ collected.Good h → from .input ≡ input → from .pid ≡ pidWord pid → input < 16 → IsPid pid
-      → OurSet w (entryOf (setKey from h) h) → AsGiven input pid bytes w
+  header-given : (from : Origin) (h : Header) → collectedOf bytes ≡ collected.Good h → OurSet w (entryOf (setKey from h) h) → AsRead from bytes w
   unfolding headerOf
-  header-given from input pid h q a b i p o =
+  header-given from h q o =
       let t = takes bytes h (collectedOf bytes) refl q in
       let hd = t .header in
       record {
-        same-input = ap (λ k. k .from .input) (o .key) ∙ a;
-        same-pid = ap (λ k. k .from .pid) (o .key) ∙ b;
+        same-input = ap (λ k. k .from .input) (o .key);
+        same-pid = ap (λ k. k .from .pid) (o .key);
         table = ap (λ k. k .«table_id») (o .key) ∙ ap (λ x. x .«table_id») hd;
         extension = ap (λ k. k .extension) (o .key) ∙ ap (λ x. x .extension) hd;
         current = ap (λ k. k .«current_next») (o .key) ∙ ap (λ x. cond (x .«current_next») 1 0) hd;
         version = o .version ∙ ap (λ x. x .version) hd;
         last = o .last ∙ ap (λ x. x .last) hd;
-        is-input = i;
-        is-pid = p;
         long = t .room;
       }
 
   -- 14 to 17 tell of no set
-  read-given : (s : Store) → WholeStore s → (from : Origin) (input : ℕ) (pid : MaybePid) → from .input ≡ input → from .pid ≡ pidWord pid → input < 16 → IsPid pid
-      → (c : Collected) → collectedOf bytes ≡ c → (pushedAs s bytes (setRead from c)) .told ≡ handed w → AsGiven input pid bytes w
+  read-given : (s : Store) → WholeStore s → (from : Origin) → (c : Collected) → collectedOf bytes ≡ c → (pushedAs s bytes (setRead from c)) .told ≡ handed w → AsRead from bytes w
   unfolding wholePushed
-  read-given s f from input pid a b i p collected.Malformed q h = let z : _≡_ {A = ℕ} 0 1 = cc in absurd (omega arith)
-  read-given s f from input pid a b i p collected.ShortForm q h = let z : _≡_ {A = ℕ} 0 1 = cc in absurd (omega arith)
-  read-given s f from input pid a b i p collected.BadNumber q h = let z : _≡_ {A = ℕ} 0 1 = cc in absurd (omega arith)
-  read-given s f from input pid a b i p collected.BadCrc q h = let z : _≡_ {A = ℕ} 0 1 = cc in absurd (omega arith)
-  read-given s f from input pid a b i p (collected.Good x) q h = header-given from input pid x q a b i p (plan-tells s f (entryOf (setKey from x) x) bytes w h)
+  read-given s f from collected.Malformed q h = let z : _≡_ {A = ℕ} 0 1 = cc in absurd (omega arith)
+  read-given s f from collected.ShortForm q h = let z : _≡_ {A = ℕ} 0 1 = cc in absurd (omega arith)
+  read-given s f from collected.BadNumber q h = let z : _≡_ {A = ℕ} 0 1 = cc in absurd (omega arith)
+  read-given s f from collected.BadCrc q h = let z : _≡_ {A = ℕ} 0 1 = cc in absurd (omega arith)
+  read-given s f from (collected.Good x) q h = header-given from x q (plan-tells s f (entryOf (setKey from x) x) bytes w h)
 
-  -- nor do 12 and 37
+  -- THE THEOREM below a push: every store that is whole, every words of an origin and every section
+  pub goes-out-as-read : (s : Store) → WholeStore s → (from : Origin) → (pushedAs s bytes (setRead from (collectedOf bytes))) .told ≡ handed w → AsRead from bytes w
+  goes-out-as-read s f from h = read-given s f from (collectedOf bytes) refl h
+
+  -- nor do 41, 12 and 37
   arrival-given : (s : Store) → WholeStore s → (input : ℕ) (pid : MaybePid) → (pushedAs s bytes (setArrival input pid bytes)) .told ≡ handed w → AsGiven input pid bytes w
   unfolding setArrival
-  arrival-given s f input maybe.None h = go (ltb input 16) refl h
-    where
-      go : (b : Bool) → ltb input 16 ≡ b → (pushedAs s bytes (setJudged (inputWords (cond b (input-made.One (record { 0 = input })) input-made.TooLarge)) bytes)) .told ≡ handed w → AsGiven input maybe.None bytes w
-      go true q h = read-given s f (record { input = input; pid = 8192 }) input maybe.None refl refl (ltb-true input 16 q) tt (collectedOf bytes) refl h
-      go false q h = let z : _≡_ {A = ℕ} 0 1 = cc in absurd (omega arith)
+  arrival-given s f input maybe.None h = let z : _≡_ {A = ℕ} 0 1 = cc in absurd (omega arith)
   arrival-given s f input (maybe.Some v) h = go (ltb v 8192) (ltb input 16) refl refl h
     where
       go : (b c : Bool) → ltb v 8192 ≡ b → ltb input 16 ≡ c
           → (pushedAs s bytes (setJudged (madeWords (cond b (cond c (made.One (originOf input v)) made.BadInput) made.BadPid)) bytes)) .told ≡ handed w → AsGiven input (maybe.Some v) bytes w
-      go true true q r h = read-given s f (record { input = input; pid = v }) input (maybe.Some v) refl refl (ltb-true input 16 r) (ltb-true v 8192 q) (collectedOf bytes) refl h
+      go true true q r h = record {
+        number = v;
+        with-pid = refl;
+        is-pid = ltb-true v 8192 q;
+        is-input = ltb-true input 16 r;
+        read = goes-out-as-read s f (record { input = input; pid = v }) h;
+      }
       go true false q r h = let z : _≡_ {A = ℕ} 0 1 = cc in absurd (omega arith)
       go false c q r h = let z : _≡_ {A = ℕ} 0 1 = cc in absurd (omega arith)
 
 -- THE THEOREM: every store, input, PID and section
 pub goes-out-as-given : (s : Store) (input : ℕ) (pid : MaybePid) (bytes : List ℕ) (w : Handed) → (pushedOf s input pid bytes) .told ≡ handed w → AsGiven input pid bytes w
 unfolding pushedOf admitted
-goes-out-as-given s input pid bytes w h = go (wholeOf s) (eqb (s .sets .evictions) 18446744073709551615) refl h
+goes-out-as-given s input pid bytes w h = go (wholeOf s) (eqb (s .sets .evictions) 18446744073709551615) (withoutPid (s .heads) (s .sets .used)) refl h
   where
-    go : (b c : Bool) → wholeOf s ≡ b → (pushedAs s bytes (cond b (cond c (arrival.Refused CounterFull) (setArrival input pid bytes)) (arrival.Refused NotWhole))) .told ≡ handed w → AsGiven input pid bytes w
-    go true true q h = let z : _≡_ {A = ℕ} 0 1 = cc in absurd (omega arith)
-    go true false q h = arrival-given bytes w s (whole-means s q) input pid h
-    go false c q h = let z : _≡_ {A = ℕ} 0 1 = cc in absurd (omega arith)
+    go : (b c n : Bool) → wholeOf s ≡ b
+        → (pushedAs s bytes (cond b (cond c (arrival.Refused CounterFull) (cond n (arrival.Refused NoPid) (setArrival input pid bytes))) (arrival.Refused NotWhole))) .told ≡ handed w
+        → AsGiven input pid bytes w
+    go true true n q h = let z : _≡_ {A = ℕ} 0 1 = cc in absurd (omega arith)
+    go true false true q h = let z : _≡_ {A = ℕ} 0 1 = cc in absurd (omega arith)
+    go true false false q h = arrival-given bytes w s (whole-means s q) input pid h
+    go false c n q h = let z : _≡_ {A = ℕ} 0 1 = cc in absurd (omega arith)

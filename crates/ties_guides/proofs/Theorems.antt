@@ -241,8 +241,13 @@ keys-swap j k = rw (
 )
 
 keyed-swap : (key : ℕ → List ℕ → Key) (u w : PidWord) (a b : List ℕ) → keyed key u w a b ≡ keyed key w u b a
+keyed-swap key pid.NoPid pid.NoPid a b = refl
+keyed-swap key pid.NoPid pid.TooLarge a b = refl
+keyed-swap key pid.NoPid (pid.Is q) a b = refl
+keyed-swap key pid.TooLarge pid.NoPid a b = refl
 keyed-swap key pid.TooLarge pid.TooLarge a b = refl
 keyed-swap key pid.TooLarge (pid.Is q) a b = refl
+keyed-swap key (pid.Is p) pid.NoPid a b = refl
 keyed-swap key (pid.Is p) pid.TooLarge a b = refl
 keyed-swap key (pid.Is p) (pid.Is q) a b = ap (λ (t : Bool). cond t sides.Alike sides.OtherKey) (keys-swap (key p a) (key q b))
 
@@ -267,6 +272,7 @@ module _ (a b : List ℕ) (p q : MaybePid) where
 
   by-side : (room : ℕ) (s : Sides) (es fs : List Entry) (v w l m : Bool) → (s ≡ sides.Alike → length es ≡ length fs) → v ≡ w → l ≡ m → comparedBy s room es v l ≡ comparedBy s room fs w m
   by-side room sides.NotSets es fs v w l m f e g = refl
+  by-side room sides.NoPid es fs v w l m f e g = refl
   by-side room sides.BadPid es fs v w l m f e g = refl
   by-side room sides.OtherKey es fs v w l m f e g = refl
   by-side room sides.Alike es fs v w l m f e g = rw (f refl, e, g)
@@ -315,6 +321,7 @@ module _ (a b : List ℕ) (e : kindFirst (tableId a) ≡ kindFirst (tableId b)) 
 
 by-kind : (room : ℕ) (s : Sides) (es fs : List Entry) (v w l m : Bool) → (s ≡ sides.Alike → (length es ≡ length fs) × (v ≡ w) × (l ≡ m)) → comparedBy s room es v l ≡ comparedBy s room fs w m
 by-kind room sides.NotSets es fs v w l m f = refl
+by-kind room sides.NoPid es fs v w l m f = refl
 by-kind room sides.BadPid es fs v w l m f = refl
 by-kind room sides.OtherKey es fs v w l m f = refl
 by-kind room sides.Alike es fs v w l m f = let h = f refl in rw (h .0, h .1, h .2)

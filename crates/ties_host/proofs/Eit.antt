@@ -18,6 +18,7 @@ use Rattle.arrivals.specs.declared.Arrival.{Arrival}
 use Rattle.arrivals.specs.declared.EitArrival.{EitArrival}
 use Rattle.arrivals.specs.declared.EitArrival.the-variants as arrival
 use Rattle.rows.specs.Rows.{touched, keptHeads}
+use Rattle.eit_pids.specs.Rows.{anyWithout}
 use Rattle.eit_state.specs.State.{Store, store, rows, rowsOf, asked, emptyEit, settingsFit, wholeOf}
 use Rattle.eit_state.specs.State.{Rows as EitRows}
 use Rattle.eit_state.specs.declared.Eit.{Eit}
@@ -99,17 +100,21 @@ unfolding acts eitPushed eitCleared eitDropped clearedOf droppedOf matchingGone
 reads-back l (push input pid section) =
     let a = (pushedOf (storeIn l) (inputNumber input) (maybePid pid) section) .store in
     ap (λ (e : Eit). store e (a .heads) (a .slots) (a .cells) (a .schedule-heads) (a .units)) (sym (pushed-counts (storeIn l) (inputNumber input) (maybePid pid) section))
-reads-back l clear = go (wholeOf (storeIn l))
+reads-back l clear = go (wholeOf (storeIn l)) (anyWithout (eitOf (l .words)) (l .heads) (l .schedule-heads))
   where
     s : Store
     s = storeIn l
 
-    cleared : Bool → After
-    cleared b = cond b (after eit.done (store (emptyEit (s .eit)) (s .heads) (s .slots) (s .cells) (s .schedule-heads) (s .units))) (after (eit.refused refusal.NotWhole) s)
+    cleared : Bool → Bool → After
+    cleared b n =
+        cond b
+        (cond n (after (eit.refused refusal.NoPid) s) (after eit.done (store (emptyEit (s .eit)) (s .heads) (s .slots) (s .cells) (s .schedule-heads) (s .units))))
+        (after (eit.refused refusal.NotWhole) s)
 
-    go : (b : Bool) → store (eitOf (wordsAfter (l .words) ((cleared b) .store .eit))) (s .heads) (s .slots) (s .cells) (s .schedule-heads) (s .units) ≡ (cleared b) .store
-    go true = refl
-    go false = refl
+    go : (b n : Bool) → store (eitOf (wordsAfter (l .words) ((cleared b n) .store .eit))) (s .heads) (s .slots) (s .cells) (s .schedule-heads) (s .units) ≡ (cleared b n) .store
+    go true true = refl
+    go true false = refl
+    go false n = refl
 reads-back l (drop filter) = go (dropOf (storeIn l) (filterOf filter))
   where
     s : Store

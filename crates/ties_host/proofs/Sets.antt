@@ -9,8 +9,9 @@ use native.Mathlib.Omega.{arith}
 use lib.ListN.{length}
 use lib.Dec.{eqb}
 use Rattle.laws.specs.Runs.{answers, storeAfter}
-use Rattle.answers.specs.declared.Refusal.the-variants.{NotWhole, TooLittle}
+use Rattle.answers.specs.declared.Refusal.the-variants.{NotWhole, NoPid, TooLittle}
 use Rattle.rules_sets.specs.Cells.{callTells, callActs}
+use Rattle.without_pid.specs.Pids.{withoutPid}
 use Rattle.store.specs.Store.{Store, store, asked, emptySets, settingsFit, wholeOf}
 use Rattle.store.specs.declared.Sets.{Sets}
 use Rattle.arrivals.specs.declared.SetArrival.{SetArrival}
@@ -67,15 +68,18 @@ unfolding acts setsPushed setsCleared clearedOf
 reads-back l (push input pid section) =
     let a = (pushedOf (storeIn l) (inputNumber input) (maybePid pid) section) .store in
     ap (λ (s : Sets). store s (a .heads) (a .slots) (a .cells)) (sym (pushed-counts (storeIn l) (inputNumber input) (maybePid pid) section))
-reads-back l clear = go (wholeOf (storeIn l))
+reads-back l clear = go (wholeOf (storeIn l)) (withoutPid (l .heads) (setsOf (l .words) .used))
   where
     s : Store
     s = storeIn l
 
-    go : (b : Bool) → store (setsOf (wordsAfter (l .words) ((cond b (after done (store (emptySets (s .sets)) (s .heads) (s .slots) (s .cells))) (after (refused NotWhole) s)) .store .sets))) (s .heads) (s .slots) (s .cells)
-        ≡ (cond b (after done (store (emptySets (s .sets)) (s .heads) (s .slots) (s .cells))) (after (refused NotWhole) s)) .store
-    go true = refl
-    go false = refl
+    cleared : Bool → Bool → settle.SetsAfter
+    cleared b n = cond b (cond n (after (refused NoPid) s) (after done (store (emptySets (s .sets)) (s .heads) (s .slots) (s .cells)))) (after (refused NotWhole) s)
+
+    go : (b n : Bool) → store (setsOf (wordsAfter (l .words) ((cleared b n) .store .sets))) (s .heads) (s .slots) (s .cells) ≡ (cleared b n) .store
+    go true true = refl
+    go true false = refl
+    go false n = refl
 
 told-number : (t : Told) → toldNo t ≡ answerNo (answerTold t)
 unfolding answerTold

@@ -1,9 +1,10 @@
 -- Demand 3 over the C calls of a host (promises/specs/Demand3.antt has its words): two set collectors that `petrizolu_sets_open` opened get the same
--- `petrizolu_sets_push` and `petrizolu_sets_clear`; what a host reads with `petrizolu_sets_next` out of the row that the smaller answered 5 with, it has read out of
+-- `petrizolu_sets_push`, each with its PID, and `petrizolu_sets_clear`; what a host reads with `petrizolu_sets_next` out of the row that the smaller answered 5 with, it has read out of
 -- the larger's at that call or an earlier one, since the last clear, byte for byte.
 -- Assumes nothing.
 use Prim.Native.Nat.{ℕ, suc, _+_, _≤_}
 use mathlib.Core.Path.{_≡_}
+use mathlib.Core.Logic.{_≢_}
 use mathlib.Core.List.{List, [], _∷_}
 use lib.ListN.{take}
 use Rattle.laws.specs.Runs.{answers, storeAfter, At, Never, Without}
@@ -14,7 +15,7 @@ use Rattle.sets.specs.History.{Bytes as OfBytes}
 use Rattle.ties_sets.specs.View.{keyShown}
 use Rattle.host_words.specs.Answers.{Words, at}
 use Rattle.host_sets.specs.Calls.{setsNext}
-use Rattle.ties_host.specs.Sets.{Lent, Call, clear, tells, acts, callOf, OpenedBy}
+use Rattle.ties_host.specs.Sets.{Lent, Call, push, clear, tells, acts, callOf, OpenedBy}
 
 -- the numbers that are answered where each call finds the words and slices as the call before it left them
 abbrev pub answersOf : Lent → List Call → List ℕ
@@ -27,6 +28,14 @@ after l calls t = storeAfter acts l (take (suc t) calls)
 -- a section is a list of bytes
 abbrev pub SectionsOfBytes : List Call → Type 0
 SectionsOfBytes calls = (t : ℕ) (c : Call) → At calls t c → OfBytes (callOf c)
+
+-- a section comes with its PID: not with 0xFFFFFFFF, which stands for none
+abbrev pub WithPid : Call → Type 0
+WithPid (push input pid section) = pid ≢ 0xFFFF_FFFF
+WithPid clear = Unit {0}
+
+abbrev pub SectionsWithPids : List Call → Type 0
+SectionsWithPids calls = (t : ℕ) (c : Call) → At calls t c → WithPid c
 
 -- "the larger refuses no section as conflicting"
 abbrev pub RefusesNoneAsConflicting : Lent → List Call → Type 0
@@ -72,6 +81,6 @@ pub record ReadOutSinceTheLastClear (l : Lent) (calls : List Call) (t : ℕ) (se
 -- word 1 is the cell size, word 0 the key limit
 abbrev pub Demand3Host : Type 0
 Demand3Host = (smaller larger : Lent) → OpenedBy smaller → OpenedBy larger → at (smaller .words) 1 ≡ at (larger .words) 1 → at (smaller .words) 0 ≤ at (larger .words) 0
-    → (calls : List Call) → SectionsOfBytes calls
+    → (calls : List Call) → SectionsOfBytes calls → SectionsWithPids calls
     → RefusesNoneAsConflicting larger calls → RefusesNoneForItsStore smaller calls → RefusesNoneForItsStore larger calls
     → (t : ℕ) (set : Whole) → ReadsOut smaller calls t set → ReadOutSinceTheLastClear larger calls t set

@@ -37,7 +37,7 @@ module _ (o : Settings) (k l : Kept) (s : Same k l) (g : Given) where
       let a = answers-alike (k .sets) (l .sets) (s .sets) (pushed o g) in
       let r = s .rows in
       record {
-        records = λ i. seenRecord (kindOf o (r i) (rowOf g p)) (g .input) (g .pid) p ∷ setRecords (a i);
+        records = λ i. seenRecord (kindOf o (r i) (rowOf g p)) (g .input) (g .pid) p ∷ setRecords (o .pids) (a i);
         kept = record { rows = ap (offeredTo (o .capacity) (rowOf g p)) r; sets = stays-alike (k .sets) (l .sets) (s .sets) (pushed o g) };
       }
 

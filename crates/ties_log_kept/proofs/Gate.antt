@@ -1,7 +1,7 @@
 -- The log that is kept beside an opened gate and an opened collector is the log of the rules: `kept-log-passes`.
 -- Assumes nothing.
 use mathlib.Core.Path.{_≡_, refl, sym, ap, _∙_}
-use mathlib.Core.Bool.{Bool}
+use mathlib.Core.Bool.{Bool, true}
 use mathlib.Core.List.{List, [], _∷_, map}
 use Prim.Native.Nat.{ℕ, suc, _^_, _<_}
 use native.Mathlib.Omega.{arith}
@@ -45,7 +45,7 @@ all-bytes (g ∷ gs) t = (t .0 .of-bytes, all-bytes gs (t .1))
 
 -- ---- the gate's rule
 
-module _ (o : Settings) (follow : Bool) where
+module _ (o : Settings) (with : o .pids ≡ true) (follow : Bool) where
   one : (n : ℕ) (h : Held) (g : Given) → Takable g → CanCount (suc n) (h .counters)
       → Turn o follow (h .rows) ((acts (mannerOf o follow) h (offerOf g)) .rows) (tells (mannerOf o follow) h (offerOf g)) g × CanCount n ((acts (mannerOf o follow) h (offerOf g)) .counters)
   unfolding tells acts
@@ -55,7 +55,7 @@ module _ (o : Settings) (follow : Bool) where
   pub rule-keeps : (gs : List Given) → AllTakable gs → (h : Held) → CanCount (length gs) (h .counters) → (c : Store) → SetsReached c → (as′ : List Answer)
       → map saidOf as′ ≡ answers (tells (mannerOf o follow)) (acts (mannerOf o follow)) h (map offerOf gs)
       → keptLog o c as′ gs ≡ records.logOf (recordsFrom o (record { rows = h .rows; sets = seen c }) gs)
-  rule-keeps gs t h k c z as′ e = keeps o follow (tells (mannerOf o follow)) (acts (mannerOf o follow)) (λ (h : Held). h .rows) (λ n h. CanCount n (h .counters)) one gs t h k c z as′ e
+  rule-keeps gs t h k c z as′ e = keeps o with follow (tells (mannerOf o follow)) (acts (mannerOf o follow)) (λ (h : Held). h .rows) (λ n h. CanCount n (h .counters)) one gs t h k c z as′ e
 
 -- ---- an opened collector
 
@@ -88,17 +88,17 @@ module _ (o : Settings) (heads slots cells : List ℕ) (h : (openedOf (store (as
 
 module _
     (st : GateSettings) (extra keys changes words : List ℕ) (h : opened st extra (length keys) (length changes) words .answer ≡ 7)
-    (limit size count : ℕ) (pids : Bool) (heads slots cells : List ℕ) (k : (openedOf (store (asked limit size count) heads slots cells)) .told ≡ done)
+    (limit size count : ℕ) (heads slots cells : List ℕ) (k : (openedOf (store (asked limit size count) heads slots cells)) .told ≡ done)
   where
     abbrev o : Settings
-    o = settingsFor st limit size count pids
+    o = settingsFor st limit size count
 
     pub kept-log-passes : (gs : List Given) → AllTakable gs → length gs < 2 ^ 64 → (as′ : List Answer)
         → map saidOf as′ ≡ answers storeTells storeActs (leftOpen (opened st extra (length keys) (length changes) words) keys changes) (map offerOf gs)
-        → keptLog (settingsFor st limit size count pids) (store (asked limit size count) heads slots cells) as′ gs ≡ logOf (settingsFor st limit size count pids) gs
+        → keptLog (settingsFor st limit size count) (store (asked limit size count) heads slots cells) as′ gs ≡ logOf (settingsFor st limit size count) gs
     unfolding logOf
     kept-log-passes gs t n as′ e =
-        rule-keeps o (bySections (st .follow)) gs t (emptyHeld (isProtected (st .«well_known») extra)) zero-counts (store (asked limit size count) heads slots cells)
+        rule-keeps o refl (bySections (st .follow)) gs t (emptyHeld (isProtected (st .«well_known») extra)) zero-counts (store (asked limit size count) heads slots cells)
         (sets.opened-reached (store (asked limit size count) heads slots cells) (opened-collector o heads slots cells k)) as′
         (e ∙ answers-from-open st extra keys changes words h (map offerOf gs) (all-bytes gs t))
         ∙ ap records.logOf (opened-records o heads slots cells k gs)

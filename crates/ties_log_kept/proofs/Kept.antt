@@ -3,7 +3,7 @@
 use mathlib.Core.Path.{_≡_, refl, sym, ap, subst, _∙_}
 use mathlib.Core.Bool.{Bool, true, false, cond, _||_, _&&_}
 use mathlib.Core.List.{List, [], _∷_, _++_, map, append-nil, append-assoc}
-use Prim.Native.Nat.{ℕ, suc}
+use Prim.Native.Nat.{ℕ, suc, _<_}
 use native.Mathlib.Omega.{arith}
 use borrow.Author.Tests.{lt-ltb, le-leb}
 use lib.Dec.{ltb, leb}
@@ -38,7 +38,8 @@ use Rattle.sets.specs.History.{offer as section}
 use Rattle.ties_sets.specs.View.{seen, reads, answerTold, tells, acts}
 use Rattle.ties_sets.specs.View.{Reached as SetsReached}
 use Rattle.ties_sets.proofs.History.{tells-seen, acts-seen, acts-reached}
-use Rattle.ties_given.specs.Given.{AsGiven}
+use Rattle.rows.specs.declared.Origin.{Origin}
+use Rattle.ties_given.specs.Given.{AsRead, AsGiven}
 use Rattle.ties_given.proofs.Given.{goes-out-as-given}
 use Rattle.rules_logs.specs.Records.{Bytes, seenRecord, failedRecord}
 use Rattle.rules_logs.specs.Sections.{Given}
@@ -50,59 +51,69 @@ use Rattle.rules_log_run.proofs.Gate.{agrees}
 use Rattle.log_entries.specs.Entries.{failedKind}
 use Rattle.log_entries.proofs.Entries.{entry-shows}
 use Rattle.log_makers.specs.Makers.{isSource, setRecordOf, setEntry}
-use Rattle.ties_log_kept.specs.Kept.{pidGiven, setNoted, offerNoted, pushes, appended, collects, keptLog}
+use Rattle.ties_log_kept.specs.Kept.{setNoted, offerNoted, pushes, appended, collects, keptLog}
 use Rattle.ties_log_kept.proofs.Sets.{line-given, given-as}
 use Rattle.ties_log_kept.proofs.Offers.{sound-said, short-said, mismatch-said, refused-said, refused-noted, failed-noted, sound-noted}
 
 -- ---- a push
 
-module _ (o : Settings) (g : Given) where
-  -- the maker's record of a set that went out
-  source : (pid : MaybePid) (w : Handed) → AsGiven (g .input) pid (g .section) w → isSource (g .input) pid ≡ true
-  source maybe.None w a = lt-ltb (g .input) 16 (a .is-input)
-  source (maybe.Some v) w a = true-and (lt-ltb (g .input) 16 (a .is-input)) (lt-ltb v 8192 (a .is-pid))
+numberIn : MaybePid → ℕ
+numberIn maybe.None = 0
+numberIn (maybe.Some v) = v
 
-  set-shows : (w : Handed) → AsGiven (g .input) (pidGiven o g) (g .section) w → setNoted o g (handed w) ≡ setRecordOf (g .input) (pidGiven o g) (g .section)
+module _ (g : Given) where
+  same-number : {w : Handed} → (a : AsGiven (g .input) (maybe.Some (g .pid)) (g .section) w) → g .pid ≡ a .number
+  unfolding numberIn
+  same-number a = ap (λ (p : MaybePid). numberIn p) (a .with-pid)
+
+  -- the maker's record of a set that went out
+  set-shows : (w : Handed) → AsGiven (g .input) (maybe.Some (g .pid)) (g .section) w → setNoted g (handed w) ≡ setRecordOf (g .input) (maybe.Some (g .pid)) (g .section)
   unfolding setNoted setEntry
   set-shows w a =
-      let t : (isSource (g .input) (pidGiven o g) && leb 12 (length (g .section))) ≡ true = true-and (source (pidGiven o g) w a) (le-leb 12 (length (g .section)) (a .long)) in
-      entry-shows (cond (isSource (g .input) (pidGiven o g) && leb 12 (length (g .section))) (setRecordOf (g .input) (pidGiven o g) (g .section)) [])
-      ∙ ap (λ (b : Bool). cond b (setRecordOf (g .input) (pidGiven o g) (g .section)) []) t
+      let n : g .pid ≡ a .number = same-number a in
+      let p : g .pid < 8192 = let h = a .is-pid in omega (arith, n, h) in
+      let t : (isSource (g .input) (maybe.Some (g .pid)) && leb 12 (length (g .section))) ≡ true =
+      true-and (true-and (lt-ltb (g .input) 16 (a .is-input)) (lt-ltb (g .pid) 8192 p)) (le-leb 12 (length (g .section)) (a .read .long)) in
+      entry-shows (cond (isSource (g .input) (maybe.Some (g .pid)) && leb 12 (length (g .section))) (setRecordOf (g .input) (maybe.Some (g .pid)) (g .section)) [])
+      ∙ ap (λ (b : Bool). cond b (setRecordOf (g .input) (maybe.Some (g .pid)) (g .section)) []) t
 
-  module _ (c : Store) (z : SetsReached c) (b : OfBytes (g .section)) where
-    told-noted : (t : settle.Told) → (pushes o c g) .told ≡ t → setNoted o g t ≡ records.logOf (setRecords (answerTold t))
+  module _ (o : Settings) (h : o .pids ≡ true) (c : Store) (z : SetsReached c) (b : OfBytes (g .section)) where
+    told-noted : (t : settle.Told) → (pushes c g) .told ≡ t → setNoted g t ≡ records.logOf (setRecords (o .pids) (answerTold t))
     unfolding setNoted setRecords answerTold records.logOf pushes
     told-noted done e = refl
     told-noted nothing e = refl
     told-noted (handed w) e =
-        let a = goes-out-as-given c (g .input) (pidGiven o g) (g .section) w e in
-        set-shows w a ∙ sym (append-nil (setRecordOf (g .input) (pidGiven o g) (g .section))) ∙ ap records.logOf (line-given (g .section) w (g .input) (pidGiven o g) a)
+        let a = goes-out-as-given c (g .input) (maybe.Some (g .pid)) (g .section) w e in
+        let n : _≡_ {A = Origin} (record { input = g .input; pid = a .number }) (record { input = g .input; pid = g .pid }) = λ i. record { input = g .input; pid = sym (same-number a) i } in
+        let r = subst (λ (x : Origin). AsRead x (g .section) w) n (a .read) in
+        set-shows w a ∙ sym (append-nil (setRecordOf (g .input) (maybe.Some (g .pid)) (g .section)))
+        ∙ ap records.logOf (line-given (g .section) w (record { input = g .input; pid = g .pid }) r) ∙ ap (λ (p : Bool). records.logOf (setRecords p (answerTold (handed w)))) (sym h)
     told-noted (refused r) e = refl
 
     module _ (hp : ltb (g .pid) 8192 ≡ true) (hi : ltb (g .input) 16 ≡ true) where
-      set-noted : setNoted o g ((pushes o c g) .told) ≡ records.logOf (setRecords (callTells (seen c) (pushed o g)))
+      set-noted : setNoted g ((pushes c g) .told) ≡ records.logOf (setRecords (o .pids) (callTells (seen c) (pushed o g)))
       unfolding tells reads pushes
       set-noted =
-          told-noted ((pushes o c g) .told) refl
-          ∙ ap (λ x. records.logOf (setRecords x)) (tells-seen c z (section (g .input) (pidGiven o g) (g .section)) b ∙ ap (callTells (seen c)) (given-as o g hp hi))
+          told-noted ((pushes c g) .told) refl
+          ∙ ap (λ x. records.logOf (setRecords (o .pids) x)) (tells-seen c z (section (g .input) (maybe.Some (g .pid)) (g .section)) b ∙ ap (callTells (seen c)) (given-as o h g hp hi))
 
-      push-shown : seen ((pushes o c g) .store) ≡ callActs (seen c) (pushed o g)
+      push-shown : seen ((pushes c g) .store) ≡ callActs (seen c) (pushed o g)
       unfolding acts reads pushes
-      push-shown = acts-seen c z (section (g .input) (pidGiven o g) (g .section)) b ∙ ap (callActs (seen c)) (given-as o g hp hi)
+      push-shown = acts-seen c z (section (g .input) (maybe.Some (g .pid)) (g .section)) b ∙ ap (callActs (seen c)) (given-as o h g hp hi)
 
-      push-reached : SetsReached ((pushes o c g) .store)
+      push-reached : SetsReached ((pushes c g) .store)
       unfolding acts pushes
-      push-reached = acts-reached c z (section (g .input) (pidGiven o g) (g .section)) b
+      push-reached = acts-reached c z (section (g .input) (maybe.Some (g .pid)) (g .section)) b
 
 -- ---- a section
 
 -- what is appended and what the collector shows then are the rules'
 record Follows (o : Settings) (c : Store) (a : Answer) (g : Given) (e : Entry) : Type 0 where
   bytes : appended o c a g ≡ records.logOf (e .records)
-  shown : seen (collects o c a g) ≡ e .kept .sets
-  reached : SetsReached (collects o c a g)
+  shown : seen (collects c a g) ≡ e .kept .sets
+  reached : SetsReached (collects c a g)
 
-module _ (o : Settings) (follow : Bool) (h : Held) (c : Store) (z : SetsReached c) (g : Given) (t : Takable g) where
+module _ (o : Settings) (with : o .pids ≡ true) (follow : Bool) (h : Held) (c : Store) (z : SetsReached c) (g : Given) (t : Takable g) where
   abbrev kept : Kept
   kept = record { rows = h .rows; sets = seen c }
 
@@ -115,18 +126,18 @@ module _ (o : Settings) (follow : Bool) (h : Held) (c : Store) (z : SetsReached 
     unfolding sound appended collects records.logOf
     sound-follows p e = go (changed (rowOf g p) (h .rows) || o .repeats)
       where
-        bytes-of : (b : Bool) → offerNoted o (answerOf b) g ++ setNoted o g ((pushes o c g) .told) ≡ seenRecord (cond b 1 2) (g .input) (g .pid) p ++ records.logOf (setRecords (callTells (seen c) (pushed o g)))
+        bytes-of : (b : Bool) → offerNoted o (answerOf b) g ++ setNoted g ((pushes c g) .told) ≡ seenRecord (cond b 1 2) (g .input) (g .pid) p ++ records.logOf (setRecords (o .pids) (callTells (seen c) (pushed o g)))
         bytes-of b =
             let q = sound-noted o g (t .short) hp hi p e b in
-            let s = set-noted o g c z (t .of-bytes) hp hi in
+            let s = set-noted g o with c z (t .of-bytes) hp hi in
             λ i. q i ++ s i
 
         go : (b : Bool) → Follows o c (answerOf b) g (record {
-          records = seenRecord (cond b 1 2) (g .input) (g .pid) p ∷ setRecords (callTells (seen c) (pushed o g));
+          records = seenRecord (cond b 1 2) (g .input) (g .pid) p ∷ setRecords (o .pids) (callTells (seen c) (pushed o g));
           kept = (sound o kept g p) .kept;
         })
-        go true = record { bytes = bytes-of true; shown = push-shown o g c z (t .of-bytes) hp hi; reached = push-reached o g c z (t .of-bytes) hp hi }
-        go false = record { bytes = bytes-of false; shown = push-shown o g c z (t .of-bytes) hp hi; reached = push-reached o g c z (t .of-bytes) hp hi }
+        go true = record { bytes = bytes-of true; shown = push-shown g o with c z (t .of-bytes) hp hi; reached = push-reached g o with c z (t .of-bytes) hp hi }
+        go false = record { bytes = bytes-of false; shown = push-shown g o with c z (t .of-bytes) hp hi; reached = push-reached g o with c z (t .of-bytes) hp hi }
 
     failed-follows : (f : Failure) → Follows o c (answer.Failed f) g (record { records = failedRecord (failedKind (isShort f)) (g .input) (g .pid) (length (g .section)) ∷ []; kept = kept })
     unfolding appended collects records.logOf
@@ -171,7 +182,7 @@ pub record Turn (o : Settings) (follow : Bool) (before after : List Row) (said :
   pub rows : after ≡ (told (mannerOf o follow) held (offerOf g)) .held .rows
 
 -- G are the gates, `Ok n` is what holds of one to which n sections may still come
-module _ (o : Settings) (follow : Bool) {G : Type 0} (tellsG : G → Offer → Said) (actsG : G → Offer → G) (rowsIn : G → List Row) (Ok : ℕ → G → Type 0)
+module _ (o : Settings) (with : o .pids ≡ true) (follow : Bool) {G : Type 0} (tellsG : G → Offer → Said) (actsG : G → Offer → G) (rowsIn : G → List Row) (Ok : ℕ → G → Type 0)
     (one : (n : ℕ) (x : G) (g : Given) → Takable g → Ok (suc n) x → Turn o follow (rowsIn x) (rowsIn (actsG x (offerOf g))) (tellsG x (offerOf g)) g × Ok n (actsG x (offerOf g))) where
   abbrev logFrom : List Row → Store → List Given → Bytes
   logFrom rows c gs = records.logOf (recordsFrom o (record { rows = rows; sets = seen c }) gs)
@@ -188,12 +199,12 @@ module _ (o : Settings) (follow : Bool) {G : Type 0} (tellsG : G → Offer → S
       let n = u .0 .counts in
       let p : saidOf a ≡ tellsG x (offerOf g) = cc in
       let q : map saidOf as′ ≡ answers tellsG actsG (actsG x (offerOf g)) (map offerOf gs) = cc in
-      let f = section-follows o follow h c z g (t .0) n a (p ∙ u .0 .says) in
+      let f = section-follows o with follow h c z g (t .0) n a (p ∙ u .0 .says) in
       let y : Entry = entryOf o (record { rows = h .rows; sets = seen c }) g in
       let r = u .0 .rows ∙ sym (agrees o follow (seen c) h g n .rows) in
       let s = f .shown in
       let b = f .bytes in
       let ih =
-      keeps gs (t .1) (actsG x (offerOf g)) (u .1) (collects o c a g) (f .reached) as′ q
+      keeps gs (t .1) (actsG x (offerOf g)) (u .1) (collects c a g) (f .reached) as′ q
       ∙ (λ i. records.logOf (recordsFrom o (record { rows = r i; sets = s i }) gs)) in
       (λ i. b i ++ ih i) ∙ sym (log-append (y .records) (recordsFrom o (y .kept) gs)) ∙ ap (λ (rows : List Row). logFrom rows c (g ∷ gs)) (u .0 .same)

@@ -1,7 +1,7 @@
 -- The log that is kept beside a card: one opened gate for all inputs, and for each input a watch record of its own, opened. Whatever is watched there and in each
 -- manner of following, it is the log of the rules.
 -- Assumes nothing.
-use mathlib.Core.Path.{_≡_, sym, ap, subst, _∙_}
+use mathlib.Core.Path.{_≡_, refl, sym, ap, subst, _∙_}
 use mathlib.Core.Bool.{Bool, true, false, cond}
 use mathlib.Core.List.{List, [], _∷_, map}
 use Prim.Native.Nat.{ℕ, suc, _+_, _^_, _≤_, _<_}
@@ -116,10 +116,10 @@ module _ (o : Settings) (follow : Bool) (f : Follow) (n : ℕ) (c : Records) (g 
 
 -- THE THEOREM: from an opened gate with opened records, one for each input
 module _ (st : GateSettings) (c : Records) (a : OpenedAll c) (e : c .gate ≡ emptyGate st) (z : c .counters ≡ zeroes) (p : (i : ℕ) → (patsOf (keptOn i c)) .evicted ≡ 0)
-    (limit size count : ℕ) (pids : Bool) (heads slots cells : List ℕ) (k : (openedOf (store (asked limit size count) heads slots cells)) .told ≡ done)
+    (limit size count : ℕ) (heads slots cells : List ℕ) (k : (openedOf (store (asked limit size count) heads slots cells)) .told ≡ done)
   where
     abbrev o : Settings
-    o = settingsFor st limit size count pids
+    o = settingsFor st limit size count
 
     begins : (n : ℕ) → n < 2 ^ 64 → Stands o (bySections (st .follow)) (st .follow) n c
     begins n h = record {
@@ -142,10 +142,10 @@ module _ (st : GateSettings) (c : Records) (a : OpenedAll c) (e : c .gate ≡ em
     no-rows = ap (λ (x : Gate). inOrder (record { ring = x .ring; keys = c .keys; changes = c .changes })) e
 
     pub kept-log-passes-on-all-inputs : (gs : List Given) → AllTakable gs → length gs < 2 ^ 64 → (as′ : List Answer) → map saidOf as′ ≡ answers recordsTell recordsAct c (map offerOf gs)
-        → keptLog (settingsFor st limit size count pids) (store (asked limit size count) heads slots cells) as′ gs ≡ logOf (settingsFor st limit size count pids) gs
+        → keptLog (settingsFor st limit size count) (store (asked limit size count) heads slots cells) as′ gs ≡ logOf (settingsFor st limit size count) gs
     unfolding logOf
     kept-log-passes-on-all-inputs gs t n as′ q =
-        keeps o (bySections (st .follow)) recordsTell recordsAct rowsOn (Stands o (bySections (st .follow)) (st .follow))
+        keeps o refl (bySections (st .follow)) recordsTell recordsAct rowsOn (Stands o (bySections (st .follow)) (st .follow))
         (λ m x g t k. (turn o (bySections (st .follow)) (st .follow) m x g t k, stands o (bySections (st .follow)) (st .follow) m x g t k))
         gs t c (begins (length gs) n) (store (asked limit size count) heads slots cells)
         (sets.opened-reached (store (asked limit size count) heads slots cells) (opened-collector o heads slots cells k)) as′ q

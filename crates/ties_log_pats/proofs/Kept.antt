@@ -87,26 +87,26 @@ module _ (o : Settings) (follow : Bool) (f : Follow) (n : ℕ) (x : Holding) (g 
   unfolding tellsWith actsWith
   one = told-good
 
-pub rule-keeps : (o : Settings) (follow : Bool) (f : Follow) (gs : List Given) → AllTakable gs → (x : Holding) → Counts (length gs) x → (c : Store) → SetsReached c → (as′ : List Answer)
+pub rule-keeps : (o : Settings) (with : o .pids ≡ true) (follow : Bool) (f : Follow) (gs : List Given) → AllTakable gs → (x : Holding) → Counts (length gs) x → (c : Store) → SetsReached c → (as′ : List Answer)
     → map saidOf as′ ≡ answers (tellsWith f (mannerOf o follow)) (actsWith f (mannerOf o follow)) x (map offerOf gs)
     → keptLog o c as′ gs ≡ records.logOf (recordsFrom o (record { rows = x .held .rows; sets = seen c }) gs)
-rule-keeps o follow f gs t x k c z as′ e =
-    keeps o follow (tellsWith f (mannerOf o follow)) (actsWith f (mannerOf o follow)) (λ (x : Holding). x .held .rows) Counts (λ n x g t k. one o follow f n x g k) gs t x k c z as′ e
+rule-keeps o with follow f gs t x k c z as′ e =
+    keeps o with follow (tellsWith f (mannerOf o follow)) (actsWith f (mannerOf o follow)) (λ (x : Holding). x .held .rows) Counts (λ n x g t k. one o follow f n x g k) gs t x k c z as′ e
 
 -- ---- THE THEOREM: from an opened gate, whatever it watches and in each manner of following, and an opened collector
 
-module _ (st : GateSettings) (limit size count : ℕ) (pids : Bool) (heads slots cells : List ℕ) (k : (openedOf (store (asked limit size count) heads slots cells)) .told ≡ done)
+module _ (st : GateSettings) (limit size count : ℕ) (heads slots cells : List ℕ) (k : (openedOf (store (asked limit size count) heads slots cells)) .told ≡ done)
     (gs : List Given) (t : AllTakable gs) (n : length gs < 2 ^ 64) (as′ : List Answer)
   where
     abbrev o : Settings
-    o = settingsFor st limit size count pids
+    o = settingsFor st limit size count
 
     from-empty : (protected : ℕ → Bool)
         → map saidOf as′ ≡ answers (tellsWith (st .follow) (mannerOf o (bySections (st .follow)))) (actsWith (st .follow) (mannerOf o (bySections (st .follow)))) (emptyHolding protected) (map offerOf gs)
-        → keptLog (settingsFor st limit size count pids) (store (asked limit size count) heads slots cells) as′ gs ≡ logOf (settingsFor st limit size count pids) gs
+        → keptLog (settingsFor st limit size count) (store (asked limit size count) heads slots cells) as′ gs ≡ logOf (settingsFor st limit size count) gs
     unfolding logOf untouched
     from-empty protected e =
-        rule-keeps o (bySections (st .follow)) (st .follow) gs t (emptyHolding protected) zero-counts (store (asked limit size count) heads slots cells)
+        rule-keeps o refl (bySections (st .follow)) (st .follow) gs t (emptyHolding protected) zero-counts (store (asked limit size count) heads slots cells)
         (sets.opened-reached (store (asked limit size count) heads slots cells) (opened-collector o heads slots cells k)) as′ e
         ∙ ap records.logOf (opened-records o heads slots cells k gs)
       where
@@ -127,7 +127,7 @@ module _ (st : GateSettings) (limit size count : ℕ) (pids : Bool) (heads slots
     -- the search through the rows
     module _ (extra keys changes slots′ cells′ words : List ℕ) (h : openedWith st extra (length keys) (length changes) (length slots′) (length cells′) words .answer ≡ 7) where
       pub kept-log-passes : map saidOf as′ ≡ answers keptTells keptActs (opening.leftOpen (openedWith st extra (length keys) (length changes) (length slots′) (length cells′) words) keys changes slots′ cells′) (map offerOf gs)
-          → keptLog (settingsFor st limit size count pids) (store (asked limit size count) heads slots cells) as′ gs ≡ logOf (settingsFor st limit size count pids) gs
+          → keptLog (settingsFor st limit size count) (store (asked limit size count) heads slots cells) as′ gs ≡ logOf (settingsFor st limit size count) gs
       kept-log-passes e = from-empty (isProtected (st .«well_known») extra) (e ∙ opening.answers-from-open st extra keys changes slots′ cells′ words h (map offerOf gs) (all-bytes gs t))
 
     -- with an index
@@ -136,6 +136,6 @@ module _ (st : GateSettings) (limit size count : ℕ) (pids : Bool) (heads slots
       pub kept-log-passes-indexed : map saidOf as′
           ≡ answers keptTellsBy keptActsBy
           (by-index.leftOpen (indexed.openedWith st extra (length keys) (length changes) (length links) (length slots′) (length cells′) buckets words) keys changes links slots′ cells′) (map offerOf gs)
-          → keptLog (settingsFor st limit size count pids) (store (asked limit size count) heads slots cells) as′ gs ≡ logOf (settingsFor st limit size count pids) gs
+          → keptLog (settingsFor st limit size count) (store (asked limit size count) heads slots cells) as′ gs ≡ logOf (settingsFor st limit size count) gs
       kept-log-passes-indexed e =
           from-empty (isProtected (st .«well_known») extra) (e ∙ by-index.answers-from-open st extra keys changes buckets links slots′ cells′ words h (map offerOf gs) (all-bytes gs t))

@@ -1,7 +1,6 @@
 -- From the opening of a card: the log that is kept beside it is the log of the rules.
 -- Assumes nothing.
 use mathlib.Core.Path.{_≡_, ap}
-use mathlib.Core.Bool.{Bool}
 use mathlib.Core.List.{List, map}
 use Prim.Native.Nat.{ℕ, _^_, _<_}
 use lib.ListN.{length}
@@ -63,12 +62,12 @@ module _ (st : GateSettings) (extra keys changes slots cells words : List ℕ) (
 
   -- THE THEOREM: opened for all its inputs, with any PIDs watched and in each manner of following, and an opened collector
   module _ (watches : ℕ → Record) (begun : (i : ℕ) → OpenRecord st (start .watch) (watches i))
-      (limit size count : ℕ) (pids : Bool) (heads slots′ cells′ : List ℕ) (k : (openedOf (store (asked limit size count) heads slots′ cells′)) .told ≡ done) where
+      (limit size count : ℕ) (heads slots′ cells′ : List ℕ) (k : (openedOf (store (asked limit size count) heads slots′ cells′)) .told ≡ done) where
     all-open : OpenedAll (cardOf start watches)
     all-open = record { each = λ i. each (watches i) (begun i); step = λ i. steps (watches i) (begun i) }
 
     pub kept-log-passes-on-a-card : (gs : List Given) → AllTakable gs → length gs < 2 ^ 64 → (as′ : List Answer)
         → map saidOf as′ ≡ answers recordsTell recordsAct (cardOf (leftOpen (openedWith st extra (length keys) (length changes) (length slots) (length cells) words) keys changes slots cells) watches) (map offerOf gs)
-        → keptLog (settingsFor st limit size count pids) (store (asked limit size count) heads slots′ cells′) as′ gs ≡ logOf (settingsFor st limit size count pids) gs
+        → keptLog (settingsFor st limit size count) (store (asked limit size count) heads slots′ cells′) as′ gs ≡ logOf (settingsFor st limit size count) gs
     kept-log-passes-on-a-card =
-        kept-log-passes-on-all-inputs st (cardOf start watches) all-open (opening-gate st extra keys changes slots cells words h) counters-zero (λ i. none (watches i) (begun i)) limit size count pids heads slots′ cells′ k
+        kept-log-passes-on-all-inputs st (cardOf start watches) all-open (opening-gate st extra keys changes slots cells words h) counters-zero (λ i. none (watches i) (begun i)) limit size count heads slots′ cells′ k

@@ -1,7 +1,7 @@
 -- In the memory that a run leaves, another can be opened with the same settings: no slice gets shorter than the settings need.
 -- Assumes nothing.
 use mathlib.Core.Path.{_≡_, refl, sym, ap, subst, _∙_}
-use mathlib.Core.Bool.{Bool, true, false, cond, _&&_}
+use mathlib.Core.Bool.{Bool, true, false, cond, not, _&&_}
 use mathlib.Core.List.{List, []}
 use Prim.Native.Nat.{ℕ, suc, _+_, _*_, _^_, _≤_, _<_}
 use native.Mathlib.Omega.{arith}
@@ -21,7 +21,7 @@ use Rattle.rules_sets.proofs.Cells.{settings-stay}
 use Rattle.ties_sets.specs.View.{seen}
 use Rattle.rules_logs.specs.Sections.{Given}
 use Rattle.rules_log_run.specs.Run.{Settings, Kept, pushed, sound, judged, entryOf}
-use Rattle.log_state.specs.State.{Lent, lent, setsIn, runOf, rulingBy, rulingOf}
+use Rattle.log_state.specs.State.{isWithout, Lent, lent, setsIn, runOf, rulingBy, rulingOf}
 use Rattle.log_state.specs.declared.Settings.{Settings as Asked}
 use Rattle.log_run.specs.Store.{ruled, taking}
 use Rattle.ties_log_run.specs.Run.{takes, keptIn, settingsAt, Opens, Reached}
@@ -63,13 +63,14 @@ pub record Usable (a : Asked) (n : ℕ) (s : Lent) : Type 0 where
   pub limit : s .run .sets .limit ≡ a .limit
   pub size : s .run .sets .size ≡ a .size
   pub count : s .run .sets .count ≡ a .count
+  pub taken : isWithout (a .pids) ≡ false
 
 pub usable-opened : (a : Asked) (keys changes heads slots cells : List ℕ) → Opens a keys changes heads slots cells → (n : ℕ) → n < 2 ^ 64 → Usable a n (lent (runOf a) keys changes heads slots cells)
 usable-opened a keys changes heads slots cells h n l =
-    record { reached = opened-reached a keys changes heads slots cells h; more = omega arith; capacity = refl; rule = refl; limit = refl; size = refl; count = refl }
+    record { reached = opened-reached a keys changes heads slots cells h; more = omega arith; capacity = refl; rule = refl; limit = refl; size = refl; count = refl; taken = (opened-reached a keys changes heads slots cells h) .taken }
 
 pub usable-fewer : (a : Asked) (n : ℕ) (s : Lent) → Usable a n s → Usable a 0 s
-usable-fewer a n s u = let h = u .more in record { reached = u .reached; more = omega arith; capacity = u .capacity; rule = u .rule; limit = u .limit; size = u .size; count = u .count }
+usable-fewer a n s u = let h = u .more in record { reached = u .reached; more = omega arith; capacity = u .capacity; rule = u .rule; limit = u .limit; size = u .size; count = u .count; taken = u .taken }
 
 module _ (a : Asked) (n : ℕ) (s : Lent) (u : Usable a (suc n) s) (g : Given) (b : OfBytes (g .section)) where
   more-one : s .run .sets .evictions < 18446744073709551615
@@ -82,7 +83,7 @@ module _ (a : Asked) (n : ℕ) (s : Lent) (u : Usable a (suc n) s) (g : Given) (
   unfolding taking rulingOf rulingBy ruled
   long-usable h =
       rw (lt-ltb 4098 (length (g .section)) h)
-      (let m = u .more in record { reached = u .reached; more = omega arith; capacity = u .capacity; rule = u .rule; limit = u .limit; size = u .size; count = u .count })
+      (let m = u .more in record { reached = u .reached; more = omega arith; capacity = u .capacity; rule = u .rule; limit = u .limit; size = u .size; count = u .count; taken = u .taken })
 
   short-usable : length (g .section) ≤ 4098 → Usable a n ((takes s g) .left)
   unfolding seen
@@ -102,6 +103,7 @@ module _ (a : Asked) (n : ℕ) (s : Lent) (u : Usable a (suc n) s) (g : Given) (
         count =
             sym (cells-length (after .cells) (after .run .sets .size) (after .run .sets .count)) ∙ ap (λ (x : Shown). length (x .cells)) k ∙ e .cells
             ∙ cells-length (s .cells) (s .run .sets .size) (s .run .sets .count) ∙ u .count;
+        taken = u .taken;
       }
 
   pub usable-next : Usable a n ((takes s g) .left)
@@ -117,7 +119,7 @@ usable-opens a n s u =
     let w = u .reached .rows .whole in
     let k : roomOf (a .capacity) ≤ length (s .keys) = subst (λ (c : ℕ). roomOf c ≤ length (s .keys)) (u .capacity) (w .keys-long) in
     let c : roomOf (a .capacity) ≤ length (s .changes) = subst (λ (c : ℕ). roomOf c ≤ length (s .changes)) (u .capacity) (w .changes-long) in
-    true-and (true-and (true-and (le-leb _ _ k) (le-leb _ _ c)) (sym (ap ruleKnown (u .rule)) ∙ u .reached .rule)) (sym fits-same ∙ u .reached .sets .fits)
+    true-and (true-and (true-and (true-and (le-leb _ _ k) (le-leb _ _ c)) (sym (ap ruleKnown (u .rule)) ∙ u .reached .rule)) (sym fits-same ∙ u .reached .sets .fits)) (ap not (u .taken))
   where
     fits-same : settingsFit (s .run .sets) (length (s .heads)) (length (s .slots)) (length (s .cells)) ≡ settingsFit (asked (a .limit) (a .size) (a .count)) (length (s .heads)) (length (s .slots)) (length (s .cells))
     fits-same =

@@ -3,12 +3,12 @@
 -- Assumes nothing.
 use mathlib.Core.Path.{_≡_, refl, sym, ap, _∙_}
 use mathlib.Core.Logic.{_≢_}
-use mathlib.Core.Bool.{Bool, true, false, _&&_, cond}
+use mathlib.Core.Bool.{Bool, true, false, not, _&&_, cond}
 use mathlib.Core.Option.{some, Option·some-injective}
 use mathlib.Core.List.{List, [], _∷_, _++_}
 use Prim.Native.Nat.{ℕ, zero, suc, _+_, _^_, _≤_, _<_}
 use native.Mathlib.Omega.{arith}
-use borrow.Author.Tests.{lt-ltb, ltb-true, ltb-false, leb-true, eqb-false}
+use borrow.Author.Tests.{lt-ltb, ltb-true, ltb-false, leb-true, eqb-false, not-true}
 use lib.Dec.{ltb, leb}
 use lib.ListN.{length, replicate, length-replicate}
 use Rattle.laws.specs.Runs.{answers, Never}
@@ -25,6 +25,7 @@ use Rattle.sets.specs.Store.{openedOf}
 use Rattle.sets.proofs.Stays as stays
 use Rattle.ties_sets.specs.View.{seen}
 use Rattle.ties_sets.specs.View.{Opened as OpenedSets}
+use Rattle.ties_sets.proofs.Calls.{standing}
 use Rattle.ties_sets.proofs.History as sets
 use Rattle.rules_logs.specs.Records.{Bytes}
 use Rattle.rules_logs.specs.Sections.{Given}
@@ -115,23 +116,32 @@ bytes-joined (g ∷ gs) s =
 pub done-opens : (a : Asked) (keys changes heads slots cells : List ℕ) → (state.openedOf a (length keys) (length changes) (length heads) (length slots) (length cells)) .answer ≡ outcome.Done
     → Opens a keys changes heads slots cells
 unfolding state.openedOf
-done-opens a keys changes heads slots cells e = go (canOpen a (length keys) (length changes) (length heads) (length slots) (length cells)) e
+done-opens a keys changes heads slots cells e = go (state.isWithout (a .pids)) (canOpen a (length keys) (length changes) (length heads) (length slots) (length cells)) e
   where
-    go : (b : Bool) → cond b outcome.Done (outcome.Refused refusal.TooLittle) ≡ outcome.Done → b ≡ true
-    go true q = refl
-    go false q = let z : _≡_ {A = ℕ} 0 1 = cc in absurd (omega arith)
+    go : (w b : Bool) → cond w (outcome.Refused refusal.NoPid) (cond b outcome.Done (outcome.Refused refusal.TooLittle)) ≡ outcome.Done → b ≡ true
+    go true b q = let z : _≡_ {A = ℕ} 0 1 = cc in absurd (omega arith)
+    go false true q = refl
+    go false false q = let z : _≡_ {A = ℕ} 0 1 = cc in absurd (omega arith)
 
 module _ (a : Asked) (keys changes heads slots cells : List ℕ) (h : Opens a keys changes heads slots cells) where
   abbrev start : Lent
   start = lent (runOf a) keys changes heads slots cells
 
+  -- the settings fit, and sets are taken
+  both-fit : ((leb (roomOf (a .capacity)) (length keys) && leb (roomOf (a .capacity)) (length changes) && ruleKnown (a .rule)
+      && settingsFit (asked (a .limit) (a .size) (a .count)) (length heads) (length slots) (length cells)) ≡ true) × (not (state.isWithout (a .pids)) ≡ true)
+  both-fit = and-true _ (not (state.isWithout (a .pids))) h
+
+  pub opened-taken : state.isWithout (a .pids) ≡ false
+  opened-taken = not-true (state.isWithout (a .pids)) (both-fit .1)
+
   fits : settingsFit (asked (a .limit) (a .size) (a .count)) (length heads) (length slots) (length cells) ≡ true
-  fits = and-true (leb (roomOf (a .capacity)) (length keys) && leb (roomOf (a .capacity)) (length changes) && ruleKnown (a .rule)) (settingsFit (asked (a .limit) (a .size) (a .count)) (length heads) (length slots) (length cells)) h .1
+  fits = and-true (leb (roomOf (a .capacity)) (length keys) && leb (roomOf (a .capacity)) (length changes) && ruleKnown (a .rule)) (settingsFit (asked (a .limit) (a .size) (a .count)) (length heads) (length slots) (length cells)) (both-fit .0) .1
 
   gate-fits : ((leb (roomOf (a .capacity)) (length keys) && leb (roomOf (a .capacity)) (length changes)) ≡ true) × (ruleKnown (a .rule) ≡ true)
   gate-fits =
       and-true (leb (roomOf (a .capacity)) (length keys) && leb (roomOf (a .capacity)) (length changes)) (ruleKnown (a .rule))
-      (and-true (leb (roomOf (a .capacity)) (length keys) && leb (roomOf (a .capacity)) (length changes) && ruleKnown (a .rule)) (settingsFit (asked (a .limit) (a .size) (a .count)) (length heads) (length slots) (length cells)) h .0)
+      (and-true (leb (roomOf (a .capacity)) (length keys) && leb (roomOf (a .capacity)) (length changes) && ruleKnown (a .rule)) (settingsFit (asked (a .limit) (a .size) (a .count)) (length heads) (length slots) (length cells)) (both-fit .0) .0)
 
   rows-fit : (leb (roomOf (a .capacity)) (length keys) ≡ true) × (leb (roomOf (a .capacity)) (length changes) ≡ true)
   rows-fit = and-true (leb (roomOf (a .capacity)) (length keys)) (leb (roomOf (a .capacity)) (length changes)) (gate-fits .0)
@@ -144,7 +154,8 @@ module _ (a : Asked) (keys changes heads slots cells : List ℕ) (h : Opens a ke
   opened-reached = record {
     rows = ring.opened-reached (a .capacity) keys changes (leb-true _ _ (rows-fit .0)) (leb-true _ _ (rows-fit .1));
     rule = gate-fits .1;
-    sets = sets.opened-reached (setsIn start) opened-sets;
+    taken = opened-taken;
+    sets = standing (setsIn start) (sets.opened-reached (setsIn start) opened-sets);
     whole = stays.opened-whole (setsIn start) (opened-sets .opened);
   }
 

@@ -13,9 +13,10 @@ use Rattle.laws.proofs.Tests.{true-and}
 use Rattle.answers.specs.declared.Refusal.the-variants as refusal
 use Rattle.section.specs.Facts.{Bytes as OfBytes}
 use Rattle.section.specs.Ids.{originOf}
-use Rattle.section.specs.Judged.{ruleOf, judgedOf}
+use Rattle.section.specs.Judged.{ruleOf, judgedOf, collectedOf}
 use Rattle.section.proofs.Facts.{judged-parts, judged-change}
-use Rattle.section.specs.declared.ids.MaybePid.{MaybePid}
+use Rattle.section.specs.declared.header.Collected.{Collected}
+use Rattle.section.specs.declared.header.Collected.the-variants.{Malformed, ShortForm, BadNumber, BadCrc, Good}
 use Rattle.section.specs.declared.header.Parts.{Parts}
 use Rattle.section.specs.declared.header.Judged.{Judged}
 use Rattle.section.specs.declared.header.Judged.the-variants.{Short, Mismatch, Sound}
@@ -25,42 +26,99 @@ use Rattle.ring.specs.View.{memoryAfter}
 use Rattle.ring.proofs.Laws.{whole-test}
 use Rattle.ring.proofs.Order.{step}
 use Rattle.ring.proofs.Order.{Step as RingStep}
-use Rattle.rules_sets.specs.Cells.{callTells, callActs}
+use Rattle.rules_shared.specs.Same.{Origin}
+use Rattle.rules_shared.specs.Cells.{atEnd}
+use Rattle.rules_sets.specs.Rules.{Call}
+use Rattle.rules_sets.specs.Cells.{Turn, storeWhole, ended, good, guarded, call, callTells, callActs}
 use Rattle.rules_sets.specs.Cells.{Store as Shown}
-use Rattle.store.specs.Store.{Store}
+use Rattle.rows.specs.declared.Origin.{Origin as Words}
+use Rattle.ages.specs.Origins.{plainShown}
+use Rattle.arrivals.specs.Arrivals.{setKey, entryOf as rowOfHeader, setRead}
+use Rattle.store.specs.Store.{Store, WholeStore}
 use Rattle.store.proofs.Whole.{means-whole}
 use Rattle.sets_settle.specs.Settle.{Told, done, nothing, handed, refused}
-use Rattle.sets.specs.Store.{pushedOf}
-use Rattle.sets.specs.History.{offer as section}
-use Rattle.sets.proofs.Stays.{push-stays}
-use Rattle.ties_sets.specs.View.{seen, readSection, reads, answerTold, tells, acts}
-use Rattle.ties_sets.specs.View.{Reached as SetsReached}
-use Rattle.ties_sets.proofs.History.{tells-seen, acts-seen, acts-reached}
-use Rattle.ties_given.proofs.Given.{goes-out-as-given}
+use Rattle.sets.specs.Store.{pushedAs}
+use Rattle.sets.proofs.Arrived.{entry-taken}
+use Rattle.sets.proofs.Stays.{whole-stays}
+use Rattle.ties_sets.specs.View.{seen, readsAs, answerTold, Standing}
+use Rattle.ties_sets.proofs.Settle.{Tied}
+use Rattle.ties_sets.proofs.Calls.{whole-seen, ended-seen, judged-tied}
+use Rattle.ties_given.proofs.Given.{goes-out-as-read}
 use Rattle.rules_logs.specs.Records.{Bytes, seenRecord}
 use Rattle.rules_logs.specs.Sections.{Given}
 use Rattle.rules_log_run.specs.Run as rules
 use Rattle.rules_log_run.specs.Run.{Settings, Entry, pushed, rowOf, sound, judged, entryOf}
-use Rattle.log_steps.specs.Steps.{pidFor, setRecords}
-use Rattle.ties_log_kept.proofs.Sets.{line-given, given-as}
-use Rattle.log_state.specs.State.{Lent, setsIn, takeNo, wholeBy, isFull, ruledBy, rulingBy, rulingOf}
+use Rattle.log_steps.specs.Steps.{fromFor, gatheredOf, setRecords}
+use Rattle.ties_log_kept.proofs.Sets.{line-given, line-bare}
+use Rattle.log_state.specs.State.{isWith, Lent, setsIn, takeNo, wholeBy, isFull, ruledBy, rulingBy, rulingOf}
 use Rattle.log_run.specs.Store.{Taking, seenIn, ruled, taking}
 use Rattle.ties_log_run.specs.Run.{takes, leaves, memoryIn, keptIn, settingsAt, Reached}
 use Rattle.ties_log_run.proofs.Counted.{counts-one}
 
+-- ---- a section into the collector
+
+-- 11 is asked before what the section is read as
+ended-as : (s : Shown) (bytes : Bytes) (from : Origin) (c : Collected) → ended s (readsAs from bytes c) ≡ atEnd (s .sets .evicted)
+unfolding ended readsAs
+ended-as s bytes from Malformed = refl
+ended-as s bytes from ShortForm = refl
+ended-as s bytes from BadNumber = refl
+ended-as s bytes from BadCrc = refl
+ended-as s bytes from (Good h) = refl
+
+module _ (s : Store) (z : Standing s) (f : WholeStore s) (more : s .sets .evictions < 18446744073709551615) (from : Words) (bytes : Bytes) (b : OfBytes bytes) where
+  abbrev call′ : Call
+  call′ = readsAs (plainShown from) bytes (collectedOf bytes)
+
+  not-ended : atEnd ((seen s) .sets .evicted) ≡ false
+  unfolding seen
+  not-ended = ended-seen s z ∙ ne-eqb (s .sets .evictions) 18446744073709551615 (λ e. omega (arith, e, more))
+
+  -- a collector that is whole and can count goes on
+  goes-on : call (seen s) call′ ≡ good (seen s) call′
+  unfolding call guarded
+  goes-on =
+      let w : storeWhole (seen s) ≡ true = whole-seen s z ∙ means-whole s f in
+      let e : ended (seen s) call′ ≡ false = ended-as (seen s) bytes (plainShown from) (collectedOf bytes) ∙ not-ended in
+      ap (λ (x : Bool). guarded x (ended (seen s) call′) (seen s) call′) w ∙ ap (λ (x : Bool). guarded true x (seen s) call′) e
+
+  gathered : Tied (gatheredOf s from bytes) (good (seen s) call′)
+  unfolding gatheredOf
+  gathered = judged-tied s z f more bytes b from (collectedOf bytes) refl
+
+  pub gathered-tells : answerTold ((gatheredOf s from bytes) .told) ≡ callTells (seen s) call′
+  unfolding callTells
+  gathered-tells = gathered .told ∙ sym (ap (λ (t : Turn). t .answer) goes-on)
+
+  pub gathered-acts : seen ((gatheredOf s from bytes) .store) ≡ callActs (seen s) call′
+  unfolding callActs
+  gathered-acts = gathered .shown ∙ sym (ap (λ (t : Turn). t .store) goes-on)
+
+  pub gathered-stands : Standing ((gatheredOf s from bytes) .store)
+  gathered-stands = gathered .reached
+
+  -- whole it stays
+  pub gathered-whole : WholeStore ((gatheredOf s from bytes) .store)
+  unfolding gatheredOf
+  gathered-whole = go (collectedOf bytes) refl
+    where
+      go : (c : Collected) → collectedOf bytes ≡ c → WholeStore ((pushedAs s bytes (setRead from c)) .store)
+      go Malformed q = f
+      go ShortForm q = f
+      go BadNumber q = f
+      go BadCrc q = f
+      go (Good h) q = whole-stays s (rowOfHeader (setKey from h) h) bytes f (entry-taken bytes h (setKey from h) q (b 7))
+
 -- ---- the record of a set
 
-module _ (s : Store) (z : SetsReached s) (input : ℕ) (pid : MaybePid) (bytes : Bytes) (b : OfBytes bytes) where
-  told-same : (t : Told) → (pushedOf s input pid bytes) .told ≡ t → setRecords input pid bytes t ≡ rules.setRecords (answerTold t)
-  unfolding rules.setRecords answerTold
-  told-same done e = refl
-  told-same nothing e = refl
-  told-same (handed w) e = line-given bytes w input pid (goes-out-as-given s input pid bytes w e)
-  told-same (refused r) e = refl
-
-  pub sets-same : setRecords input pid bytes ((pushedOf s input pid bytes) .told) ≡ rules.setRecords (callTells (seen s) (readSection input pid bytes))
-  unfolding tells reads
-  sets-same = told-same ((pushedOf s input pid bytes) .told) refl ∙ ap rules.setRecords (tells-seen s z (section input pid bytes) b)
+module _ (s : Store) (f : WholeStore s) (bytes : Bytes) where
+  told-same : (pids : Bool) (input pid : ℕ) (t : Told) → (gatheredOf s (fromFor pids input pid) bytes) .told ≡ t → setRecords pids input pid bytes t ≡ rules.setRecords pids (answerTold t)
+  unfolding rules.setRecords answerTold gatheredOf
+  told-same pids input pid done e = refl
+  told-same pids input pid nothing e = refl
+  told-same true input pid (handed w) e = line-given bytes w (fromFor true input pid) (goes-out-as-read bytes w s f (fromFor true input pid) e)
+  told-same false input pid (handed w) e = line-bare bytes w (fromFor false input pid) (goes-out-as-read bytes w s f (fromFor false input pid) e)
+  told-same pids input pid (refused r) e = refl
 
 -- ---- a section that arrived
 
@@ -74,12 +132,12 @@ pub record Follows (l z c : ℕ) (s : Lent) (t : Taking) (e : Entry) : Type 0 wh
   pub not-10 : takeNo (t .answer) ≢ 10
   pub not-11 : takeNo (t .answer) ≢ 11
 
-module _ (l z c : ℕ) (s : Lent) (r : Reached s) (g : Given) (b : OfBytes (g .section)) where
+module _ (l z c : ℕ) (s : Lent) (r : Reached s) (g : Given) (b : OfBytes (g .section)) (more : s .run .sets .evictions < 18446744073709551615) where
   abbrev o : Settings
   o = settingsAt l z c (s .run)
 
-  abbrev pid′ : MaybePid
-  pid′ = pidFor (s .run .pids) (g .pid)
+  abbrev from′ : Words
+  from′ = fromFor (isWith (s .run .pids)) (g .input) (g .pid)
 
   -- a sound section, with its parts
   module _ (p : Parts) (small : p .change < 2 ^ 32) (hp : ltb (g .pid) 8192 ≡ true) (hi : ltb (g .input) 16 ≡ true) where
@@ -89,31 +147,38 @@ module _ (l z c : ℕ) (s : Lent) (r : Reached s) (g : Given) (b : OfBytes (g .s
     abbrev t : Taking
     t = seenIn s (g .input) (g .pid) (g .section) (record { key = rowOf g p .key; parts = p })
 
-    shown-as : seen ((pushedOf (setsIn s) (g .input) pid′ (g .section)) .store) ≡ callActs (seen (setsIn s)) (pushed o g)
-    unfolding acts reads
-    shown-as = acts-seen (setsIn s) (r .sets) (section (g .input) pid′ (g .section)) b ∙ ap (callActs (seen (setsIn s))) (given-as o g hp hi)
+    shown-as : seen ((gatheredOf (setsIn s) from′ (g .section)) .store) ≡ callActs (seen (setsIn s)) (pushed o g)
+    unfolding pushed
+    shown-as = gathered-acts (setsIn s) (r .sets) (r .whole) more from′ (g .section) b
 
-    evicted-one : (pushedOf (setsIn s) (g .input) pid′ (g .section)) .store .sets .evictions ≤ suc (s .run .sets .evictions)
+    told-as : setRecords (isWith (s .run .pids)) (g .input) (g .pid) (g .section) ((gatheredOf (setsIn s) from′ (g .section)) .told) ≡ rules.setRecords (o .pids) (callTells (seen (setsIn s)) (pushed o g))
+    unfolding pushed
+    told-as =
+        told-same (setsIn s) (r .whole) (g .section) (isWith (s .run .pids)) (g .input) (g .pid) ((gatheredOf (setsIn s) from′ (g .section)) .told) refl
+        ∙ ap (rules.setRecords (o .pids)) (gathered-tells (setsIn s) (r .sets) (r .whole) more from′ (g .section) b)
+
+    evicted-one : (gatheredOf (setsIn s) from′ (g .section)) .store .sets .evictions ≤ suc (s .run .sets .evictions)
     unfolding seen
     evicted-one = subst (λ (n : ℕ). n ≤ suc (s .run .sets .evictions)) (sym (ap (λ (q : Shown). q .sets .evicted) shown-as)) (counts-one (seen (setsIn s)) (pushed o g))
 
     sound-follows : Follows l z c s t (sound o (keptIn s) g p)
-    unfolding seenIn sound memoryAfter acts
+    unfolding seenIn sound memoryAfter
     sound-follows =
         let k = st .tells in
-        let q = sets-same (setsIn s) (r .sets) (g .input) pid′ (g .section) b ∙ ap (λ x. rules.setRecords (callTells (seen (setsIn s)) x)) (given-as o g hp hi) in
+        let q = told-as in
         let rows = st .order in
         let sets = shown-as in
         let cap = st .capacity in
         record {
           records = λ i. seenRecord (cond (k i || s .run .repeats) 1 2) (g .input) (g .pid) p ∷ q i;
           kept = λ i. record { rows = rows i; sets = sets i };
-          settings = λ i. record { capacity = cap i; repeats = s .run .repeats; rule = s .run .rule; limit = l; size = z; count = c; pids = s .run .pids };
+          settings = λ i. record { capacity = cap i; repeats = s .run .repeats; rule = s .run .rule; limit = l; size = z; count = c; pids = isWith (s .run .pids) };
           reached = record {
             rows = st .reached;
             rule = r .rule;
-            sets = acts-reached (setsIn s) (r .sets) (section (g .input) pid′ (g .section)) b;
-            whole = push-stays (setsIn s) (g .input) pid′ (g .section) (b 7) (r .whole);
+            taken = r .taken;
+            sets = gathered-stands (setsIn s) (r .sets) (r .whole) more from′ (g .section) b;
+            whole = gathered-whole (setsIn s) (r .sets) (r .whole) more from′ (g .section) b;
           };
           counted = evicted-one;
           not-10 = eqb-false 7 10 refl;
@@ -141,15 +206,15 @@ module _ (l z c : ℕ) (s : Lent) (r : Reached s) (g : Given) (b : OfBytes (g .s
 
   -- no run that comes from opening is broken
   is-whole : wholeBy (s .run) (length (s .keys)) (length (s .changes)) (setsIn s) ≡ true
-  is-whole = true-and (true-and (whole-test (s .run .ring) (length (s .keys)) (length (s .changes)) (r .rows .whole)) (r .rule)) (means-whole (setsIn s) (r .whole))
+  is-whole =
+      true-and (true-and (true-and (whole-test (s .run .ring) (length (s .keys)) (length (s .changes)) (r .rows .whole)) (r .rule)) (ap not (r .taken))) (means-whole (setsIn s) (r .whole))
 
-  module _ (more : s .run .sets .evictions < 18446744073709551615) where
-    not-full : isFull (s .run .sets) ≡ false
-    not-full = ne-eqb (s .run .sets .evictions) 18446744073709551615 (λ e. omega arith)
+  not-full : isFull (s .run .sets) ≡ false
+  not-full = ne-eqb (s .run .sets .evictions) 18446744073709551615 (λ e. omega (arith, e, more))
 
-    -- a section of at most 4,098 bytes
-    pub follows : length (g .section) ≤ 4098 → Follows l z c s (takes s g) (entryOf o (keptIn s) g)
-    unfolding taking rulingOf rulingBy readOf entryOf
-    follows h =
-        rw (le-ltb 4098 (length (g .section)) h, is-whole, not-full)
-        (read-follows (ltb (g .pid) 8192) (ltb (g .input) 16) refl refl (judgedOf (ruleOf (s .run .rule)) (g .section)) refl)
+  -- a section of at most 4,098 bytes
+  pub follows : length (g .section) ≤ 4098 → Follows l z c s (takes s g) (entryOf o (keptIn s) g)
+  unfolding taking rulingOf rulingBy readOf entryOf
+  follows h =
+      rw (le-ltb 4098 (length (g .section)) h, is-whole, not-full)
+      (read-follows (ltb (g .pid) 8192) (ltb (g .input) 16) refl refl (judgedOf (ruleOf (s .run .rule)) (g .section)) refl)

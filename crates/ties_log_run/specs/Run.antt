@@ -2,20 +2,19 @@
 -- Assumes nothing.
 use Prim.Native.Nat.{ℕ}
 use mathlib.Core.Path.{_≡_}
-use mathlib.Core.Bool.{true}
+use mathlib.Core.Bool.{true, false}
 use mathlib.Core.List.{List, [], _∷_, _++_}
 use lib.ListN.{length, take}
 use Rattle.section.specs.Judged.{ruleKnown}
 use Rattle.ring.specs.View.{Memory, inOrder}
 use Rattle.ring.specs.View.{Reached as RingReached}
 use Rattle.store.specs.Store.{WholeStore}
-use Rattle.ties_sets.specs.View.{seen}
-use Rattle.ties_sets.specs.View.{Reached as SetsReached}
+use Rattle.ties_sets.specs.View.{seen, Standing}
 use Rattle.rules_logs.specs.Records.{Bytes}
 use Rattle.rules_logs.specs.Sections.{Given}
 use Rattle.laws.specs.Runs.{answers}
 use Rattle.rules_log_run.specs.Run.{Settings, Kept}
-use Rattle.log_state.specs.State.{Lent, setsIn, takeNo, canOpen}
+use Rattle.log_state.specs.State.{isWith, isWithout, Lent, setsIn, takeNo, canOpen}
 use Rattle.log_state.specs.declared.Settings.{Settings as Asked}
 use Rattle.log_state.specs.declared.Run.{Run}
 use Rattle.log_run.specs.Store.{Taking, taking, takenOf}
@@ -62,11 +61,11 @@ keptIn s = record { rows = inOrder (memoryIn s); sets = seen (setsIn s) }
 
 -- the settings that a section looks at; limit, cell size and number of cells are looked at by opening alone
 abbrev pub settingsAt : (limit size count : ℕ) → Run → Settings
-settingsAt limit size count r = record { capacity = r .ring .capacity; repeats = r .repeats; rule = r .rule; limit = limit; size = size; count = count; pids = r .pids }
+settingsAt limit size count r = record { capacity = r .ring .capacity; repeats = r .repeats; rule = r .rule; limit = limit; size = size; count = count; pids = isWith (r .pids) }
 
 -- what opening is asked for
 abbrev pub settingsOf : Asked → Settings
-settingsOf a = record { capacity = a .capacity; repeats = a .repeats; rule = a .rule; limit = a .limit; size = a .size; count = a .count; pids = a .pids }
+settingsOf a = record { capacity = a .capacity; repeats = a .repeats; rule = a .rule; limit = a .limit; size = a .size; count = a .count; pids = isWith (a .pids) }
 
 -- 7: so much is lent, and such are the settings
 abbrev pub Opens : Asked → (keys changes heads slots cells : List ℕ) → Type 0
@@ -76,5 +75,6 @@ Opens a keys changes heads slots cells = canOpen a (length keys) (length changes
 pub record Reached (s : Lent) : Type 0 where
   pub rows : RingReached (memoryIn s)
   pub rule : ruleKnown (s .run .rule) ≡ true
-  pub sets : SetsReached (setsIn s)
+  pub taken : isWithout (s .run .pids) ≡ false
+  pub sets : Standing (setsIn s)
   pub whole : WholeStore (setsIn s)

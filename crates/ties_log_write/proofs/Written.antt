@@ -1,4 +1,4 @@
--- `write` by the rules: past 42, 10 and 13 it answers 44 exactly where the log of the sections is longer than the room, and else the room holds that log; and what was
+-- `write` by the rules: past 42, 10, 41 and 13 it answers 44 exactly where the log of the sections is longer than the room, and else the room holds that log; and what was
 -- written passes the check.
 -- Assumes nothing.
 use mathlib.Core.Path.{_≡_, refl, sym, ap, subst, _∙_}
@@ -17,14 +17,16 @@ use Rattle.rules_logs.specs.Verdict as records
 use Rattle.rules_log_run.specs.Run.{logOf}
 use Rattle.rules_log_run.specs.Lists.{AllTakable}
 use Rattle.rules_log_run.proofs.Lists.{listed-takable, listed-few}
-use Rattle.log_state.specs.State.{Lent, runOf}
+use Rattle.log_state.specs.State.{isWith, isWithout, Lent, runOf}
+use Rattle.log_state.specs.declared.Pids.the-variants as pids
 use Rattle.log_state.specs.declared.Settings.{Settings}
 use Rattle.log_sections.specs.Steps.{takes, leftBy, Memory, over, memoryIn, opens}
 use Rattle.log_check.specs.Check.{checkNo, checkedOf}
 use Rattle.log_measure.specs.Measure.{fittedIn}
-use Rattle.log_write.specs.Write.{writeNo, told, refusedBy, writeAs, logOver, measuredIn, ranTwice, writtenBy, writtenOf}
+use Rattle.log_write.specs.Write.{writeNo, told, refusedBy, writeAs, logOver, measuredIn, asWriter, ranTwice, writtenBy, writtenOf}
 use Rattle.log_write.specs.declared.WriteAnswer.the-variants as answer
 use Rattle.ties_log_run.specs.Run.{settingsOf}
+use Rattle.ties_log_run.proofs.Run.{opened-taken}
 use Rattle.ties_log_run.proofs.Again.{Usable, usable-opened, usable-fewer, usable-next, usable-opens}
 use Rattle.ties_logs.proofs.Check.{run-expects, yes-exactly}
 use Rattle.ties_log_write.specs.Written.{Holds, Refuses}
@@ -43,7 +45,23 @@ fitted-usable a (g ∷ gs) t free s u =
     go true n ih = usable-fewer a (length gs) ((takes s g) .left) n
     go false n ih = ih
 
--- a list of bytes that is whole, and memory that is enough
+-- ---- the setting
+
+-- the settings with which a writer opens where sets are not taken with PIDs
+abbrev bare : Settings → Settings
+bare a = record { capacity = a .capacity; repeats = a .repeats; rule = a .rule; limit = a .limit; size = a .size; count = a .count; pids = pids.Without }
+
+as-with : (a : Settings) → isWith (a .pids) ≡ true → asWriter a ≡ a
+as-with a t = ap (λ (b : Bool). cond b a (bare a)) t
+
+-- THE THEOREM: any setting but `with` is 41 of a whole list, and all is as before
+pub writer-refuses : (a : Settings) → isWith (a .pids) ≡ false → (list room : Bytes) (gs : List Given) → sectionsIn list ≡ sections gs → (m : Memory)
+    → writtenOf a list room m ≡ writeAs (refusedBy answer.NoPid) room m
+unfolding writtenOf
+writer-refuses a t list room gs w m = ap (λ (b : Bool). writtenBy (cond b a (bare a)) room m (sectionsIn list)) t ∙ ap (writtenBy (bare a) room m) w
+
+-- ---- a list of bytes that is whole, and memory that is enough
+
 module _ (a : Settings) (list : Bytes) (b : OfBytes list) (n : length list < 2 ^ 64) (gs : List Given) (w : sectionsIn list ≡ sections gs) (room : Bytes) where
   abbrev log : Bytes
   log = logOf (settingsOf a) gs
@@ -53,7 +71,7 @@ module _ (a : Settings) (list : Bytes) (b : OfBytes list) (n : length list < 2 ^
   unfolding logOf
   log-over m h = ap records.logOf (run-expects a list b n gs w m h)
 
-  module _ (m : Memory) (h : opens a m ≡ true) where
+  module _ (m : Memory) (h : opens a m ≡ true) (t : isWith (a .pids) ≡ true) where
     abbrev after : Memory
     after = measuredIn (runOf a) (length room) m gs
 
@@ -67,7 +85,9 @@ module _ (a : Settings) (list : Bytes) (b : OfBytes list) (n : length list < 2 ^
         ≡ cond (ltb (length room) (length (logOf (settingsOf a) gs))) (writeAs (refusedBy answer.NoRoom) room after)
         (writeAs (told answer.Done (length (logOf (settingsOf a) gs))) (sets room 0 (logOf (settingsOf a) gs)) (memoryIn (leftBy (over (runOf a) after) gs)))
     unfolding writtenOf ranTwice
-    written-as = rw (w, h, log-over m h, log-over after after-opens) refl
+    written-as =
+        ap (λ (s : Settings). writtenBy s room m (sectionsIn list)) (as-with a t)
+        ∙ rw (w, h, opened-taken a (m .keys) (m .changes) (m .heads) (m .slots) (m .cells) h, log-over m h, log-over after after-opens) refl
 
     no-room : length room < length (logOf (settingsOf a) gs) → Refuses room (writtenOf a list room m)
     no-room l = subst (Refuses room) (sym (written-as ∙ pick)) (record { answer = refl; kept = refl })
@@ -112,20 +132,24 @@ module _ (a : Settings) (list : Bytes) (b : OfBytes list) (n : length list < 2 ^
 record Whole (a : Settings) (list : Bytes) (m : Memory) : Type 0 where
   gs : List Given
   whole : sectionsIn list ≡ sections gs
+  with : isWith (a .pids) ≡ true
   enough : opens a m ≡ true
 
 seven-whole : (a : Settings) (list room : Bytes) (m : Memory) → writeNo ((writtenOf a list room m) .written .answer) ≡ 7 → Whole a list m
 unfolding writtenOf
-seven-whole a list room m e = go (sectionsIn list) refl e
+seven-whole a list room m e = go (isWith (a .pids)) refl (sectionsIn list) refl e
   where
-    go : (l : Listed) → sectionsIn list ≡ l → writeNo ((writtenBy a room m l) .written .answer) ≡ 7 → Whole a list m
-    go tooLong q e = absurd (eqb-false 42 7 refl e)
-    go cut q e = absurd (eqb-false 10 7 refl e)
-    go (sections gs) q e = at (opens a m) refl e
+    go : (b : Bool) → isWith (a .pids) ≡ b → (l : Listed) → sectionsIn list ≡ l → writeNo ((writtenBy (cond b a (bare a)) room m l) .written .answer) ≡ 7 → Whole a list m
+    go b t tooLong q e = absurd (eqb-false 42 7 refl e)
+    go b t cut q e = absurd (eqb-false 10 7 refl e)
+    go false t (sections gs) q e = absurd (eqb-false 41 7 refl e)
+    go true t (sections gs) q e = at (isWithout (a .pids)) (opens a m) refl e
       where
-        at : (t : Bool) → opens a m ≡ t → writeNo ((cond t (ranTwice (runOf a) room m gs) (writeAs (refusedBy answer.TooLittle) room m)) .written .answer) ≡ 7 → Whole a list m
-        at true h e = record { gs = gs; whole = q; enough = h }
-        at false h e = absurd (eqb-false 13 7 refl e)
+        at : (u v : Bool) → opens a m ≡ v
+            → writeNo ((cond u (writeAs (refusedBy answer.NoPid) room m) (cond v (ranTwice (runOf a) room m gs) (writeAs (refusedBy answer.TooLittle) room m))) .written .answer) ≡ 7 → Whole a list m
+        at true v h e = absurd (eqb-false 41 7 refl e)
+        at false true h e = record { gs = gs; whole = q; with = t; enough = h }
+        at false false h e = absurd (eqb-false 13 7 refl e)
 
 -- THE THEOREM: what was written passes the check with the same settings and sections, over any memory that is enough
 pub written-passes : (a : Settings) (list : Bytes) → OfBytes list → length list < 2 ^ 64 → (room : Bytes) (m : Memory) → writeNo ((writtenOf a list room m) .written .answer) ≡ 7
@@ -133,5 +157,5 @@ pub written-passes : (a : Settings) (list : Bytes) → OfBytes list → length l
     → checkNo ((checkedOf a list (take ((writtenOf a list room m) .written .length) ((writtenOf a list room m) .room)) m′) .checked .answer) ≡ 8
 written-passes a list b n room m e m′ h =
     let w = seven-whole a list room m e in
-    let k = written-holds a list b n (w .gs) (w .whole) room m (w .enough) e in
+    let k = written-holds a list b n (w .gs) (w .whole) room m (w .enough) (w .with) e in
     yes-exactly a list b n (w .gs) (w .whole) m′ h (take ((writtenOf a list room m) .written .length) ((writtenOf a list room m) .room)) .1 (k .first)

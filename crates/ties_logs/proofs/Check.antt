@@ -14,16 +14,21 @@ use Rattle.rules_logs.specs.Sections.{Given, sections, sectionsIn}
 use Rattle.rules_logs.specs.Verdict.{Verdict, yes, unknown, cutOff, missing, tooMany, differs, verdict, Says}
 use Rattle.rules_logs.proofs.Verdict as said
 use Rattle.rules_log_run.specs.Run.{recordsOf, logOf}
+use Rattle.rules_log_run.specs.Run.{Settings as Rules}
+use Rattle.rules_log_run.specs.Older.{olderLog, NoneOf}
+use Rattle.rules_log_run.proofs.Older.{writer-never-6}
 use Rattle.rules_log_run.specs.Entries.{joined}
 use Rattle.rules_log_run.proofs.Records.{all-records}
 use Rattle.rules_log_run.proofs.Lists.{listed-takable, listed-few}
-use Rattle.log_state.specs.State.{Lent, runOf}
+use Rattle.log_state.specs.State.{isWith, isWithout, Lent, runOf}
+use Rattle.log_state.specs.declared.Pids.the-variants as pids
 use Rattle.log_state.specs.declared.Settings.{Settings}
 use Rattle.log_sections.specs.Steps.{takes, recordsBy, Memory, over, opens}
-use Rattle.log_check.specs.Check.{checkNo, answered, checkedOf}
+use Rattle.log_check.specs.Check.{checkNo, refusedBy, answered, checkAs, checkedBy, checkedOf}
+use Rattle.log_check.specs.declared.CheckAnswer.the-variants as answer
 use Rattle.log_check.specs.declared.Checked.{Checked}
 use Rattle.ties_log_run.specs.Run.{leaves, gives, entriesBy, settingsOf}
-use Rattle.ties_log_run.proofs.Run.{run-records}
+use Rattle.ties_log_run.proofs.Run.{run-records, opened-taken}
 use Rattle.ties_logs.specs.Wrong.{FirstWrong}
 use Rattle.ties_logs.proofs.Wrong.{first-of}
 
@@ -49,7 +54,7 @@ module _ (a : Settings) (list : Bytes) (b : OfBytes list) (n : length list < 2 ^
 
     checked-says : (checkedOf a list log m) .checked ≡ answered says
     unfolding checkedOf
-    checked-says = rw (w, h) (ap (λ (es : List Bytes). answered (verdict 0 log es)) run-expects)
+    checked-says = rw (w, h, opened-taken a (m .keys) (m .changes) (m .heads) (m .slots) (m .cells) h) (ap (λ (es : List Bytes). answered (verdict 0 log es)) run-expects)
 
     yes-says : (v : Verdict) → checkNo (answered v .answer) ≡ 8 → v ≡ yes
     yes-says yes e = refl
@@ -75,3 +80,22 @@ module _ (a : Settings) (list : Bytes) (b : OfBytes list) (n : length list < 2 ^
 
     pub is-said : Says 0 log (recordsOf (settingsOf a) gs) (verdict 0 log (recordsOf (settingsOf a) gs))
     is-said = said.is-said 0 log (recordsOf (settingsOf a) gs) (all-records (settingsOf a) gs)
+
+-- ---- by the setting
+
+-- `before` is judged by the older definition
+pub before-is-older : (a : Settings) → a .pids ≡ pids.Before → (gs : List Given) → logOf (settingsOf a) gs ≡ olderLog (settingsOf a) gs
+unfolding olderLog
+before-is-older a e gs =
+    let f : isWith (a .pids) ≡ isWith pids.Before = ap isWith e in
+    ap (λ (o : Rules). logOf o gs) (λ i. record { capacity = a .capacity; repeats = a .repeats; rule = a .rule; limit = a .limit; size = a .size; count = a .count; pids = f i })
+
+-- `with`: no record that is expected has kind 6, so one anywhere differs
+pub with-never-6 : (a : Settings) → a .pids ≡ pids.With → (gs : List Given) → NoneOf 6 (recordsOf (settingsOf a) gs)
+with-never-6 a e gs = writer-never-6 (settingsOf a) (ap isWith e) gs
+
+-- `without` of a whole list is 41, and all is as before
+pub without-refused : (a : Settings) → a .pids ≡ pids.Without → (list log : Bytes) (gs : List Given) → sectionsIn list ≡ sections gs → (m : Memory)
+    → checkedOf a list log m ≡ checkAs (refusedBy answer.NoPid) m
+unfolding checkedOf
+without-refused a e list log gs w m = let f : isWithout (a .pids) ≡ true = ap isWithout e in ap (checkedBy a log m) w ∙ rw f refl

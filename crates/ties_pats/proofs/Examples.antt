@@ -9,7 +9,7 @@ use Rattle.crc.specs.Crc.{crcFrom, bitsIn, bitIn}
 use Rattle.section.specs.Header.{storedCrc, workedCrc, headerOf}
 use Rattle.section.specs.Judged.{malformed, collectedLong, collectedOf}
 use Rattle.pat.specs.Pat.{programPids}
-use Rattle.rules_shared.specs.Same.{Bytes, sameBytes, samePid, sameOrigin}
+use Rattle.rules_shared.specs.Same.{Bytes, sameBytes, sameOrigin}
 use Rattle.rules_shared.specs.Slots.{isHeld, present}
 use Rattle.rules_shared.specs.Touch.{oldestGone, room, leaves, count, find, remove, others, evicts, untouched, aside, newest}
 use Rattle.rules_shared.specs.Row.{fresh, fits, start, slotOf, keep, marked, putOver, put}
@@ -54,7 +54,7 @@ on section = record { input = 0; section = section }
 
 module _ (n : ℕ → Bool) where
   unfoldable pub after : List Bytes → ℕ → Bool
-  unfolding storeAfter taking entered enters readSection readsAs collectedOf collectedLong malformed headerOf storedCrc workedCrc crcFrom bitsIn bitIn sameBytes samePid sameOrigin isHeld present oldestGone room leaves count find remove others evicts untouched aside newest fresh fits start slotOf keep marked putOver put sameKey partOf full whole metRow judged judge finish push admit step tells acts
+  unfolding storeAfter taking entered enters readSection readsAs collectedOf collectedLong malformed headerOf storedCrc workedCrc crcFrom bitsIn bitIn sameBytes sameOrigin isHeld present oldestGone room leaves count find remove others evicts untouched aside newest fresh fits start slotOf keep marked putOver put sameKey partOf full whole metRow judged judge finish push admit step tells acts
   after sections = (storeAfter taking (record { sets = opened; n = n }) (map on sections)) .n
 
   -- after the first neither programme, whichever it is

@@ -221,7 +221,7 @@ offer-few s x h = subst (λ (b : Bool). Few ((admit 1 s x b) .answer)) (sym (le-
 
 -- a PAT with the right CRC, on an input: 16, or what its header says
 pub read-pat : (input : ℕ) (section : List ℕ) → input < 16 → enters section ≡ true → workedCrc section ≡ storedCrc section
-    → (length section ≤ 1024) × (readPat input section ≡ readsAs (record { input = input; pid = some 0 }) section (cond (ltb (lastSectionNumber section) (sectionNumber section)) collected.BadNumber (collected.Good (headerOf section))))
+    → (length section ≤ 1024) × (readPat input section ≡ readsAs (record { input = input; pid = 0 }) section (cond (ltb (lastSectionNumber section) (sectionNumber section)) collected.BadNumber (collected.Good (headerOf section))))
 unfolding readSection collectedOf malformed collectedLong enters
 read-pat input section i h e =
     let a = and-true (readable section && currentNext section) (leb (length section) 1024) h in
@@ -243,7 +243,7 @@ few-answers s input section i h e =
     subst (λ (c : Call). Few (tells patSettings s c)) (sym (p .1)) (go (p .0) (ltb (lastSectionNumber section) (sectionNumber section)))
   where
     go : length section ≤ 1024 → (b : Bool)
-        → Few (tells patSettings s (readsAs (record { input = input; pid = some 0 }) section (cond b collected.BadNumber (collected.Good (headerOf section)))))
+        → Few (tells patSettings s (readsAs (record { input = input; pid = 0 }) section (cond b collected.BadNumber (collected.Good (headerOf section)))))
     go l true = bad-number
     go l false = offer-few s _ l
 

@@ -158,7 +158,7 @@ module _ (Came : Bytes → Type 0) where
   unfolding readSection readsAs headerOf
   reads-say input section b p c = pick (ltb input 16)
     where
-      say : (d : Collected) → collectedOf section ≡ d → CallSays (readsAs (record { input = input; pid = some 0 }) section d)
+      say : (d : Collected) → collectedOf section ≡ d → CallSays (readsAs (record { input = input; pid = 0 }) section d)
       say collected.Malformed q = tt
       say collected.ShortForm q = tt
       say collected.BadNumber q = tt
@@ -171,6 +171,6 @@ module _ (Came : Bytes → Type 0) where
             numbered = t .numbered;
           })
 
-      pick : (t : Bool) → CallSays (cond t (readsAs (record { input = input; pid = some 0 }) section (collectedOf section)) (refuse refusal.BadInput))
+      pick : (t : Bool) → CallSays (cond t (readsAs (record { input = input; pid = 0 }) section (collectedOf section)) (refuse refusal.BadInput))
       pick true = say (collectedOf section) refl
       pick false = tt

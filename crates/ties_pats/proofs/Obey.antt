@@ -52,6 +52,7 @@ use Rattle.ties_sets.specs.View.{seen, settingsOf, answerTold, reads}
 use Rattle.ties_sets.proofs.History.{obeys, acts-reached}
 use Rattle.pats.specs.Store.{Record, patStore, patsFull, enters, withAll, programsOf, withStore, watchAfter, enteredAs, enteredIn, PatsReady, Arrives}
 use Rattle.ties_pats.specs.Rules.{Pats, programsOfSet, nAfter, readPat, patSettings, entered}
+use Rattle.without_pid.specs.Pids.{withoutPid}
 use Rattle.pats.proofs.Store.{pushed-as}
 use Rattle.pats.proofs.Laws.{ready, is-whole, same-followed, same-watched, same-protected, length-programs-of, long-with, with-sets, then-store, entered-whole, entered-lengths, whole-store}
 use Rattle.ties_pats.specs.View.{shown, tellsOf, CompletePat}
@@ -126,7 +127,7 @@ record Did (r then : Record) (t : SetsAfter) : Type 0 where
   same : take 384 words ≡ take 384 (r .words)
   followed : then .words ≡ watchAfter (t .told) words
 
-module _ (r : Record) (o : PatsReady r) (input : ℕ) (section : List ℕ) (b : Bytes section) where
+module _ (r : Record) (o : PatsReady r) (np : withoutPid (patStore r .heads) (patStore r .sets .used) ≡ false) (input : ℕ) (section : List ℕ) (b : Bytes section) where
   abbrev then : Record
   then = enteredIn r input section
 
@@ -135,18 +136,18 @@ module _ (r : Record) (o : PatsReady r) (input : ℕ) (section : List ℕ) (b : 
 
   free : barred (answerTold (turn .told)) ≡ false
   unfolding pushedOf admitted answerTold barred refusals.barred wholePushed
-  free = rw (means-whole (patStore r) (o .ready .whole), ne-eqb (patStore r .sets .evictions) 18446744073709551615 (o .ready .counts)) (go (setArrival input (maybe.Some 0) section) refl)
+  free = rw (means-whole (patStore r) (o .ready .whole), ne-eqb (patStore r .sets .evictions) 18446744073709551615 (o .ready .counts), np) (go (setArrival input (maybe.Some 0) section) refl)
     where
       go : (a : SetArrival) → setArrival input (maybe.Some 0) section ≡ a → barred (answerTold ((pushedAs (patStore r) section a) .told)) ≡ false
-      go (arrival.Refused x) q = set-refused-by section (λ x. refusals.barred x ≡ false) refl refl refl refl refl refl input (maybe.Some 0) x q
+      go (arrival.Refused x) q = set-refused-by section (λ x. refusals.barred x ≡ false) refl refl refl refl refl refl refl input (maybe.Some 0) x q
       go (arrival.Arrived e) q =
           let t : SetTaken section (arrival.Arrived e) = subst (SetTaken section) q (set-taken section (b 7) input (maybe.Some 0)) in
           planned-free (patStore r) e section (never-21 (patStore r) (o .ready .whole) refl e (t .numbered) section refl)
 
-  -- 10 and 11 have been asked
+  -- 10, 11 and 41 have been asked
   read-as : (a : SetArrival) → setArrival input (maybe.Some 0) section ≡ a → turn ≡ pushedAs (patStore r) section a
   unfolding pushedOf admitted
-  read-as a q = rw (means-whole (patStore r) (o .ready .whole), ne-eqb (patStore r .sets .evictions) 18446744073709551615 (o .ready .counts), q)
+  read-as a q = rw (means-whole (patStore r) (o .ready .whole), ne-eqb (patStore r .sets .evictions) 18446744073709551615 (o .ready .counts), np, q)
 
   did : enters section ≡ true → Did r then turn
   unfolding enteredIn
@@ -157,7 +158,7 @@ module _ (r : Record) (o : PatsReady r) (input : ℕ) (section : List ℕ) (b : 
       go (arrival.Arrived e) q =
           let l = o .words in
           let a : Arrives section e = record { input = input; read = q; taken = subst (SetTaken section) q (set-taken section (b 7) input (maybe.Some 0)) } in
-          rw (pushed-as (patStore r) (o .ready) input (maybe.Some 0) section e q) (record {
+          rw (pushed-as (patStore r) (o .ready) np input (maybe.Some 0) section e q) (record {
             left = then-store r o section e a;
             words = withStore (r .words) ((wholePushed (patStore r) e section) .store);
             long = rw (long-with r o section e a) (omega arith);
@@ -218,6 +219,9 @@ module _ (Came : List ℕ → Type 0) (r : Record) (st : Stands Came r) (more : 
   o : PatsReady r
   o = ready r (is-whole r (st .words) (st .whole)) more
 
+  np : withoutPid (patStore r .heads) (patStore r .sets .used) ≡ false
+  np = st .reached .pids
+
   abbrev call : sets.Call
   call = sets.offer input (maybe.Some 0) section
 
@@ -225,16 +229,16 @@ module _ (Came : List ℕ → Type 0) (r : Record) (st : Stands Came r) (more : 
   before = shown r
 
   -- the PAT store tells what the rules tell, and shows what they leave
-  by-rules : (answerTold ((turn r o input section b) .told) ≡ rulesTell patSettings (before .sets) (readPat input section))
-      × (view (seen ((turn r o input section b) .store)) ≡ rulesAct patSettings (before .sets) (readPat input section))
+  by-rules : (answerTold ((turn r o np input section b) .told) ≡ rulesTell patSettings (before .sets) (readPat input section))
+      × (view (seen ((turn r o np input section b) .store)) ≡ rulesAct patSettings (before .sets) (readPat input section))
   unfolding ties.tells ties.acts reads
   by-rules = go (obeys (patStore r) (st .reached) call b)
     where
       go : (barred (ties.tells (patStore r) call) ≡ true) ⊎ ((ties.tells (patStore r) call ≡ rulesTell (settingsOf (patStore r)) (view (seen (patStore r))) (reads call))
           × (view (seen (ties.acts (patStore r) call)) ≡ rulesAct (settingsOf (patStore r)) (view (seen (patStore r))) (reads call)))
-          → (answerTold ((turn r o input section b) .told) ≡ rulesTell patSettings (before .sets) (readPat input section))
-          × (view (seen ((turn r o input section b) .store)) ≡ rulesAct patSettings (before .sets) (readPat input section))
-      go (inl e) = absurd (true≢false (sym e ∙ free r o input section b))
+          → (answerTold ((turn r o np input section b) .told) ≡ rulesTell patSettings (before .sets) (readPat input section))
+          × (view (seen ((turn r o np input section b) .store)) ≡ rulesAct patSettings (before .sets) (readPat input section))
+      go (inl e) = absurd (true≢false (sym e ∙ free r o np input section b))
       go (inr e) = e
 
   pub tells-rules : tellsOf r (record { input = input; section = section }) ≡ rulesTell patSettings (before .sets) (readPat input section)
@@ -242,8 +246,8 @@ module _ (Came : List ℕ → Type 0) (r : Record) (st : Stands Came r) (more : 
   tells-rules = by-rules .0
 
   module _ (h : enters section ≡ true) (c : Came section) where
-    d : Did r (enteredIn r input section) (turn r o input section b)
-    d = did r o input section b h
+    d : Did r (enteredIn r input section) (turn r o np input section b)
+    d = did r o np input section b h
 
     says : CallSays Came (readPat input section)
     says = reads-say Came input section b h c
@@ -255,7 +259,7 @@ module _ (Came : List ℕ → Type 0) (r : Record) (st : Stands Came r) (more : 
     unfolding answerTold
     n-then q =
         ap (λ (k : List ℕ). hasBit (followedOf k) q) (d .followed)
-        ∙ n-after (r .words) (d .words) ((turn r o input section b) .told) (d .long) (d .same)
+        ∙ n-after (r .words) (d .words) ((turn r o np input section b) .told) (d .long) (d .same)
         (λ x e. has-n Came _ (handed-complete Came patSettings (before .sets) (readPat input section) (st .lived) says (st .kept) _ (sym (by-rules .0) ∙ ap answerTold e)))
         q
         ∙ ap (λ (a : Answer). nAfter a (before .n) q) (by-rules .0)
@@ -265,7 +269,7 @@ module _ (Came : List ℕ → Type 0) (r : Record) (st : Stands Came r) (more : 
         → watchIn ((enteredIn r input section) .words) ≡ followedBy (programsOfSet (w .sections)) (watchIn (r .words))
     watch-then w e =
         let p = has-n Came w (handed-complete Came patSettings (before .sets) (readPat input section) (st .lived) says (st .kept) w e) in
-        ap watchIn (d .followed) ∙ watch-after (r .words) (d .words) ((turn r o input section b) .told) (d .long) (d .same) w (by-rules .0 ∙ e)
+        ap watchIn (d .followed) ∙ watch-after (r .words) (d .words) ((turn r o np input section b) .told) (d .long) (d .same) w (by-rules .0 ∙ e)
         ∙ (λ i. followedBy (λ q. p q i) (watchIn (r .words)))
 
     entered-stands : Stands Came (enteredIn r input section)
@@ -306,13 +310,13 @@ module _ (Came : List ℕ → Type 0) (r : Record) (st : Stands Came r) (more : 
     where
       go : (t : Bool) → enters section ≡ t → take 384 ((enteredIn r input section) .words) ≡ take 384 (r .words)
       go true h =
-          let x = did r o input section b h in
-          ap (take 384) (x .followed) ∙ sets-stay (r .words) (x .words) ((turn r o input section b) .told) (x .same) (λ w e. f w (sym (by-rules .0) ∙ e))
+          let x = did r o np input section b h in
+          ap (take 384) (x .followed) ∙ sets-stay (r .words) (x .words) ((turn r o np input section b) .told) (x .same) (λ w e. f w (sym (by-rules .0) ∙ e))
       go false h = ap (λ (k : Record). take 384 (k .words)) (stays-out h)
 
   pub in-step-then : InStep (r .words) → InStep ((enteredIn r input section) .words)
   in-step-then s = go (enters section) refl
     where
       go : (t : Bool) → enters section ≡ t → InStep ((enteredIn r input section) .words)
-      go true h = let x = did r o input section b h in subst InStep (sym (x .followed)) (step-after (r .words) (x .words) ((turn r o input section b) .told) (x .long) (x .same) s)
+      go true h = let x = did r o np input section b h in subst InStep (sym (x .followed)) (step-after (r .words) (x .words) ((turn r o np input section b) .told) (x .long) (x .same) s)
       go false h = rw (stays-out h) s

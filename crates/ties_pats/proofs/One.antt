@@ -159,7 +159,7 @@ read-single x i =
     let n = i .number in
     let l = i .last in (
       p .0,
-      record { from = record { input = x .input; pid = some 0 }; tableId = tableId (x .section); extension = extensionOf (x .section); currentNext = currentNext (x .section) },
+      record { from = record { input = x .input; pid = 0 }; tableId = tableId (x .section); extension = extensionOf (x .section); currentNext = currentNext (x .section) },
       versionOf (x .section),
       p .1 ∙ rw (n, l),
     )

@@ -5,7 +5,7 @@ use Prim.Native.Nat.{ℕ, _<_}
 use native.Mathlib.Omega.{arith}
 use mathlib.Core.Path.{_≡_, refl, sym, ap, _∙_, subst}
 use mathlib.Core.List.{List, map}
-use mathlib.Core.Bool.{true}
+use mathlib.Core.Bool.{true, false}
 use lib.ListN.{getD}
 use borrow.Author.Tests.{lt-ltb}
 use Rattle.laws.proofs.Tests.{and-true}
@@ -31,28 +31,31 @@ use Rattle.eit_state.specs.declared.PushAnswer.{PushAnswer}
 use Rattle.eit_state.specs.declared.PushAnswer.the-variants as answer
 use Rattle.eit_state.specs.State.{Store, rowsOf, setStore, wholeOf, Whole}
 use Rattle.eit_state.proofs.Whole.{whole-store}
+use Rattle.eit_pids.specs.Rows.{anyWithout}
 use Rattle.eit_carry.specs.Carried.{Step}
 use Rattle.eit.specs.Store.{SetOut, setOut, ScheduleOut, scheduleOut, Told, done, nothing, a-set, a-schedule, refused, answerOf, pushedAs, pushedOf, nextOf}
 use Rattle.eit_admit.specs.Admitting.{admitted}
 use Rattle.eit_carry.specs.Carried.{pushedWhole}
 use Rattle.ties_eit.specs.View.{Given, section, Fitting, seen, reads, tells, acts, answerTold, Opened, Reached}
-use Rattle.ties_eit.proofs.History.{EachFitting, opened-reached, tells-seen, opened-whole, stays-whole, always-whole}
+use Rattle.ties_eit.proofs.History.{EachFitting, opened-reached, tells-seen, acts-reached, opened-whole, stays-whole, always-whole}
+use Rattle.ties_eit.proofs.Pids.{each-has-pid}
 use Rattle.ties_reading.proofs.Rows.{ToldRow, told-row}
 
 -- ---- a row in use
 
--- every question about a row in use is one about its slots
-asked-of-row : (s : Store) → wholeOf s ≡ true → (row : ℕ) → row < s .eit .sets .used → (from : ℕ) → nextOf s row from ≡ asks (s .eit .sets .size) (rowSlots (s .heads) (s .slots) row) from
+-- where every set and every schedule has a PID, every question about a row in use is one about its slots
+asked-of-row : (s : Store) → wholeOf s ≡ true → anyWithout (s .eit) (s .heads) (s .schedule-heads) ≡ false → (row : ℕ) → row < s .eit .sets .used → (from : ℕ)
+    → nextOf s row from ≡ asks (s .eit .sets .size) (rowSlots (s .heads) (s .slots) row) from
 unfolding nextOf
-asked-of-row s w row r from = rw (w, lt-ltb row (s .eit .sets .used) r) refl
+asked-of-row s w n row r from = rw (w, n, lt-ltb row (s .eit .sets .used) r) refl
 
--- so what is read are its filled slots' bytes in order, each once, and then no: 10 never occurs in the reading
-pub reads-row : (s : Store) → wholeOf s ≡ true → (row : ℕ) → row < s .eit .sets .used
+-- so what is read are its filled slots' bytes in order, each once, and then no: 10 and 41 never occur in the reading
+pub reads-row : (s : Store) → wholeOf s ≡ true → anyWithout (s .eit) (s .heads) (s .schedule-heads) ≡ false → (row : ℕ) → row < s .eit .sets .used
     → Reads (nextOf s row) (s .cells) 0 (map (kept (s .cells) (s .eit .sets .size)) (filledSlots (rowSlots (s .heads) (s .slots) row))) No
-reads-row s w row r =
+reads-row s w n row r =
     let f = whole-store s w in
     subst (λ (f : ℕ → Next). Reads f (s .cells) 0 (map (kept (s .cells) (s .eit .sets .size)) (filledSlots (rowSlots (s .heads) (s .slots) row))) No)
-    (λ i from. sym (asked-of-row s w row r from) i)
+    (λ i from. sym (asked-of-row s w n row r from) i)
     (reads-all (s .eit .sets .count) (s .eit .sets .size) (s .cells) (rowSlots (s .heads) (s .slots) row)
     (rows-get (s .heads) (s .slots) (s .eit .sets .count) (s .eit .sets .size) (s .eit .sets .used) row (f .sets .rows) r) (f .sets .cells-long))
 
@@ -112,6 +115,12 @@ pub push-whole : (s : Store) → Reached s → wholeOf s ≡ true → (input : �
 unfolding acts
 push-whole s z w input pid bytes o = stays-whole s z w (section input pid bytes) o
 
+-- and each of its sets and schedules has a PID
+pub push-pids : (s : Store) → Reached s → (input : ℕ) (pid : MaybePid) (bytes : Bytes) → ((i : ℕ) → getD bytes i 0 < 256)
+    → anyWithout (((pushedOf s input pid bytes) .store) .eit) (((pushedOf s input pid bytes) .store) .heads) (((pushedOf s input pid bytes) .store) .schedule-heads) ≡ false
+unfolding acts
+push-pids s z input pid bytes o = each-has-pid ((pushedOf s input pid bytes) .store) (acts-reached s z (section input pid bytes) o)
+
 -- What a host reads out of the row that it was told of, asking from 0 on, are the sections that were handed out, byte for byte; then the answer is no
 pub read-handed : (s : Store) → Reached s → wholeOf s ≡ true → (input : ℕ) (pid : MaybePid) (bytes : Bytes) → ((i : ℕ) → getD bytes i 0 < 256) → (h : SetOut) → (pushedOf s input pid bytes) .told ≡ a-set h
     → Reads (nextOf ((pushedOf s input pid bytes) .store) (h .row)) (((pushedOf s input pid bytes) .store) .cells) 0 (h .sections) No
@@ -121,7 +130,7 @@ read-handed s z w input pid bytes o h e =
     let x = told-set s w input pid bytes h e in
     let d : h .sections ≡ map (kept (t .cells) (t .eit .sets .size)) (filledSlots (rowSlots (t .heads) (t .slots) (h .row))) = ap (λ (y : SetOut). y .sections) (x .set) in
     subst (λ (l : List Bytes). Reads (nextOf t (h .row)) (t .cells) 0 l No) (sym d)
-    (reads-row t (push-whole s z w input pid bytes o) (h .row) (x .used))
+    (reads-row t (push-whole s z w input pid bytes o) (push-pids s z input pid bytes o) (h .row) (x .used))
 
 -- .. in every history from an opening on
 pub read-in-every-history : (s : Store) → Opened s → (calls : List Given) → EachFitting calls → (input : ℕ) (pid : MaybePid) (bytes : Bytes) → ((i : ℕ) → getD bytes i 0 < 256) → (h : SetOut)

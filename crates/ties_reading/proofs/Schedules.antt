@@ -35,20 +35,21 @@ use Rattle.eit_state.proofs.Whole.{whole-store, units-whole}
 use Rattle.eit.specs.Store.{setOut, TableOut, tableOut, tablesOut, ScheduleOut, scheduleOut, Told, done, nothing, a-set, a-schedule, refused, answerOf, pushedAs, pushedOf, nextInOf}
 use Rattle.eit_admit.specs.Admitting.{admitted}
 use Rattle.eit_carry.specs.Carried.{pushedWhole}
+use Rattle.eit_pids.specs.Rows.{anyWithout}
 use Rattle.eit_next.specs.Following.{unitNext}
 use Rattle.ties_eit.specs.View.{Given, section, scheduleShown, seen, reads, tablesShown, answerTold, tells, acts, Opened, Reached}
 use Rattle.ties_eit.proofs.Places.{units-get, schedules-get, present-get}
 use Rattle.ties_eit.proofs.History.{EachFitting, opened-reached, tells-seen, opened-whole, always-whole}
 use Rattle.ties_reading.proofs.Rows.{ToldRow, told-row}
-use Rattle.ties_reading.proofs.Eit.{kind-of, scheduleIn, apart, push-whole}
+use Rattle.ties_reading.proofs.Eit.{kind-of, scheduleIn, apart, push-whole, push-pids}
 
 -- ---- a table of a schedule in use
 
 module _ (s : Store) (w : wholeOf s ≡ true) (row table : ℕ) (r : row < s .eit .schedules) (j : table < tablesOf (s .schedule-heads) row) (p : isPresent (s .units) (row * 16 + table) ≡ true) where
-  -- every question about it is one about its copy's slots
-  asked-of-table : (from : ℕ) → nextInOf s row table from ≡ asks (s .eit .sets .size) (unitSlots (s .units) (row * 16 + table)) from
+  -- where every set and every schedule has a PID, every question about it is one about its copy's slots
+  asked-of-table : anyWithout (s .eit) (s .heads) (s .schedule-heads) ≡ false → (from : ℕ) → nextInOf s row table from ≡ asks (s .eit .sets .size) (unitSlots (s .units) (row * 16 + table)) from
   unfolding nextInOf unitNext
-  asked-of-table from = rw (w, lt-ltb row (s .eit .schedules) r, lt-ltb table (tablesOf (s .schedule-heads) row) j, p) refl
+  asked-of-table n from = rw (w, n, lt-ltb row (s .eit .schedules) r, lt-ltb table (tablesOf (s .schedule-heads) row) j, p) refl
 
   pub table-whole : allWhole (s .eit .sets .count) (s .eit .sets .size) (unitSlots (s .units) (row * 16 + table)) ≡ true
   unfolding unitWhole
@@ -58,19 +59,20 @@ module _ (s : Store) (w : wholeOf s ≡ true) (row table : ℕ) (r : row < s .ei
       (schedules-get (s .schedule-heads) (s .units) (s .eit .sets .count) (s .eit .sets .size) (s .eit .schedules) row (units-whole s w) r) j in
       rw p at u
 
-  -- so what is read are its filled slots' bytes in order, each once, and then no: 10 never occurs in the reading
-  pub reads-table : Reads (nextInOf s row table) (s .cells) 0 (map (kept (s .cells) (s .eit .sets .size)) (filledSlots (unitSlots (s .units) (row * 16 + table)))) No
-  reads-table =
+  -- so what is read are its filled slots' bytes in order, each once, and then no: 10 and 41 never occur in the reading
+  pub reads-table : anyWithout (s .eit) (s .heads) (s .schedule-heads) ≡ false
+      → Reads (nextInOf s row table) (s .cells) 0 (map (kept (s .cells) (s .eit .sets .size)) (filledSlots (unitSlots (s .units) (row * 16 + table)))) No
+  reads-table n =
       let f = whole-store s w in
       subst (λ (f : ℕ → Next). Reads f (s .cells) 0 (map (kept (s .cells) (s .eit .sets .size)) (filledSlots (unitSlots (s .units) (row * 16 + table)))) No)
-      (λ i from. sym (asked-of-table from) i)
+      (λ i from. sym (asked-of-table n from) i)
       (reads-all (s .eit .sets .count) (s .eit .sets .size) (s .cells) (unitSlots (s .units) (row * 16 + table)) table-whole (f .sets .cells-long))
 
 -- past its last table there is nothing
-pub reads-past : (s : Store) → wholeOf s ≡ true → (row table : ℕ) → row < s .eit .schedules → tablesOf (s .schedule-heads) row ≤ table → Reads (nextInOf s row table) (s .cells) 0 [] No
+pub reads-past : (s : Store) → wholeOf s ≡ true → anyWithout (s .eit) (s .heads) (s .schedule-heads) ≡ false → (row table : ℕ) → row < s .eit .schedules → tablesOf (s .schedule-heads) row ≤ table → Reads (nextInOf s row table) (s .cells) 0 [] No
 unfolding nextInOf
-reads-past s w row table r j =
-    reads-none (nextInOf s row table) (s .cells) 0 (rw (w, lt-ltb row (s .eit .schedules) r, le-ltb table (tablesOf (s .schedule-heads) row) j) refl)
+reads-past s w n row table r j =
+    reads-none (nextInOf s row table) (s .cells) 0 (rw (w, n, lt-ltb row (s .eit .schedules) r, le-ltb table (tablesOf (s .schedule-heads) row) j) refl)
 
 -- ---- what was told
 
@@ -139,6 +141,9 @@ read-handed s z w input pid bytes o g e = record { tables = one; past = none }
     whole : wholeOf ((pushedOf s input pid bytes) .store) ≡ true
     whole = push-whole s z w input pid bytes o
 
+    pids : anyWithout (((pushedOf s input pid bytes) .store) .eit) (((pushedOf s input pid bytes) .store) .heads) (((pushedOf s input pid bytes) .store) .schedule-heads) ≡ false
+    pids = push-pids s z input pid bytes o
+
     n : ℕ
     n = tablesOf (((pushedOf s input pid bytes) .store) .schedule-heads) (g .row)
 
@@ -150,12 +155,12 @@ read-handed s z w input pid bytes o g e = record { tables = one; past = none }
         let q = table-at t (g .row * 16) n j x (subst (λ (l : List TableOut). At l j x) are h) in
         let d : x .sections ≡ map (kept (t .cells) (t .eit .sets .size)) (filledSlots (unitSlots (t .units) (g .row * 16 + j))) = ap (λ (y : TableOut). y .sections) (q .1) in
         subst (λ (l : List Bytes). Reads (nextInOf t (g .row) j) (t .cells) 0 l No) (sym d)
-        (reads-table t whole (g .row) j (told .used) (q .0) (present-get (t .units) (g .row * 16) n j (told .there) (q .0)))
+        (reads-table t whole (g .row) j (told .used) (q .0) (present-get (t .units) (g .row * 16) n j (told .there) (q .0)) pids)
 
     none : (j : ℕ) → length (g .tables) ≤ j → Reads (nextInOf t (g .row) j) (t .cells) 0 [] No
     none j h =
         let c : length (g .tables) ≡ n = ap length are ∙ tables-count t (g .row * 16) n in
-        reads-past t whole (g .row) j (told .used) (omega (arith, c, h))
+        reads-past t whole pids (g .row) j (told .used) (omega (arith, c, h))
 
 -- .. in every history from an opening on
 pub read-in-every-history : (s : Store) → Opened s → (calls : List Given) → EachFitting calls → (input : ℕ) (pid : MaybePid) (bytes : Bytes) → ((i : ℕ) → getD bytes i 0 < 256) → (g : ScheduleOut)

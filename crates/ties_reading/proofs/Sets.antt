@@ -9,6 +9,7 @@ use lib.ListN.{getD}
 use lib.Dec.{eqb}
 use borrow.Author.Tests.{lt-ltb}
 use Rattle.laws.proofs.Tests.{and-true}
+use Rattle.answers.specs.declared.Refusal.the-variants.{NotWhole, CounterFull, NoPid}
 use Rattle.answers.specs.declared.Reply.the-variants.{No}
 use Rattle.section.specs.declared.ids.MaybePid.{MaybePid}
 use Rattle.cells.specs.Cells.{allFilled, kept}
@@ -16,8 +17,10 @@ use Rattle.rows.specs.Rows.{touched, rowSlots, markOf, withMark}
 use Rattle.rows.proofs.Words.{put-not}
 use Rattle.rows.proofs.Whole.{rows-get}
 use Rattle.ages.proofs.Slots.{slots-same}
-use Rattle.store.specs.Store.{Store, store, WholeStore}
+use Rattle.without_pid.specs.Pids.{withoutPid}
+use Rattle.store.specs.Store.{Store, store, wholeOf, WholeStore}
 use Rattle.store.proofs.Whole.{means-whole}
+use Rattle.arrivals.specs.Arrivals.{setArrival}
 use Rattle.arrivals.specs.declared.SetArrival.{SetArrival}
 use Rattle.arrivals.specs.declared.SetArrival.the-variants as arrival
 use Rattle.readers.specs.Next.{filledSlots}
@@ -35,20 +38,22 @@ use Rattle.sets_push.specs.Pushing.{wholePushed, admitted, AdmittedOk}
 use Rattle.sets.specs.History.{Call, offer, AllBytes, afterAll, OpenedStore}
 use Rattle.sets_push.proofs.Ways.{admitted-ok}
 use Rattle.sets.proofs.Stays.{push-stays, stays, opened-whole}
+use Rattle.sets.proofs.Pids.{has-pids, none-without, push-pids}
 
 -- ---- a row in use
 
--- every question about a row in use is one about its slots
-asked-of-row : (s : Store) → WholeStore s → (row : ℕ) → row < s .sets .used → (from : ℕ) → nextOf s row from ≡ asks (s .sets .size) (rowSlots (s .heads) (s .slots) row) from
+-- where every row in use has a PID, every question about a row in use is one about its slots
+asked-of-row : (s : Store) → WholeStore s → withoutPid (s .heads) (s .sets .used) ≡ false → (row : ℕ) → row < s .sets .used → (from : ℕ)
+    → nextOf s row from ≡ asks (s .sets .size) (rowSlots (s .heads) (s .slots) row) from
 unfolding nextOf
-asked-of-row s w row r from = rw (means-whole s w, lt-ltb row (s .sets .used) r) refl
+asked-of-row s w n row r from = rw (means-whole s w, n, lt-ltb row (s .sets .used) r) refl
 
--- so what is read are its filled slots' bytes in order, each once, and then no: 10 never occurs in the reading
-pub reads-row : (s : Store) → WholeStore s → (row : ℕ) → row < s .sets .used
+-- so what is read are its filled slots' bytes in order, each once, and then no: 10 and 41 never occur in the reading
+pub reads-row : (s : Store) → WholeStore s → withoutPid (s .heads) (s .sets .used) ≡ false → (row : ℕ) → row < s .sets .used
     → Reads (nextOf s row) (s .cells) 0 (map (kept (s .cells) (s .sets .size)) (filledSlots (rowSlots (s .heads) (s .slots) row))) No
-reads-row s w row r =
+reads-row s w n row r =
     subst (λ (f : ℕ → Next). Reads f (s .cells) 0 (map (kept (s .cells) (s .sets .size)) (filledSlots (rowSlots (s .heads) (s .slots) row))) No)
-    (λ i from. sym (asked-of-row s w row r from) i)
+    (λ i from. sym (asked-of-row s w n row r from) i)
     (reads-all (s .sets .count) (s .sets .size) (s .cells) (rowSlots (s .heads) (s .slots) row)
     (rows-get (s .heads) (s .slots) (s .sets .count) (s .sets .size) (s .sets .used) row (w .rows) r) (w .cells-long))
 
@@ -116,6 +121,22 @@ pushed-out s input pid bytes h b e = go (admitted s input pid bytes) (admitted-o
     go (arrival.Refused r) o e = absurd (not-handed (refused r) h refl e)
     go (arrival.Arrived x) o e = carried-out s bytes (planOf s x bytes) h (plan-ok s (o .0 .whole) x bytes (o .1)) e
 
+-- a push that hands a set out met PIDs alone, and leaves PIDs alone
+out-pids : (s : Store) (input : ℕ) (pid : MaybePid) (bytes : List ℕ) (h : Handed) → getD bytes 7 0 < 256 → (pushedOf s input pid bytes) .told ≡ handed h
+    → withoutPid (((pushedOf s input pid bytes) .store) .heads) (((pushedOf s input pid bytes) .store) .sets .used) ≡ false
+unfolding pushedOf admitted no-number
+out-pids s input pid bytes h b e =
+    none-without ((pushedOf s input pid bytes) .store)
+    (push-pids s input pid bytes b (has-pids s (go (wholeOf s) (eqb (s .sets .evictions) 18446744073709551615) (withoutPid (s .heads) (s .sets .used)) refl e)))
+  where
+    go : (w t n : Bool) → withoutPid (s .heads) (s .sets .used) ≡ n
+        → (pushedAs s bytes (cond w (cond t (arrival.Refused CounterFull) (cond n (arrival.Refused NoPid) (setArrival input pid bytes))) (arrival.Refused NotWhole))) .told ≡ handed h
+        → withoutPid (s .heads) (s .sets .used) ≡ false
+    go w t false q e = q
+    go false t true q e = absurd (not-handed (refused NotWhole) h refl e)
+    go true true true q e = absurd (not-handed (refused CounterFull) h refl e)
+    go true false true q e = absurd (not-handed (refused NoPid) h refl e)
+
 -- ---- after an answer 5
 
 -- What a host reads out of the row that it was told of, asking from 0 on, are the sections that were handed out, byte for byte; then the answer is no
@@ -128,7 +149,7 @@ read-handed s w input pid bytes b h e =
     let d : h .sections ≡ map (kept (t .cells) (t .sets .size)) (rowSlots (t .heads) (t .slots) (h .row)) = ap (λ (x : Handed). x .sections) (o .set) in
     let f = all-filled (rowSlots (t .heads) (t .slots) (h .row)) (o .full) in
     subst (λ (l : List (List ℕ)). Reads (nextOf t (h .row)) (t .cells) 0 l No) (ap (map (kept (t .cells) (t .sets .size))) f ∙ sym d)
-    (reads-row t (push-stays s input pid bytes b w) (h .row) (o .used))
+    (reads-row t (push-stays s input pid bytes b w) (out-pids s input pid bytes h b e) (h .row) (o .used))
 
 -- .. in every history from an opening on
 pub read-in-every-history : (s : Store) → OpenedStore s → (calls : List Call) → AllBytes calls → (input : ℕ) (pid : MaybePid) (bytes : List ℕ) → getD bytes 7 0 < 256 → (h : Handed)

@@ -29,27 +29,26 @@ use Rattle.section.specs.declared.header.Collected.{Collected}
 use Rattle.section.specs.declared.header.Collected.the-variants.{Malformed, ShortForm, BadNumber, BadCrc, Good}
 use Rattle.section.specs.declared.ids.MaybePid.{MaybePid}
 use Rattle.section.specs.declared.ids.MaybePid.the-variants as maybe
-use Rattle.section.specs.declared.ids.InputMade.the-variants as input-made
 use Rattle.section.specs.declared.ids.OriginMade.the-variants as made
 use Rattle.section.specs.Facts.{Bytes as AllBytes}
 use Rattle.cells.specs.Cells.{keptLength, filled, slotWhole, allWhole, kept}
 use Rattle.rows.specs.declared.Origin.{Origin as Words}
 use Rattle.rows.specs.declared.Entry.{Entry}
 use Rattle.rows.specs.declared.Room.{Room}
-use Rattle.rows.specs.Rows.{rowOf, roomIn, roomRenewed, roomNew, slotsAt, slotCount, rowSlots, oldestOf, ageOf, lastOf, versionOf}
+use Rattle.rows.specs.Rows.{keyAt, rowOf, roomIn, roomRenewed, roomNew, slotsAt, slotCount, rowSlots, oldestOf, ageOf, lastOf, versionOf}
 use Rattle.rows.specs.declared.Key.{Key}
 use Rattle.ages.specs.Order.{downFrom, inOrder, rowsSeen, Goes, known}
-use Rattle.ages.specs.Origins.{originShown}
+use Rattle.ages.specs.Origins.{plainShown}
 use Rattle.ages.specs.Slots.{heldOf, cellsSeen}
 use Rattle.ages.proofs.Ages.{length-order}
 use Rattle.ages.proofs.Touch.{row-has-key, no-row-has-key, goes-known, goes-new, stands-none, finds-known, finds-none}
-use Rattle.ages.proofs.Origins.{shown-pid}
+use Rattle.without_pid.specs.Pids.{withoutPid}
 use Rattle.ages.proofs.Slots.{place, held-filled, held-empty, held-get, held-whole, rows-whole}
 use Rattle.rows.proofs.Words.{slot-at, length-slots}
 use Rattle.rows.proofs.Whole.{rows-get}
 use Rattle.ages.proofs.Cells.{cells-length, bytes-kept, same-bytes}
 use Rattle.answers.specs.declared.Refusal.the-variants as refusal
-use Rattle.arrivals.specs.Arrivals.{Numbered, Taken, inputWords, madeWords, setKey, entryOf, setRead, setJudged, setArrival}
+use Rattle.arrivals.specs.Arrivals.{Numbered, Taken, madeWords, setKey, entryOf, setRead, setJudged, setArrival}
 use Rattle.arrivals.specs.declared.SetArrival.the-variants as arrival
 use Rattle.sets.proofs.Arrived.{entry-taken}
 use Rattle.store.specs.Store.{Store, store, wholeOf, Whole, emptySets}
@@ -64,7 +63,7 @@ use Rattle.sets_settle.specs.Settle.{after, done, refused, carried}
 use Rattle.sets.specs.Store.{clearedOf, pushedAs, pushedOf}
 use Rattle.sets_push.specs.Pushing.{wholePushed, admitted}
 use Rattle.sets.specs.History.{Call as Given, empty as clears, offer as section, Bytes as OfBytes, called}
-use Rattle.ties_sets.specs.View.{keyShown, keyWords, rowSeen, seen, readsAs, readOn, readSection, reads, answerTold, Reached}
+use Rattle.ties_sets.specs.View.{keyShown, keyWords, rowSeen, seen, readsAs, readOn, readSection, reads, answerTold, Standing, Reached}
 use Rattle.ties_sets.proofs.Rows.{same-self, written-shown, written-reads}
 use Rattle.ties_sets.proofs.Settle.{Tied, Ready, settle-tied, conflict-tied}
 use Rattle.ties_sets.proofs.Keep.{sectionFor, anew, goesOn, keep-tied}
@@ -91,7 +90,7 @@ new-fresh heads limit used evictions = go (ltb used limit)
 
 -- ---- 10 and 11
 
-pub whole-seen : (s : Store) → Reached s → storeWhole (seen s) ≡ wholeOf s
+pub whole-seen : (s : Store) → Standing s → storeWhole (seen s) ≡ wholeOf s
 unfolding storeWhole wholeOf roomWhole seen
 whole-seen s z =
     let l = long (s .sets) (length (s .heads)) (length (s .slots)) (length (s .cells)) (z .fits) in
@@ -109,16 +108,21 @@ whole-seen s z =
     each : (j : ℕ) → test (rowSeen (s .heads) (s .slots) j) ≡ allWhole (s .sets .count) (s .sets .size) (rowSlots (s .heads) (s .slots) j)
     each j = row-whole s j
 
-pub ended-seen : (s : Store) → Reached s → atEnd (s .sets .evictions) ≡ eqb (s .sets .evictions) 18446744073709551615
+pub ended-seen : (s : Store) → Standing s → atEnd (s .sets .evictions) ≡ eqb (s .sets .evictions) 18446744073709551615
 unfolding atEnd
 ended-seen s z =
     same-test (leb 18446744073709551615 (s .sets .evictions)) (eqb (s .sets .evictions) 18446744073709551615)
     (λ e. let h = leb-true 18446744073709551615 (s .sets .evictions) e in let c = z .counts in eq-eqb (s .sets .evictions) 18446744073709551615 (omega arith))
     (λ e. let h = eqb-true (s .sets .evictions) 18446744073709551615 e in le-leb 18446744073709551615 (s .sets .evictions) (omega arith))
 
+-- ---- 41
+
+pub standing : (s : Store) → Reached s → Standing s
+standing s z = record { fits = z .fits; counts = z .counts; stands = z .stands }
+
 -- ---- a clear
 
-emptied-tied : (s : Store) → Reached s
+emptied-tied : (s : Store) → Standing s
     → Tied (after done (store (emptySets (s .sets)) (s .heads) (s .slots) (s .cells))) (good (seen s) clear)
 unfolding good shows onAnswer answerTold seen emptied rowsSeen inOrder downFrom
 emptied-tied s z = record {
@@ -129,16 +133,16 @@ emptied-tied s z = record {
 
 pub clear-tied : (s : Store) → Reached s → Tied (clearedOf s) (call (seen s) clear)
 unfolding clearedOf call guarded ended answerTold
-clear-tied s z = rw (whole-seen s z) (go (wholeOf s))
+clear-tied s z = rw (whole-seen s (standing s z), z .pids) (go (wholeOf s))
   where
     go : (b : Bool) → Tied (cond b (after done (store (emptySets (s .sets)) (s .heads) (s .slots) (s .cells)))
         (after (refused refusal.NotWhole) s)) (guarded b false (seen s) clear)
-    go true = emptied-tied s z
-    go false = record { told = refl; shown = refl; reached = z }
+    go true = emptied-tied s (standing s z)
+    go false = record { told = refl; shown = refl; reached = standing s z }
 
 -- ---- a section that 20 and limit 0 let in
 
-module _ (s : Store) (z : Reached s) (f : Whole (s .sets) (s .heads) (s .slots) (s .cells)) (more : s .sets .evictions < 18446744073709551615) (pos : 0 < s .sets .limit)
+module _ (s : Store) (z : Standing s) (f : Whole (s .sets) (s .heads) (s .slots) (s .cells)) (more : s .sets .evictions < 18446744073709551615) (pos : 0 < s .sets .limit)
     (e : Entry) (n : Numbered e) (proper : keyWords (keyShown (e .key)) ≡ e .key) (bytes : Bytes) (h12 : 12 ≤ length bytes) (hs : length bytes ≤ s .sets .size) where
   abbrev x : Section
   x = sectionFor e bytes
@@ -280,10 +284,10 @@ module _ (s : Store) (z : Reached s) (f : Whole (s .sets) (s .heads) (s .slots) 
 
 -- ---- a section, in the order of the numbers
 
-module _ (s : Store) (z : Reached s) where
+module _ (s : Store) (z : Standing s) where
   module _ (f : Whole (s .sets) (s .heads) (s .slots) (s .cells)) (more : s .sets .evictions < 18446744073709551615) (bytes : Bytes) where
     -- 20, then limit 0
-    plan-tied : (e : Entry) → Taken bytes e → keyWords (keyShown (e .key)) ≡ e .key → Tied (carried s bytes (planOf s e bytes)) (good (seen s) (offer (sectionFor e bytes)))
+    pub plan-tied : (e : Entry) → Taken bytes e → keyWords (keyShown (e .key)) ≡ e .key → Tied (carried s bytes (planOf s e bytes)) (good (seen s) (offer (sectionFor e bytes)))
     unfolding planOf good admitIn pushIn shows onAnswer answerTold seen
     plan-tied e t proper = fit (ltb (s .sets .size) (length bytes)) refl
       where
@@ -301,7 +305,7 @@ module _ (s : Store) (z : Reached s) where
             rw (le-leb (length bytes) (s .sets .size) l) (limited l (s .sets .limit) refl)
 
     -- 14 to 17
-    judged-tied : AllBytes bytes → (p : Words) (c : Collected) → collectedOf bytes ≡ c → Tied (pushedAs s bytes (setRead p c)) (good (seen s) (readsAs (originShown p) bytes c))
+    pub judged-tied : AllBytes bytes → (p : Words) (c : Collected) → collectedOf bytes ≡ c → Tied (pushedAs s bytes (setRead p c)) (good (seen s) (readsAs (plainShown p) bytes c))
     unfolding wholePushed readsAs good shows onAnswer answerTold seen
     judged-tied o p Malformed q = record { told = refl; shown = refl; reached = z }
     judged-tied o p ShortForm q = record { told = refl; shown = refl; reached = z }
@@ -311,20 +315,15 @@ module _ (s : Store) (z : Reached s) where
         rw (← (written-shown p (h .«table_id») (h .extension) (h .«current_next»)))
         (plan-tied (entryOf (setKey p h) h) (entry-taken bytes h (setKey p h) q (o 7)) (written-reads p (h .«table_id») (h .extension) (h .«current_next»)))
 
-    -- 12
+    -- 41, then 12
     pid-tied : AllBytes bytes → (input : ℕ) (pid : MaybePid) → Tied (pushedAs s bytes (setArrival input pid bytes)) (good (seen s) (readSection input pid bytes))
-    unfolding setArrival readSection good shows onAnswer answerTold seen originShown
-    pid-tied o input maybe.None = go (ltb input 16)
-      where
-        go : (b : Bool) → Tied (pushedAs s bytes (setJudged (inputWords (cond b (input-made.One (record { 0 = input })) input-made.TooLarge)) bytes))
-            (good (seen s) (cond b (readsAs (record { input = input; pid = none }) bytes (collectedOf bytes)) (refuse refusal.BadInput)))
-        go true = judged-tied o (record { input = input; pid = 8192 }) (collectedOf bytes) refl
-        go false = record { told = refl; shown = refl; reached = z }
+    unfolding setArrival readSection good shows onAnswer answerTold seen
+    pid-tied o input maybe.None = record { told = refl; shown = refl; reached = z }
     pid-tied o input (maybe.Some v) = go (ltb v 8192) (ltb input 16) refl
       where
         go : (b c : Bool) → ltb v 8192 ≡ b → Tied (pushedAs s bytes (setJudged (madeWords (cond b (cond c (made.One (originOf input v)) made.BadInput) made.BadPid)) bytes))
-            (good (seen s) (cond b (cond c (readsAs (record { input = input; pid = some v }) bytes (collectedOf bytes)) (refuse refusal.BadInput)) (refuse refusal.BadPid)))
-        go true true q = rw (← (shown-pid input v (ltb-true v 8192 q))) (judged-tied o (record { input = input; pid = v }) (collectedOf bytes) refl)
+            (good (seen s) (cond b (cond c (readsAs (record { input = input; pid = v }) bytes (collectedOf bytes)) (refuse refusal.BadInput)) (refuse refusal.BadPid)))
+        go true true q = judged-tied o (record { input = input; pid = v }) (collectedOf bytes) refl
         go true false q = record { told = refl; shown = refl; reached = z }
         go false c q = record { told = refl; shown = refl; reached = z }
 
@@ -347,27 +346,31 @@ module _ (s : Store) (z : Reached s) where
 
   ended-read : (input : ℕ) (pid : MaybePid) (bytes : Bytes) → ended (seen s) (readSection input pid bytes) ≡ atEnd (s .sets .evictions)
   unfolding readSection ended seen
-  ended-read input maybe.None bytes = ended-on bytes (record { input = input; pid = none })
+  ended-read input maybe.None bytes = refl
   ended-read input (maybe.Some v) bytes = go (ltb v 8192)
     where
-      go : (b : Bool) → ended (seen s) (cond b (readOn (record { input = input; pid = some v }) bytes) (refuse refusal.BadPid)) ≡ atEnd (s .sets .evictions)
-      go true = ended-on bytes (record { input = input; pid = some v })
+      go : (b : Bool) → ended (seen s) (cond b (readOn (record { input = input; pid = v }) bytes) (refuse refusal.BadPid)) ≡ atEnd (s .sets .evictions)
+      go true = ended-on bytes (record { input = input; pid = v })
       go false = refl
 
-  -- 10, then 11
+module _ (s : Store) (z : Reached s) where
+  abbrev y : Standing s
+  y = standing s z
+
+  -- 10, 11, then 41: no row of a store that comes from opening is without a PID
   push-tied : (input : ℕ) (pid : MaybePid) (bytes : Bytes) → AllBytes bytes → Tied (pushedOf s input pid bytes) (call (seen s) (readSection input pid bytes))
   unfolding pushedOf admitted call guarded answerTold
   push-tied input pid bytes o =
-      rw (whole-seen s z, ended-read input pid bytes, ended-seen s z) (go (wholeOf s) (eqb (s .sets .evictions) 18446744073709551615) refl refl)
+      rw (whole-seen s y, ended-read s y input pid bytes, ended-seen s y, z .pids) (go (wholeOf s) (eqb (s .sets .evictions) 18446744073709551615) refl refl)
     where
       go : (w t : Bool) → wholeOf s ≡ w → eqb (s .sets .evictions) 18446744073709551615 ≡ t
           → Tied (pushedAs s bytes (cond w (cond t (arrival.Refused refusal.CounterFull) (setArrival input pid bytes)) (arrival.Refused refusal.NotWhole))) (guarded w t (seen s) (readSection input pid bytes))
-      go false t p q = record { told = refl; shown = refl; reached = z }
-      go true true p q = record { told = refl; shown = refl; reached = z }
+      go false t p q = record { told = refl; shown = refl; reached = y }
+      go true true p q = record { told = refl; shown = refl; reached = y }
       go true false p q =
           let d : s .sets .evictions ≢ 18446744073709551615 = eqb-false (s .sets .evictions) 18446744073709551615 q in
           let c = z .counts in
-          pid-tied (whole-means s p) (omega arith) bytes o input pid
+          pid-tied s y (whole-means s p) (omega arith) bytes o input pid
 
   -- every call
   pub tied : (i : Given) → OfBytes i → Tied (called s i) (call (seen s) (reads i))

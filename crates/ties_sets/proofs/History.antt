@@ -31,9 +31,11 @@ use Rattle.ages.proofs.Touch.{stands-none}
 use Rattle.ages.proofs.Cells.{cells-length}
 use Rattle.rules_sets.proofs.Keys.{sameKey-true}
 use Rattle.answers.specs.declared.Refusal.{Refusal}
-use Rattle.answers.specs.declared.Refusal.the-variants.{NotWhole, TooLittle, BadPid, Conflict, BadInput}
+use Rattle.answers.specs.declared.Refusal.the-variants.{NotWhole, TooLittle, BadPid, Conflict, BadInput, NoPid}
 use Rattle.rules_shared.specs.Refusals as refusals
 use Rattle.section.proofs.Facts.{takes}
+use Rattle.sets.proofs.Pids.{HasPids, has-pids, none-without, push-pids, clear-pids}
+use Rattle.without_pid.specs.Pids.{withoutPid}
 use Rattle.store.specs.Store.{Store, store, asked, emptySets, settingsFit, wholeOf}
 use Rattle.store.proofs.Whole.{long}
 use Rattle.sets_settle.specs.Settle.{Told, done, nothing, handed, refused, after}
@@ -52,6 +54,7 @@ opened-reached s o = record {
   fits = go (settingsFit (s .sets) (length (s .heads)) (length (s .slots)) (length (s .cells))) (o .opened .opened);
   counts = let e = o .evictions in omega arith;
   stands = rw (o .opened .none) (stands-none keyShown keyWords sameKey sameKey-true same-self (s .heads));
+  pids = none-without s (λ i h z. let e = o .opened .none in absurd (omega (arith, e, h)));
 }
   where
     go : (b : Bool) → cond b done (refused TooLittle) ≡ done → b ≡ true
@@ -89,11 +92,11 @@ come-on from bytes = pick (ltb (from .input) 16)
 pub can-come : (i : Given) → CanCome (reads i)
 unfolding reads readSection refusals.ofSection
 can-come clears = tt
-can-come (section input maybe.None bytes) = come-on (record { input = input; pid = none }) bytes
+can-come (section input maybe.None bytes) = refl
 can-come (section input (maybe.Some p) bytes) = pick (ltb p 8192)
   where
-    pick : (b : Bool) → CanCome (cond b (readOn (record { input = input; pid = some p }) bytes) (refuse BadPid))
-    pick true = come-on (record { input = input; pid = some p }) bytes
+    pick : (b : Bool) → CanCome (cond b (readOn (record { input = input; pid = p }) bytes) (refuse BadPid))
+    pick true = come-on (record { input = input; pid = p }) bytes
     pick false = refl
 
 -- ---- one call
@@ -109,7 +112,11 @@ module _ (s : Store) (z : Reached s) (i : Given) (o : OfBytes i) where
 
   pub acts-reached : Reached (acts s i)
   unfolding acts
-  acts-reached = tied s z i o .reached
+  acts-reached = let t = tied s z i o .reached in record { fits = t .fits; counts = t .counts; stands = t .stands; pids = none-without (acts s i) (pids-stay i o) }
+    where
+      pids-stay : (i : Given) → OfBytes i → HasPids (acts s i)
+      pids-stay clears b = clear-pids s (has-pids s (z .pids))
+      pids-stay (section input pid bytes) b = push-pids s input pid bytes (b 7) (has-pids s (z .pids))
 
   -- 10, 11 and 21 aside, every answer and every next view is the rules'
   pub obeys : (barred (tells s i) ≡ true) ⊎ ((tells s i ≡ rulesTell (settingsOf s) (view (seen s)) (reads i)) × (view (seen (acts s i)) ≡ rulesAct (settingsOf s) (view (seen s)) (reads i)))
@@ -139,12 +146,13 @@ kept-told s then (refused r) f h = f r refl (λ (e : r ≡ Conflict). true≢fal
 
 pub as-before : (s : Store) (i : Given) → asBefore (tells s i) ≡ true → acts s i ≡ s
 unfolding tells acts asBefore answerTold clearedOf
-as-before s clears h = go (wholeOf s) h
+as-before s clears h = go (wholeOf s) (withoutPid (s .heads) (s .sets .used)) h
   where
-    go : (b : Bool) → asBefore (answerTold ((cond b (after done (store (emptySets (s .sets)) (s .heads) (s .slots) (s .cells))) (after (refused NotWhole) s)) .told)) ≡ true
-        → (cond b (after done (store (emptySets (s .sets)) (s .heads) (s .slots) (s .cells))) (after (refused NotWhole) s)) .store ≡ s
-    go true h = absurd (true≢false (sym h))
-    go false h = refl
+    go : (b n : Bool) → asBefore (answerTold ((cond b (cond n (after (refused NoPid) s) (after done (store (emptySets (s .sets)) (s .heads) (s .slots) (s .cells)))) (after (refused NotWhole) s)) .told)) ≡ true
+        → (cond b (cond n (after (refused NoPid) s) (after done (store (emptySets (s .sets)) (s .heads) (s .slots) (s .cells)))) (after (refused NotWhole) s)) .store ≡ s
+    go true true h = refl
+    go true false h = absurd (true≢false (sym h))
+    go false n h = refl
 as-before s (section input pid bytes) h = kept-told s ((pushedOf s input pid bytes) .store) ((pushedOf s input pid bytes) .told) (refusal-keeps s input pid bytes) h
 
 -- ---- many calls
@@ -179,3 +187,9 @@ pub never-not-whole : (s : Store) → Opened s → (calls : List Given) → Each
 never-not-whole s o calls b =
     subst (Never notWhole) (sym (same-answers calls b s (opened-reached s o)))
     (never-10 (seen s) (opened-room s o) (opened-seen s o) (map reads calls) (each-read CanCome reads can-come calls))
+
+-- ---- 41
+
+-- in every history 41 comes from a call without a PID alone: no row of the store is without one
+pub never-41-by-store : (s : Store) → Opened s → (calls : List Given) → EachOfBytes calls → withoutPid ((storeAfter acts s calls) .heads) ((storeAfter acts s calls) .sets .used) ≡ false
+never-41-by-store s o calls b = same-store calls b s (opened-reached s o) .1 .pids

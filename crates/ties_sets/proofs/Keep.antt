@@ -41,7 +41,7 @@ use Rattle.arrivals.specs.Arrivals.{Numbered}
 use Rattle.store.specs.Store.{Store, Whole}
 use Rattle.sets_plan.specs.Plan.{planKeep}
 use Rattle.sets_settle.specs.Settle.{keptIn, carried}
-use Rattle.ties_sets.specs.View.{keyShown, keyWords, rowSeen, seen, answerTold, Reached}
+use Rattle.ties_sets.specs.View.{keyShown, keyWords, rowSeen, seen, answerTold, Standing}
 use Rattle.ties_sets.proofs.Rows.{same-self, row-takes}
 use Rattle.ties_sets.proofs.Settle.{Tied, Ready, settle-tied}
 use Rattle.laws.proofs.Tests.{none≢some}
@@ -67,7 +67,7 @@ goes-count (known i h e) = omega arith
 goes-count (added f h) = omega arith
 goes-count (evicted f p h) = omega arith
 
-module _ (s : Store) (z : Reached s) (f : Whole (s .sets) (s .heads) (s .slots) (s .cells)) (more : s .sets .evictions < 18446744073709551615)
+module _ (s : Store) (z : Standing s) (f : Whole (s .sets) (s .heads) (s .slots) (s .cells)) (more : s .sets .evictions < 18446744073709551615)
     (e : Entry) (n : Numbered e) (proper : keyWords (keyShown (e .key)) ≡ e .key) (bytes : Bytes) (h12 : 12 ≤ length bytes) (hs : length bytes ≤ s .sets .size)
     (r : Room) (a : ℕ) (g : Goes (s .heads) (s .sets .limit) (s .sets .used) (s .sets .evictions) (e .key) (r .row) a (r .used) (r .evictions)) where
   abbrev x : Section

@@ -23,7 +23,7 @@ use Rattle.sets_settle.specs.Settle.{Told, done, nothing, handed, refused}
 use Rattle.sets.specs.Store.{pushedOf}
 use Rattle.sets.proofs.Refusals.{AsBefore, conflict-keeps}
 use Rattle.sets.specs.History.{Call as Given, offer as section, Bytes as OfBytes}
-use Rattle.ties_sets.specs.View.{seen, reads, answerTold, tells, acts, Reached}
+use Rattle.ties_sets.specs.View.{seen, reads, answerTold, tells, acts, Standing, Reached}
 use Rattle.ties_sets.proofs.Rows.{row-takes}
 use Rattle.ties_sets.proofs.History.{can-come, tells-seen, acts-seen}
 
@@ -53,7 +53,7 @@ conflict-memory s input pid bytes h = conflict-keeps s input pid bytes (conflict
 
 -- ---- "A cell is free exactly when no slot .. of a row in use names it"
 
-module _ (s : Store) (z : Reached s) (long : s .sets .used * 288 ≤ length (s .slots)) (c : ℕ) where
+module _ (s : Store) (z : Standing s) (long : s .sets .used * 288 ≤ length (s .slots)) (c : ℕ) where
   abbrev NoSlotNames : Type 0
   NoSlotNames = (j k : ℕ) → j < s .sets .used → k < slotCount (lastOf (s .heads) j) → names c (getD (s .slots) (slotsAt j + k) 0) ≡ false
 

@@ -27,14 +27,14 @@ use Rattle.answers.specs.declared.Refusal.the-variants.{Conflict}
 use Rattle.store.specs.Store.{Store, store, settingsFit}
 use Rattle.sets_settle.specs.declared.PushAnswer.the-variants.{Nothing, Set, Refused}
 use Rattle.sets_settle.specs.Settle.{SetsAfter, setIn, answered, goesOut, settledAnswer, settledHeads, settled, handed}
-use Rattle.ties_sets.specs.View.{keyShown, keyWords, rowSeen, seen, answerTold, Reached}
+use Rattle.ties_sets.specs.View.{keyShown, keyWords, rowSeen, seen, answerTold, Standing}
 use Rattle.ties_sets.proofs.Rows.{same-self, row-same, row-marked, full-filled, sections-kept}
 
 -- what a call left is what the rules' call left, and the store is one that a history reaches
 pub record Tied (l : SetsAfter) (t : Turn) : Type 0 where
   pub told : answerTold (l .told) ≡ t .answer
   pub shown : seen (l .store) ≡ t .store
-  pub reached : Reached (l .store)
+  pub reached : Standing (l .store)
 
 -- s₁ is s with row i made ready for the key, of age a; no other row in use differs
 pub record Ready (s s₁ : Store) (key : Key) (i a : ℕ) : Type 0 where
@@ -47,7 +47,7 @@ pub record Ready (s s₁ : Store) (key : Key) (i a : ℕ) : Type 0 where
   pub slots : (j : ℕ) → j < s₁ .sets .used → j ≢ i → rowSlots (s₁ .heads) (s₁ .slots) j ≡ rowSlots (s .heads) (s .slots) j
   pub row-whole : allWhole (s₁ .sets .count) (s₁ .sets .size) (rowSlots (s₁ .heads) (s₁ .slots) i) ≡ true
 
-module _ (s s₁ : Store) (key : Key) (i a : ℕ) (z : Reached s) (proper : keyWords (keyShown key) ≡ key)
+module _ (s s₁ : Store) (key : Key) (i a : ℕ) (z : Standing s) (proper : keyWords (keyShown key) ≡ key)
     (g : Goes (s .heads) (s .sets .limit) (s .sets .used) (s .sets .evictions) key i a (s₁ .sets .used) (s₁ .sets .evictions)) (r : Ready s s₁ key i a) where
   abbrev used₁ : ℕ
   used₁ = s₁ .sets .used
@@ -115,7 +115,7 @@ module _ (s s₁ : Store) (key : Key) (i a : ℕ) (z : Reached s) (proper : keyW
       (leftHeads b) (rowSeen (leftHeads b) (s₁ .slots)) g (left-touched b) (λ j l ne. let m = goes-in g in left-row b j l ne (omega arith))
       ∙ ap (λ (q : SetOf Held). newest (keyShown key) q rest) (own-row b)
 
-  pub left-reached : (b : Bool) → Reached (leftStore b)
+  pub left-reached : (b : Bool) → Standing (leftStore b)
   left-reached b = record {
     fits = rw (left-length b) (r .fits);
     counts = r .counts;

@@ -2,8 +2,7 @@
 -- Assumes nothing.
 use Prim.Native.Nat.{ℕ, _≤_}
 use mathlib.Core.Path.{_≡_}
-use mathlib.Core.Bool.{true, cond, not}
-use mathlib.Core.Option.{none, some}
+use mathlib.Core.Bool.{true, false, cond, not}
 use mathlib.Core.List.{List}
 use lib.Dec.{eqb, ltb}
 use lib.ListN.{length}
@@ -21,9 +20,10 @@ use Rattle.rows.specs.declared.Key.{Key}
 use Rattle.rows.specs.Rows.{rowSlots, lastOf, markOf, versionOf}
 use Rattle.ages.specs.Order.{orderSeen, Stands}
 use Rattle.ages.specs.Slots.{heldSlots, cellsSeen}
-use Rattle.ages.specs.Origins.{originShown, originWords}
+use Rattle.ages.specs.Origins.{plainShown, originWords}
 use Rattle.sets.specs.History.{Call as Given, offer as section, empty as clears, called, OpenedStore}
 use Rattle.arrivals.specs.Arrivals.{bitOf}
+use Rattle.without_pid.specs.Pids.{withoutPid}
 use Rattle.store.specs.Store.{Store, settingsFit}
 use Rattle.sets_settle.specs.Settle as sets
 use Rattle.sets_settle.specs.Settle.{Told}
@@ -31,7 +31,7 @@ use Rattle.sets_settle.specs.Settle.{Told}
 -- ---- a key
 
 unfoldable pub keyShown : Key → SetKey
-keyShown k = record { from = originShown (k .from); tableId = k .«table_id»; extension = k .extension; currentNext = not (eqb (k .«current_next») 0) }
+keyShown k = record { from = plainShown (k .from); tableId = k .«table_id»; extension = k .extension; currentNext = not (eqb (k .«current_next») 0) }
 
 -- the words that a key is written in; transport_stream_id and original_network_id are 0 in the set collector
 unfoldable pub keyWords : SetKey → Key
@@ -87,10 +87,10 @@ readsAs from bytes (Good h) = offer (record {
 abbrev pub readOn : Origin → Bytes → Call
 readOn from bytes = cond (ltb (from .input) 16) (readsAs from bytes (collectedOf bytes)) (refuse refusal.BadInput)
 
--- 12 first: a PID of 8192 or more
+-- 41 without a PID, then 12: a PID of 8192 or more
 unfoldable pub readSection : (input : ℕ) → MaybePid → Bytes → Call
-readSection input maybe.None bytes = readOn (record { input = input; pid = none }) bytes
-readSection input (maybe.Some p) bytes = cond (ltb p 8192) (readOn (record { input = input; pid = some p }) bytes) (refuse refusal.BadPid)
+readSection input maybe.None bytes = refuse refusal.NoPid
+readSection input (maybe.Some p) bytes = cond (ltb p 8192) (readOn (record { input = input; pid = p }) bytes) (refuse refusal.BadPid)
 
 unfoldable pub reads : Given → Call
 reads clears = clear
@@ -115,9 +115,16 @@ pub record Opened (s : Store) : Type 0 where
   pub opened : OpenedStore s
   pub evictions : s .sets .evictions ≡ 0
 
--- what every store that comes from opening has: settings that opening takes, an eviction count that fits its 64 bits, and ages that are a touch order
--- of keys, none of which stands twice
+-- what every store that comes from opening has, whatever its sections came with: settings that opening takes, an eviction count that fits its 64 bits, and
+-- ages that are a touch order of keys, none of which stands twice
+pub record Standing (s : Store) : Type 0 where
+  pub fits : settingsFit (s .sets) (length (s .heads)) (length (s .slots)) (length (s .cells)) ≡ true
+  pub counts : s .sets .evictions ≤ 18446744073709551615
+  pub stands : Stands keyShown keyWords (s .heads) (s .sets .used)
+
+-- .. and, where it was made by calls, rows with PIDs alone
 pub record Reached (s : Store) : Type 0 where
   pub fits : settingsFit (s .sets) (length (s .heads)) (length (s .slots)) (length (s .cells)) ≡ true
   pub counts : s .sets .evictions ≤ 18446744073709551615
   pub stands : Stands keyShown keyWords (s .heads) (s .sets .used)
+  pub pids : withoutPid (s .heads) (s .sets .used) ≡ false

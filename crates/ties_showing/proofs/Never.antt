@@ -54,6 +54,7 @@ use Rattle.eit_state.specs.State.{Store, wholeOf}
 use Rattle.eit_state.proofs.Whole.{whole-store}
 use Rattle.ties_eit.specs.View.{keyShown, scheduleShown, rowSeen, copySeen, placeSeen, scheduleSeen, seen, Given, clears, drops, section, reads, readsEit, readsAs, readOn, readSection, sectionOf, acts, Opened, Reached}
 use Rattle.ties_eit.proofs.Arrivals.{Read-as, not-eit, broken, good, read-as, not-kind}
+use Rattle.ties_eit.proofs.Pids.{each-has-pid}
 use Rattle.ties_eit.proofs.History.{opened-reached, opened-seen, EachFitting, same-store, opened-whole, always-whole}
 use Rattle.listing.specs.Store as walks
 use Rattle.shown_sections.specs.declared.ShowAnswer.{ShowAnswer}
@@ -116,11 +117,11 @@ reads-good : (i : Given) → GoodCall readsGood (reads i)
 unfolding reads readSection
 reads-good clears = tt
 reads-good (drops f) = tt
-reads-good (section input maybe-pid.None bytes) = on-good (record { input = input; pid = none }) bytes
+reads-good (section input maybe-pid.None bytes) = tt
 reads-good (section input (maybe-pid.Some p) bytes) = pick (ltb p 8192)
   where
-    pick : (b : Bool) → GoodCall readsGood (cond b (readOn (record { input = input; pid = some p }) bytes) (refuse refusal.BadPid refl))
-    pick true = on-good (record { input = input; pid = some p }) bytes
+    pick : (b : Bool) → GoodCall readsGood (cond b (readOn (record { input = input; pid = p }) bytes) (refuse refusal.BadPid refl))
+    pick true = on-good (record { input = input; pid = p }) bytes
     pick false = tt
 
 -- ---- what a history leaves
@@ -253,7 +254,7 @@ module _ (s : Store) (l : Left s) where
 
   set-answers : (row skip : ℕ) (list : List ℕ) → Neither (shownSet s row skip list .0 .answer)
   unfolding shownSet
-  set-answers row skip list = rw (l .whole) (go (setOut (s .heads) (s .eit .sets .used) row) refl)
+  set-answers row skip list = rw (l .whole, each-has-pid s (l .reached)) (go (setOut (s .heads) (s .eit .sets .used) row) refl)
     where
       go : (b : Bool) → setOut (s .heads) (s .eit .sets .used) row ≡ b
           → Neither (cond b (laid skip (slotsShow (s .cells) (s .eit .sets .size) (rowSlots (s .heads) (s .slots) row) 0) list) (nothingShown No, list) .0 .answer)
@@ -267,7 +268,7 @@ module _ (s : Store) (l : Left s) where
 
   table-answers : (row table skip : ℕ) (list : List ℕ) → Neither (shownTable s row table skip list .0 .answer)
   unfolding shownTable
-  table-answers row table skip list = rw (l .whole) (go (tableOut (s .schedule-heads) (s .units) (s .eit .schedules) row table) refl)
+  table-answers row table skip list = rw (l .whole, each-has-pid s (l .reached)) (go (tableOut (s .schedule-heads) (s .units) (s .eit .schedules) row table) refl)
     where
       go : (b : Bool) → tableOut (s .schedule-heads) (s .units) (s .eit .schedules) row table ≡ b
           → Neither (cond b (laid skip (slotsShow (s .cells) (s .eit .sets .size) (unitSlots (s .units) (row * 16 + table)) 0) list) (nothingShown No, list) .0 .answer)

@@ -1,4 +1,4 @@
-// Writes the log of a section list: `write_log CAPACITY REPEATS RULE LIMIT SIZE COUNT with|without ROOM SECTIONS > LOG`, ROOM how many bytes the log may have, or - for any number. It writes the log's
+// Writes the log of a section list: `write_log CAPACITY REPEATS RULE LIMIT SIZE COUNT with|without|before ROOM SECTIONS > LOG`, ROOM how many bytes the log may have, or - for any number. It writes the log's
 // bytes and nothing else, or one line that says why there is none. The list is read twice, first it is judged, then run; with a ROOM once more between, to measure the log.
 use answers::Outcome;
 use libc::STDOUT_FILENO;
@@ -239,7 +239,12 @@ fn write(settings: Settings, path: &[u8], list: &mut [u8; 4103]) {
 
 fn write_within(settings: Settings, path: &[u8], limited: bool, room: u64) {
     let mut list = log_feed::section();
+    let pids = settings.pids;
     if !log_feed::is_whole(path, &mut list) {
+        return;
+    }
+    if !pids.is_with() {
+        log_feed::say_no_pid();
         return;
     }
     if limited {
@@ -259,7 +264,7 @@ fn write_path(settings: Settings, limited: bool, room: u64) {
 
 fn usage() {
     entry_lines::say(
-        b"usage: write_log CAPACITY REPEATS RULE LIMIT SIZE COUNT with|without ROOM SECTIONS > LOG\n",
+        b"usage: write_log CAPACITY REPEATS RULE LIMIT SIZE COUNT with|without|before ROOM SECTIONS > LOG\n",
     );
 }
 

@@ -64,10 +64,6 @@ impl Log {
     }
 }
 
-fn pid_text(pid: Option<u16>) -> String {
-    pid.map_or(String::new(), |pid| format!(" pid {pid:04X}"))
-}
-
 fn show_sections(sections: &[Section]) {
     for section in sections {
         println!("  section {}, {} bytes", section.number, section.bytes.len());
@@ -127,7 +123,7 @@ fn show_entries(listing: Result<Listing, Refused>) {
 /// in force -next more. A set that goes out again is written anew.
 fn write_copy(folder: Option<&PathBuf>, name: &Name, table_id: u8, sections: &[Section]) {
     let Some(folder) = folder else { return };
-    let pid = name.pid.unwrap_or(0xFFFF);
+    let pid = name.pid;
     let mut file = format!("{pid:04X}-{table_id:02X}-{:04X}", name.extension);
     if (0x4E..=0x6F).contains(&table_id) {
         file += &format!("-{:04X}-{:04X}", name.transport_stream_id, name.original_network_id);
@@ -186,7 +182,7 @@ impl Monitor {
                 self.complete_sets += 1;
                 let name = self.sets.name(&row);
                 let Name { pid, table_id, extension, version, .. } = name;
-                println!("set{} table {table_id:02X} extension {extension:04X} version {version}", pid_text(pid));
+                println!("set pid {pid:04X} table {table_id:02X} extension {extension:04X} version {version}");
                 let sections = self.sets.sections(&row);
                 show_sections(&sections);
                 write_copy(self.folder.as_ref(), &name, table_id, &sections);
@@ -205,7 +201,7 @@ impl Monitor {
                 self.complete_sets += 1;
                 let name = self.eit.name(&row);
                 let Name { pid, table_id, extension, version, .. } = name;
-                println!("present/following{} service {extension:04X} version {version}", pid_text(pid));
+                println!("present/following pid {pid:04X} service {extension:04X} version {version}");
                 let sections = self.eit.sections(&row);
                 show_sections(&sections);
                 write_copy(self.folder.as_ref(), &name, table_id, &sections);
@@ -216,7 +212,7 @@ impl Monitor {
                 let name = self.eit.schedule_name(&row);
                 let Name { pid, table_id: kind, extension, last, .. } = name;
                 let first = if kind == SCHEDULE_ACTUAL { 0x50 } else { 0x60 };
-                println!("schedule{} service {extension:04X} tables {first:02X} to {last:02X}", pid_text(pid));
+                println!("schedule pid {pid:04X} service {extension:04X} tables {first:02X} to {last:02X}");
                 let mut all = Vec::new();
                 for table_id in first..=last {
                     println!(" table {table_id:02X}");

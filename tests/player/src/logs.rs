@@ -19,8 +19,8 @@ pub struct Settings {
     pub limit: u32,
     pub size: u32,
     pub count: u32,
-    /// 0 with, 1 without a PID; others there are not.
-    pub without_pid: u8,
+    /// 0 with, 1 without a PID, 2 as before sets without one were given up; others there are not.
+    pub pids: u8,
 }
 
 #[derive(Clone, Debug)]
@@ -97,7 +97,7 @@ impl Settings {
             limit: self.limit.into(),
             size: self.size.into(),
             count: self.count.into(),
-            without_pid: self.without_pid.into(),
+            pids: self.pids.into(),
         }
     }
 }
@@ -159,7 +159,7 @@ impl Logs {
 
 /// The list and the settings are judged before anything is written.
 fn left_alone(number: Number, before: &Memory, after: &Memory) {
-    let judged_first = matches!(number, Number::OVERLONG_SECTION | Number::NOT_WHOLE | Number::TOO_LITTLE);
+    let judged_first = matches!(number, Number::OVERLONG_SECTION | Number::NOT_WHOLE | Number::NO_PID_GIVEN | Number::TOO_LITTLE);
     assert!(!judged_first || before == after, "{number}: the memory of the run was written");
 }
 
@@ -194,7 +194,7 @@ pub fn parse(
             limit: number("limit", 16)?,
             size: number("size", 4096)?,
             count: number("cells", 64)?,
-            without_pid: byte("without", 0)?,
+            pids: byte("pids", 0)?,
         })
     };
     let plain: Vec<&str> = words.iter().copied().filter(|word| !word.contains('=')).collect();
@@ -216,10 +216,10 @@ pub fn parse(
 
 impl Display for Settings {
     fn fmt(&self, f: &mut fmt::Formatter<'_>) -> fmt::Result {
-        let Settings { capacity, repeats, rule, limit, size, count, without_pid } = self;
+        let Settings { capacity, repeats, rule, limit, size, count, pids } = self;
         write!(
             f,
-            " cap={capacity} repeats={} rule={rule} limit={limit} size={size} cells={count} without={without_pid}",
+            " cap={capacity} repeats={} rule={rule} limit={limit} size={size} cells={count} pids={pids}",
             u8::from(*repeats)
         )
     }
@@ -274,7 +274,7 @@ pub fn read<E>(first: u8, mut bytes: impl FnMut(usize) -> Result<Vec<u8>, E>) ->
         limit: number(4)?,
         size: number(4)?,
         count: number(4)?,
-        without_pid: number(1)? as u8,
+        pids: number(1)? as u8,
     };
     let (second, length) = (number(4)?, number(4)?);
     let list = bytes(length as usize)?;
@@ -291,7 +291,7 @@ pub fn write(logs: &Logs, tape: &mut Vec<u8>, no_pid: u16) {
         tape.extend(settings.capacity.to_be_bytes());
         tape.extend([settings.repeats.into(), settings.rule]);
         [settings.limit, settings.size, settings.count].iter().for_each(|number| tape.extend(number.to_be_bytes()));
-        tape.push(settings.without_pid);
+        tape.push(settings.pids);
     };
     let section_of = |tape: &mut Vec<u8>, input: u8, pid: u16, section: &[u8]| {
         tape.push(input);

@@ -93,7 +93,7 @@ pub(crate) fn set_of(heads: &[u64], row: u64, sections: Vec<Vec<u8>>) -> Set {
     let head = head(heads, row);
     Set {
         input: byte(head[10]),
-        pid: pid_of(head[0]),
+        pid: Some(u16::try_from(head[0]).expect("a PID in a head")),
         table_id: byte(head[1]),
         extension: u16::try_from(head[2]).expect("an extension in a head"),
         current_next: head[3] == 1,
@@ -101,11 +101,6 @@ pub(crate) fn set_of(heads: &[u64], row: u64, sections: Vec<Vec<u8>>) -> Set {
         last: byte(head[7]),
         sections,
     }
-}
-
-/// 8192 stands for no PID.
-pub(crate) fn pid_of(word: u64) -> Option<u16> {
-    Some(u16::try_from(word).expect("a PID in a head")).filter(|&pid| pid != 8192)
 }
 
 /// Asks for one section after another until there is none.

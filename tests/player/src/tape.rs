@@ -11,13 +11,13 @@
 //! 15 gate counters
 //! 16 gate pats     how many rows of the PAT store are in use, and how many left it, of the input that is current
 //! 20 sets open     limit u16, cells u16, cell size u16
-//! 21 sets push     PID u16 (FFFF none), length u16, the bytes
+//! 21 sets push     PID u16 (FFFF none, which is refused), length u16, the bytes
 //! 22 sets clear
 //! 24 sets entries  reader u8 (1 networks', 2 bouquets', 3 services'), row u16, skip u16, room u16: the entries of a set
 //! 25 sets read     reader u8, skip u16, room u16, length u16, the bytes: those of a section
 //! 30 31 32         as 20 to 22 of the EIT collector
 //! 33 eit drop      mask u8 (1 PID, 2 kind, 4 service_id, 8 transport_stream_id, 10 original_network_id, 20 current_next, 40 the input that is
-//!                  current), PID u16 (FFFF none), kind u8 (0 and 1 present/following actual and other, 2 and 3 schedule actual and other),
+//!                  current), PID u16 (FFFF none, which is refused), kind u8 (0 and 1 present/following actual and other, 2 and 3 schedule actual and other),
 //!                  service_id u16, transport_stream_id u16, original_network_id u16, current_next u8
 //! 34 eit events    row u16, skip u16, room u16: the entries of a set
 //! 35 eit table     row u16, table u8, skip u16, room u16: those of a table of a schedule
@@ -28,10 +28,10 @@
 //! 42 demux packet  length u16, the bytes
 //! 43 demux ask     PID u16
 //! 44 demux watched
-//! 60 guides sets   list words u16, then twice: PID u16 (FFFF none), length u16, the bytes of a set
+//! 60 guides sets   list words u16, then twice: PID u16 (FFFF none, which is refused), length u16, the bytes of a set
 //! 61 guides schedules  the same of two schedules
 //! 62 guides held   number u16, then twice: length u16, the bytes of a set
-//! 70 logs write    capacity u32, repeats u8, change rule u8, limit u32, cell size u32, cells u32, without PID u8; room u32; length u32, the bytes of a section list
+//! 70 logs write    capacity u32, repeats u8, change rule u8, limit u32, cell size u32, cells u32, PIDs u8 (0 with, 1 without, 2 before); room u32; length u32, the bytes of a section list
 //! 71 logs check    the same settings; the log's length u32; length u32, the bytes of a section list; the bytes of the log
 //! 72 logs read     place u32, length u32, the bytes of a log
 //! 73 logs offer    answer u8, change rule u8, input u8, PID u16, length u16, the bytes of a section

@@ -88,7 +88,7 @@ fn every_input_is_as_input_0() {
     }
 }
 
-/// On input 16 every offer and push that was not 10, 11 or 12 answers 37, sections in packets likewise or `unwatched`, and every count stays.
+/// On input 16 every offer and push that was not 10, 11, 41 or 12 answers 37, sections in packets likewise or `unwatched`, and every count stays.
 #[test]
 fn there_is_no_input_16() {
     for (tape, on_input_0) in TAPES {
@@ -101,9 +101,9 @@ fn there_is_no_input_16() {
                 ["gate", "unwatched" | "undeliverable" | "watched", ..] => {}
                 ["gate", "counters", ..] => assert_eq!(line, "gate counters 0 0 0 0 0 0 0"),
                 ["gate", "7" | "8" | "9" | "12" | "13"] => {}
-                ["sets", number, "ev=0", "rows=0"] => assert!(matches!(number, "10" | "12" | "37"), "{line}"),
-                ["eit", number, "ev=0/0", "rows=0/0"] => assert!(matches!(number, "7" | "10" | "12" | "37"), "{line}"),
-                ["sets" | "eit", "7" | "10" | "13"] => {}
+                ["sets", number, "ev=0", "rows=0"] => assert!(matches!(number, "10" | "12" | "37" | "41"), "{line}"),
+                ["eit", number, "ev=0/0", "rows=0/0"] => assert!(matches!(number, "7" | "10" | "12" | "37" | "41"), "{line}"),
+                ["sets" | "eit", "7" | "10" | "13" | "41"] => {}
                 _ => panic!("{line}"),
             }
         }

@@ -10,6 +10,7 @@ use player::command::Filter;
 #[derive(Clone, Copy, Debug, PartialEq, Eq)]
 struct Key {
     input: u8,
+    /// None by the older definition of a log alone.
     pid: Option<u16>,
     table_id: u8,
     extension: u16,
@@ -181,7 +182,7 @@ impl Collector {
         let left_out = reading.has(if self.eit { Fault::InputNotInEitKey } else { Fault::InputNotInSetKey });
         Key {
             input: if left_out { 0 } else { input },
-            pid: if reading.has(Fault::NoPidIsPidZero) { Some(pid.unwrap_or(0)) } else { pid },
+            pid,
             table_id: section[0],
             extension: if reading.has(Fault::PatStreamIgnored) { 0 } else { word(section, 3) },
             current_next: section[5] & 1 == 1 || reading.has(Fault::CurrentNextIgnored),

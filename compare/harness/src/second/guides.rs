@@ -10,7 +10,7 @@ type Section<'a> = &'a [u8];
 /// The sections of a side by table_id and number.
 type Side<'a> = BTreeMap<(u8, u8), Section<'a>>;
 
-/// PID, table_id (of a schedule the first of its kind), extension, current_next, transport_stream_id, original_network_id; of what is no EIT the last two are 0.
+/// PID (none only where one is left out by a fault), table_id (of a schedule the first of its kind), extension, current_next, transport_stream_id, original_network_id; of what is no EIT the last two are 0.
 type Key = (Option<u16>, u8, u16, u8, u16, u16);
 
 pub fn answer(reading: &Reading, command: &Guides) -> Told {
@@ -107,6 +107,10 @@ fn is_pid(pid: Option<u16>) -> bool {
 
 fn compare(reading: &Reading, schedules: bool, room: usize, [first, second]: &[Copy; 2]) -> Told {
     let bad_pid = !is_pid(first.pid) || !is_pid(second.pid);
+    let no_pid = (first.pid.is_none() || second.pid.is_none()) && !reading.has(Fault::GuideNoPidCompared);
+    if no_pid && reading.has(Fault::GuideNoPidFirst) {
+        return refused(41);
+    }
     if bad_pid && reading.has(Fault::GuidePidFirst) {
         return refused(12);
     }
@@ -117,6 +121,12 @@ fn compare(reading: &Reading, schedules: bool, room: usize, [first, second]: &[C
         (Some((_, x)), None) | (None, Some((_, x))) => (x, x),
         (None, None) => return refused(10),
     };
+    if bad_pid && reading.has(Fault::GuideBadPidBeforeNone) {
+        return refused(12);
+    }
+    if no_pid {
+        return refused(41);
+    }
     let one_key = key(reading, schedules, first.pid, x) == key(reading, schedules, second.pid, y);
     if reading.has(Fault::KeyBeforePid) && !one_key {
         return refused(33);

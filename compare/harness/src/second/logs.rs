@@ -40,20 +40,36 @@ fn sections_in<'a>(reading: &Reading, mut list: &'a [u8]) -> Result<Vec<Listed<'
     Ok(sections)
 }
 
+/// Whether it is asked for without PIDs, which is given up: a log as before is checked still, and none is written.
+fn without_pid(reading: &Reading, settings: &Settings, writes: bool) -> bool {
+    match settings.pids {
+        1 => writes || !reading.has(Fault::LogWithoutAsBefore),
+        2 => writes && !reading.has(Fault::LogWrittenAsBefore),
+        _ => false,
+    }
+}
+
 /// What opening the gate, opening the collector and the manner of PIDs ask for, of what the player lends.
 fn opens(reading: &Reading, settings: &Settings) -> bool {
-    let Settings { capacity, rule, limit, size, count, without_pid, .. } = *settings;
+    let Settings { capacity, rule, limit, size, count, pids, .. } = *settings;
     let gate = capacity as usize <= GATE_ROWS && (1..=2).contains(&rule);
     let sizes = (12..=4096).contains(&size) && count <= 65_535 && u64::from(size) * u64::from(count) <= CELL_BYTES as u64;
-    gate && sizes && limit as usize <= ROWS && (without_pid < 2 || reading.has(Fault::LogMannerUnjudged))
+    gate && sizes && limit as usize <= ROWS && (pids < 3 || reading.has(Fault::LogMannerUnjudged))
 }
 
 /// The settings that a log can be made by.
-fn judged<'a>(reading: &Reading, settings: &Settings, list: &'a [u8]) -> Result<Vec<Listed<'a>>, u8> {
+fn judged<'a>(reading: &Reading, settings: &Settings, writes: bool, list: &'a [u8]) -> Result<Vec<Listed<'a>>, u8> {
     if !opens(reading, settings) && reading.has(Fault::LogTooLittleFirst) {
         return Err(13);
     }
+    let no_pid = without_pid(reading, settings, writes);
+    if no_pid && reading.has(Fault::LogNoPidFirst) {
+        return Err(41);
+    }
     let sections = sections_in(reading, list)?;
+    if no_pid && !(reading.has(Fault::LogTooLittleBeforeNoPid) && !opens(reading, settings)) {
+        return Err(41);
+    }
     if opens(reading, settings) { Ok(sections) } else { Err(13) }
 }
 
@@ -95,7 +111,7 @@ impl Run<'_> {
         if !goes_on {
             return records;
         }
-        let with_pid = self.settings.without_pid == 0;
+        let with_pid = self.settings.pids == 0;
         let pushed = if with_pid || reading.has(Fault::LogPidInKey) { Some(pid) } else { None };
         let (number, out) = self.sets.push(reading, input, pushed, bytes);
         let conflict = number == 22 && reading.has(Fault::LogConflictRecorded);
@@ -151,7 +167,7 @@ fn offered(reading: &Reading, answer: u8, rule: u8, input: u8, pid: u16, section
     }
 }
 
-/// Kinds 5 and 6: the set that this section completed.
+/// Kind 5, and by the older definition 6: the set that this section completed.
 fn set(reading: &Reading, input: u8, pid: Option<u16>, section: &[u8]) -> Vec<u8> {
     let input = if reading.has(Fault::LogSetInputZero) { 0 } else { input };
     let mut record = match pid {
@@ -166,16 +182,17 @@ fn set(reading: &Reading, input: u8, pid: Option<u16>, section: &[u8]) -> Vec<u8
     record
 }
 
-/// All records that a section list gives.
-pub fn records_of(reading: &mut Reading, settings: &Settings, list: &[u8]) -> Result<Vec<Vec<u8>>, u8> {
-    let sections = judged(reading, settings, list)?;
+/// All records that a section list gives, for a log that is checked or written.
+pub fn records_of(reading: &mut Reading, settings: &Settings, writes: bool, list: &[u8]) -> Result<Vec<Vec<u8>>, u8> {
+    let sections = judged(reading, settings, writes, list)?;
     let mut run = Run::open(reading, settings);
     Ok(sections.iter().flat_map(|section| run.take(reading, section)).collect())
 }
 
 /// Bytes of a record with its kind; none of a kind that there is not.
-fn size(kind: u8) -> Option<usize> {
+fn size(reading: &Reading, kind: u8) -> Option<usize> {
     Some(match kind {
+        6 if reading.has(Fault::LogKindSixUnknown) => return None,
         1 | 2 => 13,
         3 | 4 => 6,
         5 => 10,
@@ -232,7 +249,7 @@ pub fn verdict(reading: &Reading, log: &[u8], expected: &[Vec<u8>]) -> Option<(W
             return Some((Wrong::TooMany, place));
         }
         let other_kind = reading.has(Fault::LogOtherKindUnknown) && next.is_some_and(|next| next[0] != kind);
-        let Some(size) = size(kind).filter(|_| !other_kind) else {
+        let Some(size) = size(reading, kind).filter(|_| !other_kind) else {
             if reading.has(Fault::LogUnknownSkipped) && place + 1 < log.len() {
                 place += 1;
                 continue;
@@ -254,7 +271,7 @@ pub fn verdict(reading: &Reading, log: &[u8], expected: &[Vec<u8>]) -> Option<(W
 
 pub fn answer(reading: &mut Reading, command: &Logs) -> Told {
     match command {
-        Logs::Write { settings, room, list } => match records_of(reading, settings, list) {
+        Logs::Write { settings, room, list } => match records_of(reading, settings, true, list) {
             Err(number) => Told::Written { number, bytes: None },
             Ok(records) => {
                 let log = records.concat();
@@ -262,7 +279,7 @@ pub fn answer(reading: &mut Reading, command: &Logs) -> Told {
                 if log.len() > full { Told::Written { number: 44, bytes: None } } else { Told::Written { number: 7, bytes: Some(log) } }
             }
         },
-        Logs::Check { settings, list, log } => match records_of(reading, settings, list) {
+        Logs::Check { settings, list, log } => match records_of(reading, settings, false, list) {
             Err(number) => Told::Checked { number, place: None },
             Ok(records) => match verdict(reading, log, &records) {
                 None => Told::Checked { number: 8, place: None },
@@ -280,7 +297,7 @@ pub fn answer(reading: &mut Reading, command: &Logs) -> Told {
             Told::Written { number: 7, bytes: Some(bytes) }
         }
         Logs::Set { input, pid, section } => {
-            let origin = lent::is_input(*input) && pid.is_none_or(lent::is_pid);
+            let origin = lent::is_input(*input) && pid.map_or(reading.has(Fault::LogSetWithoutPid), lent::is_pid);
             let least = if reading.has(Fault::LogSetOfEightBytes) { 8 } else { 12 };
             let bytes = if origin && section.len() >= least { set(reading, *input, *pid, section) } else { Vec::new() };
             Told::Written { number: 7, bytes: Some(bytes) }
@@ -292,7 +309,7 @@ pub fn answer(reading: &mut Reading, command: &Logs) -> Told {
 fn read(reading: &Reading, place: usize, log: &[u8]) -> Told {
     let none = |number| Told::Read { number, words: None };
     let Some(rest) = log.get(place..).filter(|rest| !rest.is_empty()) else { return none(9) };
-    let Some(size) = size(rest[0]) else { return none(38) };
+    let Some(size) = size(reading, rest[0]) else { return none(38) };
     let Some(record) = rest.get(..size) else { return none(39) };
     let [kind, input, body @ ..] = record else { unreachable!("no kind has less than two bytes") };
     let (pid, body) = if *kind == 6 { (8192, body) } else { (u64::from(word(body, 0)), &body[2..]) };

@@ -171,11 +171,15 @@ impl Second {
             }
             Command::Push { part, pid, section } => {
                 let mut reading = self.reading.clone();
+                let pid = pid.or(reading.has(Fault::NoPidIsPidZero).then_some(0));
+                let refused = pid.is_none() && !reading.has(Fault::NoPidCollected);
+                let input_first = reading.has(Fault::InputBeforeNoPid) && !lent::is_input(input);
                 let (number, out) = match self.collector(*part) {
                     None => (10, Out::Nothing),
+                    Some(_) if refused && !input_first => (41, Out::Nothing),
                     Some(_) if pid.is_some_and(|pid| !lent::is_pid(pid)) => (12, Out::Nothing),
                     Some(_) if !lent::is_input(input) => (37, Out::Nothing),
-                    Some(collector) => collector.push(&mut reading, input, *pid, section),
+                    Some(collector) => collector.push(&mut reading, input, pid, section),
                 };
                 self.reading = reading;
                 Answer::Collected(number, self.held(*part), out)
@@ -217,6 +221,7 @@ impl Second {
     fn drop(&mut self, filter: &Filter) -> u8 {
         match &mut self.eit {
             None => 10,
+            Some(_) if filter.pid == Some(None) && !self.reading.has(Fault::NoneDropped) => 41,
             Some(_) if filter.pid.flatten().is_some_and(|pid| !lent::is_pid(pid)) => 12,
             Some(_) if filter.this_input && !lent::is_input(self.input) => 37,
             Some(eit) => {

@@ -12,9 +12,6 @@ input-wanted-requires c κs = search needs
 enum-told-2 : tie.Need-enum-told-2
 enum-told-2 c = search needs
 
-input-wanted-requires-2 : tie.Need-input-wanted-requires-2
-input-wanted-requires-2 c κs = search needs
-
 enum-known-pid : tie.Need-enum-known-pid
 enum-known-pid c = search needs
 
@@ -40,7 +37,6 @@ wanted-origin-spec =
     enum-told
     input-wanted-requires
     enum-told-2
-    input-wanted-requires-2
     enum-known-pid
     make-requires
     made-wanted-requires

@@ -1,4 +1,4 @@
-use Rattle.guides.proofs.Ways.{alike-schedules, schedules-no, schedules-bad, schedules-other, schedules-alike, list-no, list-bad, list-other, list-alike, tables-no, tables-bad, tables-other, tables-alike}
+use Rattle.guides.proofs.Ways.{alike-schedules, schedules-no, schedules-without, schedules-bad, schedules-other, schedules-alike, list-no, list-without, list-bad, list-other, list-alike, tables-no, tables-without, tables-bad, tables-other, tables-alike}
 use borrow.Author.Needs.{needs}
 use Rattle.guides.proofs.compare_schedules.Statement.{statement}
 use Rattle.guides.proofs.compare_schedules.Tie as tie
@@ -27,6 +27,12 @@ refused-requires-3 c κs = search needs
 enum-told-4 : tie.Need-enum-told-4
 enum-told-4 c = search needs
 
+refused-requires-4 : tie.Need-refused-requires-4
+refused-requires-4 c κs = search needs
+
+enum-told-5 : tie.Need-enum-told-5
+enum-told-5 c = search needs
+
 compare-tables-requires : tie.Need-compare-tables-requires
 compare-tables-requires c κs = search alike-schedules
 
@@ -34,16 +40,19 @@ returns : tie.Need-returns
 returns c = (search schedules-no, (search tables-no, search list-no))
 
 returns-2 : tie.Need-returns-2
-returns-2 c = (search schedules-bad, (search tables-bad, search list-bad))
+returns-2 c = (search schedules-without, (search tables-without, search list-without))
 
 returns-3 : tie.Need-returns-3
-returns-3 c = (search schedules-other, (search tables-other, search list-other))
+returns-3 c = (search schedules-bad, (search tables-bad, search list-bad))
+
+returns-4 : tie.Need-returns-4
+returns-4 c = (search schedules-other, (search tables-other, search list-other))
 
 same-length : tie.Need-same-length
 same-length c = search needs
 
-returns-4 : tie.Need-returns-4
-returns-4 c = (search schedules-alike, (search tables-alike, search list-alike))
+returns-5 : tie.Need-returns-5
+returns-5 c = (search schedules-alike, (search tables-alike, search list-alike))
 
 pub compare-schedules-spec : {M : Type 1} → statement M
 compare-schedules-spec =
@@ -57,9 +66,12 @@ compare-schedules-spec =
     enum-told-3
     refused-requires-3
     enum-told-4
+    refused-requires-4
+    enum-told-5
     compare-tables-requires
     returns
     returns-2
     returns-3
+    returns-4
     same-length
-    returns-4)
+    returns-5)

@@ -1,4 +1,4 @@
-use Rattle.guides.proofs.Ways.{schedules-not, first-long, second-long, schedules-pid, schedules-second, schedules-keyed}
+use Rattle.guides.proofs.Ways.{schedules-not, first-long, second-long, schedules-none, schedules-pid, schedules-second-none, schedules-second, schedules-keyed}
 use borrow.Author.Needs.{needs}
 use Rattle.guides.proofs.schedule_sides.Statement.{statement}
 use Rattle.guides.proofs.schedule_sides.Tie as tie
@@ -18,14 +18,26 @@ pid-word-requires c κs = search needs
 enum-told : tie.Need-enum-told
 enum-told c = search needs
 
-enum-known-p : tie.Need-enum-known-p
-enum-known-p c = search needs
+enum-told-2 : tie.Need-enum-told-2
+enum-told-2 c = search needs
 
 pid-word-requires-2 : tie.Need-pid-word-requires-2
 pid-word-requires-2 c κs = search needs
 
-enum-told-2 : tie.Need-enum-told-2
-enum-told-2 c = search needs
+beside-bad-requires : tie.Need-beside-bad-requires
+beside-bad-requires c κs = search needs
+
+enum-known-p : tie.Need-enum-known-p
+enum-known-p c = search needs
+
+pid-word-requires-3 : tie.Need-pid-word-requires-3
+pid-word-requires-3 c κs = search needs
+
+enum-told-3 : tie.Need-enum-told-3
+enum-told-3 c = search needs
+
+enum-told-4 : tie.Need-enum-told-4
+enum-told-4 c = search needs
 
 enum-known-q : tie.Need-enum-known-q
 enum-known-q c = search needs
@@ -40,13 +52,19 @@ keyed-requires : tie.Need-keyed-requires
 keyed-requires c κs = search needs
 
 returns-2 : tie.Need-returns-2
-returns-2 c = search schedules-pid
+returns-2 c = search schedules-none
 
 returns-3 : tie.Need-returns-3
-returns-3 c = search schedules-second
+returns-3 c = search schedules-pid
 
 returns-4 : tie.Need-returns-4
-returns-4 c = search schedules-keyed
+returns-4 c = search schedules-second-none
+
+returns-5 : tie.Need-returns-5
+returns-5 c = search schedules-second
+
+returns-6 : tie.Need-returns-6
+returns-6 c = search schedules-keyed
 
 pub schedule-sides-spec : {M : Type 1} → statement M
 schedule-sides-spec =
@@ -57,13 +75,19 @@ schedule-sides-spec =
     returns
     pid-word-requires
     enum-told
-    enum-known-p
-    pid-word-requires-2
     enum-told-2
+    pid-word-requires-2
+    beside-bad-requires
+    enum-known-p
+    pid-word-requires-3
+    enum-told-3
+    enum-told-4
     enum-known-q
     schedule-key-in-requires
     schedule-key-in-requires-2
     keyed-requires
     returns-2
     returns-3
-    returns-4)
+    returns-4
+    returns-5
+    returns-6)

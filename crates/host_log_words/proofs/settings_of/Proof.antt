@@ -5,6 +5,7 @@ use Rattle.host_log_words.proofs.settings_of.Tie as tie
 use Rattle.host_log_words.proofs.settings_of.Reads as reads
 use Rattle.host_log_words.proofs.settings_of.Lts as lts
 use Rattle.host_log_words.proofs.rule_for.Reads as rule-for-reads
+use Rattle.host_log_words.proofs.pids_for.Reads as pids-for-reads
 
 -- src/lib.rt:21:19
 element-copy-out-t4 : tie.Need-element-copy-out-t4
@@ -39,8 +40,11 @@ element-copy-out-t26 : tie.Need-element-copy-out-t26
 element-copy-out-t26 c = search needs
 
 -- src/lib.rt:27:15
-element-copy-out-t30 : tie.Need-element-copy-out-t30
-element-copy-out-t30 c = search needs
+element-copy-out-pids-for : tie.Need-element-copy-out-pids-for
+element-copy-out-pids-for c = search needs
+
+pids-for-requires : tie.Need-pids-for-requires
+pids-for-requires c κs = search needs
 
 -- src/lib.rt:17:1
 returns : tie.Need-returns
@@ -58,5 +62,6 @@ settings-of-spec =
     element-copy-out-t18
     element-copy-out-t22
     element-copy-out-t26
-    element-copy-out-t30
+    element-copy-out-pids-for
+    pids-for-requires
     returns)

@@ -1,6 +1,6 @@
 use mathlib.Core.Path.{refl}
 use Rattle.log_sections.specs.Steps.{memory}
-use Rattle.log_check.proofs.Laws.{check-long, check-cut, check-little, check-whole, check-walked}
+use Rattle.log_check.proofs.Laws.{check-long, check-cut, check-without, check-little, check-whole, check-walked}
 use borrow.Author.Needs.{needs}
 use Rattle.log_check.proofs.check.Statement.{statement}
 use Rattle.log_check.proofs.check.Tie as tie
@@ -38,6 +38,12 @@ enum-told-3 c = search needs
 -- src/lib.rt:150:32
 refused-requires-3 : tie.Need-refused-requires-3
 refused-requires-3 c κs = search needs
+
+enum-told-4 : tie.Need-enum-told-4
+enum-told-4 c = search needs
+
+refused-requires-4 : tie.Need-refused-requires-4
+refused-requires-4 c κs = search needs
 
 -- src/lib.rt:151:25
 enum-known-prepared : tie.Need-enum-known-prepared
@@ -125,31 +131,51 @@ same-length-15 c = refl
 -- src/lib.rt:134:1
 returns-3 : tie.Need-returns-3
 returns-3 c = let a = c .before .before .before .before .before .before .before .before .before .before .before .before .before .before .before .before .args in
-    check-little (a .settings) (a .sections .now) (a .log .now) (memory (a .keys .now) (a .changes .now) (a .heads .now) (a .slots .now) (a .cells .now)) (c .before .before .before .prepare .ensures) (c .before .enum-told3 .given .1) (c .refused3 .ensures)
+    check-without (a .settings) (a .sections .now) (a .log .now) (memory (a .keys .now) (a .changes .now) (a .heads .now) (a .slots .now) (a .cells .now)) (c .before .before .before .prepare .ensures) (c .before .enum-told3 .given .1) (c .refused3 .ensures)
 
--- src/lib.rt:134:1
 same-length-16 : tie.Need-same-length-16
-same-length-16 c = c .before .before .before .before .before .before .before .before .before .before .before .walk .kept .1 .0
+same-length-16 c = refl
 
--- src/lib.rt:134:1
 same-length-17 : tie.Need-same-length-17
-same-length-17 c = c .before .before .before .before .before .before .before .before .before .before .before .walk .kept .1 .1 .0
+same-length-17 c = refl
 
--- src/lib.rt:134:1
 same-length-18 : tie.Need-same-length-18
-same-length-18 c = c .before .before .before .before .before .before .before .before .before .before .before .walk .kept .1 .1 .1 .0
+same-length-18 c = refl
 
--- src/lib.rt:134:1
 same-length-19 : tie.Need-same-length-19
-same-length-19 c = c .before .before .before .before .before .before .before .before .before .before .before .walk .kept .1 .1 .1 .1 .0
+same-length-19 c = refl
 
--- src/lib.rt:134:1
 same-length-20 : tie.Need-same-length-20
-same-length-20 c = c .before .before .before .before .before .before .before .before .before .before .before .walk .kept .1 .1 .1 .1 .1 .0
+same-length-20 c = refl
 
 -- src/lib.rt:134:1
 returns-4 : tie.Need-returns-4
-returns-4 c = let a = c .before .before .before .before .before .before .before .before .before .before .before .before .before .before .before .before .before .before .before .before .before .before .before .before .before .before .before .before .before .before .before .before .before .args in
+returns-4 c = let a = c .before .before .before .before .before .before .before .before .before .before .before .before .before .before .before .before .args in
+    check-little (a .settings) (a .sections .now) (a .log .now) (memory (a .keys .now) (a .changes .now) (a .heads .now) (a .slots .now) (a .cells .now)) (c .before .before .before .prepare .ensures) (c .before .enum-told4 .given .1) (c .refused4 .ensures)
+
+-- src/lib.rt:134:1
+same-length-21 : tie.Need-same-length-21
+same-length-21 c = c .before .before .before .before .before .before .before .before .before .before .before .walk .kept .1 .0
+
+-- src/lib.rt:134:1
+same-length-22 : tie.Need-same-length-22
+same-length-22 c = c .before .before .before .before .before .before .before .before .before .before .before .walk .kept .1 .1 .0
+
+-- src/lib.rt:134:1
+same-length-23 : tie.Need-same-length-23
+same-length-23 c = c .before .before .before .before .before .before .before .before .before .before .before .walk .kept .1 .1 .1 .0
+
+-- src/lib.rt:134:1
+same-length-24 : tie.Need-same-length-24
+same-length-24 c = c .before .before .before .before .before .before .before .before .before .before .before .walk .kept .1 .1 .1 .1 .0
+
+-- src/lib.rt:134:1
+same-length-25 : tie.Need-same-length-25
+same-length-25 c = c .before .before .before .before .before .before .before .before .before .before .before .walk .kept .1 .1 .1 .1 .1 .0
+
+-- src/lib.rt:134:1
+returns-5 : tie.Need-returns-5
+returns-5 c = let a = c .before .before .before .before .before .before .before .before .before .before .before .before .before .before .before .before .before .before .before .before .before .before .before .before .before .before .before .before .before .before .before .before .before .args in
     let w = c .before .before .before .before .before .before .before .before .before .before .before .walk in
     let x = w .last .1 in
     check-walked (a .settings) (a .sections .now) (a .log .now) (memory (a .keys .now) (a .changes .now) (a .heads .now) (a .slots .now) (a .cells .now)) (c .before .before .before .before .before .before .before .before .before .before .before .before .before .before .before .before .before .before .before .before .prepare .ensures) (c .before .before .before .before .before .before .before .before .before .before .before .before .before .before .before .before .before .before .prepared .given .1) (memory (x .0) (x .1 .0) (x .1 .1 .0) (x .1 .1 .1 .0) (x .1 .1 .1 .1 .0)) (w .ensures) (c .told .ensures)
@@ -165,6 +191,8 @@ check-spec =
     refused-requires-2
     enum-told-3
     refused-requires-3
+    enum-told-4
+    refused-requires-4
     enum-known-prepared
     walk-requires
     told-requires
@@ -191,4 +219,10 @@ check-spec =
     same-length-18
     same-length-19
     same-length-20
-    returns-4)
+    returns-4
+    same-length-21
+    same-length-22
+    same-length-23
+    same-length-24
+    same-length-25
+    returns-5)

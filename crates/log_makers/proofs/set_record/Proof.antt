@@ -1,4 +1,4 @@
-use Rattle.log_makers.proofs.Laws.{long-enough, set-none, set-bare, set-pid, set-bad-pid}
+use Rattle.log_makers.proofs.Laws.{long-enough, set-none, set-no-pid, set-pid, set-bad-pid}
 use borrow.Author.Needs.{needs}
 use Rattle.log_makers.proofs.set_record.Statement.{statement}
 use Rattle.log_makers.proofs.set_record.Tie as tie
@@ -7,8 +7,6 @@ use Rattle.log_makers.proofs.set_record.Lts as lts
 use Rattle.log_makers.proofs.header_of.Reads as header-of-reads
 use Rattle.log_entries.proofs.none.Reads as none-reads
 use Rattle.log_entries.proofs.of_10.Reads as of-10-reads
-use Rattle.log_entries.proofs.of_8.Reads as of-8-reads
-use Rattle.log_records.proofs.bare_set.Reads as bare-set-reads
 use Rattle.log_records.proofs.set.Reads as set-reads
 
 -- src/lib.rt:282:9
@@ -23,25 +21,16 @@ returns c = search set-none
 enum-told : tie.Need-enum-told
 enum-told c = search needs
 
--- src/lib.rt:285:61
-header-of-requires : tie.Need-header-of-requires
-header-of-requires c κs = search long-enough
-
--- src/lib.rt:285:32
-bare-set-requires : tie.Need-bare-set-requires
-bare-set-requires c κs = search needs
-
--- src/lib.rt:285:27
-of-8-requires : tie.Need-of-8-requires
-of-8-requires c κs = search needs
+none-requires-2 : tie.Need-none-requires-2
+none-requires-2 c κs = search needs
 
 -- src/lib.rt:286:24
 enum-known-pid : tie.Need-enum-known-pid
 enum-known-pid c = search needs
 
 -- src/lib.rt:288:50
-header-of-requires-2 : tie.Need-header-of-requires-2
-header-of-requires-2 c κs = search long-enough
+header-of-requires : tie.Need-header-of-requires
+header-of-requires c κs = search long-enough
 
 -- src/lib.rt:288:23
 set-requires : tie.Need-set-requires
@@ -52,12 +41,12 @@ of-10-requires : tie.Need-of-10-requires
 of-10-requires c κs = search needs
 
 -- src/lib.rt:290:17
-none-requires-2 : tie.Need-none-requires-2
-none-requires-2 c κs = search needs
+none-requires-3 : tie.Need-none-requires-3
+none-requires-3 c κs = search needs
 
 -- src/lib.rt:278:1
 returns-2 : tie.Need-returns-2
-returns-2 c = search set-bare
+returns-2 c = search set-no-pid
 
 -- src/lib.rt:278:1
 returns-3 : tie.Need-returns-3
@@ -74,14 +63,12 @@ set-record-spec =
     none-requires
     returns
     enum-told
-    header-of-requires
-    bare-set-requires
-    of-8-requires
+    none-requires-2
     enum-known-pid
-    header-of-requires-2
+    header-of-requires
     set-requires
     of-10-requires
-    none-requires-2
+    none-requires-3
     returns-2
     returns-3
     returns-4)

@@ -1,25 +1,28 @@
-use Rattle.log_prepare.proofs.Laws.{is-ready}
+use Rattle.log_prepare.proofs.Laws.{is-without, is-ready, is-little}
 use borrow.Author.Needs.{needs}
 use Rattle.log_prepare.proofs.ready.Statement.{statement}
 use Rattle.log_prepare.proofs.ready.Tie as tie
 use Rattle.log_prepare.proofs.ready.Reads as reads
 use Rattle.log_prepare.proofs.ready.Lts as lts
+use Rattle.log_state.proofs.Pids.is_without.Reads as is-without-reads
 
--- src/lib.rt:27:26
+is-without-requires : tie.Need-is-without-requires
+is-without-requires c κs = search needs
+
+returns : tie.Need-returns
+returns c = search is-without
+
 enum-told : tie.Need-enum-told
 enum-told c = search needs
 
--- src/lib.rt:28:32
 enum-told-2 : tie.Need-enum-told-2
 enum-told-2 c = search needs
 
--- src/lib.rt:21:1
-returns : tie.Need-returns
-returns c = search is-ready
-
--- src/lib.rt:21:1
 returns-2 : tie.Need-returns-2
-returns-2 c = search needs
+returns-2 c = search is-ready
+
+returns-3 : tie.Need-returns-3
+returns-3 c = search is-little
 
 pub ready-spec : {M : Type 1} → statement M
-ready-spec = tie.close (tie.spec enum-told enum-told-2 returns returns-2)
+ready-spec = tie.close (tie.spec is-without-requires returns enum-told enum-told-2 returns-2 returns-3)

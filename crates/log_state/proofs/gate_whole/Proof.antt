@@ -1,4 +1,5 @@
 use borrow.Author.Needs.{needs}
+use Rattle.log_state.proofs.Pids.is_without.Reads as is-without-reads
 use Rattle.log_state.proofs.gate_whole.Statement.{statement}
 use Rattle.log_state.proofs.gate_whole.Tie as tie
 use Rattle.log_state.proofs.gate_whole.Reads as reads
@@ -14,9 +15,12 @@ is-whole-requires c κs = search needs
 is-known-requires : tie.Need-is-known-requires
 is-known-requires c κs = search needs
 
+is-without-requires : tie.Need-is-without-requires
+is-without-requires c κs = search needs
+
 -- src/lib.rt:154:1
 returns : tie.Need-returns
 returns c = cc
 
 pub gate-whole-spec : {M : Type 1} → statement M
-gate-whole-spec = tie.close (tie.spec is-whole-requires is-known-requires returns)
+gate-whole-spec = tie.close (tie.spec is-whole-requires is-known-requires is-without-requires returns)

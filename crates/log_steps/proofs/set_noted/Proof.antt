@@ -5,7 +5,7 @@ use Rattle.log_steps.proofs.set_noted.Tie as tie
 use Rattle.log_steps.proofs.set_noted.Reads as reads
 use Rattle.log_steps.proofs.set_noted.Lts as lts
 use Rattle.log_entries.proofs.none.Reads as none-reads
-use Rattle.log_makers.proofs.set_record.Reads as set-record-reads
+use Rattle.log_steps.proofs.set_entry.Reads as set-entry-reads
 
 -- src/lib.rt:71:32
 enum-told : tie.Need-enum-told
@@ -20,8 +20,8 @@ enum-told-2 : tie.Need-enum-told-2
 enum-told-2 c = search needs
 
 -- src/lib.rt:72:31
-set-record-requires : tie.Need-set-record-requires
-set-record-requires c κs = search needs
+set-entry-requires : tie.Need-set-entry-requires
+set-entry-requires c κs = search needs
 
 -- src/lib.rt:73:35
 enum-told-3 : tie.Need-enum-told-3
@@ -50,7 +50,7 @@ set-noted-spec =
     enum-told
     none-requires
     enum-told-2
-    set-record-requires
+    set-entry-requires
     enum-told-3
     none-requires-2
     returns

@@ -3,10 +3,10 @@ use Prim.Native.Nat.{_-_}
 use native.Mathlib.Omega.{arith}
 use borrow.Author.Needs.{needs}
 use lib.ListN.{length}
-use Rattle.store.specs.Store.{store, Whole}
+use Rattle.store.specs.Store.{store}
 use Rattle.sets_settle.specs.Settle.{afterPush}
 use Rattle.log_list.specs.List.{givensFrom, WholeFrom}
-use Rattle.sets_all.specs.All.{pushedEach}
+use Rattle.sets_all.specs.All.{pushedEach, Pushable}
 use Rattle.sets_all.proofs.Ways.{goes-on, stops, each-end, each-turn, each-stop}
 use Rattle.sets_all.proofs.push_each.Statement.{statement}
 use Rattle.sets_all.proofs.push_each.Tie as tie
@@ -17,7 +17,7 @@ use Rattle.sets_all.proofs.push_at.Reads as push-at-reads
 use Rattle.sets_settle.proofs.PushAnswer.number.Reads as number-reads
 
 abbrev Inv-loop : tie.InvT-loop
-Inv-loop heads₀ slots₀ cells₀ list held₀ at₀ heads slots cells held at = (length heads ≡ length heads₀) × (length slots ≡ length slots₀) × (length cells ≡ length cells₀) × Whole held heads slots cells × WholeFrom list at × (pushedEach at (store held heads slots cells) (givensFrom list at) ≡ pushedEach 0 (store held₀ heads₀ slots₀ cells₀) (givensFrom list 0))
+Inv-loop heads₀ slots₀ cells₀ list held₀ at₀ heads slots cells held at = (length heads ≡ length heads₀) × (length slots ≡ length slots₀) × (length cells ≡ length cells₀) × Pushable held heads slots cells × WholeFrom list at × (pushedEach at (store held heads slots cells) (givensFrom list at) ≡ pushedEach 0 (store held₀ heads₀ slots₀ cells₀) (givensFrom list 0))
 
 abbrev μ-loop : tie.MeasureT-loop
 μ-loop heads₀ slots₀ cells₀ list held₀ at₀ heads slots cells held at = length list - at

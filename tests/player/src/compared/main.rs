@@ -151,9 +151,9 @@ fn compared_copies(folder: &Path) -> Wrong {
 
 // ---- large sets
 
-/// 256 sections of 4,096 bytes, without a PID; the last byte before the last CRC is this one.
+/// 256 sections of 4,096 bytes on PID 0x11; the last byte before the last CRC is this one.
 fn large(last_byte: u8) -> Vec<u8> {
-    let mut file = vec![0xFF; 2];
+    let mut file = vec![0x00, 0x11];
     for number in 0..=255 {
         let start = file.len();
         file.extend([0x42, 0xFF, 0xFD, 0, 1, 0xC1, number, 255]);
@@ -175,7 +175,7 @@ fn large_sets(folder: &Path) -> Wrong {
     let start = Instant::now();
     let said = compare_guides(&["set", first, second]);
     let took = start.elapsed();
-    let expected = "set none 42 0001 current 1\nboth 255 4091\nentries 1 versions agree lasts agree\n";
+    let expected = "set 0011 42 0001 current 1\nboth 255 4091\nentries 1 versions agree lasts agree\n";
     println!("two sets of 1 MiB: {} ms", took.as_millis());
     let mut wrong = Vec::new();
     if said != expected {

@@ -1,6 +1,6 @@
 //! An EIT collector of three rows and three schedules, two and one in use, and four cells of 64 bytes.
 use crate::{Case, Store, case, told};
-use petrizolu::{Answer, EitState, Filter};
+use petrizolu::{Answer, EitState, Filter, NO_PID};
 use player::eit::Eit;
 
 #[derive(Clone, Copy)]
@@ -117,6 +117,7 @@ impl Store for Damaged {
 const ALL: &[Call] = &[Push, Drop, Next, Table, Clear, Open];
 const KIND: &[Call] = &[DropKind];
 const INPUT: &[Call] = &[Push, DropInput];
+const PIDS: &[Call] = &[Push, Drop, DropKind, DropInput, Next, Table, Clear, Open];
 
 /// The word of a slot with a kept length of 18 bytes, those of the sections here.
 const KEPT: u32 = 18 << 16;
@@ -197,6 +198,57 @@ pub const CASES: &[Case<Damaged>] = &[
         d.pid = 8192;
         d.eit.state = EitState { evictions: u64::MAX, schedules: 4, ..WHOLE };
     }),
+    // 41, after 11 and before 12: no PID given or wanted, or 8192 in the head of a set or a schedule in use, whichever it is.
+    case("no PID", PIDS, |d| d.pid = NO_PID),
+    case("no PID, input 16", PIDS, |d| (d.input, d.pid) = (16, NO_PID)),
+    case("no PID, evictions at their end", PIDS, |d| {
+        d.pid = NO_PID;
+        d.eit.state.evictions = u64::MAX;
+    }),
+    case("no PID, schedule evictions at their end", PIDS, |d| {
+        d.pid = NO_PID;
+        d.eit.state.schedule_evictions = u64::MAX;
+    }),
+    case("no PID, 4 schedules of 3", PIDS, |d| {
+        d.pid = NO_PID;
+        d.eit.state.schedules = 4;
+    }),
+    case("a PID of 8192 in the first set's head", PIDS, |d| d.eit.heads[0] = 8192),
+    case("a PID of 8192 in the last set's head", PIDS, |d| d.eit.heads[12] = 8192),
+    case("a PID of 8192 in a set's head not in use", PIDS, |d| d.eit.heads[24] = 8192),
+    case("a PID of 8192 in the schedule's head", PIDS, |d| d.eit.schedule_heads[0] = 8192),
+    case("a PID of 8192 in a schedule's head not in use", PIDS, |d| d.eit.schedule_heads[12] = 8192),
+    case("a PID of 8192 in the schedule's head, no schedule used", PIDS, |d| {
+        d.eit.schedule_heads[0] = 8192;
+        d.eit.state.schedules = 0;
+    }),
+    case("a PID of 8192 in a set's head and in the schedule's", PIDS, |d| (d.eit.heads[0], d.eit.schedule_heads[0]) = (8192, 8192)),
+    case("a PID of 8192 in a set's head, PID 9000", PIDS, |d| (d.eit.heads[12], d.pid) = (8192, 9000)),
+    case("a PID of 8192 in the schedule's head, PID 9000", PIDS, |d| (d.eit.schedule_heads[0], d.pid) = (8192, 9000)),
+    case("a PID of 8192 in the schedule's head, no PID", PIDS, |d| (d.eit.schedule_heads[0], d.pid) = (8192, NO_PID)),
+    case("a PID of 8192 in the schedule's head, input 16", PIDS, |d| (d.eit.schedule_heads[0], d.input) = (8192, 16)),
+    case("a PID of 8192 in the schedule's head, row 2", PIDS, |d| (d.eit.schedule_heads[0], d.row) = (8192, 2)),
+    case("a PID of 8192 in a set's head, evictions at their end", PIDS, |d| {
+        d.eit.heads[12] = 8192;
+        d.eit.state.evictions = u64::MAX;
+    }),
+    case("a PID of 8192 in the schedule's head, schedule evictions at their end", PIDS, |d| {
+        d.eit.schedule_heads[0] = 8192;
+        d.eit.state.schedule_evictions = u64::MAX;
+    }),
+    case("a PID of 8192 in a set's head, 4 rows used of 3", PIDS, |d| {
+        d.eit.heads[12] = 8192;
+        d.eit.state.used = 4;
+    }),
+    case("a PID of 8192 in the schedule's head, a schedule's kept length of 11", PIDS, |d| {
+        (d.eit.schedule_heads[0], d.eit.units[32]) = (8192, 11 << 16);
+    }),
+    // No 41: words that are no PID that a call can give.
+    case("a PID of 8193 in a set's head", PIDS, |d| d.eit.heads[12] = 8193),
+    case("a PID of 2^64 - 1 in a set's head", PIDS, |d| d.eit.heads[12] = u64::MAX),
+    case("a PID of 8193 in the schedule's head", PIDS, |d| d.eit.schedule_heads[0] = 8193),
+    case("a PID of 2^64 - 1 in the schedule's head", PIDS, |d| d.eit.schedule_heads[0] = u64::MAX),
+    case("a kind of 8192 in the schedule's head", PIDS, |d| d.eit.schedule_heads[1] = 8192),
     // 37, after 12; and an input that no call can give, which no section has: its row is met by none.
     case("input 0", INPUT, |_| {}),
     case("input 1", INPUT, |d| d.input = 1),

@@ -135,6 +135,21 @@ pub const CASES: &[Case<Damaged>] = &[
         d.eit.schedule_heads[7] = 0x51;
         (d.eit.units[288], d.eit.units[320], d.table) = (1, KEPT, 1);
     }),
+    // 41, after 10 and before 9: 8192 in the head of a set or a schedule in use, whichever is asked for. Words above it are no 41.
+    case("a PID of 8192 in the set's head", ALL, |d| d.eit.heads[0] = 8192),
+    case("a PID of 8192 in the other set's head", STORE, |d| d.eit.heads[12] = 8192),
+    case("a PID of 8192 in a set's head not in use", STORE, |d| d.eit.heads[24] = 8192),
+    case("a PID of 8192 in the schedule's head", STORE, |d| d.eit.schedule_heads[0] = 8192),
+    case("a PID of 8192 in a schedule's head not in use", STORE, |d| d.eit.schedule_heads[12] = 8192),
+    case("a PID of 8192 in the schedule's head, row 7", STORE, |d| (d.eit.schedule_heads[0], d.row) = (8192, 7)),
+    case("a PID of 8192 in the set's head, no list", STORE, |d| {
+        d.eit.heads[0] = 8192;
+        d.list.lend(0);
+    }),
+    case("a PID of 8192 in the set's head, table_id 0x42 in the first section", STORE, |d| (d.eit.heads[0], d.eit.cells[0]) = (8192, 0x42)),
+    case("a PID of 8192 in the set's head, a kept length of 11", STORE, |d| (d.eit.heads[0], d.eit.slots[32]) = (8192, 11 << 16)),
+    case("a PID of 8193 in the set's head", STORE, |d| d.eit.heads[0] = 8193),
+    case("a PID of 2^64 - 1 in the schedule's head", STORE, |d| d.eit.schedule_heads[0] = u64::MAX),
     // The slots of a row in use decide, whatever they name.
     case("no first section", STORE, |d| d.eit.slots[32] = 0),
     case("the first section twice", STORE, |d| d.eit.slots[33] = KEPT),

@@ -183,8 +183,23 @@ pub const CASES: &[Case<Damaged>] = &[
         first(d).into_iter().for_each(|bytes| bytes.truncate(SIZE));
         first(d).into_iter().for_each(|bytes| bytes[4] = 2);
     }),
+    case("PID 13 of the second", BOTH, |d| d.pids[1] = 0x13),
+    // 41, after 10 and before 12, 33 and 34.
     case("no PID of the first", BOTH, |d| d.pids[0] = NO_PID),
+    case("no PID of the second", BOTH, |d| d.pids[1] = NO_PID),
     case("no PID of both", BOTH, |d| d.pids = [NO_PID; 2]),
+    case("no PID of the first, PID 2000 of the second", BOTH, |d| d.pids = [NO_PID, 0x2000]),
+    case("PID 2000 of the first, no PID of the second", BOTH, |d| d.pids = [0x2000, NO_PID]),
+    case("no PID of the first, a byte behind the second", BOTH, |d| {
+        d.pids[0] = NO_PID;
+        second(d).into_iter().for_each(|bytes| bytes.push(0));
+    }),
+    case("no PID of the second, another service in the first, no list", BOTH, |d| {
+        d.pids[1] = NO_PID;
+        first(d).into_iter().for_each(|bytes| bytes.truncate(SIZE));
+        first(d).into_iter().for_each(|bytes| bytes[4] = 2);
+        d.list.lend(0);
+    }),
     // 33, before 34.
     case("another service in the first, one section, no list", ALL, |d| {
         first(d).into_iter().for_each(|bytes| bytes.truncate(SIZE));

@@ -1,7 +1,7 @@
 //! Logs: a list of four sections, one of them repeated and one short, by a gate of 4 keys and a collector of 2 keys and 3 cells of 64 bytes, over just the memory that these need. The memory is written over, less of it is
 //! lent, settings, list, log and room are otherwise.
 use crate::{Case, Store, case};
-use petrizolu::{Answer, HEAD_WORDS, LogSettings, SLOT_WORDS, calls, crc, listed_section};
+use petrizolu::{Answer, HEAD_WORDS, LOG_BEFORE, LOG_WITH, LOG_WITHOUT, LogSettings, SLOT_WORDS, calls, crc, listed_section};
 use player::lent::{Lent, halves, words};
 use player::logs::Memory;
 
@@ -47,7 +47,7 @@ impl Store for Damaged {
 
     /// The log: emitted and a set twice, suppressed, short, 65 bytes.
     fn filled() -> Self {
-        let settings = LogSettings { capacity: 4, repeats: 0, change_rule: 2, limit: 2, size: 64, count: 3, without_pid: 0 };
+        let settings = LogSettings { capacity: 4, repeats: 0, change_rule: 2, limit: 2, size: 64, count: 3, pids: LOG_WITH };
         let sections = [table(1), table(2), table(1), vec![0x02, 0xB0, 0x00]];
         let list: Vec<u8> = sections.iter().flat_map(|section| listed_section(0, 0x11, section).expect("short")).collect();
         let mut room = vec![0; 100];
@@ -93,6 +93,14 @@ impl Store for Damaged {
 
 const BOTH: &[Call] = &[Check, Write];
 
+/// The two sets of the log, at bytes 13 and 36, as they were before: kind 6, and no PID.
+fn bare(log: &mut Vec<u8>) {
+    for place in [36, 13] {
+        log[place] = 6;
+        log.drain(place + 2..place + 4);
+    }
+}
+
 pub const CASES: &[Case<Damaged>] = &[
     case("nothing damaged", BOTH, |_| {}),
     case("memory of ones", BOTH, |d| d.memory = memory(0xFF)),
@@ -133,9 +141,47 @@ pub const CASES: &[Case<Damaged>] = &[
     case("4 cells", BOTH, |d| d.settings.count = 4),
     case("65,536 cells", BOTH, |d| d.settings.count = 65_536),
     case("2^64 - 1 cells", BOTH, |d| d.settings.count = u64::MAX),
-    case("without a PID", BOTH, |d| d.settings.without_pid = 1),
-    case("without_pid 2", BOTH, |d| d.settings.without_pid = 2),
-    case("without_pid 2^64 - 1", BOTH, |d| d.settings.without_pid = u64::MAX),
+    case("pids 3", BOTH, |d| d.settings.pids = 3),
+    case("pids 2^32", BOTH, |d| d.settings.pids = 1 << 32),
+    case("pids 2^64 - 1", BOTH, |d| d.settings.pids = u64::MAX),
+    // 41, after 42 and 10 and before 13; as before sets without a PID were given up a log is checked, and none is written.
+    case("without", BOTH, |d| d.settings.pids = LOG_WITHOUT),
+    case("without, change rule 3", BOTH, |d| (d.settings.pids, d.settings.change_rule) = (LOG_WITHOUT, 3)),
+    case("without, no memory of cells", BOTH, |d| {
+        d.settings.pids = LOG_WITHOUT;
+        d.memory.cells.lend(0);
+    }),
+    case("without, a byte less in the list", BOTH, |d| {
+        d.settings.pids = LOG_WITHOUT;
+        d.list.truncate(d.list.len() - 1);
+    }),
+    case("without, a section of 4,099 bytes", BOTH, |d| {
+        d.settings.pids = LOG_WITHOUT;
+        d.list.extend([0, 0, 0x11, 0x10, 0x03]);
+    }),
+    case("without, no room", &[Write], |d| {
+        d.settings.pids = LOG_WITHOUT;
+        d.room.lend(0);
+    }),
+    case("before", BOTH, |d| d.settings.pids = LOG_BEFORE),
+    case("before, change rule 3", BOTH, |d| (d.settings.pids, d.settings.change_rule) = (LOG_BEFORE, 3)),
+    case("before, a byte less in the list", BOTH, |d| {
+        d.settings.pids = LOG_BEFORE;
+        d.list.truncate(d.list.len() - 1);
+    }),
+    case("before, a log of then", &[Check], |d| {
+        d.settings.pids = LOG_BEFORE;
+        bare(&mut d.log);
+    }),
+    case("a log of then", &[Check], |d| bare(&mut d.log)),
+    case("a log of then, cut inside its first set", &[Check], |d| {
+        bare(&mut d.log);
+        d.log.truncate(20);
+    }),
+    case("without, a log of then", &[Check], |d| {
+        d.settings.pids = LOG_WITHOUT;
+        bare(&mut d.log);
+    }),
     // 42 and 10, before 13.
     case("no sections", BOTH, |d| d.list.clear()),
     case("a byte less in the list", BOTH, |d| d.list.truncate(d.list.len() - 1)),
@@ -153,9 +199,9 @@ pub const CASES: &[Case<Damaged>] = &[
         d.list.truncate(d.list.len() - 1);
         d.settings.change_rule = 3;
     }),
-    case("a section of 4,099 bytes, without_pid 2", BOTH, |d| {
+    case("a section of 4,099 bytes, pids 3", BOTH, |d| {
         d.list.extend([0, 0, 0x11, 0x10, 0x03]);
-        d.settings.without_pid = 2;
+        d.settings.pids = 3;
     }),
     // 44.
     case("room for just the log", &[Write], |d| d.room.lend(65)),

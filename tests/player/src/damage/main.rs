@@ -1,6 +1,6 @@
 //! `damage gate`, `damage sets`, `damage eit`, `damage packets`, `damage events`, `damage tables`, `damage guides`, `damage logs`: what a tape cannot reach. Lent memory is written over, less of it is lent or a count is preset, one
 //! thing at a time, and each call is made on it: a line says what it answers, and whether every word, lent or kept by value, is as it was. 10, 11, 12,
-//! 13 and 37 leave all as before.
+//! 13, 37 and 41 leave all as before.
 use petrizolu::{Answer, Place};
 use std::io::{self, BufWriter, Write};
 use std::process::ExitCode;

@@ -1,6 +1,6 @@
 //! A set collector of three rows, two in use, and four cells of 64 bytes.
 use crate::{Case, Store, case, told};
-use petrizolu::{Answer, SetsState};
+use petrizolu::{Answer, NO_PID, SetsState};
 use player::sets::Sets;
 
 #[derive(Clone, Copy)]
@@ -151,6 +151,48 @@ pub const CASES: &[Case<Damaged>] = &[
         d.pid = 8192;
         d.sets.state = SetsState { used: 4, evictions: u64::MAX, ..WHOLE };
     }),
+    // 41, after 11 and before 12: no PID given, or 8192 in the head of a row in use, whichever it is.
+    case("no PID", ALL, |d| d.pid = NO_PID),
+    case("no PID, input 16", ALL, |d| (d.input, d.pid) = (16, NO_PID)),
+    case("no PID, limit 0", ALL, |d| {
+        d.pid = NO_PID;
+        d.sets.state = SetsState { limit: 0, used: 0, ..WHOLE };
+    }),
+    case("no PID, evictions at their end", ALL, |d| {
+        d.pid = NO_PID;
+        d.sets.state.evictions = u64::MAX;
+    }),
+    case("no PID, 4 rows used of 3", ALL, |d| {
+        d.pid = NO_PID;
+        d.sets.state.used = 4;
+    }),
+    case("a PID of 8192 in the first head", ALL, |d| d.sets.heads[0] = 8192),
+    case("a PID of 8192 in the last head in use", ALL, |d| d.sets.heads[12] = 8192),
+    case("a PID of 8192 in both heads in use", ALL, |d| (d.sets.heads[0], d.sets.heads[12]) = (8192, 8192)),
+    case("a PID of 8192 in a head not in use", ALL, |d| d.sets.heads[24] = 8192),
+    case("a PID of 8192 in the first head, no row used", ALL, |d| {
+        d.sets.heads[0] = 8192;
+        d.sets.state.used = 0;
+    }),
+    case("a PID of 8192 in a head, PID 9000", ALL, |d| (d.sets.heads[12], d.pid) = (8192, 9000)),
+    case("a PID of 8192 in a head, no PID", ALL, |d| (d.sets.heads[12], d.pid) = (8192, NO_PID)),
+    case("a PID of 8192 in a head, input 16", ALL, |d| (d.sets.heads[12], d.input) = (8192, 16)),
+    case("a PID of 8192 in a head, row 2", ALL, |d| (d.sets.heads[12], d.row) = (8192, 2)),
+    case("a PID of 8192 in a head, evictions at their end", ALL, |d| {
+        d.sets.heads[12] = 8192;
+        d.sets.state.evictions = u64::MAX;
+    }),
+    case("a PID of 8192 in a head, 4 rows used of 3", ALL, |d| {
+        d.sets.heads[12] = 8192;
+        d.sets.state.used = 4;
+    }),
+    case("a PID of 8192 in a head, a kept length of 11", ALL, |d| (d.sets.heads[12], d.sets.slots[32]) = (8192, 11 << 16)),
+    // No 41: words that are no PID that a call can give, and 8192 elsewhere in a head.
+    case("a PID of 8191 in a head", ALL, |d| d.sets.heads[12] = 8191),
+    case("a PID of 8193 in a head", ALL, |d| d.sets.heads[12] = 8193),
+    case("a PID of 2^64 - 1 in a head", ALL, |d| d.sets.heads[12] = u64::MAX),
+    case("a PID of 2^32 + 8192 in a head", ALL, |d| d.sets.heads[12] = (1 << 32) + 8192),
+    case("a table_id and an extension of 8192 in a head", ALL, |d| (d.sets.heads[13], d.sets.heads[14]) = (8192, 8192)),
     // 37, after 12; and an input that no call can give, which no section has: its row is met by none.
     case("input 1", ALL, |d| d.input = 1),
     case("input 16", ALL, |d| d.input = 16),

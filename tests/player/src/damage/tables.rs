@@ -115,6 +115,19 @@ pub const CASES: &[Case<Damaged>] = &[
     case("a mark of 0", STORE, |d| d.sets.heads[8] = 0),
     case("a mark of 0, no reader", STORE, |d| (d.sets.heads[8], d.reader) = (0, 0)),
     case("a mark of 2^64 - 1", STORE, |d| d.sets.heads[8] = u64::MAX),
+    // 41, after 10 and before 9 and 35: 8192 in the head of a row in use, whichever is asked for. Words above it are no 41.
+    case("a PID of 8192 in the set's head", ALL, |d| d.sets.heads[0] = 8192),
+    case("a PID of 8192 in the other set's head", STORE, |d| d.sets.heads[12] = 8192),
+    case("a PID of 8192 in a head not in use", STORE, |d| d.sets.heads[24] = 8192),
+    case("a PID of 8192 in the set's head, row 2", STORE, |d| (d.sets.heads[0], d.row) = (8192, 2)),
+    case("a PID of 8192 in the set's head, no reader", STORE, |d| (d.sets.heads[0], d.reader) = (8192, 0)),
+    case("a PID of 8192 in the set's head, no list", STORE, |d| {
+        d.sets.heads[0] = 8192;
+        d.list.lend(0);
+    }),
+    case("a PID of 8192 in the set's head, a kept length of 11", STORE, |d| (d.sets.heads[0], d.sets.slots[32]) = (8192, 11 << 16)),
+    case("a PID of 8193 in the set's head", STORE, |d| d.sets.heads[0] = 8193),
+    case("a PID of 2^64 - 1 in the set's head", STORE, |d| d.sets.heads[0] = u64::MAX),
     // 35: readers.
     case("no reader", ALL, |d| d.reader = 0),
     case("reader 4", ALL, |d| d.reader = 4),
