@@ -25,11 +25,12 @@ pub fn admit(
     ensures { λ r. ⌜ r ≡ admitted (store eit (now (heads .entry)) (now (slots .entry)) (now (cells .entry)) (now («schedule_heads» .entry)) (now (units .entry))) input pid (now (bytes .entry)) ⌝ }
     ensures { λ r. ⌜ Admitted (store eit (now (heads .entry)) (now (slots .entry)) (now (cells .entry)) (now («schedule_heads» .entry)) (now (units .entry))) r ⌝ }
 {
-    if eit_state::is_whole(eit, heads, slots, cells, schedule_heads, units) {
+    let seen = eit_state::look(eit, heads, slots, cells, schedule_heads, units);
+    if seen.whole {
         if eit_state::counters_full(eit) {
             return EitArrival::Refused(Refusal::CounterFull);
         }
-        if eit_pids::any_row_without_pid(eit, heads, schedule_heads) {
+        if seen.without | without_pid::any_without_pid(schedule_heads, eit.schedules) {
             return EitArrival::Refused(Refusal::NoPid);
         }
         return arrivals::eit_arrival(input, pid, bytes);

@@ -2,7 +2,7 @@
 -- Assumes nothing.
 use mathlib.Core.Path.{_≡_, refl, sym, ap, _∙_}
 use mathlib.Core.List.{List}
-use mathlib.Core.Bool.{Bool, true, false, _&&_, _||_}
+use mathlib.Core.Bool.{Bool, true, false, cond, _&&_, _||_}
 use Prim.Native.Nat.{ℕ, _+_, _*_, _/_, _≤_, _<_}
 use native.Mathlib.Nat.{lt-of-le-of-lt}
 use native.Mathlib.Omega.{arith}
@@ -12,6 +12,8 @@ use mir.Syntax.{w16}
 use lib.Dec.{leb, eqb, lit<}
 use lib.ListN.{length}
 use Rattle.laws.proofs.Tests.{and-true, or-false, same-test}
+use Rattle.without_pid.specs.Pids.{withoutPid}
+use Rattle.without_pid.specs.declared.Looked.{Looked}
 use Rattle.store.specs.Store as sets
 use Rattle.store.specs.declared.Sets.{Sets}
 use Rattle.store.proofs.Whole.{whole-means}
@@ -57,6 +59,27 @@ module _ (e : Eit) (heads slots cells schedule-heads units : List ℕ) (a : Bool
     pub whole-units : (r : Bool) → b ≡ true → r ≡ schedulesWhole schedule-heads units (e .sets .count) (e .sets .size) (e .schedules) → r ≡ wholeOf (store e heads slots cells schedule-heads units)
     unfolding wholeOf
     whole-units r k g = rw (← q, t, ← f, k) g
+
+-- the same of what `look` tells
+module _ (e : Eit) (heads slots cells schedule-heads units : List ℕ) where
+  no-look : false ≡ wholeOf (store e heads slots cells schedule-heads units)
+      → (false ≡ wholeOf (store e heads slots cells schedule-heads units)) × (false ≡ true → false ≡ withoutPid heads (e .sets .used))
+  no-look w = (w, λ h. absurd (no h))
+    where
+      no : false ≡ true → ⊥
+      no h = let z : _≡_ {A = ℕ} 0 1 = ap (λ (x : Bool). cond x 1 0) h in omega (arith, z)
+
+  module _ (l : Looked) (q : l .whole ≡ sets.wholeOf (sets.store (e .sets) heads slots cells)) where
+    pub look-sets : l .whole ≡ false → (false ≡ wholeOf (store e heads slots cells schedule-heads units)) × (false ≡ true → false ≡ withoutPid heads (e .sets .used))
+    look-sets t = no-look (whole-sets e heads slots cells schedule-heads units (l .whole) q t)
+
+    module _ (b : Bool) (t : l .whole ≡ true) (f : b ≡ schedulesFit e (length schedule-heads) (length units)) where
+      pub look-fit : b ≡ false → (false ≡ wholeOf (store e heads slots cells schedule-heads units)) × (false ≡ true → false ≡ withoutPid heads (e .sets .used))
+      look-fit k = no-look (whole-fit e heads slots cells schedule-heads units (l .whole) q b t f k)
+
+      pub look-units : (r : Bool) → b ≡ true → r ≡ schedulesWhole schedule-heads units (e .sets .count) (e .sets .size) (e .schedules) → (l .whole ≡ true → l .without ≡ withoutPid heads (e .sets .used))
+          → (r ≡ wholeOf (store e heads slots cells schedule-heads units)) × (r ≡ true → l .without ≡ withoutPid heads (e .sets .used))
+      look-units r k g w = (whole-units e heads slots cells schedule-heads units (l .whole) q b t f r k g, λ h. w t)
 
 -- what `is_whole` asks of its parts
 module _ (e : Eit) (heads slots cells : List ℕ) (a : Bool) (q : a ≡ sets.wholeOf (sets.store (e .sets) heads slots cells)) (t : a ≡ true) where

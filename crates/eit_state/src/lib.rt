@@ -3,7 +3,10 @@
 use answers::Outcome;
 use answers::Refusal;
 use store::Sets;
+use without_pid::Looked;
 ghost use mathlib.Core.Path.{_≡_};
+ghost use mathlib.Core.Bool.{true};
+ghost use Rattle.without_pid.specs.Pids.{withoutPid};
 ghost use Rattle.eit_state.specs.State.{store, schedulesFit, settingsFit, wholeOf, countersFull, withSets, withSchedules, pushNumber, asked, openedAs, clearedAs};
 
 // Settings and counts. `sets` has the settings and the counts of the sets, and its limit is that of the schedules too; schedules 0 to
@@ -76,7 +79,42 @@ pub fn settings_fit(
     store::settings_fit(sets, heads, slots, cells) & schedules_fit(eit, schedule_heads, units)
 }
 
-// Whether the store is whole: if it is not, a call answers 10.
+// Whether the store is whole (if it is not, a call answers 10) and, of one that is, whether a set in use has no PID. Of schedules it is not said.
+pub fn look(
+    eit: Eit,
+    heads: &[u64],
+    slots: &[u32],
+    cells: &[u8],
+    schedule_heads: &[u64],
+    units: &[u32],
+) -> Looked
+    ensures { λ r. ⌜ r .whole ≡ wholeOf (store eit (now (heads .entry)) (now (slots .entry)) (now (cells .entry)) (now («schedule_heads» .entry)) (now (units .entry))) ⌝ }
+    ensures { λ r. ⌜ (r .whole ≡ true → r .without ≡ withoutPid (now (heads .entry)) (eit .sets .used)) ⌝ }
+{
+    let sets = eit.sets;
+    let seen = store::look(sets, heads, slots, cells);
+    if seen.whole {
+        if schedules_fit(eit, schedule_heads.len(), units.len()) {
+            let whole = schedules::schedules_whole(
+                schedule_heads,
+                units,
+                sets.count as u16,
+                sets.size as u16,
+                eit.schedules,
+            );
+            return Looked {
+                whole: whole,
+                without: seen.without,
+            };
+        }
+    }
+    Looked {
+        whole: false,
+        without: false,
+    }
+}
+
+// Whether the store is whole.
 pub fn is_whole(
     eit: Eit,
     heads: &[u64],
@@ -87,19 +125,8 @@ pub fn is_whole(
 ) -> bool
     ensures { λ r. ⌜ r ≡ wholeOf (store eit (now (heads .entry)) (now (slots .entry)) (now (cells .entry)) (now («schedule_heads» .entry)) (now (units .entry))) ⌝ }
 {
-    let sets = eit.sets;
-    if store::is_whole(sets, heads, slots, cells) {
-        if schedules_fit(eit, schedule_heads.len(), units.len()) {
-            return schedules::schedules_whole(
-                schedule_heads,
-                units,
-                sets.count as u16,
-                sets.size as u16,
-                eit.schedules,
-            );
-        }
-    }
-    false
+    let seen = look(eit, heads, slots, cells, schedule_heads, units);
+    seen.whole
 }
 
 // Whether one of the two counts of evictions is at its end.

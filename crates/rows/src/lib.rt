@@ -388,20 +388,6 @@ pub fn row_full(heads: &[u64], slots: &[u32], i: usize) -> bool
 
 // ---- all rows in use
 
-// Whether each slot of each row in use is whole.
-pub fn rows_whole(heads: &[u64], slots: &[u32], count: u16, size: u16, used: usize) -> bool
-    requires { ⌜ (used * 12 ≤ length (now heads)) × (used * 288 ≤ length (now slots)) × (12 ≤ size) × (size ≤ 4096) ⌝ }
-    ensures { λ r. ⌜ r ≡ rowsWhole (now (heads .entry)) (now (slots .entry)) count size used ⌝ }
-{
-    let mut ok = true;
-    let mut i = used;
-    while i > 0 {
-        i -= 1;
-        ok = ok & cells::all_whole(row_slots(heads, slots, i), count, size);
-    }
-    ok
-}
-
 // Adds each cell that a slot of row i names, unless it is the row `gone`.
 fn mark_row(map: &mut [u64; 1024], heads: &[u64], slots: &[u32], gone: usize, i: usize)
     requires { ⌜ (i * 12 + 12 ≤ length (now heads)) × (i * 288 + 288 ≤ length (now slots)) ⌝ }

@@ -25,11 +25,12 @@ pub fn admit(
     ensures { λ r. ⌜ r ≡ admitted (store sets (now (heads .entry)) (now (slots .entry)) (now (cells .entry))) input pid (now (bytes .entry)) ⌝ }
     ensures { λ r. ⌜ AdmittedOk (store sets (now (heads .entry)) (now (slots .entry)) (now (cells .entry))) (now (bytes .entry)) r ⌝ }
 {
-    if store::is_whole(sets, heads, slots, cells) {
+    let seen = store::look(sets, heads, slots, cells);
+    if seen.whole {
         if sets.evictions == u64::MAX {
             return SetArrival::Refused(Refusal::CounterFull);
         }
-        if without_pid::any_without_pid(heads, sets.used) {
+        if seen.without {
             return SetArrival::Refused(Refusal::NoPid);
         }
         return arrivals::set_arrival(input, pid, bytes);

@@ -1,8 +1,8 @@
 -- The test for 10 and what it tells; one law for each way out of the functions that make it.
 -- Assumes nothing.
-use mathlib.Core.Path.{_≡_, sym, _∙_}
+use mathlib.Core.Path.{_≡_, sym, ap, _∙_}
 use mathlib.Core.List.{List}
-use mathlib.Core.Bool.{Bool, true, false, _&&_}
+use mathlib.Core.Bool.{Bool, true, false, cond, _&&_}
 use Prim.Native.Nat.{ℕ, _+_, _*_, _/_, _≤_, _<_}
 use native.Mathlib.Nat.{mul-le-mul-right, mul-le-mul-left, le-trans, lt-of-le-of-lt, add-mul, one-mul}
 use native.Mathlib.Omega.{arith}
@@ -13,6 +13,8 @@ use lib.Dec.{leb, lit<}
 use lib.ListN.{length}
 use Rattle.laws.proofs.Tests.{and-true, same-test}
 use Rattle.rows.specs.Rows.{rowsWhole}
+use Rattle.without_pid.specs.Pids.{withoutPid}
+use Rattle.without_pid.specs.declared.Looked.{Looked}
 use Rattle.store.specs.declared.Sets.{Sets}
 use Rattle.store.specs.Store.{Store, store, settingsFit, wholeOf, Whole}
 
@@ -94,6 +96,22 @@ module _ (s : Sets) (heads slots cells : List ℕ) (b : Bool) (q : b ≡ setting
   pub whole-not : b ≡ false → false ≡ wholeOf (store s heads slots cells)
   unfolding wholeOf
   whole-not t = rw (← q, t)
+
+  pub look-rows : (r : Looked) → b ≡ true → s .used ≤ s .limit → (r .whole ≡ rowsWhole heads slots (s .count) (s .size) (s .used)) × (r .without ≡ withoutPid heads (s .used))
+      → (r .whole ≡ wholeOf (store s heads slots cells)) × (r .whole ≡ true → r .without ≡ withoutPid heads (s .used))
+  look-rows r t u e = (whole-rows (r .whole) t u (e .0), λ h. e .1)
+
+  look-none : false ≡ wholeOf (store s heads slots cells) → (false ≡ wholeOf (store s heads slots cells)) × (false ≡ true → false ≡ withoutPid heads (s .used))
+  look-none e = (e, λ h. absurd (no h))
+    where
+      no : false ≡ true → ⊥
+      no h = let z : _≡_ {A = ℕ} 0 1 = ap (λ (x : Bool). cond x 1 0) h in omega (arith, z)
+
+  pub look-used : b ≡ true → s .limit < s .used → (false ≡ wholeOf (store s heads slots cells)) × (false ≡ true → false ≡ withoutPid heads (s .used))
+  look-used t u = look-none (whole-used t u)
+
+  pub look-not : b ≡ false → (false ≡ wholeOf (store s heads slots cells)) × (false ≡ true → false ≡ withoutPid heads (s .used))
+  look-not t = look-none (whole-not t)
 
 pub whole-means : (s : Store) → wholeOf s ≡ true → Whole (s .sets) (s .heads) (s .slots) (s .cells)
 unfolding wholeOf

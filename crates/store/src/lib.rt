@@ -1,5 +1,8 @@
 // A collector's settings and counts, and when they and the memory lent beside them are whole (docs/RULES.md, "Layouts" and "Answers", 10 and 13).
+use without_pid::Looked;
 ghost use mathlib.Core.Path.{_≡_};
+ghost use mathlib.Core.Bool.{true};
+ghost use Rattle.without_pid.specs.Pids.{withoutPid};
 ghost use Rattle.store.specs.Store.{store, settingsFit, wholeOf};
 
 // Settings and counts. `limit` keys at most; `count` cells of `size` bytes; rows 0 to used - 1 are in use.
@@ -30,14 +33,26 @@ pub fn settings_fit(sets: Sets, heads: usize, slots: usize, cells: usize) -> boo
     }
 }
 
-// Whether the store is whole: if it is not, a call answers 10.
-pub fn is_whole(sets: Sets, heads: &[u64], slots: &[u32], cells: &[u8]) -> bool
-    ensures { λ r. ⌜ r ≡ wholeOf (store sets (now (heads .entry)) (now (slots .entry)) (now (cells .entry))) ⌝ }
+// Whether the store is whole (if it is not, a call answers 10) and, of one that is, whether a row in use has no PID (41).
+pub fn look(sets: Sets, heads: &[u64], slots: &[u32], cells: &[u8]) -> Looked
+    ensures { λ r. ⌜ r .whole ≡ wholeOf (store sets (now (heads .entry)) (now (slots .entry)) (now (cells .entry))) ⌝ }
+    ensures { λ r. ⌜ (r .whole ≡ true → r .without ≡ withoutPid (now (heads .entry)) (sets .used)) ⌝ }
 {
     if settings_fit(sets, heads.len(), slots.len(), cells.len()) {
         if sets.used <= sets.limit {
-            return rows::rows_whole(heads, slots, sets.count as u16, sets.size as u16, sets.used);
+            return without_pid::look(heads, slots, sets.count as u16, sets.size as u16, sets.used);
         }
     }
-    false
+    Looked {
+        whole: false,
+        without: false,
+    }
+}
+
+// Whether the store is whole.
+pub fn is_whole(sets: Sets, heads: &[u64], slots: &[u32], cells: &[u8]) -> bool
+    ensures { λ r. ⌜ r ≡ wholeOf (store sets (now (heads .entry)) (now (slots .entry)) (now (cells .entry))) ⌝ }
+{
+    let look = look(sets, heads, slots, cells);
+    look.whole
 }

@@ -2,8 +2,8 @@
 -- Assumes nothing.
 use mathlib.Core.Path.{_≡_, refl, sym, _∙_}
 use mathlib.Core.List.{List, [], _∷_}
-use mathlib.Core.Bool.{Bool, true, false, _||_, or-true}
-use Prim.Native.Nat.{ℕ, zero, suc, _+_, _*_, _≤_, _<_}
+use mathlib.Core.Bool.{Bool, true, false, _||_, or-true, or-false}
+use Prim.Native.Nat.{ℕ, zero, suc, _+_, _-_, _*_, _≤_, _<_}
 use native.Mathlib.Omega.{arith}
 use borrow.Author.Tests.{eq-eqb, ne-eqb, eqb-true, eqb-false}
 use lib.Dec.{eqb}
@@ -27,6 +27,31 @@ next-row heads i found e = let z : i + 1 ≡ suc i = omega arith in rw z (step e
 
 pub at-end : (heads : List ℕ) (i used : ℕ) (found : Bool) → found ≡ withoutPid heads i → i ≤ used → used ≤ i → found ≡ withoutPid heads used
 at-end heads i used found e h k = let z : used ≡ i = omega (arith, h, k) in rw z e
+
+-- the pass from the last row down: what is still to be looked at, or what was found
+pub down-start : (heads : List ℕ) (used : ℕ) → withoutPid heads used ≡ (withoutPid heads used || false)
+down-start heads used = sym (or-false (withoutPid heads used))
+
+or-swap : (a b c : Bool) → ((a || b) || c) ≡ (a || (c || b))
+or-swap true b c = refl
+or-swap false true true = refl
+or-swap false true false = refl
+or-swap false false true = refl
+or-swap false false false = refl
+
+pub down-row : (heads : List ℕ) (used i : ℕ) (found : Bool) → 0 < i → withoutPid heads used ≡ (withoutPid heads i || found)
+    → withoutPid heads used ≡ (withoutPid heads (i - 1) || (found || eqb (getD heads ((i - 1) * 12) 0) 8192))
+unfolding withoutPid
+down-row heads used zero found p e = absurd (omega (arith, p))
+down-row heads used (suc j) found p e =
+    let y : j * 12 + 0 ≡ j * 12 = omega arith in
+    let z : suc j - 1 ≡ j = omega arith in
+    rw z (e ∙ or-swap (withoutPid heads j) (eqb (word heads j 0) 8192) found ∙ rw y refl)
+
+pub down-end : (heads : List ℕ) (used i : ℕ) (found : Bool) → i ≤ 0 → withoutPid heads used ≡ (withoutPid heads i || found) → found ≡ withoutPid heads used
+unfolding withoutPid
+down-end heads used zero found p e = sym e
+down-end heads used (suc i) found p e = absurd (omega (arith, p))
 
 -- ---- what it says
 

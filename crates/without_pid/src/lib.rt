@@ -3,9 +3,35 @@ use rows::Origin;
 ghost use mathlib.Core.Path.{_≡_};
 ghost use Prim.Native.Nat.{_*_, _≤_};
 ghost use lib.ListN.{length};
+ghost use Rattle.rows.specs.Rows.{rowsWhole};
 ghost use Rattle.without_pid.specs.Pids.{withoutPid};
 
-// One pass over the rows in use. It gathers and does not stop early: a store that has such a row is the exception.
+// What one pass over the rows in use tells: whether each slot of each row is whole, and whether a row has no PID.
+pub struct Looked {
+    pub whole: bool,
+    pub without: bool,
+}
+
+// Both in one pass: every push makes it, and the time goes with the heads and slots that are read. It gathers and does not stop early.
+pub fn look(heads: &[u64], slots: &[u32], count: u16, size: u16, used: usize) -> Looked
+    requires { ⌜ (used * 12 ≤ length (now heads)) × (used * 288 ≤ length (now slots)) × (12 ≤ size) × (size ≤ 4096) ⌝ }
+    ensures { λ r. ⌜ (r .whole ≡ rowsWhole (now (heads .entry)) (now (slots .entry)) count size used) × (r .without ≡ withoutPid (now (heads .entry)) used) ⌝ }
+{
+    let mut whole = true;
+    let mut without = false;
+    let mut i = used;
+    while i > 0 {
+        i -= 1;
+        whole = whole & cells::all_whole(rows::row_slots(heads, slots, i), count, size);
+        without = without | (heads[i * rows::HEAD_WORDS] == Origin::NO_PID);
+    }
+    Looked {
+        whole: whole,
+        without: without,
+    }
+}
+
+// The second alone. It gathers and does not stop early: a store that has such a row is the exception.
 pub fn any_without_pid(heads: &[u64], used: usize) -> bool
     requires { ⌜ used * 12 ≤ length (now heads) ⌝ }
     ensures { λ r. ⌜ r ≡ withoutPid (now (heads .entry)) used ⌝ }
