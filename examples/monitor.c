@@ -1,7 +1,7 @@
 /*
  * A guide monitor in C over the proved library. It reads records from standard input or from the file named: a PID (two bytes, high byte first)
  * and a section; with --ts a transport stream, packets of 188 bytes one after another, whose sections the library gathers. Sections of watched PIDs go through the gate; those that are sound, new or not, go on to the set collector, EIT sections to the EIT
- * collector: a set that was evicted between two of its sections, or found no cell, is completed by repeats. It prints what a monitor shows: each new
+ * collector: a set that was evicted between two of its sections, or found no cell, is completed by repeats. Repeats wait until there are many, and go on in one call. It prints what a monitor shows: each new
  * section, each complete set with its sections, each complete schedule table by table, the events of both, the transport streams of networks and bouquets, the services, and totals.
  * With -w FOLDER each set and schedule that goes out is also written to a file there, which `./run compare_guides` takes: the PID in two bytes, then the sections.
  * With -l LIMIT FOLDER it keeps a log besides, and the list of the sections that it is of: the files log and sections there, to which
@@ -18,7 +18,7 @@
 /* All records, and all packets, come on one input. */
 enum { INPUT = 0, NULL_PID = 0x1FFF };
 
-enum { CAPACITY = 4096, SECTION_BUFFERS = 64, LIMIT = 64, CELL_SIZE = 4096, CELLS = 1024, LOG_CELLS = 256, LONGEST_SECTION = 3 + 0xFFF, PAGE = 2048 };
+enum { CAPACITY = 4096, SECTION_BUFFERS = 64, LIMIT = 64, CELL_SIZE = 4096, CELLS = 1024, LOG_CELLS = 256, LONGEST_SECTION = 3 + 0xFFF, PAGE = 2048, GATHERED = 1 << 16 };
 
 /* ---- the stores: a struct of words and the arrays that it goes with */
 
@@ -60,11 +60,19 @@ struct log {
     uint8_t cells[CELL_SIZE * LOG_CELLS];
 };
 
+/* Sections that wait for one of the collectors, as a section list; all of them before anything else is printed. */
+struct gathered {
+    bool events; /* they are EIT sections */
+    size_t bytes;
+    uint8_t list[GATHERED];
+};
+
 struct monitor {
     struct gate gate;
     struct streams streams;
     struct sets sets;
     struct eit eit;
+    struct gathered gathered;
     struct log log;
     petrizolu_entry page[PAGE];
     uint64_t unwatched, complete_sets, complete_schedules, refused;
@@ -308,10 +316,8 @@ static bool is_event_table(uint8_t table_id)
     return table_id >= 0x4E && table_id <= 0x6F;
 }
 
-static void collect_events(struct monitor *m, uint32_t pid, const uint8_t *section, size_t length)
+static void show_of_events(struct monitor *m, uint8_t answer, uint64_t row)
 {
-    uint64_t row;
-    uint8_t answer = petrizolu_eit_push(&m->eit.state, LEND_EIT(&m->eit), INPUT, pid, section, length, &row);
     switch (answer) {
     case PETRIZOLU_NOTHING:
         break;
@@ -329,10 +335,8 @@ static void collect_events(struct monitor *m, uint32_t pid, const uint8_t *secti
     }
 }
 
-static void collect_set(struct monitor *m, uint32_t pid, const uint8_t *section, size_t length)
+static void show_of_sets(struct monitor *m, uint8_t answer, uint64_t row)
 {
-    uint64_t row;
-    uint8_t answer = petrizolu_sets_push(&m->sets.state, LEND_SETS(&m->sets), INPUT, pid, section, length, &row);
     switch (answer) {
     case PETRIZOLU_NOTHING:
     case PETRIZOLU_SHORT_FORM: /* a TDT or TOT: there is no set of it */
@@ -345,6 +349,35 @@ static void collect_set(struct monitor *m, uint32_t pid, const uint8_t *section,
         m->refused++;
         printf("refused %u\n", answer);
     }
+}
+
+/* What waits goes to its collector: behind each section that has something to say the call ends, and goes on with the rest. */
+static void push_gathered(struct monitor *m)
+{
+    struct gathered *g = &m->gathered;
+    uint64_t row = 0, taken = 1;
+    for (size_t at = 0; at < g->bytes && taken > 0; at += taken) {
+        const uint8_t *rest = g->list + at;
+        uint8_t answer = g->events ? petrizolu_eit_push_all(&m->eit.state, LEND_EIT(&m->eit), rest, g->bytes - at, &row, &taken)
+                                   : petrizolu_sets_push_all(&m->sets.state, LEND_SETS(&m->sets), rest, g->bytes - at, &row, &taken);
+        if (g->events)
+            show_of_events(m, answer, row);
+        else
+            show_of_sets(m, answer, row);
+    }
+    g->bytes = 0;
+}
+
+static void gather(struct monitor *m, uint32_t pid, const uint8_t *section, size_t length)
+{
+    struct gathered *g = &m->gathered;
+    const uint8_t head[5] = {INPUT, (uint8_t)(pid >> 8), (uint8_t)pid, (uint8_t)(length >> 8), (uint8_t)length};
+    if (g->events != is_event_table(section[0]) || sizeof g->list - g->bytes < sizeof head + length)
+        push_gathered(m);
+    g->events = is_event_table(section[0]);
+    memcpy(g->list + g->bytes, head, sizeof head);
+    memcpy(g->list + g->bytes + sizeof head, section, length);
+    g->bytes += sizeof head + length;
 }
 
 /* ---- the log */
@@ -398,24 +431,26 @@ static void judged(struct monitor *m, uint32_t pid, const uint8_t *section, size
     if (m->log.records != NULL)
         keep_log(m, pid, section, length, (uint8_t)answer);
     switch (answer) {
-    case PETRIZOLU_EMITTED:
+    case PETRIZOLU_EMITTED: /* it may complete a set, which is shown at once */
+        push_gathered(m);
         printf("new pid %04" PRIX32 " table %02X, %zu bytes\n", pid, section[0], length);
-        break;
+        gather(m, pid, section, length);
+        push_gathered(m);
+        return;
     case PETRIZOLU_SUPPRESSED:
-        break;
+        gather(m, pid, section, length);
+        return;
     case PETRIZOLU_TOO_SHORT:
+        push_gathered(m);
         printf("short pid %04" PRIX32 ", %zu bytes\n", pid, length);
         return;
     case PETRIZOLU_CRC_MISMATCH:
+        push_gathered(m);
         printf("mismatch pid %04" PRIX32 ", stored %08" PRIX64 ", worked %08" PRIX64 "\n", pid, stored, worked);
         return;
     default:
         return;
     }
-    if (is_event_table(section[0]))
-        collect_events(m, pid, section, length);
-    else
-        collect_set(m, pid, section, length);
 }
 
 static bool is_watched(struct monitor *m, uint32_t pid)
@@ -445,6 +480,7 @@ static void take_packet(struct monitor *m, const uint8_t *packet)
         m->unwatched += !watched && pid != NULL_PID;
         break;
     case PETRIZOLU_NO_BUFFER:
+        push_gathered(m);
         printf("no buffer for pid %04" PRIX32 "\n", pid);
         break;
     default:
@@ -521,7 +557,9 @@ int main(int argc, char **argv)
         fputs("monitor: the stores do not open\n", stderr);
         return 1;
     }
-    if (!(packets ? read_packets(&m, in) : read_records(&m, in)))
+    bool whole = packets ? read_packets(&m, in) : read_records(&m, in);
+    push_gathered(&m);
+    if (!whole)
         puts("cut");
     if (packets)
         printf("packets %" PRIu64 " malformed %" PRIu64 "\n", m.streams.state.packets, m.streams.state.malformed);

@@ -460,6 +460,24 @@ uint8_t petrizolu_sets_push(petrizolu_sets *sets, uint64_t *heads, size_t head_w
                             size_t cell_bytes, uint32_t input, uint32_t pid, const uint8_t *section, size_t section_length, uint64_t *row);
 
 /*
+ * Gives the sections of a section list (below, "logs": input, PID in two bytes, length in two, then the section), one after another, until one answers something else
+ * than 4 or the list ends; answer, memory and *row are those of the same sections by petrizolu_sets_push, but the store is looked at once and not at every section.
+ * A host that gathers the sections of a block of packets saves that look. 42: some length in the list is over 4,098; 10: the list is cut (the first bad section decides), or
+ * the store is not whole; 11, 41 (a row in use has no PID): nothing is pushed. 4: every section answered 4, or there is none. Else as that one section answered, after those before it.
+ * *taken, written by every answer: how many bytes of the list were taken, all through the section that answered; 0 where nothing is pushed. Go on behind them.
+ *
+ *     const uint8_t gathered[] = {3, 0x00, 0x11, 0, 3, 0x02, 0xB0, 0x00, 3, 0x00, 0x11, 0, 0};     // three bytes and none, both of input 3 and PID 0x11
+ *     uint64_t taken = 0;
+ *     for (size_t at = 0; at < sizeof gathered; at += taken) {
+ *         uint8_t last = petrizolu_sets_push_all(&sets, heads, sizeof heads / 8, slots, sizeof slots / 4, cells, sizeof cells, gathered + at, sizeof gathered - at, &row, &taken);
+ *         if (taken == 0)
+ *             return last;
+ *     }
+ */
+uint8_t petrizolu_sets_push_all(petrizolu_sets *sets, uint64_t *heads, size_t head_words, uint32_t *slots, size_t slot_words, uint8_t *cells,
+                                size_t cell_bytes, const uint8_t *sections, size_t section_bytes, uint64_t *row, uint64_t *taken);
+
+/*
  * Empties all rows; the eviction count stays. 7; 10, 41 (a row in use has no PID): as before.
  *
  *     petrizolu_sets_clear(&sets, heads, sizeof heads / 8, slots, sizeof slots / 4, cells, sizeof cells);
@@ -518,6 +536,17 @@ uint8_t petrizolu_eit_open(petrizolu_eit *eit, uint64_t limit, uint64_t size, ui
 uint8_t petrizolu_eit_push(petrizolu_eit *eit, uint64_t *heads, size_t head_words, uint32_t *slots, size_t slot_words, uint8_t *cells,
                            size_t cell_bytes, uint64_t *schedule_heads, size_t schedule_head_words, uint32_t *units, size_t unit_words,
                            uint32_t input, uint32_t pid, const uint8_t *section, size_t section_length, uint64_t *row);
+
+/*
+ * Gives the sections of a section list as petrizolu_sets_push_all does: answer, memory and *row are those of the same sections by petrizolu_eit_push, one after another until one
+ * answers something else than 4, and the store is looked at once. 42 and 10 of the list, 10, 11 and 41 of the store: nothing is pushed. *taken is written by every answer.
+ *
+ *     uint8_t last_answer = petrizolu_eit_push_all(&eit, heads, sizeof heads / 8, slots, sizeof slots / 4, cells, sizeof cells, schedule_heads, sizeof schedule_heads / 8, units, sizeof units / 4,
+ *                                                  gathered, sizeof gathered, &row, &taken);
+ */
+uint8_t petrizolu_eit_push_all(petrizolu_eit *eit, uint64_t *heads, size_t head_words, uint32_t *slots, size_t slot_words, uint8_t *cells,
+                               size_t cell_bytes, uint64_t *schedule_heads, size_t schedule_head_words, uint32_t *units, size_t unit_words,
+                               const uint8_t *sections, size_t section_bytes, uint64_t *row, uint64_t *taken);
 
 /*
  * Empties all sets and schedules; the eviction counts stay. 7; 10, 41 (a set or a schedule in use has no PID): as before.

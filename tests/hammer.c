@@ -9,7 +9,7 @@
  * followed, whether the PAT store is whole is worked out here too; where they are not, or where a section enters nothing, it must be as before. What a
  * section says is worked out here too, entry by entry; of a row the entries must be in the cells, the words behind the page as before. Whether a call is
  * made without a PID, or on a store in which a row in use has none, is known: 41 comes then, after 10 and 11 and before all else, and nowhere else.
- * Two guides are compared here as well (hammer_guides.h), and logs written, checked and read (hammer_logs.h). Prints the calls by function and answer.
+ * Two guides are compared here as well (hammer_guides.h), logs written, checked and read (hammer_logs.h), and many sections pushed in one call (hammer_all.h). Prints the calls by function and answer.
  */
 #include "../include/petrizolu.h"
 
@@ -145,7 +145,7 @@ static void damage(struct array *a)
 
 /* ---- what must hold */
 
-enum call { GATE_OPEN, GATE_OFFER, WATCH_OPEN, WATCH_ASK, INDEXED_OPEN, INDEXED_OFFER, SETS_OPEN, SETS_PUSH, SETS_CLEAR, SETS_NEXT, EIT_OPEN, EIT_PUSH, EIT_CLEAR, EIT_DROP, EIT_NEXT, EIT_NEXT_IN_SCHEDULE, STREAMS_OPEN, FEED, INDEXED_FEED, EVENTS, EIT_EVENTS, EIT_EVENTS_IN_SCHEDULE, DATE, ENTRIES, SETS_ENTRIES, COMPARE, COMPARE_SCHEDULES, HELD_BY_ONE, LOG_CHECK, LOG_WRITE, LOG_OFFER_RECORD, LOG_SET_RECORD, LOG_READ, CALLS };
+enum call { GATE_OPEN, GATE_OFFER, WATCH_OPEN, WATCH_ASK, INDEXED_OPEN, INDEXED_OFFER, SETS_OPEN, SETS_PUSH, SETS_PUSH_ALL, SETS_CLEAR, SETS_NEXT, EIT_OPEN, EIT_PUSH, EIT_PUSH_ALL, EIT_CLEAR, EIT_DROP, EIT_NEXT, EIT_NEXT_IN_SCHEDULE, STREAMS_OPEN, FEED, INDEXED_FEED, EVENTS, EIT_EVENTS, EIT_EVENTS_IN_SCHEDULE, DATE, ENTRIES, SETS_ENTRIES, COMPARE, COMPARE_SCHEDULES, HELD_BY_ONE, LOG_CHECK, LOG_WRITE, LOG_OFFER_RECORD, LOG_SET_RECORD, LOG_READ, CALLS };
 
 #define ANSWERS 45
 #define ONE(n) ((uint64_t)1 << (n))
@@ -162,10 +162,12 @@ static const struct {
     {"indexed_offer", ONE(1) | ONE(2) | ONE(3) | ONE(10) | ONE(11) | ONE(12) | ONE(31) | ONE(37)},
     {"sets_open", ONE(7) | ONE(13)},
     {"sets_push", ONE(4) | ONE(5) | ONE(10) | ONE(11) | ONE(12) | ONE(14) | ONE(15) | ONE(16) | ONE(17) | ONE(20) | ONE(21) | ONE(22) | ONE(37) | ONE(41)},
+    {"sets_push_all", ONE(4) | ONE(5) | ONE(10) | ONE(11) | ONE(12) | ONE(14) | ONE(15) | ONE(16) | ONE(17) | ONE(20) | ONE(21) | ONE(22) | ONE(37) | ONE(41) | ONE(42)},
     {"sets_clear", ONE(7) | ONE(10) | ONE(41)},
     {"sets_next", ONE(8) | ONE(9) | ONE(10) | ONE(41)},
     {"eit_open", ONE(7) | ONE(13)},
     {"eit_push", ONE(4) | ONE(5) | ONE(6) | ONE(10) | ONE(11) | ONE(12) | 0xFFC000u | ONE(37) | ONE(41)},
+    {"eit_push_all", ONE(4) | ONE(5) | ONE(6) | ONE(10) | ONE(11) | ONE(12) | 0xFFC000u | ONE(37) | ONE(41) | ONE(42)},
     {"eit_clear", ONE(7) | ONE(10) | ONE(41)},
     {"eit_drop", ONE(7) | ONE(10) | ONE(12) | ONE(37) | ONE(41)},
     {"eit_next", ONE(8) | ONE(9) | ONE(10) | ONE(41)},
@@ -868,6 +870,8 @@ static void sets_push(uint32_t pid)
     check_row(SETS_PUSH, row[0], answer, sets.words[3]);
 }
 
+static void push_all(enum call call, struct part *p);
+
 static void sets_next(uint64_t row, uint64_t from)
 {
     uint64_t next[3] = NO_SECTION;
@@ -1301,6 +1305,8 @@ static void use_sets(int times)
     while (times-- > 0) {
         draw_section();
         sets_push(draw_pid());
+        if (once_in(3))
+            push_all(SETS_PUSH_ALL, &sets);
         if (once_in(2))
             section_entries();
         if (once_in(2))
@@ -1318,6 +1324,8 @@ static void use_eit(int times)
         uint64_t row;
         unsigned answer;
         draw_section();
+        if (once_in(3))
+            push_all(EIT_PUSH_ALL, &eit);
         answer = eit_push(draw_pid(), &row);
         if (answer == PETRIZOLU_SET || answer == PETRIZOLU_SCHEDULE)
             eit_events(answer == PETRIZOLU_SCHEDULE, row, below(2));
@@ -1919,6 +1927,7 @@ static void round_of_packets(void)
 
 #include "hammer_guides.h"
 #include "hammer_logs.h"
+#include "hammer_all.h"
 
 static void print_counts(void)
 {

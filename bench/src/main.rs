@@ -1,6 +1,7 @@
-//! bench [quick] [entries|guides|logs]: nanoseconds a section, the port beside the original on the same sections in the same scattered order. Times are the thread's
+//! bench [quick] [entries|guides|logs|many]: nanoseconds a section, the port beside the original on the same sections in the same scattered order. Times are the thread's
 //! processor time, the best of some rounds; the rounds of the port and of the original take turns, so that a busy machine slows both.
-//! With `entries` only the listing of a section's entries, with `guides` only the comparison of two sets, with `logs` only a log is measured; the original has none of them.
+//! With `entries` only the listing of a section's entries, with `guides` only the comparison of two sets, with `logs` only a log is measured; the original has none of them. With `many` only
+//! repeats to the collectors, one at a time and many in one call.
 
 mod guides;
 mod logs;
@@ -13,7 +14,7 @@ use bytes::Bytes;
 use dvb_si::collect::{EitCollector, SectionSetCollector};
 use dvb_si::demux::SiDemux;
 use mpeg_ts::pid::Pid;
-use petrizolu::{Answer, BAT, DEFAULT_SETTINGS, ENTRY_WORDS, Eit, FOLLOW_SECTIONS, Gate, Listed, NIT, Offered, Refused, SDT, Sets, SmallGate, calls};
+use petrizolu::{Answer, BAT, DEFAULT_SETTINGS, ENTRY_WORDS, Eit, FOLLOW_SECTIONS, Gate, Listed, NIT, Offered, Refused, SDT, Sets, SmallGate, calls, listed_section};
 use sections::{eit, long, of_version};
 use std::hint::black_box;
 use std::sync::atomic::Ordering;
@@ -313,6 +314,93 @@ fn sets(rounds: usize) {
     }
 }
 
+/// What a host gathers for one call.
+const MANY: usize = 64;
+
+/// Sections of a PID as lists of `MANY`.
+fn lists(pid: u16, sections: impl Iterator<Item = impl AsRef<[u8]>>) -> Vec<Vec<u8>> {
+    let listed: Vec<Vec<u8>> = sections.map(|section| listed_section(0, pid, section.as_ref()).expect("short enough")).collect();
+    listed.chunks(MANY).map(<[Vec<u8>]>::concat).collect()
+}
+
+fn sets_many(rounds: usize) {
+    head("Set collector: a repeat of a held set of one section, one at a time and 64 in one call", "keys held", &["one at a time", "64 in one call"]);
+    for limit in [16, 256, 4096] {
+        for size in [64, 200, 1000] {
+            let all: Vec<Vec<u8>> = (0..limit).map(|i| long(0x42, i as u16, 0, 0, &vec![i as u8; size - 12])).collect();
+            let order: Vec<usize> = scattered(limit).into_iter().cycle().take(limit.max(4_096)).collect();
+            let lists = lists(PID, order.iter().map(|&i| &all[i]));
+            let mut single = Sets::open(limit, size, limit).expect("opens");
+            let mut many = Sets::open(limit, size, limit).expect("opens");
+            let mut collector = SectionSetCollector::new().with_max_partial_keys(limit);
+            for section in &all {
+                assert!(matches!((single.push(0, Some(PID), section), many.push(0, Some(PID), section)), (Ok(Some(_)), Ok(Some(_)))));
+            }
+            let mut port: [Side; 2] = [
+                Box::new(|| {
+                    for &i in &order {
+                        assert!(matches!(black_box(single.push(0, Some(PID), &all[i])), Ok(None)));
+                    }
+                }),
+                Box::new(|| {
+                    for list in &lists {
+                        assert!(matches!(black_box(many.push_all(list)), (Ok(None), taken) if taken == list.len()));
+                    }
+                }),
+            ];
+            let mut original: Side = Box::new(|| {
+                for &i in &order {
+                    let _ = black_box(collector.push_section_with_pid(Some(Pid::new(PID)), &all[i]));
+                }
+            });
+            let rounds = if limit > 1_000 { rounds.min(3) } else { rounds };
+            measure(order.len(), rounds, &mut port, &mut original).print(&limit.to_string(), size);
+        }
+    }
+}
+
+fn events_many(rounds: usize, title: &str, table_id: u8) {
+    head(&format!("EIT collector: {title}, one at a time and 64 in one call"), "keys held", &["one at a time", "64 in one call"]);
+    for limit in [16, 256, 4096] {
+        for size in [64, 200, 1000] {
+            let all: Vec<Vec<u8>> = (0..limit).map(|i| eit(table_id, i as u16, table_id, size)).collect();
+            let order: Vec<usize> = scattered(limit).into_iter().cycle().take(limit.max(4_096)).collect();
+            let lists = lists(0x12, order.iter().map(|&i| &all[i]));
+            let mut single = Eit::open(limit, size, limit).expect("opens");
+            let mut many = Eit::open(limit, size, limit).expect("opens");
+            let mut collector = EitCollector::new().with_max_logical_keys(limit);
+            for section in &all {
+                assert!(matches!((single.push(0, Some(0x12), section), many.push(0, Some(0x12), section)), (Ok(Some(_)), Ok(Some(_)))));
+            }
+            let mut port: [Side; 2] = [
+                Box::new(|| {
+                    for &i in &order {
+                        assert!(matches!(black_box(single.push(0, Some(0x12), &all[i])), Ok(None)));
+                    }
+                }),
+                Box::new(|| {
+                    for list in &lists {
+                        assert!(matches!(black_box(many.push_all(list)), (Ok(None), taken) if taken == list.len()));
+                    }
+                }),
+            ];
+            let mut original: Side = Box::new(|| {
+                for &i in &order {
+                    let _ = black_box(collector.push_section_with_pid(Some(Pid::new(0x12)), &all[i]));
+                }
+            });
+            let rounds = if limit > 1_000 { rounds.min(3) } else { rounds };
+            measure(order.len(), rounds, &mut port, &mut original).print(&limit.to_string(), size);
+        }
+    }
+}
+
+fn many(rounds: usize) {
+    sets_many(rounds);
+    events_many(rounds, "a repeat of a held present/following set of one section", 0x4E);
+    events_many(rounds, "a repeat of a held schedule of one table of one section", 0x50);
+}
+
 fn sets_new_keys(rounds: usize) {
     head("Set collector: each section a new key at a full limit, a set of one that goes out", "limit", &["port"]);
     for limit in [16, 256] {
@@ -396,7 +484,7 @@ fn check_of_the_store(rounds: usize) {
         let mut sets = Sets::open(limit, 64, (limit * slots).min(65_535)).expect("opens");
         for i in 0..limit {
             for number in 0..=last {
-                let _ = sets.push(0, None, &long(0x42, i as u16, number, last, &[0; 52]));
+                assert!(sets.push(0, Some(PID), &long(0x42, i as u16, number, last, &[0; 52])).is_ok());
             }
         }
         let turns = 400_000 / (limit * slots) + 4;
@@ -488,7 +576,7 @@ fn tables(rounds: usize) {
 fn main() {
     let rounds = if std::env::args().any(|a| a == "quick") { 3 } else { 9 };
     println!(
-        "Nanoseconds a section, best of {rounds} rounds (two at thousands of rows). Ratios: to the original over one table, then over eight."
+        "Nanoseconds a section, best of {rounds} rounds (two or three at thousands of rows). Ratios: to the original over one table, then over eight."
     );
     if std::env::args().any(|a| a == "entries") {
         return listings(rounds);
@@ -499,12 +587,16 @@ fn main() {
     if std::env::args().any(|a| a == "logs") {
         return logs::logs(rounds);
     }
+    if std::env::args().any(|a| a == "many") {
+        return many(rounds);
+    }
     crc(rounds);
     gate(rounds);
     gate_new_keys(rounds);
     following(rounds);
     packets::packets(rounds);
     sets(rounds);
+    many(rounds);
     sets_new_keys(rounds);
     event_repeats(rounds, "EIT collector: a repeat of a held present/following set of one section", 0x4E);
     event_repeats(rounds, "EIT collector: a repeat of a held schedule of one table of one section", 0x50);

@@ -555,6 +555,34 @@ pub fn sets_push(
     })
 }
 
+/// The sections of a list. `row` is written where the answer is 5, `taken` always.
+pub fn sets_push_all(
+    sets: &mut SetsState,
+    heads: &mut [u64],
+    slots: &mut [u32],
+    cells: &mut [u8],
+    sections: &[u8],
+    row: &mut u64,
+    taken: &mut u64,
+) -> Answer {
+    // SAFETY: as above.
+    Answer(unsafe {
+        raw::petrizolu_sets_push_all(
+            sets,
+            heads.as_mut_ptr(),
+            heads.len(),
+            slots.as_mut_ptr(),
+            slots.len(),
+            cells.as_mut_ptr(),
+            cells.len(),
+            sections.as_ptr(),
+            sections.len(),
+            row,
+            taken,
+        )
+    })
+}
+
 pub fn sets_clear(sets: &mut SetsState, heads: &[u64], slots: &[u32], cells: &[u8]) -> Answer {
     // SAFETY: as above.
     Answer(unsafe {
@@ -646,6 +674,40 @@ pub fn eit_push(
             section.as_ptr(),
             section.len(),
             row,
+        )
+    })
+}
+
+/// The sections of a list. `row` is written where the answer is 5 or 6, `taken` always.
+pub fn eit_push_all(
+    eit: &mut EitState,
+    heads: &mut [u64],
+    slots: &mut [u32],
+    cells: &mut [u8],
+    schedule_heads: &mut [u64],
+    units: &mut [u32],
+    sections: &[u8],
+    row: &mut u64,
+    taken: &mut u64,
+) -> Answer {
+    // SAFETY: as above.
+    Answer(unsafe {
+        raw::petrizolu_eit_push_all(
+            eit,
+            heads.as_mut_ptr(),
+            heads.len(),
+            slots.as_mut_ptr(),
+            slots.len(),
+            cells.as_mut_ptr(),
+            cells.len(),
+            schedule_heads.as_mut_ptr(),
+            schedule_heads.len(),
+            units.as_mut_ptr(),
+            units.len(),
+            sections.as_ptr(),
+            sections.len(),
+            row,
+            taken,
         )
     })
 }

@@ -19,6 +19,15 @@ pub struct Eit {
     units: Box<[u32]>,
 }
 
+fn given(answer: Answer, row: u64) -> Result<Option<Complete>, Refused> {
+    match answer {
+        Answer::NOTHING => Ok(None),
+        Answer::SET => Ok(Some(Complete::Set(Row(row)))),
+        Answer::SCHEDULE => Ok(Some(Complete::Schedule(Row(row)))),
+        other => Err(Refused(other)),
+    }
+}
+
 impl Eit {
     pub fn open(limit: usize, size: usize, count: usize) -> Result<Self, Refused> {
         let mut eit = Self {
@@ -50,12 +59,24 @@ impl Eit {
             section,
             &mut row,
         );
-        match answer {
-            Answer::NOTHING => Ok(None),
-            Answer::SET => Ok(Some(Complete::Set(Row(row)))),
-            Answer::SCHEDULE => Ok(Some(Complete::Schedule(Row(row)))),
-            other => Err(Refused(other)),
-        }
+        given(answer, row)
+    }
+
+    /// Gives the sections of a list as [`crate::Sets::push_all`] does.
+    pub fn push_all(&mut self, sections: &[u8]) -> (Result<Option<Complete>, Refused>, usize) {
+        let (mut row, mut taken) = (0, 0);
+        let answer = calls::eit_push_all(
+            &mut self.state,
+            &mut self.heads,
+            &mut self.slots,
+            &mut self.cells,
+            &mut self.schedule_heads,
+            &mut self.units,
+            sections,
+            &mut row,
+            &mut taken,
+        );
+        (given(answer, row), taken as usize)
     }
 
     pub fn clear(&mut self) -> Result<(), Refused> {

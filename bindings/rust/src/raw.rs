@@ -184,6 +184,19 @@ unsafe extern "C" {
         section_length: usize,
         row: *mut u64,
     ) -> u8;
+    pub fn petrizolu_sets_push_all(
+        sets: *mut SetsState,
+        heads: *mut u64,
+        head_words: usize,
+        slots: *mut u32,
+        slot_words: usize,
+        cells: *mut u8,
+        cell_bytes: usize,
+        sections: *const u8,
+        section_bytes: usize,
+        row: *mut u64,
+        taken: *mut u64,
+    ) -> u8;
     pub fn petrizolu_sets_clear(
         sets: *mut SetsState,
         heads: *const u64,
@@ -238,6 +251,23 @@ unsafe extern "C" {
         section: *const u8,
         section_length: usize,
         row: *mut u64,
+    ) -> u8;
+    pub fn petrizolu_eit_push_all(
+        eit: *mut EitState,
+        heads: *mut u64,
+        head_words: usize,
+        slots: *mut u32,
+        slot_words: usize,
+        cells: *mut u8,
+        cell_bytes: usize,
+        schedule_heads: *mut u64,
+        schedule_head_words: usize,
+        units: *mut u32,
+        unit_words: usize,
+        sections: *const u8,
+        section_bytes: usize,
+        row: *mut u64,
+        taken: *mut u64,
     ) -> u8;
     pub fn petrizolu_eit_clear(
         eit: *mut EitState,

@@ -11,6 +11,14 @@ pub struct Sets {
     cells: Box<[u8]>,
 }
 
+fn given(answer: Answer, row: u64) -> Result<Option<Row>, Refused> {
+    match answer {
+        Answer::NOTHING => Ok(None),
+        Answer::SET => Ok(Some(Row(row))),
+        other => Err(Refused(other)),
+    }
+}
+
 impl Sets {
     pub fn open(limit: usize, size: usize, count: usize) -> Result<Self, Refused> {
         let mut sets = Self {
@@ -36,11 +44,16 @@ impl Sets {
             section,
             &mut row,
         );
-        match answer {
-            Answer::NOTHING => Ok(None),
-            Answer::SET => Ok(Some(Row(row))),
-            other => Err(Refused(other)),
-        }
+        given(answer, row)
+    }
+
+    /// Gives the sections of a list ([`crate::listed_section`]) one after another, until one completes a set or is refused, or the list ends: what the last one gave,
+    /// and how many bytes of the list were taken. Go on behind them; 0 where the list or the store is refused as a whole.
+    pub fn push_all(&mut self, sections: &[u8]) -> (Result<Option<Row>, Refused>, usize) {
+        let (mut row, mut taken) = (0, 0);
+        let answer =
+            calls::sets_push_all(&mut self.state, &mut self.heads, &mut self.slots, &mut self.cells, sections, &mut row, &mut taken);
+        (given(answer, row), taken as usize)
     }
 
     pub fn clear(&mut self) -> Result<(), Refused> {

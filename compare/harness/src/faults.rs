@@ -54,9 +54,14 @@ impl Fault {
         self.part() == player::command::Part::Logs
     }
 
+    /// Whether it shows where many sections are pushed in one call alone.
+    pub fn of_all(self) -> bool {
+        (Fault::AllSetPassed as usize..=Fault::AllOnCurrentInput as usize).contains(&(self as usize))
+    }
+
     /// Whether the original has a counterpart of the faulty part.
     pub fn has_original(self) -> bool {
-        let of_the_port = self.of_events() || self.of_networks() || self.of_guides() || self.of_logs();
+        let of_the_port = self.of_events() || self.of_networks() || self.of_guides() || self.of_logs() || self.of_all();
         !self.of_rule_2() && !self.of_inputs() && !self.of_pats() && !self.of_no_pid() && !of_the_port
     }
 
@@ -280,6 +285,13 @@ faults! {
     GuideNoPidCompared Guides "sides without a PID are compared",
     GuideNoPidFirst Guides "41 is answered before 10",
     GuideBadPidBeforeNone Guides "12 is answered before 41",
+
+    AllSetPassed Sets "many at a time: a set that goes out does not end the call",
+    AllRefusalPassed Sets "many at a time: a section that is refused does not end the call",
+    AllAnsweringUntaken Sets "many at a time: the section that answered is not taken",
+    AllCutPushed Sets "many at a time: the sections before the bad one of a list are pushed",
+    AllOverlongIsTen Sets "many at a time: a list with an overlong section is answered 10",
+    AllOnCurrentInput Sets "many at a time: the input that the list says is not read",
 
     LogKindsExchanged Logs "a short section is kind 4, a mismatch kind 3",
     LogLowByteFirst Logs "numbers of two bytes stand low byte first",

@@ -13,7 +13,7 @@ use std::path::Path;
 // ---- section lists
 
 /// A section as a list has it.
-fn listed(input: u8, pid: u16, section: &[u8]) -> Vec<u8> {
+pub fn listed(input: u8, pid: u16, section: &[u8]) -> Vec<u8> {
     [&[input][..], &pid.to_be_bytes(), &(section.len() as u16).to_be_bytes(), section].concat()
 }
 
@@ -99,7 +99,7 @@ fn refused(dice: &mut Dice, good: Settings) -> Settings {
 }
 
 /// A list that is 42 or 10: cut, or with an overlong section, whose bytes may be there.
-fn bad_list(dice: &mut Dice, sections: &[Vec<u8>]) -> Vec<u8> {
+pub fn bad_list(dice: &mut Dice, sections: &[Vec<u8>]) -> Vec<u8> {
     let mut list = sections.concat();
     let whole = sections[..dice.below(sections.len())].concat();
     let overlong = dice.of(&[4099u16, 4100, 0xFFFF]);

@@ -1,4 +1,5 @@
 //! Runs the port beside the original and beside a second implementation, in one process, and compares what they answer, command for command.
+mod all;
 mod apart;
 mod beside;
 mod events;
@@ -49,11 +50,12 @@ const USAGE: &str = "usage: compare/run [SEEDS] [COMMANDS]             scripts i
        compare/run --networks [SEEDS] [COMMANDS]  the entries of networks, bouquets and services: the same, and the program tables
        compare/run --guides [SEEDS] [COMMANDS]    two guides compared: the port beside the second implementation, and the program compare_guides
        compare/run --logs [SEEDS] [SECTIONS]      logs written, checked and spoilt: the port beside the second implementation, and the programs write_log, check_log and show_log
+       compare/run --all [SEEDS] [COMMANDS]       many sections in one call: the port beside the second implementation, which pushes them one by one
        compare/run --faults [SEEDS] [COMMANDS] [PART]    the same, with each fault in turn in the second implementation
        compare/run --present [SEEDS] [COMMANDS]   two EIT collectors, one with a smaller limit: the third demand for present and following
        compare/run --split STREAM                 the PAT of a transport stream sent in two sections: which of its programmes are seen
        compare/run --script FILE                  a script of your own
-       compare/run --tape DOMAIN SEED COMMANDS    writes the script of a seed as a tape (inside, damaged or cells; inputs or apart for several inputs; pats; events; networks; guides; logs, whose commands are sections)
+       compare/run --tape DOMAIN SEED COMMANDS    writes the script of a seed as a tape (inside, damaged or cells; inputs or apart for several inputs; pats; events; networks; guides; all; logs, whose commands are sections)
        compare/run --sections                     what the program sections writes on the stream on standard input, by the second implementation
        compare/run --listed                       such records as lines: a PID and a section each
        compare/run --vary VARIANT SEED            a variant of the stream on standard input: guide, late, lost, copied, shuffled or swapped
@@ -95,6 +97,10 @@ fn main() -> ExitCode {
         },
         Some(&"--logs") => match (number(1, 100), number(2, 5000)) {
             (Some(seeds), Some(sections)) => logs::compare(&root, seeds, sections),
+            _ => return usage(),
+        },
+        Some(&"--all") => match (number(1, 50), number(2, 20_000)) {
+            (Some(seeds), Some(commands)) => all::compare(&root, seeds, commands),
             _ => return usage(),
         },
         Some(&"--faults") => match (number(1, 40), number(2, 2000)) {
@@ -230,6 +236,7 @@ fn named_script(name: &str, seed: u64, commands: usize) -> Option<Vec<Command>> 
         "networks" => networks::script(seed, commands),
         "guides" => guides::script(seed, commands),
         "logs" => logs::script(seed, commands),
+        "all" => all::script(seed, commands),
         _ => make::script(seed, commands, Domain::named(name)?),
     })
 }
@@ -243,7 +250,7 @@ fn played(tape: &[u8]) -> String {
 
 /// A tape that ends inside a command, at each place, and a command that there is not.
 fn compare_ends(root: &Path) -> bool {
-    let written = ["scripts", "inputs", "pats", "packets", "events", "networks", "guides", "logs"].into_iter().flat_map(|folder| Written::all(root, folder));
+    let written = ["scripts", "inputs", "pats", "packets", "events", "networks", "guides", "logs", "all"].into_iter().flat_map(|folder| Written::all(root, folder));
     let script = &first_of_each_kind(written.flat_map(|script| script.commands))[..];
     let lines = Side::RULES.lines(script);
     let starts: Vec<usize> = (0..=script.len()).map(|whole| tape_of(&script[..whole]).len()).collect();
@@ -254,7 +261,7 @@ fn compare_ends(root: &Path) -> bool {
         lines[..whole].iter().map(|line| format!("{line}\n")).collect::<String>() + cut
     };
     let mut good = (0..=tape.len()).all(|end| played(&tape[..end]) == expected(end));
-    for bad in [0x00, 0x0F, 0x17, 0x1F, 0x23, 0x26, 0x38, 0x3F, 0x45, 0x4F, 0x51, 0x63, 0x75, 0xFF] {
+    for bad in [0x00, 0x0F, 0x17, 0x1F, 0x26, 0x39, 0x3F, 0x45, 0x4F, 0x51, 0x63, 0x75, 0xFF] {
         let output = played(&[&tape[..], &[bad, 0x14]].concat());
         good &= output == expected(tape.len()) + &format!("bad {}\n", tape.len());
     }
@@ -341,6 +348,7 @@ fn domains_of(fault: Fault) -> &'static [(Domain, &'static str)] {
         fault if fault.of_networks() => &[(Domain::Inside, "entries of networks, bouquets and services")],
         fault if fault.of_guides() => &[(Domain::Inside, "guides")],
         fault if fault.of_logs() => &[(Domain::Inside, "logs")],
+        fault if fault.of_all() => &[(Domain::Inside, "many in one call")],
         _ => &DOMAINS,
     }
 }
@@ -361,6 +369,9 @@ fn script_for(fault: Fault, seed: u64, commands: usize, domain: Domain) -> Vec<C
     }
     if fault.of_logs() {
         return logs::script(seed, 60);
+    }
+    if fault.of_all() {
+        return all::script(seed, commands);
     }
     let script = if fault.of_inputs() { make::on_inputs } else { make::script };
     let mut script = make::counted(script(seed, commands, domain));

@@ -66,6 +66,7 @@ impl Original {
             Command::Demux(command) => self.demux(command),
             Command::Events { .. } | Command::Read { .. } | Command::Date(_) => panic!("the original lists no entries"),
             Command::Entries { .. } | Command::ReadTable { .. } => panic!("the original lists no entries"),
+            Command::PushAll { .. } => panic!("the original takes one section at a time"),
             Command::Guides(_) => panic!("the original compares no guides"),
             Command::Logs(_) => panic!("the original has no log"),
         }
@@ -250,7 +251,7 @@ impl Original {
 pub fn has_all(script: &[Command]) -> bool {
     let on_one = !script.iter().any(|command| matches!(command, Command::Input(_)));
     let by_rule_1 = !script.iter().filter_map(Command::opening).any(|opening| opening.rule == 2);
-    let compares = script.iter().any(|command| matches!(command, Command::Guides(_) | Command::Logs(_)));
+    let compares = script.iter().any(|command| matches!(command, Command::Guides(_) | Command::Logs(_) | Command::PushAll { .. }));
     on_one && by_rule_1 && !compares && !follows_tables(script) && !asks_for_entries(script) && opened_at_once(script)
 }
 

@@ -1,5 +1,6 @@
 //! The stored tapes of tests/tapes with the lines that they print, the stored output of the program `examples_run`, and the stored input and output of the programs that read a
 //! transport stream.
+use crate::all;
 use crate::events;
 use crate::guides;
 use crate::logs;
@@ -21,7 +22,7 @@ const COMMANDS: usize = 2500;
 
 /// `domain` has the written scripts and some seeds inside the domain, without what a named difference decides, answered by the original; `damaged` has
 /// damaged and cell-bound seeds, `inputs` seeds of each domain on several inputs, `pats` seeds of PATs in several sections, and
-/// `events` and `tables` seeds that ask for entries, `guides` a seed of two guides compared, `logs` one of logs, answered by the second implementation.
+/// `events` and `tables` seeds that ask for entries, `guides` a seed of two guides compared, `logs` one of logs, `all` one of many sections in one call, answered by the second implementation.
 pub fn store(root: &Path) -> bool {
     let seeds = |domain| SEEDS.flat_map(move |seed| make::script(seed, COMMANDS, domain));
     let inside: Vec<Command> = by_hand(root, "scripts").chain(seeds(Domain::Inside)).collect();
@@ -35,6 +36,7 @@ pub fn store(root: &Path) -> bool {
         && store_tape(root, "tables", Side::RULES, &of_networks(root))
         && store_tape(root, "guides", Side::RULES, &of_guides(root))
         && store_tape(root, "logs", Side::RULES, &of_logs(root))
+        && store_tape(root, "all", Side::RULES, &of_all(root))
         && store_examples(root)
         && watch_pats::store(root)
         && store_streams(root)
@@ -81,6 +83,11 @@ fn of_guides(root: &Path) -> Vec<Command> {
 /// The written scripts of logs/ and a seed.
 fn of_logs(root: &Path) -> Vec<Command> {
     by_hand(root, "logs").chain(logs::script(SEEDS.start, 60)).collect()
+}
+
+/// The written scripts of all/ and a seed.
+fn of_all(root: &Path) -> Vec<Command> {
+    by_hand(root, "all").chain(all::script(SEEDS.start, 100)).collect()
 }
 
 /// Whether all sides agree on a script, the original too where it is a measure; says where they do not.

@@ -11,12 +11,14 @@ ghost use Rattle.host_feed_indexed_calls.specs.Calls as indexedPackets;
 ghost use Rattle.host_words.specs.Answers.{words};
 ghost use Rattle.pats.specs.Store.{recordOf};
 ghost use Rattle.host_sets.specs.Calls.{setsLeft, setsOpened, setsPushed, setsCleared, setsNext};
+ghost use Rattle.host_sets_all.specs.Calls.{allLeft, setsPushedAll};
 ghost use Rattle.host_networks.specs.Calls.{sectionRead, setRead};
 ghost use Rattle.host_showing.specs.Calls.{listing, sectionListed, setListed, tableListed, dateNumber};
 ghost use Rattle.host_guides.specs.Calls.{comparison, setsCompared, comparisons, schedulesCompared, heldByOne};
 ghost use Rattle.host_logs.specs.Calls.{checkLeft, logChecked, writeLeft, logWritten};
 ghost use Rattle.host_log_records.specs.Calls.{logRead, made, offerMade, setMade};
 ghost use Rattle.log_sections.specs.Steps.{memory};
+ghost use Rattle.host_eit_all.specs.Calls.{allLeft as eitAllLeft, eitPushedAll};
 ghost use Rattle.host_eit.specs.Calls.{eitOpened, eitLeft, eitPushed, eitCleared, eitDroppedTo, eitDropped, eitNext, eitNextIn};
 
 // The CRC of ISO/IEC 13818-1, Annex A.
@@ -300,6 +302,23 @@ pub extern "C" fn petrizolu_sets_push(
     host_sets::push(sets, heads, slots, cells, input, pid, section, row)
 }
 
+// Offers the sections of a list one after another, until one answers something else than 4: what that one answered; 5 writes the set's row into `row`. 42 and 10 of
+// the list, and 10, 11 and 41 of the store, before anything is pushed. Every answer writes into `taken` how many bytes of the list were taken.
+#[no_mangle]
+pub extern "C" fn petrizolu_sets_push_all(
+    sets: &mut [u64; 5],
+    heads: &mut [u64],
+    slots: &mut [u32],
+    cells: &mut [u8],
+    list: &[u8],
+    row: &mut [u64; 1],
+    taken: &mut [u64; 1],
+) -> u8
+    ensures { λ r. ⌜ allLeft (setsLeft r (now (sets .exit)) (now (heads .exit)) (now (slots .exit)) (now (cells .exit)) (now (row .exit))) (now (taken .exit)) ≡ setsPushedAll (now (sets .entry)) (now (heads .entry)) (now (slots .entry)) (now (cells .entry)) (now (list .entry)) (now (row .entry)) ⌝ }
+{
+    host_sets_all::push_all(sets, heads, slots, cells, list, row, taken)
+}
+
 // Empties all rows: 7, 10, or 41 where a row has no PID.
 #[no_mangle]
 pub extern "C" fn petrizolu_sets_clear(
@@ -384,6 +403,34 @@ pub extern "C" fn petrizolu_eit_push(
         pid,
         section,
         row,
+    )
+}
+
+// Offers the sections of a list as `petrizolu_sets_push_all` does: 5 writes the set's row into `row`, 6 the schedule's, and every answer into `taken` how many bytes of the list were taken.
+#[no_mangle]
+pub extern "C" fn petrizolu_eit_push_all(
+    eit: &mut [u64; 7],
+    heads: &mut [u64],
+    slots: &mut [u32],
+    cells: &mut [u8],
+    schedule_heads: &mut [u64],
+    units: &mut [u32],
+    list: &[u8],
+    row: &mut [u64; 1],
+    taken: &mut [u64; 1],
+) -> u8
+    ensures { λ r. ⌜ eitAllLeft (eitLeft r (now (eit .exit)) (now (heads .exit)) (now (slots .exit)) (now (cells .exit)) (now («schedule_heads» .exit)) (now (units .exit)) (now (row .exit))) (now (taken .exit)) ≡ eitPushedAll (now (eit .entry)) (now (heads .entry)) (now (slots .entry)) (now (cells .entry)) (now («schedule_heads» .entry)) (now (units .entry)) (now (list .entry)) (now (row .entry)) ⌝ }
+{
+    host_eit_all::push_all(
+        eit,
+        heads,
+        slots,
+        cells,
+        schedule_heads,
+        units,
+        list,
+        row,
+        taken,
     )
 }
 

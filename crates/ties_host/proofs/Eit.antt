@@ -52,7 +52,7 @@ use Rattle.ties_host.proofs.Runs as runs
 -- ---- no push, no clearing and no drop changes the settings, whatever the memory holds
 
 -- the settings of one, the counts of the other
-abbrev counted : Eit → Eit → Eit
+abbrev pub counted : Eit → Eit → Eit
 counted e t = record {
   sets = record { limit = e .sets .limit; size = e .sets .size; count = e .sets .count; used = t .sets .used; evictions = t .sets .evictions };
   schedules = t .schedules;
@@ -88,7 +88,7 @@ unfolding pushedWhole
 arrived-counts s bytes (arrival.Refused r) = refl
 arrived-counts s bytes (arrival.Arrived a) = carried-counts s bytes (planOf s bytes a)
 
-pushed-counts : (s : Store) (input : ℕ) (pid : MaybePid) (bytes : List ℕ) → (pushedOf s input pid bytes) .store .eit ≡ counted (s .eit) ((pushedOf s input pid bytes) .store .eit)
+pub pushed-counts : (s : Store) (input : ℕ) (pid : MaybePid) (bytes : List ℕ) → (pushedOf s input pid bytes) .store .eit ≡ counted (s .eit) ((pushedOf s input pid bytes) .store .eit)
 unfolding pushedOf
 pushed-counts s input pid bytes = arrived-counts s bytes (admitted s input pid bytes)
 

@@ -4,3 +4,5 @@ pub mod Indexed
 pub mod Sets
 pub mod Eit
 pub mod Demand3
+pub mod All
+pub mod EitAll

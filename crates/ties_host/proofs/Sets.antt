@@ -40,7 +40,7 @@ use Rattle.ties_host.proofs.Runs as runs
 -- ---- no push and no clearing changes the settings, whatever the memory holds
 
 -- the settings of one, the counts of the other
-abbrev counted : Sets → Sets → Sets
+abbrev pub counted : Sets → Sets → Sets
 counted s t = record { limit = s .limit; size = s .size; count = s .count; used = t .used; evictions = t .evictions }
 
 carried-counts : (s : Store) (bytes : List ℕ) (p : Plan) → (carried s bytes p) .store .sets ≡ counted (s .sets) ((carried s bytes p) .store .sets)
@@ -56,7 +56,7 @@ unfolding wholePushed
 arrived-counts s bytes (arrival.Refused r) = refl
 arrived-counts s bytes (arrival.Arrived e) = carried-counts s bytes (planOf s e bytes)
 
-pushed-counts : (s : Store) (input : ℕ) (pid : MaybePid) (bytes : List ℕ) → (pushedOf s input pid bytes) .store .sets ≡ counted (s .sets) ((pushedOf s input pid bytes) .store .sets)
+pub pushed-counts : (s : Store) (input : ℕ) (pid : MaybePid) (bytes : List ℕ) → (pushedOf s input pid bytes) .store .sets ≡ counted (s .sets) ((pushedOf s input pid bytes) .store .sets)
 unfolding pushedOf
 pushed-counts s input pid bytes = arrived-counts s bytes (admitted s input pid bytes)
 

@@ -1,6 +1,6 @@
 //! A guide monitor in Rust over the proved library: reads records from standard input or from the file named, a PID (two bytes, high byte
 //! first) and a section each, or with --ts a transport stream, and prints each new section, each complete set and schedule with their events,
-//! transport streams and services, and totals, as examples/monitor.c does. With -w FOLDER each set and schedule that goes out is also written to a
+//! transport streams and services, and totals, as examples/monitor.c does; repeats wait until there are many, and go on in one call. With -w FOLDER each set and schedule that goes out is also written to a
 //! file there, which `./run compare_guides` takes. With -l LIMIT FOLDER it keeps a log besides, and the list of the sections that it is of: the files log and
 //! sections there, to which `./run check_log 4096 0 2 LIMIT 4096 256 with FOLDER/sections < FOLDER/log` says yes.
 
@@ -18,10 +18,16 @@ const SCHEDULE_ACTUAL: u8 = 2;
 const INPUT: u8 = 0;
 const NULL_PID: u16 = 0x1FFF;
 
+/// How many bytes of repeats wait at most.
+const GATHERED: usize = 1 << 16;
+
 /// What stands behind the gate.
 struct Monitor {
     sets: Sets,
     eit: Eit,
+    /// Sections that wait for one of the collectors, as a section list, and whether for the EIT collector; all of them go on before anything else is printed.
+    gathered: Vec<u8>,
+    of_events: bool,
     unwatched: u64,
     complete_sets: u64,
     complete_schedules: u64,
@@ -144,6 +150,8 @@ impl Monitor {
         Ok(Self {
             sets: Sets::open(64, 4096, 1024).map_err(not_open)?,
             eit: Eit::open(64, 4096, 1024).map_err(not_open)?,
+            gathered: Vec::new(),
+            of_events: false,
             unwatched: 0,
             complete_sets: 0,
             complete_schedules: 0,
@@ -160,22 +168,47 @@ impl Monitor {
             std::process::exit(1);
         }
         match offered {
-            Offered::Emitted => println!("new pid {pid:04X} table {:02X}, {} bytes", section[0], section.len()),
-            Offered::Suppressed => {}
-            Offered::TooShort(length) => return println!("short pid {pid:04X}, {length} bytes"),
-            Offered::Mismatch { stored, worked } => {
-                return println!("mismatch pid {pid:04X}, stored {stored:08X}, worked {worked:08X}");
+            // It may complete a set, which is shown at once.
+            Offered::Emitted => {
+                self.push_gathered();
+                println!("new pid {pid:04X} table {:02X}, {} bytes", section[0], section.len());
+                self.gather(pid, section);
+                self.push_gathered();
             }
-        }
-        if (0x4E..=0x6F).contains(&section[0]) {
-            self.collect_events(pid, section);
-        } else {
-            self.collect_set(pid, section);
+            Offered::Suppressed => self.gather(pid, section),
+            Offered::TooShort(length) => {
+                self.push_gathered();
+                println!("short pid {pid:04X}, {length} bytes");
+            }
+            Offered::Mismatch { stored, worked } => {
+                self.push_gathered();
+                println!("mismatch pid {pid:04X}, stored {stored:08X}, worked {worked:08X}");
+            }
         }
     }
 
-    fn collect_set(&mut self, pid: u16, section: &[u8]) {
-        match self.sets.push(INPUT, Some(pid), section) {
+    fn gather(&mut self, pid: u16, section: &[u8]) {
+        let of_events = (0x4E..=0x6F).contains(&section[0]);
+        if of_events != self.of_events || self.gathered.len() > GATHERED {
+            self.push_gathered();
+        }
+        self.of_events = of_events;
+        self.gathered.extend(listed_section(INPUT, pid, section).expect("no section is longer"));
+    }
+
+    /// What waits goes to its collector: behind each section that has something to say the call ends, and goes on with the rest.
+    fn push_gathered(&mut self) {
+        let gathered = std::mem::take(&mut self.gathered);
+        let mut list = &gathered[..];
+        while !list.is_empty() {
+            let taken = if self.of_events { self.push_events(list) } else { self.push_sets(list) };
+            list = if taken == 0 { &[] } else { &list[taken..] };
+        }
+    }
+
+    fn push_sets(&mut self, list: &[u8]) -> usize {
+        let (told, taken) = self.sets.push_all(list);
+        match told {
             // A TDT or TOT: there is no set of it.
             Ok(None) | Err(Refused(Answer::SHORT_FORM)) => {}
             Ok(Some(row)) => {
@@ -192,10 +225,12 @@ impl Monitor {
             }
             Err(Refused(answer)) => self.refuse(answer),
         }
+        taken
     }
 
-    fn collect_events(&mut self, pid: u16, section: &[u8]) {
-        match self.eit.push(INPUT, Some(pid), section) {
+    fn push_events(&mut self, list: &[u8]) -> usize {
+        let (told, taken) = self.eit.push_all(list);
+        match told {
             Ok(None) => {}
             Ok(Some(Complete::Set(row))) => {
                 self.complete_sets += 1;
@@ -225,11 +260,20 @@ impl Monitor {
             }
             Err(Refused(answer)) => self.refuse(answer),
         }
+        taken
     }
 
     fn refuse(&mut self, answer: Answer) {
         self.refused += 1;
         println!("refused {answer}");
+    }
+
+    /// No section comes any more.
+    fn input_ends(&mut self, cut: bool) {
+        self.push_gathered();
+        if cut {
+            println!("cut");
+        }
     }
 
     fn end(self, gate: GateState) -> io::Result<()> {
@@ -264,16 +308,13 @@ fn read_record(input: &mut impl Read, section: &mut Vec<u8>) -> io::Result<Optio
     Ok(Some(u16::from_be_bytes([head[0], head[1]])))
 }
 
-/// What is read, until the input ends; whether it ends where it may.
-fn until_the_end(mut read: impl FnMut() -> io::Result<bool>) -> io::Result<()> {
+/// What is read, until the input ends; whether it is cut there.
+fn until_the_end(mut read: impl FnMut() -> io::Result<bool>) -> io::Result<bool> {
     loop {
         match read() {
             Ok(true) => {}
-            Ok(false) => return Ok(()),
-            Err(error) if error.kind() == io::ErrorKind::UnexpectedEof => {
-                println!("cut");
-                return Ok(());
-            }
+            Ok(false) => return Ok(false),
+            Err(error) if error.kind() == io::ErrorKind::UnexpectedEof => return Ok(true),
             Err(error) => return Err(error),
         }
     }
@@ -286,7 +327,7 @@ fn not_open(Refused(answer): Refused) -> io::Error {
 fn read_records(mut input: impl Read, mut monitor: Monitor) -> io::Result<()> {
     let mut gate = Gate::open(4096, &[]).map_err(not_open)?;
     let mut section = Vec::new();
-    until_the_end(|| {
+    let cut = until_the_end(|| {
         let Some(pid) = read_record(&mut input, &mut section)? else { return Ok(false) };
         if !gate.watches(INPUT, pid) {
             monitor.unwatched += 1;
@@ -295,6 +336,7 @@ fn read_records(mut input: impl Read, mut monitor: Monitor) -> io::Result<()> {
         }
         Ok(true)
     })?;
+    monitor.input_ends(cut);
     monitor.end(gate.state())
 }
 
@@ -302,7 +344,7 @@ fn read_records(mut input: impl Read, mut monitor: Monitor) -> io::Result<()> {
 fn read_packets(mut input: impl Read, mut monitor: Monitor) -> io::Result<()> {
     let mut demux = Demux::open(1, 4096, 64, &[]).map_err(not_open)?;
     let mut packet = [0; PACKET_BYTES];
-    until_the_end(|| {
+    let cut = until_the_end(|| {
         if input.read(&mut packet[..1])? == 0 {
             return Ok(false);
         }
@@ -314,11 +356,15 @@ fn read_packets(mut input: impl Read, mut monitor: Monitor) -> io::Result<()> {
                 monitor.unwatched += u64::from(!watched && pid != NULL_PID);
                 fed.for_each(|(offered, section)| monitor.judged(pid, offered, section));
             }
-            Err(Refused(Answer::NO_BUFFER)) => println!("no buffer for pid {pid:04X}"),
+            Err(Refused(Answer::NO_BUFFER)) => {
+                monitor.push_gathered();
+                println!("no buffer for pid {pid:04X}");
+            }
             Err(_) => {}
         }
         Ok(true)
     })?;
+    monitor.input_ends(cut);
     let streams = demux.streams(INPUT);
     println!("packets {} malformed {}", streams.packets, streams.malformed);
     monitor.end(demux.state())

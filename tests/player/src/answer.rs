@@ -109,6 +109,8 @@ pub enum Answer {
     Watched(Part, Vec<u16>),
     /// A collector's answer to a section or a filter.
     Collected(u8, Held, Out),
+    /// The same to the sections of a list, of which so many bytes were taken.
+    Taken(u64, Box<Answer>),
     Fed(Fed),
     /// What a question for entries answers; where it tells anything (all but 10 and 14), how many there are, the section and the place where the listing ended, and
     /// the words of the entries of the page.
@@ -127,6 +129,7 @@ impl Answer {
             Answer::Judged(judgement, _) => Some((Part::Gate, judgement.number())),
             Answer::Collected(n, Held::Sets { .. }, _) => Some((Part::Sets, *n)),
             Answer::Collected(n, Held::Eit { .. }, _) => Some((Part::Eit, *n)),
+            Answer::Taken(_, answer) => answer.number(),
             Answer::Fed(fed) => Some((Part::Demux, fed.number)),
             Answer::Entries(part, n, _) => Some((*part, *n)),
             Answer::Guides(told) => Some((Part::Guides, told.number())),
@@ -220,6 +223,7 @@ impl Display for Answer {
             Answer::Collected(n, Held::Eit { evicted: [e, s], rows: [r, t] }, out) => {
                 write!(f, "eit {n} ev={e}/{s} rows={r}/{t}{out}")
             }
+            Answer::Taken(taken, answer) => write!(f, "{answer} taken={taken}"),
             Answer::Fed(fed) => write!(f, "{fed}"),
             Answer::Entries(part, n, None) => write!(f, "{part} {n}"),
             Answer::Entries(part, n, Some(([count, section, place], entries))) => {

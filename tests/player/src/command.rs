@@ -119,6 +119,11 @@ pub enum Command {
         pid: Option<u16>,
         section: Vec<u8>,
     },
+    /// The sections of a list, each with its input and its PID.
+    PushAll {
+        part: Part,
+        list: Vec<u8>,
+    },
     Clear {
         part: Part,
     },
@@ -167,7 +172,7 @@ impl Command {
             Command::Input(_) => None,
             Command::GateOpen { .. } | Command::Gate { .. } | Command::Ask { .. } => Some(Part::Gate),
             Command::Watched | Command::Counters | Command::Pats => Some(Part::Gate),
-            Command::Open { part, .. } | Command::Push { part, .. } | Command::Clear { part } => Some(*part),
+            Command::Open { part, .. } | Command::Push { part, .. } | Command::PushAll { part, .. } | Command::Clear { part } => Some(*part),
             Command::Drop(_) | Command::Events { .. } | Command::Read { .. } | Command::Date(_) => Some(Part::Eit),
             Command::Entries { .. } | Command::ReadTable { .. } => Some(Part::Sets),
             Command::Demux(_) => Some(Part::Demux),
@@ -208,6 +213,8 @@ impl Command {
             Command::Open { .. } => "sets open",
             Command::Push { part: Part::Eit, .. } => "eit push",
             Command::Push { .. } => "sets push",
+            Command::PushAll { part: Part::Eit, .. } => "eit all",
+            Command::PushAll { .. } => "sets all",
             Command::Clear { part: Part::Eit } => "eit clear",
             Command::Clear { .. } => "sets clear",
             Command::Drop(_) => "eit drop",

@@ -51,6 +51,23 @@ impl Eit {
         (number, row)
     }
 
+    /// The answer, the row where it is 5 or 6, and how many bytes of the list were taken.
+    pub fn push_all(&mut self, list: &[u8]) -> (Number, u64, u64) {
+        let (mut row, mut taken) = (0, u64::MAX);
+        let number = calls::eit_push_all(
+            &mut self.state,
+            &mut self.heads,
+            &mut self.slots,
+            &mut self.cells,
+            &mut self.schedule_heads,
+            &mut self.units,
+            list,
+            &mut row,
+            &mut taken,
+        );
+        (number, row, taken)
+    }
+
     pub fn clear(&mut self) -> Number {
         calls::eit_clear(&mut self.state, &self.heads, &self.slots, &self.cells, &self.schedule_heads, &self.units)
     }
@@ -106,12 +123,11 @@ impl Eit {
             }
             Command::Push { pid, section, .. } => {
                 let (number, row) = self.push(input.into(), pid_word(*pid), section);
-                let out = match number {
-                    Number::SET => Out::Set(self.set(row)),
-                    Number::SCHEDULE => self.schedule(row),
-                    _ => Out::Nothing,
-                };
-                Answer::Collected(number.0, self.held(), out)
+                self.collected(number, row)
+            }
+            Command::PushAll { list, .. } => {
+                let (number, row, taken) = self.push_all(list);
+                Answer::Taken(taken, Box::new(self.collected(number, row)))
             }
             Command::Clear { .. } => Answer::Number(Part::Eit, self.clear().0),
             Command::Drop(filter) => {
@@ -126,6 +142,15 @@ impl Eit {
             Command::Date(day) => Answer::Date(calls::date(*day)),
             other => panic!("no command of the EIT collector: {other}"),
         }
+    }
+
+    fn collected(&self, number: Number, row: u64) -> Answer {
+        let out = match number {
+            Number::SET => Out::Set(self.set(row)),
+            Number::SCHEDULE => self.schedule(row),
+            _ => Out::Nothing,
+        };
+        Answer::Collected(number.0, self.held(), out)
     }
 
     fn held(&self) -> Held {

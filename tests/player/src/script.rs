@@ -18,6 +18,7 @@ impl Display for Command {
             Command::Ask { pid } => write!(f, " {pid:04X}"),
             Command::Open { limit, cells, size, .. } => write!(f, " limit={limit} cells={cells} size={size}"),
             Command::Push { pid, section, .. } => write!(f, " {} {}", pid_text(*pid), hex(section)),
+            Command::PushAll { list, .. } => write!(f, " {}", hex(list)),
             Command::Demux(Demux::Streams(buffers)) => write!(f, " {buffers}"),
             Command::Demux(Demux::Packet(packet)) => write!(f, " {}", hex(packet)),
             Command::Demux(Demux::Ask(pid)) => write!(f, " {pid:04X}"),
@@ -132,6 +133,7 @@ pub fn parse(line: &str) -> Option<Command> {
             Command::Open { part, limit: small("limit", 64)?, cells: small("cells", 64)?, size: small("size", 4096)? }
         }
         (Part::Sets | Part::Eit, "push") => Command::Push { part, pid: maybe_pid(words.get(2)?)?, section: unhex(words.get(3)?)? },
+        (Part::Sets | Part::Eit, "all") => Command::PushAll { part, list: unhex(words.get(2)?)? },
         (Part::Sets | Part::Eit, "clear") => Command::Clear { part },
         (Part::Eit, "drop") => Command::Drop(Filter {
             pid: match field("pid") {

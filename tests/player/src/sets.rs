@@ -36,6 +36,13 @@ impl Sets {
         (number, row)
     }
 
+    /// The answer, the row where it is 5, and how many bytes of the list were taken.
+    pub fn push_all(&mut self, list: &[u8]) -> (Number, u64, u64) {
+        let (mut row, mut taken) = (0, u64::MAX);
+        let number = calls::sets_push_all(&mut self.state, &mut self.heads, &mut self.slots, &mut self.cells, list, &mut row, &mut taken);
+        (number, row, taken)
+    }
+
     pub fn clear(&mut self) -> Number {
         calls::sets_clear(&mut self.state, &self.heads, &self.slots, &self.cells)
     }
@@ -56,8 +63,11 @@ impl Sets {
             }
             Command::Push { pid, section, .. } => {
                 let (number, row) = self.push(input.into(), pid_word(*pid), section);
-                let out = if number == Number::SET { Out::Set(self.set(row)) } else { Out::Nothing };
-                Answer::Collected(number.0, Held::Sets { evicted: self.state.evictions, rows: self.state.used as usize }, out)
+                self.collected(number, row)
+            }
+            Command::PushAll { list, .. } => {
+                let (number, row, taken) = self.push_all(list);
+                Answer::Taken(taken, Box::new(self.collected(number, row)))
             }
             Command::Clear { .. } => Answer::Number(Part::Sets, self.clear().0),
             Command::Entries { reader, row, page } => entries(Part::Sets, page, |skip, list, listed| {
@@ -68,6 +78,11 @@ impl Sets {
             }
             other => panic!("no command of the set collector: {other}"),
         }
+    }
+
+    fn collected(&self, number: Number, row: u64) -> Answer {
+        let out = if number == Number::SET { Out::Set(self.set(row)) } else { Out::Nothing };
+        Answer::Collected(number.0, Held::Sets { evicted: self.state.evictions, rows: self.state.used as usize }, out)
     }
 
     fn set(&self, row: u64) -> Set {

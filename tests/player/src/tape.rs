@@ -13,6 +13,7 @@
 //! 20 sets open     limit u16, cells u16, cell size u16
 //! 21 sets push     PID u16 (FFFF none, which is refused), length u16, the bytes
 //! 22 sets clear
+//! 23 sets all      length u32, the bytes of a section list: one after another, until one answers something else than 4
 //! 24 sets entries  reader u8 (1 networks', 2 bouquets', 3 services'), row u16, skip u16, room u16: the entries of a set
 //! 25 sets read     reader u8, skip u16, room u16, length u16, the bytes: those of a section
 //! 30 31 32         as 20 to 22 of the EIT collector
@@ -23,6 +24,7 @@
 //! 35 eit table     row u16, table u8, skip u16, room u16: those of a table of a schedule
 //! 36 eit read      skip u16, room u16, length u16, the bytes: those of a section
 //! 37 eit date      day u32
+//! 38 eit all       as 23
 //! 40 demux open    as 10 of the packet layer's own gate, and of flags 20 with 2: complete PATs are followed
 //! 41 demux streams section buffers u16
 //! 42 demux packet  length u16, the bytes
@@ -102,6 +104,7 @@ impl<R: Read> Tape<R> {
             0x20 | 0x30 => Command::Open { part, limit: self.short()?, cells: self.short()?, size: self.short()? },
             0x21 | 0x31 => Command::Push { part, pid: self.maybe_pid()?, section: self.section()? },
             0x22 | 0x32 => Command::Clear { part },
+            0x23 | 0x38 => Command::PushAll { part, list: self.list()? },
             0x24 => Command::Entries { reader: self.byte()?, row: self.short()?, page: self.page()? },
             0x25 => {
                 let reader = self.byte()?;
@@ -146,6 +149,11 @@ impl<R: Read> Tape<R> {
     fn section(&mut self) -> Result<Vec<u8>, Stop> {
         let length = self.short()?;
         self.many(length.into())
+    }
+
+    fn list(&mut self) -> Result<Vec<u8>, Stop> {
+        let length = self.bytes().map(u32::from_be_bytes)?;
+        self.many(length as usize)
     }
 
     fn many(&mut self, count: usize) -> Result<Vec<u8>, Stop> {
@@ -224,6 +232,11 @@ fn write_command(command: &Command, tape: &mut Vec<u8>) {
         Command::Push { part, pid, section } => {
             tape.push(collector(part, 1));
             write_section(tape, pid.unwrap_or(NO_PID), section);
+        }
+        Command::PushAll { part, list } => {
+            tape.push(if *part == Part::Eit { 0x38 } else { 0x23 });
+            tape.extend(u32::try_from(list.len()).expect("at most 4 GiB").to_be_bytes());
+            tape.extend(list);
         }
         Command::Clear { part } => tape.push(collector(part, 2)),
         Command::Drop(filter) => {

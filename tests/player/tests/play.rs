@@ -73,7 +73,7 @@ fn a_row_differs_at_an_opening() {
 fn the_end_of_a_tape() {
     assert_eq!(lines(b"", Port::begin()), "");
     assert_eq!(lines(b"\x22\x21\x00", Port::begin()), "sets 10\ncut\n");
-    assert_eq!(lines(b"\x22\x23\x22", Port::begin()), "sets 10\nbad 1\n");
+    assert_eq!(lines(b"\x22\x26\x22", Port::begin()), "sets 10\nbad 1\n");
 }
 
 const TAPES: [(&[u8], &str); 2] = [

@@ -12,32 +12,40 @@ use player::logs::{CELL_BYTES, GATE_ROWS, Logs, ROWS, Settings, Told};
 const LONGEST: usize = 4098;
 
 /// A section with the input and the PID that it came on.
-struct Listed<'a> {
-    input: u8,
-    pid: u16,
-    bytes: &'a [u8],
+pub struct Listed<'a> {
+    pub input: u8,
+    pub pid: u16,
+    pub bytes: &'a [u8],
 }
 
 /// A section list: 42 or 10 by its first bad section.
-fn sections_in<'a>(reading: &Reading, mut list: &'a [u8]) -> Result<Vec<Listed<'a>>, u8> {
+fn sections_in<'a>(reading: &Reading, list: &'a [u8]) -> Result<Vec<Listed<'a>>, u8> {
+    match sections_before(reading, list) {
+        (sections, None) => Ok(sections),
+        (_, Some(number)) => Err(number),
+    }
+}
+
+/// The sections before the first bad one, and the number that it is refused by.
+pub fn sections_before<'a>(reading: &Reading, mut list: &'a [u8]) -> (Vec<Listed<'a>>, Option<u8>) {
     let mut sections = Vec::new();
     while let [input, rest @ ..] = list {
-        let [pid_high, pid_low, high, low, bytes @ ..] = rest else { return Err(10) };
+        let [pid_high, pid_low, high, low, bytes @ ..] = rest else { return (sections, Some(10)) };
         let length = usize::from(u16::from_be_bytes([*high, *low]));
         let missing = length > bytes.len();
         let longest = if reading.has(Fault::LogLongestOfACell) { 4096 } else { LONGEST };
         let passed_over = reading.has(Fault::LogOverlongOnBadInput) && !lent::is_input(*input);
         if length > longest && !passed_over && !(missing && reading.has(Fault::LogCutBeforeOverlong)) {
-            return Err(42);
+            return (sections, Some(42));
         }
         if missing && !reading.has(Fault::LogListCutTaken) {
-            return Err(10);
+            return (sections, Some(10));
         }
         let (bytes, behind) = bytes.split_at(length.min(bytes.len()));
         sections.push(Listed { input: *input, pid: u16::from_be_bytes([*pid_high, *pid_low]), bytes });
         list = behind;
     }
-    Ok(sections)
+    (sections, None)
 }
 
 /// Whether it is asked for without PIDs, which is given up: a log as before is checked still, and none is written.

@@ -170,19 +170,12 @@ impl Second {
                 Answer::Number(*part, answer)
             }
             Command::Push { part, pid, section } => {
-                let mut reading = self.reading.clone();
-                let pid = pid.or(reading.has(Fault::NoPidIsPidZero).then_some(0));
-                let refused = pid.is_none() && !reading.has(Fault::NoPidCollected);
-                let input_first = reading.has(Fault::InputBeforeNoPid) && !lent::is_input(input);
-                let (number, out) = match self.collector(*part) {
-                    None => (10, Out::Nothing),
-                    Some(_) if refused && !input_first => (41, Out::Nothing),
-                    Some(_) if pid.is_some_and(|pid| !lent::is_pid(pid)) => (12, Out::Nothing),
-                    Some(_) if !lent::is_input(input) => (37, Out::Nothing),
-                    Some(collector) => collector.push(&mut reading, input, pid, section),
-                };
-                self.reading = reading;
+                let (number, out) = self.push(*part, input, *pid, section);
                 Answer::Collected(number, self.held(*part), out)
+            }
+            Command::PushAll { part, list } => {
+                let (number, out, taken) = self.push_all(*part, list);
+                Answer::Taken(taken, Box::new(Answer::Collected(number, self.held(*part), out)))
             }
             Command::Clear { part } => {
                 let fault = self.reading.has(Fault::ClearZeroes);
@@ -216,6 +209,51 @@ impl Second {
             Command::Guides(command) => Answer::Guides(guides::answer(&self.reading, command)),
             Command::Logs(command) => Answer::Logs(logs::answer(&mut self.reading, command)),
         }
+    }
+
+    fn push(&mut self, part: Part, input: u8, pid: Option<u16>, section: &[u8]) -> (u8, Out) {
+        let mut reading = self.reading.clone();
+        let pid = pid.or(reading.has(Fault::NoPidIsPidZero).then_some(0));
+        let refused = pid.is_none() && !reading.has(Fault::NoPidCollected);
+        let input_first = reading.has(Fault::InputBeforeNoPid) && !lent::is_input(input);
+        let pushed = match self.collector(part) {
+            None => (10, Out::Nothing),
+            Some(_) if refused && !input_first => (41, Out::Nothing),
+            Some(_) if pid.is_some_and(|pid| !lent::is_pid(pid)) => (12, Out::Nothing),
+            Some(_) if !lent::is_input(input) => (37, Out::Nothing),
+            Some(collector) => collector.push(&mut reading, input, pid, section),
+        };
+        self.reading = reading;
+        pushed
+    }
+
+    /// One by one until one answers something else than 4, and how many bytes of the list were taken: none where it is bad, or no collector is open.
+    fn push_all(&mut self, part: Part, list: &[u8]) -> (u8, Out, u64) {
+        let (current, mut taken) = (self.input, 0);
+        let (sections, bad) = logs::sections_before(&self.reading, list);
+        match bad {
+            Some(42) if self.reading.has(Fault::AllOverlongIsTen) => return (10, Out::Nothing, 0),
+            Some(number) if !self.reading.has(Fault::AllCutPushed) => return (number, Out::Nothing, 0),
+            _ => {}
+        }
+        if self.collector(part).is_none() {
+            return (10, Out::Nothing, 0);
+        }
+        for logs::Listed { input, pid, bytes } in sections {
+            let on = if self.reading.has(Fault::AllOnCurrentInput) { current } else { input };
+            let (number, out) = self.push(part, on, Some(pid), bytes);
+            let passed = match number {
+                4 => true,
+                5 | 6 => self.reading.has(Fault::AllSetPassed),
+                _ => self.reading.has(Fault::AllRefusalPassed),
+            };
+            let before = taken;
+            taken += 5 + bytes.len() as u64;
+            if !passed {
+                return (number, out, if self.reading.has(Fault::AllAnsweringUntaken) { before } else { taken });
+            }
+        }
+        (bad.unwrap_or(4), Out::Nothing, taken)
     }
 
     fn drop(&mut self, filter: &Filter) -> u8 {

@@ -1,11 +1,13 @@
 //! An EIT collector of three rows and three schedules, two and one in use, and four cells of 64 bytes.
 use crate::{Case, Store, case, told};
-use petrizolu::{Answer, EitState, Filter, NO_PID};
+use petrizolu::{Answer, EitState, Filter, NO_PID, listed_section};
 use player::eit::Eit;
 
 #[derive(Clone, Copy)]
 pub enum Call {
     Push,
+    /// The same section as a list.
+    All,
     Drop,
     /// A drop of a kind, whatever the PID.
     DropKind,
@@ -47,6 +49,16 @@ impl Damaged {
         self.eit.push(self.input, self.pid, VERSION).0
     }
 
+    /// Of a list of one section all is taken or nothing, and nothing by a refusal of the store.
+    fn push_all(&mut self) -> Answer {
+        let (input, pid) = (u8::try_from(self.input).expect("a byte"), u16::try_from(self.pid).expect("two bytes"));
+        let list = listed_section(input, pid, VERSION).expect("18 bytes");
+        let (answer, _, taken) = self.eit.push_all(&list);
+        let refused = [Answer::NOT_WHOLE, Answer::COUNTER_FULL, Answer::NO_PID_GIVEN].contains(&answer);
+        assert_eq!(taken, if refused { 0 } else { list.len() as u64 }, "what is taken after {answer}");
+        answer
+    }
+
     /// An opening with the settings that the case has. Whether a refusal left what is kept by value counts; what an opening makes of it does not.
     fn open(&mut self, asked: EitState) -> Answer {
         let before = self.eit.state;
@@ -85,6 +97,7 @@ impl Store for Damaged {
     fn name(call: Call) -> &'static str {
         match call {
             Push => "push",
+            All => "push all",
             Drop => "drop",
             DropKind => "drop of a kind",
             DropInput => "drop of an input",
@@ -101,6 +114,7 @@ impl Store for Damaged {
         let asked = self.eit.state;
         match call {
             Push => self.push(),
+            All => self.push_all(),
             Drop => self.eit.drop_matching(&Filter { pid: self.pid.into(), ..Filter::ALL }),
             DropKind => self.eit.drop_matching(&Filter { kind: self.kind, ..Filter::ALL }),
             DropInput => self.eit.drop_matching(&Filter { input: self.input.into(), pid: self.pid.into(), ..Filter::ALL }),
@@ -114,7 +128,7 @@ impl Store for Damaged {
     }
 }
 
-const ALL: &[Call] = &[Push, Drop, Next, Table, Clear, Open];
+const ALL: &[Call] = &[Push, All, Drop, Next, Table, Clear, Open];
 const KIND: &[Call] = &[DropKind];
 const INPUT: &[Call] = &[Push, DropInput];
 const PIDS: &[Call] = &[Push, Drop, DropKind, DropInput, Next, Table, Clear, Open];

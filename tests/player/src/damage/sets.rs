@@ -1,11 +1,13 @@
 //! A set collector of three rows, two in use, and four cells of 64 bytes.
 use crate::{Case, Store, case, told};
-use petrizolu::{Answer, NO_PID, SetsState};
+use petrizolu::{Answer, NO_PID, SetsState, listed_section};
 use player::sets::Sets;
 
 #[derive(Clone, Copy)]
 pub enum Call {
     Push,
+    /// The same section as a list.
+    All,
     Next,
     Clear,
     Open,
@@ -22,6 +24,8 @@ pub struct Damaged {
     input: u32,
     pid: u32,
     row: u64,
+    /// What stands in a list behind the section.
+    behind: &'static [u8],
 }
 
 /// The only section of a set.
@@ -37,6 +41,17 @@ const WHOLE: SetsState = SetsState { limit: 3, size: 64, count: 4, used: 2, evic
 impl Damaged {
     fn push(&mut self) -> Answer {
         self.sets.push(self.input, self.pid, SECOND).0
+    }
+
+    /// Of a list of one section all is taken or nothing, and nothing by a refusal of the list or of the store.
+    fn push_all(&mut self) -> Answer {
+        let (input, pid) = (u8::try_from(self.input).expect("a byte"), u16::try_from(self.pid).expect("two bytes"));
+        let list = [&listed_section(input, pid, SECOND).expect("16 bytes"), self.behind].concat();
+        let (answer, row, taken) = self.sets.push_all(&list);
+        let refused = [Answer::NOT_WHOLE, Answer::COUNTER_FULL, Answer::NO_PID_GIVEN, Answer::OVERLONG_SECTION].contains(&answer);
+        assert_eq!(taken, if refused { 0 } else { list.len() as u64 }, "what is taken after {answer}");
+        assert!(answer == Answer::SET || row == 0, "a row after {answer}");
+        answer
     }
 
     /// An opening with the settings that the case has. Whether a refusal left what is kept by value counts; what an opening makes of it does not.
@@ -71,12 +86,13 @@ impl Store for Damaged {
         let answers = (sets.open(3, 64, 4), sets.push(0, 0x0011, ONLY), sets.push(0, 0x0011, FIRST).0);
         assert_eq!(answers, (Answer::DONE, (Answer::SET, 0), Answer::NOTHING));
         assert_eq!(sets.state, WHOLE);
-        Self { sets, input: 0, pid: 0x0011, row: 0 }
+        Self { sets, input: 0, pid: 0x0011, row: 0, behind: &[] }
     }
 
     fn name(call: Call) -> &'static str {
         match call {
             Push => "push",
+            All => "push all",
             Next => "next section",
             Clear => "clear",
             Open => "open",
@@ -89,6 +105,7 @@ impl Store for Damaged {
         let asked = self.sets.state;
         match call {
             Push => self.push(),
+            All => self.push_all(),
             Next => told(|place| self.sets.next(self.row, 0, place)),
             Clear => self.sets.clear(),
             Open => self.open(asked),
@@ -98,7 +115,9 @@ impl Store for Damaged {
     }
 }
 
-const ALL: &[Call] = &[Push, Next, Clear, Open];
+const ALL: &[Call] = &[Push, All, Next, Clear, Open];
+/// Where the input or the PID is none that a list can say.
+const UNLISTED: &[Call] = &[Push, Next, Clear, Open];
 
 /// The word of a slot with a kept length of 16 bytes, those of the sections here.
 const KEPT: u32 = 16 << 16;
@@ -152,17 +171,17 @@ pub const CASES: &[Case<Damaged>] = &[
         d.sets.state = SetsState { used: 4, evictions: u64::MAX, ..WHOLE };
     }),
     // 41, after 11 and before 12: no PID given, or 8192 in the head of a row in use, whichever it is.
-    case("no PID", ALL, |d| d.pid = NO_PID),
-    case("no PID, input 16", ALL, |d| (d.input, d.pid) = (16, NO_PID)),
-    case("no PID, limit 0", ALL, |d| {
+    case("no PID", UNLISTED, |d| d.pid = NO_PID),
+    case("no PID, input 16", UNLISTED, |d| (d.input, d.pid) = (16, NO_PID)),
+    case("no PID, limit 0", UNLISTED, |d| {
         d.pid = NO_PID;
         d.sets.state = SetsState { limit: 0, used: 0, ..WHOLE };
     }),
-    case("no PID, evictions at their end", ALL, |d| {
+    case("no PID, evictions at their end", UNLISTED, |d| {
         d.pid = NO_PID;
         d.sets.state.evictions = u64::MAX;
     }),
-    case("no PID, 4 rows used of 3", ALL, |d| {
+    case("no PID, 4 rows used of 3", UNLISTED, |d| {
         d.pid = NO_PID;
         d.sets.state.used = 4;
     }),
@@ -175,7 +194,7 @@ pub const CASES: &[Case<Damaged>] = &[
         d.sets.state.used = 0;
     }),
     case("a PID of 8192 in a head, PID 9000", ALL, |d| (d.sets.heads[12], d.pid) = (8192, 9000)),
-    case("a PID of 8192 in a head, no PID", ALL, |d| (d.sets.heads[12], d.pid) = (8192, NO_PID)),
+    case("a PID of 8192 in a head, no PID", UNLISTED, |d| (d.sets.heads[12], d.pid) = (8192, NO_PID)),
     case("a PID of 8192 in a head, input 16", ALL, |d| (d.sets.heads[12], d.input) = (8192, 16)),
     case("a PID of 8192 in a head, row 2", ALL, |d| (d.sets.heads[12], d.row) = (8192, 2)),
     case("a PID of 8192 in a head, evictions at their end", ALL, |d| {
@@ -196,7 +215,7 @@ pub const CASES: &[Case<Damaged>] = &[
     // 37, after 12; and an input that no call can give, which no section has: its row is met by none.
     case("input 1", ALL, |d| d.input = 1),
     case("input 16", ALL, |d| d.input = 16),
-    case("input 256", ALL, |d| d.input = 256),
+    case("input 256", UNLISTED, |d| d.input = 256),
     case("input 255, PID 8192", ALL, |d| (d.input, d.pid) = (255, 8192)),
     case("input 16, evictions at their end", ALL, |d| {
         d.input = 16;
@@ -206,6 +225,22 @@ pub const CASES: &[Case<Damaged>] = &[
     case("an input of 2^64 - 1 in a head", ALL, |d| d.sets.heads[22] = u64::MAX),
     case("limit 0, 2 rows used", ALL, |d| d.sets.state.limit = 0),
     case("limit 0, no row used", ALL, |d| d.sets.state = SetsState { limit: 0, used: 0, ..WHOLE }),
+    // Of a list, judged before the store: cut (10), with a section of more than 4,098 bytes (42), the first bad one deciding.
+    case("a list that is cut", &[All], |d| d.behind = b"\x00\x00\x11\x00"),
+    case("a list with an overlong section", &[All], |d| d.behind = b"\x00\x00\x11\x10\x03"),
+    case("a list with an overlong section, then cut", &[All], |d| d.behind = b"\x00\x00\x11\x10\x03\x00"),
+    case("a list with an overlong section, 4 rows used of 3", &[All], |d| {
+        d.behind = b"\x00\x00\x11\x10\x03";
+        d.sets.state.used = 4;
+    }),
+    case("a list with an overlong section, a PID of 8192 in a head", &[All], |d| {
+        d.behind = b"\x00\x00\x11\x10\x03";
+        d.sets.heads[12] = 8192;
+    }),
+    case("a list that is cut, evictions at their end", &[All], |d| {
+        d.behind = b"\x00";
+        d.sets.state.evictions = u64::MAX;
+    }),
     // 9: a row that is not in use has no section.
     case("row 2", &[Next], |d| d.row = 2),
     case("row 2^64 - 1", &[Next], |d| d.row = u64::MAX),

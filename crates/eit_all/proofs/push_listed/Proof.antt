@@ -1,0 +1,143 @@
+use Rattle.log_list.specs.List.{givensFrom}
+use Rattle.eit_pids.proofs.Heads.{heads-fit}
+use Rattle.eit_each.specs.Each.{afterAll}
+use Rattle.eit_all.proofs.Ways.{listed-broken, listed-full, listed-without, listed-each, looked}
+use borrow.Author.Needs.{needs}
+use Rattle.eit_all.proofs.push_listed.Statement.{statement}
+use Rattle.eit_all.proofs.push_listed.Tie as tie
+use Rattle.eit_all.proofs.push_listed.Reads as reads
+use Rattle.eit_all.proofs.push_listed.Lts as lts
+use Rattle.eit_each.proofs.push_each.Reads as push-each-reads
+use Rattle.eit_all.proofs.refuse.Reads as refuse-reads
+use Rattle.eit_pids.proofs.any_row_without_pid.Reads as any-row-without-pid-reads
+use Rattle.eit_state.proofs.counters_full.Reads as counters-full-reads
+use Rattle.eit_state.proofs.is_whole.Reads as is-whole-reads
+
+is-whole-requires : tie.Need-is-whole-requires
+is-whole-requires c κs = search needs
+
+counters-full-requires : tie.Need-counters-full-requires
+counters-full-requires c κs = search needs
+
+refuse-requires : tie.Need-refuse-requires
+refuse-requires c κs = search needs
+
+same-length : tie.Need-same-length
+same-length c = search needs
+
+same-length-2 : tie.Need-same-length-2
+same-length-2 c = search needs
+
+same-length-3 : tie.Need-same-length-3
+same-length-3 c = search needs
+
+same-length-4 : tie.Need-same-length-4
+same-length-4 c = search needs
+
+same-length-5 : tie.Need-same-length-5
+same-length-5 c = search needs
+
+returns : tie.Need-returns
+returns c = let a = c .before .before .before .before .before .before .before .before .before .before .before .before .before .before .before .before .args in listed-full (a .eit) (a .heads .now) (a .slots .now) (a .cells .now) (a .schedule-heads .now) (a .units .now) (givensFrom (a .list .now) 0) (c .before .before .before .before .is-whole .result) (c .before .before .before .before .is-whole .ensures) (c .before .before .before .if1 .taken) (c .before .before .counters-full .result) (c .before .before .counters-full .ensures) (c .refuse .result) (c .before .if2 .taken) (c .refuse .ensures)
+
+any-row-without-pid-requires : tie.Need-any-row-without-pid-requires
+any-row-without-pid-requires c κs = let a = c .before .before .before .before .before .before .before .before .before .before .before .before .before .before .before .before .before .args in heads-fit (a .eit) (a .heads .now) (a .slots .now) (a .cells .now) (a .schedule-heads .now) (a .units .now) (c .before .before .before .before .before .is-whole .result) (c .before .before .before .before .before .is-whole .ensures) (c .before .before .before .before .if1 .taken)
+
+refuse-requires-2 : tie.Need-refuse-requires-2
+refuse-requires-2 c κs = search needs
+
+same-length-6 : tie.Need-same-length-6
+same-length-6 c = search needs
+
+same-length-7 : tie.Need-same-length-7
+same-length-7 c = search needs
+
+same-length-8 : tie.Need-same-length-8
+same-length-8 c = search needs
+
+same-length-9 : tie.Need-same-length-9
+same-length-9 c = search needs
+
+same-length-10 : tie.Need-same-length-10
+same-length-10 c = search needs
+
+returns-2 : tie.Need-returns-2
+returns-2 c = let a = c .before .before .before .before .before .before .before .before .before .before .before .before .before .before .before .before .before .before .before .before .args in listed-without (a .eit) (a .heads .now) (a .slots .now) (a .cells .now) (a .schedule-heads .now) (a .units .now) (givensFrom (a .list .now) 0) (c .before .before .before .before .before .before .before .before .is-whole .result) (c .before .before .before .before .before .before .before .before .is-whole .ensures) (c .before .before .before .before .before .before .before .if1 .taken) (c .before .before .before .before .before .before .counters-full .result) (c .before .before .before .before .before .before .counters-full .ensures) (c .before .before .before .before .before .if2 .left) (c .before .before .any-row-without-pid .result) (c .before .before .any-row-without-pid .ensures) (c .refuse2 .result) (c .before .if3 .taken) (c .refuse2 .ensures)
+
+push-each-requires : tie.Need-push-each-requires
+push-each-requires c κs = let a = c .before .before .before .before .before .before .before .before .before .before .before .before .before .before .before .before .before .before .before .before .before .before .before .before .args in (looked (a .eit) (a .heads .now) (a .slots .now) (a .cells .now) (a .schedule-heads .now) (a .units .now) (c .before .before .before .before .before .before .before .before .before .before .before .before .is-whole .result) (c .before .before .before .before .before .before .any-row-without-pid .result) (c .before .before .before .before .before .before .before .before .before .before .before .before .is-whole .ensures) (c .before .before .before .before .before .before .before .before .before .before .before .if1 .taken) (c .before .before .before .before .before .before .any-row-without-pid .ensures) (c .before .before .before .before .before .if3 .left), c .before .before .before .before .before .before .before .before .before .before .before .before .before .before .before .before .before .before .before .before .before .before .before .before .pre)
+
+same-length-11 : tie.Need-same-length-11
+same-length-11 c = search needs
+
+same-length-12 : tie.Need-same-length-12
+same-length-12 c = search needs
+
+same-length-13 : tie.Need-same-length-13
+same-length-13 c = search needs
+
+same-length-14 : tie.Need-same-length-14
+same-length-14 c = search needs
+
+same-length-15 : tie.Need-same-length-15
+same-length-15 c = search needs
+
+returns-3 : tie.Need-returns-3
+returns-3 c = let a = c .before .before .before .before .before .before .before .before .before .before .before .before .before .before .before .before .before .before .before .before .before .before .before .before .before .before .before .before .before .before .before .before .before .before .before .args in let k = c .before .before .before .before .before .before .before .before .before .before .push-each in listed-each (a .eit) (a .heads .now) (a .slots .now) (a .cells .now) (a .schedule-heads .now) (a .units .now) (givensFrom (a .list .now) 0) (c .before .before .before .before .before .before .before .before .before .before .before .before .before .before .before .before .before .before .before .before .before .before .before .is-whole .result) (c .before .before .before .before .before .before .before .before .before .before .before .before .before .before .before .before .before .before .before .before .before .before .before .is-whole .ensures) (c .before .before .before .before .before .before .before .before .before .before .before .before .before .before .before .before .before .before .before .before .before .before .if1 .taken) (c .before .before .before .before .before .before .before .before .before .before .before .before .before .before .before .before .before .before .before .before .before .counters-full .result) (c .before .before .before .before .before .before .before .before .before .before .before .before .before .before .before .before .before .before .before .before .before .counters-full .ensures) (c .before .before .before .before .before .before .before .before .before .before .before .before .before .before .before .before .before .before .before .before .if2 .left) (c .before .before .before .before .before .before .before .before .before .before .before .before .before .before .before .before .before .any-row-without-pid .result) (c .before .before .before .before .before .before .before .before .before .before .before .before .before .before .before .before .before .any-row-without-pid .ensures) (afterAll (k .result) (k .last .1 .0) (k .last .1 .1 .0) (k .last .1 .1 .1 .0) (k .last .1 .1 .1 .1 .0) (k .last .1 .1 .1 .1 .1 .0)) (c .before .before .before .before .before .before .before .before .before .before .before .before .before .before .before .before .if3 .left) (k .ensures)
+
+refuse-requires-3 : tie.Need-refuse-requires-3
+refuse-requires-3 c κs = search needs
+
+same-length-16 : tie.Need-same-length-16
+same-length-16 c = search needs
+
+same-length-17 : tie.Need-same-length-17
+same-length-17 c = search needs
+
+same-length-18 : tie.Need-same-length-18
+same-length-18 c = search needs
+
+same-length-19 : tie.Need-same-length-19
+same-length-19 c = search needs
+
+same-length-20 : tie.Need-same-length-20
+same-length-20 c = search needs
+
+returns-4 : tie.Need-returns-4
+returns-4 c = let a = c .before .before .before .before .before .before .before .before .before .before .before .before .before .before .args in listed-broken (a .eit) (a .heads .now) (a .slots .now) (a .cells .now) (a .schedule-heads .now) (a .units .now) (givensFrom (a .list .now) 0) (c .before .before .is-whole .result) (c .before .before .is-whole .ensures) (c .refuse3 .result) (c .before .if1 .left) (c .refuse3 .ensures)
+
+pub push-listed-spec : {M : Type 1} → statement M
+push-listed-spec =
+    tie.close
+    (tie.spec
+    is-whole-requires
+    counters-full-requires
+    refuse-requires
+    same-length
+    same-length-2
+    same-length-3
+    same-length-4
+    same-length-5
+    returns
+    any-row-without-pid-requires
+    refuse-requires-2
+    same-length-6
+    same-length-7
+    same-length-8
+    same-length-9
+    same-length-10
+    returns-2
+    push-each-requires
+    same-length-11
+    same-length-12
+    same-length-13
+    same-length-14
+    same-length-15
+    returns-3
+    refuse-requires-3
+    same-length-16
+    same-length-17
+    same-length-18
+    same-length-19
+    same-length-20
+    returns-4)
