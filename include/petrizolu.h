@@ -392,6 +392,28 @@ uint8_t petrizolu_feed(petrizolu_gate *gate, petrizolu_streams *streams, uint64_
                        const uint8_t *packet, size_t packet_bytes, uint64_t *places, size_t place_words, uint64_t *finished);
 
 /*
+ * Many packets at once: of the packets of 188 bytes in some bytes that came on an input, how many at the front are passed over. These have no payload that can be
+ * read, or are of PIDs that are not watched; petrizolu_feed would answer each with 29 and no section, and this call counts and leaves what as many feeds would. It
+ * looks at the gate, the record and the counters once, so a packet costs a tenth of a feed or less. The next packet is for petrizolu_feed. 0 where that would refuse
+ * it (10, 11, 37). Written are streams->packets and the words of PIDs that are not watched.
+ *
+ *     const uint8_t *bytes = packet;
+ *     size_t at = 0, size = sizeof packet;
+ *     while ((at += 188 * (size_t)petrizolu_pass(&gate, &streams, keys, 512, changes, 512, RECORD(input), pids, PETRIZOLU_PID_WORDS, buffers, sizeof buffers,
+ *                                                input, bytes + at, size - at, places, PETRIZOLU_PLACES_WORDS)) + 188 <= size) {
+ *         if (petrizolu_feed(&gate, &streams, keys, 512, changes, 512, RECORD(input), pids, PETRIZOLU_PID_WORDS, buffers, sizeof buffers, input, bytes + at, 188,
+ *                            places, PETRIZOLU_PLACES_WORDS, &finished) == PETRIZOLU_FED)
+ *             printf("%llu sections\n", (unsigned long long)finished);
+ *         at += 188;
+ *     }
+ */
+uint64_t petrizolu_pass(const petrizolu_gate *gate, petrizolu_streams *streams, const uint64_t *keys, size_t key_count, const uint64_t *changes,
+                        size_t change_count, const uint64_t *watch, size_t watch_words, const uint32_t *pat_slots, size_t pat_slot_words,
+                        const uint8_t *pat_cells, size_t pat_cell_bytes, uint64_t *pids, size_t pid_words, const uint8_t *buffers,
+                        size_t buffer_bytes, uint32_t input, const uint8_t *packets, size_t packet_bytes, const uint64_t *places,
+                        size_t place_words);
+
+/*
  * As petrizolu_feed, through the gate with an index.
  *
  *     if (petrizolu_indexed_feed(&large, &streams, rows[0], ROWS, rows[1], ROWS, rows[2], ROWS, rows[3], ROWS, RECORD(input), pids, PETRIZOLU_PID_WORDS,
@@ -403,6 +425,21 @@ uint8_t petrizolu_indexed_feed(petrizolu_gate *gate, petrizolu_streams *streams,
                                size_t watch_words, uint32_t *pat_slots, size_t pat_slot_words, uint8_t *pat_cells, size_t pat_cell_bytes,
                                uint64_t *pids, size_t pid_words, uint8_t *buffers, size_t buffer_bytes, uint32_t input, const uint8_t *packet,
                                size_t packet_bytes, uint64_t *places, size_t place_words, uint64_t *finished);
+
+/*
+ * As petrizolu_pass, through the gate with an index.
+ *
+ *     printf("%llu packets passed over\n",
+ *            (unsigned long long)petrizolu_indexed_pass(&large, &streams, rows[0], ROWS, rows[1], ROWS, rows[2], ROWS, rows[3], ROWS, RECORD(input), pids,
+ *                                                       PETRIZOLU_PID_WORDS, buffers, sizeof buffers, input, bytes, size, places,
+ *                                                       PETRIZOLU_PLACES_WORDS));
+ */
+uint64_t petrizolu_indexed_pass(const petrizolu_gate *gate, petrizolu_streams *streams, const uint64_t *keys, size_t key_count,
+                                const uint64_t *changes, size_t change_count, const uint64_t *buckets, size_t bucket_count,
+                                const uint64_t *links, size_t link_count, const uint64_t *watch, size_t watch_words, const uint32_t *pat_slots,
+                                size_t pat_slot_words, const uint8_t *pat_cells, size_t pat_cell_bytes, uint64_t *pids, size_t pid_words,
+                                const uint8_t *buffers, size_t buffer_bytes, uint32_t input, const uint8_t *packets, size_t packet_bytes,
+                                const uint64_t *places, size_t place_words);
 
 /* ---- a section of a row */
 

@@ -1765,8 +1765,40 @@ static void check_fed(enum call call, const struct part *p, const struct outcome
 
 #define FED(p) A(p, PID_WORDS), A(p, BUFFERS), input, packet.data, packet.count, A(p, PLACES), &finished
 
+#define PASSED(p) RECORD(p), passed_pids, p->arrays[PID_WORDS].count, A(p, BUFFERS), input, packet.data, packet.count, A(p, PLACES)
+
+static petrizolu_streams passed;
+static uint64_t *passed_pids;
+
+/* Passes over the packet with copies of the streams and the PID words: how many packets that were. */
+static uint64_t pass(struct part *p, bool with_index, uint32_t input)
+{
+    const petrizolu_gate *g = (petrizolu_gate *)p->words;
+    const size_t size = size_of(&p->arrays[PID_WORDS]);
+    passed = *(petrizolu_streams *)(p->words + COUNT);
+    passed_pids = realloc(passed_pids, size + 1);
+    memcpy(passed_pids, p->arrays[PID_WORDS].data, size);
+    if (with_index)
+        return petrizolu_indexed_pass(g, &passed, A(p, KEYS), A(p, CHANGES), A(p, BUCKETS), A(p, LINKS), PASSED(p));
+    return petrizolu_pass(g, &passed, A(p, KEYS), A(p, CHANGES), PASSED(p));
+}
+
+/* A packet that was passed over was fed with 29 and no section, and the copies are what the feed left; of one that was not they are as before. */
+static void check_pass(enum call call, struct part *p, uint64_t packets, unsigned answer, uint64_t finished)
+{
+    const bool one = packets == 1 && packet.count == PACKET;
+    if (packets > packet.count / PACKET || (one && (answer != PETRIZOLU_FED || finished != 0)))
+        fail(call, answer, "passed over");
+    if ((one || packets == 0)
+        && (memcmp(&passed, (one ? p->words : p->words_before) + COUNT, sizeof passed) != 0
+            || memcmp(passed_pids, one ? p->arrays[PID_WORDS].data : p->arrays[PID_WORDS].before, size_of(&p->arrays[PID_WORDS])) != 0))
+        fail(call, answer, "passing over left something else");
+}
+
 static unsigned feed(struct part *p, bool with_index, uint32_t input, struct outcome *o)
 {
+    const bool passes = once_in(4);
+    uint64_t packets = 0;
     const uint64_t untold = any_word();
     uint64_t finished = untold;
     enum call call = with_index ? INDEXED_FEED : FEED;
@@ -1775,11 +1807,15 @@ static unsigned feed(struct part *p, bool with_index, uint32_t input, struct out
     unsigned answer;
     remember(p);
     expect(o, p, with_index, input);
+    if (passes)
+        packets = pass(p, with_index, input);
     if (with_index)
         answer = petrizolu_indexed_feed(g, streams, A(p, KEYS), A(p, CHANGES), A(p, BUCKETS), A(p, LINKS), RECORD(p), FED(p));
     else
         answer = petrizolu_feed(g, streams, A(p, KEYS), A(p, CHANGES), RECORD(p), FED(p));
     judge(call, p, answer);
+    if (passes)
+        check_pass(call, p, packets, answer, finished);
     if (answer != o->answer)
         fail(call, answer, "another answer");
     if (answer == PETRIZOLU_FED) {

@@ -595,6 +595,7 @@ fn main() {
     gate_new_keys(rounds);
     following(rounds);
     packets::packets(rounds);
+    packets::many(rounds);
     sets(rounds);
     many(rounds);
     sets_new_keys(rounds);

@@ -7,6 +7,7 @@ use petrizolu::{
     BUFFER_BYTES, DEFAULT_BUFFERS, DEFAULT_CHANGE_RULE, DEFAULT_SETTINGS, Demux, GateState, PAT_CELLS, PAT_SLOTS, PID_WORDS, PLACES_WORDS,
     StreamsState, WATCH_WORDS, calls,
 };
+use std::cell::RefCell;
 use std::hint::black_box;
 
 /// The packet layer over the gate without an index, of input 0.
@@ -68,6 +69,24 @@ impl Plain {
         );
         debug_assert_eq!(answer.0, 29);
         finished
+    }
+
+    /// How many packets at the front are passed over.
+    fn pass(&mut self, packets: &[u8]) -> usize {
+        calls::pass(
+            &self.gate,
+            &mut self.streams,
+            &self.keys,
+            &self.changes,
+            &self.watch,
+            &self.pat_slots,
+            &self.pat_cells,
+            &mut self.pids,
+            &self.buffers,
+            0,
+            packets,
+            &self.places,
+        ) as usize
     }
 }
 
@@ -144,5 +163,57 @@ pub fn packets(rounds: usize) {
             }
         });
         measure(turns * packets.len(), rounds, &mut port, &mut original).print(name, 188);
+    }
+}
+
+/// All packets, many at once: those that are passed over by one call, each other by a feed.
+fn take_all(packets: &[Packet], mut pass: impl FnMut(&[u8]) -> usize, mut feed: impl FnMut(&[u8])) {
+    let mut rest = packets;
+    while !rest.is_empty() {
+        rest = &rest[pass(rest.as_flattened())..];
+        if let [packet, others @ ..] = rest {
+            feed(packet);
+            rest = others;
+        }
+    }
+}
+
+/// The same packets, those that are passed over by one call.
+pub fn many(rounds: usize) {
+    head("Packets, those that are passed over many at once, nanoseconds a packet", "packets", &["port", "with an index"]);
+    for Case { name, packets } in cases() {
+        let turns = (60_000 / packets.len()).max(1);
+        let plain = RefCell::new(Plain::open());
+        let indexed = RefCell::new(Demux::open(1, ROWS, DEFAULT_BUFFERS, &[]).expect("opens"));
+        let mut demux = SiDemux::builder().build();
+        let mut port: [Side; 2] = [
+            Box::new(|| {
+                for _ in 0..turns {
+                    take_all(&packets, |all| plain.borrow_mut().pass(all), |packet| _ = black_box(plain.borrow_mut().feed(packet)));
+                }
+            }),
+            Box::new(|| {
+                for _ in 0..turns {
+                    take_all(
+                        &packets,
+                        |all| indexed.borrow_mut().pass(0, all),
+                        |packet| _ = black_box(indexed.borrow_mut().feed(0, packet).map(|fed| fed.len())),
+                    );
+                }
+            }),
+        ];
+        let mut original: Side = Box::new(|| {
+            for packet in packets.iter().cycle().take(turns * packets.len()) {
+                black_box(demux.feed(packet).count());
+            }
+        });
+        let row = measure(turns * packets.len(), rounds, &mut port, &mut original);
+        drop((port, original));
+        // As many packets and sections as the original counted.
+        let count = (rounds as u64 + 1) * (turns * packets.len()) as u64;
+        assert_eq!((plain.borrow().streams.packets, indexed.borrow().streams(0).packets), (count, count));
+        assert_eq!(2 * plain.borrow().gate.completed, demux.stats().sections_completed);
+        assert_eq!(2 * indexed.borrow().state().completed, demux.stats().sections_completed);
+        row.print(name, 188);
     }
 }

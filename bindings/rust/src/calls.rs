@@ -455,6 +455,49 @@ pub fn feed(
     })
 }
 
+/// How many packets at the front are passed over.
+pub fn pass(
+    gate: &GateState,
+    streams: &mut StreamsState,
+    keys: &[u64],
+    changes: &[u64],
+    watch: &[u64],
+    pat_slots: &[u32],
+    pat_cells: &[u8],
+    pids: &mut [u64],
+    buffers: &[u8],
+    input: u32,
+    packets: &[u8],
+    places: &[u64],
+) -> u64 {
+    // SAFETY: as above.
+    unsafe {
+        raw::petrizolu_pass(
+            gate,
+            streams,
+            keys.as_ptr(),
+            keys.len(),
+            changes.as_ptr(),
+            changes.len(),
+            watch.as_ptr(),
+            watch.len(),
+            pat_slots.as_ptr(),
+            pat_slots.len(),
+            pat_cells.as_ptr(),
+            pat_cells.len(),
+            pids.as_mut_ptr(),
+            pids.len(),
+            buffers.as_ptr(),
+            buffers.len(),
+            input,
+            packets.as_ptr(),
+            packets.len(),
+            places.as_ptr(),
+            places.len(),
+        )
+    }
+}
+
 pub fn indexed_feed(
     gate: &mut GateState,
     streams: &mut StreamsState,
@@ -503,6 +546,55 @@ pub fn indexed_feed(
             finished,
         )
     })
+}
+
+/// How many packets at the front are passed over.
+pub fn indexed_pass(
+    gate: &GateState,
+    streams: &mut StreamsState,
+    keys: &[u64],
+    changes: &[u64],
+    buckets: &[u64],
+    links: &[u64],
+    watch: &[u64],
+    pat_slots: &[u32],
+    pat_cells: &[u8],
+    pids: &mut [u64],
+    buffers: &[u8],
+    input: u32,
+    packets: &[u8],
+    places: &[u64],
+) -> u64 {
+    // SAFETY: as above.
+    unsafe {
+        raw::petrizolu_indexed_pass(
+            gate,
+            streams,
+            keys.as_ptr(),
+            keys.len(),
+            changes.as_ptr(),
+            changes.len(),
+            buckets.as_ptr(),
+            buckets.len(),
+            links.as_ptr(),
+            links.len(),
+            watch.as_ptr(),
+            watch.len(),
+            pat_slots.as_ptr(),
+            pat_slots.len(),
+            pat_cells.as_ptr(),
+            pat_cells.len(),
+            pids.as_mut_ptr(),
+            pids.len(),
+            buffers.as_ptr(),
+            buffers.len(),
+            input,
+            packets.as_ptr(),
+            packets.len(),
+            places.as_ptr(),
+            places.len(),
+        )
+    }
 }
 
 // ---- the set collector

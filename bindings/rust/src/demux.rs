@@ -80,6 +80,33 @@ impl Demux {
         }
     }
 
+    /// How many of the packets of 188 bytes at the front of some bytes that came on an input are passed over: each would finish nothing, and this call counts and
+    /// leaves what as many feeds would. The next packet is for [`Demux::feed`]. 0 where that would refuse it.
+    pub fn pass(&mut self, input: u8, packets: &[u8]) -> usize {
+        let at = usize::from(input);
+        if at >= self.streams.len() {
+            return 0;
+        }
+        let streams = &mut self.streams[at];
+        let Record { words, pat_slots, pat_cells } = self.gate.watches.of(input);
+        calls::indexed_pass(
+            &self.gate.state,
+            &mut streams.state,
+            &self.gate.keys,
+            &self.gate.changes,
+            &self.gate.buckets,
+            &self.gate.links,
+            words,
+            pat_slots,
+            pat_cells,
+            &mut streams.pids,
+            &streams.buffers,
+            input.into(),
+            packets,
+            &self.places,
+        ) as usize
+    }
+
     /// Whether the PID is watched on the input.
     pub fn watches(&self, input: u8, pid: u16) -> bool {
         self.gate.watches(input, pid)

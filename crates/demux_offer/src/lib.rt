@@ -93,7 +93,7 @@ pub fn offer(
             section,
         );
     }
-    gate_pats::inner::take(
+    demux_take::take(
         gate,
         counters,
         keys,

@@ -8,6 +8,8 @@ ghost use Rattle.host_indexed.specs.Calls as indexed;
 ghost use Rattle.host_streams.specs.Calls as streamCalls;
 ghost use Rattle.host_feed.specs.Calls as packets;
 ghost use Rattle.host_feed_indexed_calls.specs.Calls as indexedPackets;
+ghost use Rattle.host_pass.specs.Calls as passes;
+ghost use Rattle.host_pass_indexed.specs.Calls as indexedPasses;
 ghost use Rattle.host_words.specs.Answers.{words};
 ghost use Rattle.pats.specs.Store.{recordOf};
 ghost use Rattle.host_sets.specs.Calls.{setsLeft, setsOpened, setsPushed, setsCleared, setsNext};
@@ -229,6 +231,40 @@ pub extern "C" fn petrizolu_feed(
     )
 }
 
+// How many packets at the front of some bytes are passed over: what as many feeds would count and leave. The next packet is for `petrizolu_feed`.
+#[no_mangle]
+pub extern "C" fn petrizolu_pass(
+    gate: &[u64; 13],
+    streams: &mut [u64; 3],
+    keys: &[u64],
+    changes: &[u64],
+    watch: &[u64],
+    pat_slots: &[u32],
+    pat_cells: &[u8],
+    pids: &mut [u64],
+    buffers: &[u8],
+    input: u32,
+    packets: &[u8],
+    places: &[u64],
+) -> u64
+    ensures { λ r. ⌜ passes.left r (now (streams .exit)) (now (pids .exit)) ≡ passes.packetsPassed (now (gate .entry)) (now (streams .entry)) (now (keys .entry)) (now (changes .entry)) (recordOf (now (watch .entry)) (now («pat_slots» .entry)) (now («pat_cells» .entry))) (now (pids .entry)) (now (buffers .entry)) input (now (packets .entry)) (now (places .entry)) ⌝ }
+{
+    host_pass::pass(
+        gate,
+        streams,
+        keys,
+        changes,
+        watch,
+        pat_slots,
+        pat_cells,
+        pids,
+        buffers,
+        input,
+        packets,
+        places,
+    )
+}
+
 // `petrizolu_feed` through the index.
 #[no_mangle]
 pub extern "C" fn petrizolu_indexed_feed(
@@ -266,6 +302,44 @@ pub extern "C" fn petrizolu_indexed_feed(
         packet,
         places,
         finished,
+    )
+}
+
+// `petrizolu_pass` through the index.
+#[no_mangle]
+pub extern "C" fn petrizolu_indexed_pass(
+    gate: &[u64; 13],
+    streams: &mut [u64; 3],
+    keys: &[u64],
+    changes: &[u64],
+    buckets: &[u64],
+    links: &[u64],
+    watch: &[u64],
+    pat_slots: &[u32],
+    pat_cells: &[u8],
+    pids: &mut [u64],
+    buffers: &[u8],
+    input: u32,
+    packets: &[u8],
+    places: &[u64],
+) -> u64
+    ensures { λ r. ⌜ passes.left r (now (streams .exit)) (now (pids .exit)) ≡ indexedPasses.packetsPassed (now (gate .entry)) (now (streams .entry)) (now (keys .entry)) (now (changes .entry)) (now (buckets .entry)) (now (links .entry)) (recordOf (now (watch .entry)) (now («pat_slots» .entry)) (now («pat_cells» .entry))) (now (pids .entry)) (now (buffers .entry)) input (now (packets .entry)) (now (places .entry)) ⌝ }
+{
+    host_pass_indexed::pass(
+        gate,
+        streams,
+        keys,
+        changes,
+        buckets,
+        links,
+        watch,
+        pat_slots,
+        pat_cells,
+        pids,
+        buffers,
+        input,
+        packets,
+        places,
     )
 }
 

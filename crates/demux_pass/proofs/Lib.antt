@@ -1,0 +1,4 @@
+pub mod Passing
+pub mod Ready
+pub mod Store
+pub mod Laws
