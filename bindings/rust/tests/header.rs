@@ -91,7 +91,7 @@ fn functions_of_raw() -> Said {
 #[test]
 fn functions() {
     assert_eq!(functions_of_raw(), functions_of_the_header());
-    assert_eq!(functions_of_raw().len(), 36);
+    assert_eq!(functions_of_raw().len(), 38);
 }
 
 /// The fields between the braces after `from`, in order.
