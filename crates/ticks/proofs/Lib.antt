@@ -1,0 +1,5 @@
+pub mod Ticks
+pub mod Touch
+pub mod Words
+pub mod Taken
+pub mod Drop
