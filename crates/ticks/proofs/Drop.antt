@@ -18,21 +18,21 @@ use Rattle.ticks.proofs.Ticks.{gap, listed-cong, gap-at, retain-with, r
 
 -- ---- over any ticks
 
-moved-own : (used i : ℕ) → movedFrom used i i ≡ used - 1
+pub moved-own : (used i : ℕ) → movedFrom used i i ≡ used - 1
 moved-own used i = rw (eq-eqb i i refl)
 
-moved-other : (used i j : ℕ) → j ≢ i → movedFrom used i j ≡ j
+pub moved-other : (used i j : ℕ) → j ≢ i → movedFrom used i j ≡ j
 moved-other used i j ne = rw (ne-eqb j i ne)
 
 module _ (used i : ℕ) (hi : i < used) where
-  moved-below : (j : ℕ) → j < used - 1 → movedFrom used i j < used
+  pub moved-below : (j : ℕ) → j < used - 1 → movedFrom used i j < used
   moved-below j h = go (ℕ-discrete j i)
     where
       go : Dec (j ≡ i) → movedFrom used i j < used
       go (yes e) = let p : movedFrom used i j ≡ used - 1 = ap (movedFrom used i) e ∙ moved-own used i in omega arith
       go (no ne) = let p = moved-other used i j ne in omega arith
 
-  moved-not : (j : ℕ) → j < used - 1 → movedFrom used i j ≢ i
+  pub moved-not : (j : ℕ) → j < used - 1 → movedFrom used i j ≢ i
   moved-not j h e = go (ℕ-discrete j i)
     where
       go : Dec (j ≡ i) → ⊥

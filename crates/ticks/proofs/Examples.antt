@@ -6,13 +6,13 @@ use Prim.Native.Nat.{ℕ, _≤_}
 use native.Mathlib.Omega.{arith}
 use lib.ListN.{length}
 use Rattle.laws.specs.Lists.{firstFrom}
-use Rattle.rules_shared.specs.Touch.{under, oldestGone, room, leaves, count, find, remove, others, evicts, untouched, aside, newest, touch}
+use Rattle.rules_shared.specs.Touch.{under, oldestGone, room, leaves, count, retain, find, remove, others, evicts, untouched, aside, newest, touch, retained}
 use Rattle.rows.specs.declared.Key.{Key}
 use Rattle.rows.specs.declared.Entry.{Entry}
 use Rattle.rows.specs.Rows.{sameOrigin, sameKey, roomRenewed}
 use Rattle.tick_rows.specs.Tick.{tickOf, withTick, earlierOf, oldestOf, roomNew}
 use Rattle.ticks.specs.Order.{listed, atTick, inOrder}
-use Rattle.ticks.specs.History.{opened, touchedAll, touchedByRules, keysSeen}
+use Rattle.ticks.specs.History.{opened, section, drops, actsAll, ruled, ruledAll, keysSeen}
 use Rattle.ticks.proofs.History.{same-order}
 
 -- three heads, touched at 5, 2 and 9
@@ -43,10 +43,19 @@ key t = record { from = record { input = 0; pid = 18 }; «table_id» = t; extens
 abbrev entry : ℕ → Entry
 entry t = record { key = key t; version = 0; last = 0; number = 0 }
 
-rules-lose-B : touchedByRules 2 (entry 64 ∷ entry 66 ∷ entry 64 ∷ entry 70 ∷ []) untouched ≡ record { rows = under (key 64) tt ∷ under (key 70) tt ∷ []; evicted = 1 }
-unfolding touchedByRules oldestGone room leaves count find remove others evicts untouched aside newest touch sameOrigin sameKey
+rules-lose-B : ruledAll 2 (section (entry 64) ∷ section (entry 66) ∷ section (entry 64) ∷ section (entry 70) ∷ []) untouched ≡ record { rows = under (key 64) tt ∷ under (key 70) tt ∷ []; evicted = 1 }
+unfolding ruledAll ruled oldestGone room leaves count find remove others evicts untouched aside newest touch sameOrigin sameKey
 rules-lose-B = refl
 
 pub loses-B : (words : List ℕ) → 24 ≤ length words
-    → keysSeen (touchedAll 2 (entry 64 ∷ entry 66 ∷ entry 64 ∷ entry 70 ∷ []) (opened words)) ≡ record { rows = under (key 64) tt ∷ under (key 70) tt ∷ []; evicted = 1 }
-loses-B words l = same-order 2 (omega arith) words l (entry 64 ∷ entry 66 ∷ entry 64 ∷ entry 70 ∷ []) ∙ rules-lose-B
+    → keysSeen (actsAll 2 (section (entry 64) ∷ section (entry 66) ∷ section (entry 64) ∷ section (entry 70) ∷ []) (opened words)) ≡ record { rows = under (key 64) tt ∷ under (key 70) tt ∷ []; evicted = 1 }
+loses-B words l = same-order 2 (omega arith) words l (section (entry 64) ∷ section (entry 66) ∷ section (entry 64) ∷ section (entry 70) ∷ []) ∙ rules-lose-B
+
+-- limit 3, A, B, C, then B is dropped: C stands in its row and has its place behind A all the same
+rules-drop-B : ruledAll 3 (section (entry 64) ∷ section (entry 66) ∷ section (entry 70) ∷ drops (key 66) ∷ []) untouched ≡ record { rows = under (key 64) tt ∷ under (key 70) tt ∷ []; evicted = 0 }
+unfolding ruledAll ruled oldestGone room leaves count retain find remove others evicts untouched aside newest touch retained sameOrigin sameKey
+rules-drop-B = refl
+
+pub drops-B : (words : List ℕ) → 36 ≤ length words
+    → keysSeen (actsAll 3 (section (entry 64) ∷ section (entry 66) ∷ section (entry 70) ∷ drops (key 66) ∷ []) (opened words)) ≡ record { rows = under (key 64) tt ∷ under (key 70) tt ∷ []; evicted = 0 }
+drops-B words l = same-order 3 (omega arith) words l (section (entry 64) ∷ section (entry 66) ∷ section (entry 70) ∷ drops (key 66) ∷ []) ∙ rules-drop-B

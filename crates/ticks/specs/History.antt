@@ -1,10 +1,12 @@
--- Keys that are touched one after another: the heads as `rows` and `tick_rows` leave them, and the touch order as the rules have it. What a row holds is left out.
+-- Sections, drops and clearings one after another: the heads as `rows` and `tick_rows` leave them, and the touch order as the rules have it. What a row holds is left out.
 -- Assumes nothing.
-use Prim.Native.Nat.{ℕ, _+_}
+use Prim.Native.Nat.{ℕ, _+_, _-_, _*_}
 use mathlib.Core.List.{List, [], _∷_}
-use mathlib.Core.Bool.{cond}
+use mathlib.Core.Bool.{cond, not}
 use lib.Dec.{ltb}
-use Rattle.rules_shared.specs.Touch.{TouchOrder, touch}
+use lib.ListN.{take, drop}
+use lib.Seq.{paste}
+use Rattle.rules_shared.specs.Touch.{TouchOrder, touch, emptied, retained}
 use Rattle.rows.specs.declared.Key.{Key}
 use Rattle.rows.specs.declared.Entry.{Entry}
 use Rattle.rows.specs.declared.Room.{Room}
@@ -33,16 +35,46 @@ roomFor limit h key =
 unfoldable pub touchedIn : Heads → Entry → Room → Heads
 touchedIn h e r = record { words = withTick (r .row) (h .clock + 1) (keptHeads r e (h .words)); used = r .used; clock = h .clock + 1; evictions = r .evictions }
 
--- sections of these entries, one after another
-unfoldable pub touchedAll : ℕ → List Entry → Heads → Heads
-touchedAll limit [] h = h
-touchedAll limit (e ∷ es) h = touchedAll limit es (touchedIn h e (roomFor limit h (e .key)))
+-- row i leaves: the last row in use takes its place, with its tick
+unfoldable pub lastTo : (used i : ℕ) → List ℕ → List ℕ
+lastTo used i words = paste words (i * 12) (take 12 (drop ((used - 1) * 12) words)) 12
 
--- so the rules
-unfoldable pub touchedByRules : ℕ → List Entry → TouchOrder Key (Unit {0}) → TouchOrder Key (Unit {0})
-touchedByRules limit [] t = t
-touchedByRules limit (e ∷ es) t = touchedByRules limit es (touch sameKey limit (e .key) tt t)
+abbrev pub without : Heads → ℕ → Heads
+without h i = record { words = lastTo (h .used) i (h .words); used = h .used - 1; clock = h .clock; evictions = h .evictions }
+
+-- what happens: a section of that entry, the key is dropped, or all is cleared
+pub data Call : Type 0 where
+  section : Entry → Call
+  drops : Key → Call
+  clears : Call
+
+-- .. in the memory. Neither a drop nor a clearing changes the clock
+unfoldable pub acts : ℕ → Heads → Call → Heads
+acts limit h (section e) = touchedIn h e (roomFor limit h (e .key))
+acts limit h (drops key) = let i : ℕ = rowOf (h .words) key (h .used) in cond (ltb i (h .used)) (without h i) h
+acts limit h clears = record { words = h .words; used = 0; clock = h .clock; evictions = h .evictions }
+
+unfoldable pub actsAll : ℕ → List Call → Heads → Heads
+actsAll limit [] h = h
+actsAll limit (c ∷ cs) h = actsAll limit cs (acts limit h c)
+
+-- .. and by the rules
+abbrev pub OfKeys : Type 0
+OfKeys = TouchOrder Key (Unit {0})
+
+unfoldable pub ruled : ℕ → OfKeys → Call → OfKeys
+ruled limit t (section e) = touch sameKey limit (e .key) tt t
+ruled limit t (drops key) = retained (λ (k : Key). not (sameKey key k)) t
+ruled limit t clears = emptied t
+
+unfoldable pub ruledAll : ℕ → List Call → OfKeys → OfKeys
+ruledAll limit [] t = t
+ruledAll limit (c ∷ cs) t = ruledAll limit cs (ruled limit t c)
+
+-- what a row holds is left out
+abbrev pub blank : ℕ → Unit {0}
+blank i = tt
 
 -- the keys of the rows in use, the least recently touched first, and the evictions
-abbrev pub keysSeen : Heads → TouchOrder Key (Unit {0})
-keysSeen h = orderSeen (λ (k : Key). k) (h .words) (h .used) (h .clock) (h .evictions) (λ (i : ℕ). tt)
+abbrev pub keysSeen : Heads → OfKeys
+keysSeen h = orderSeen (λ (k : Key). k) (h .words) (h .used) (h .clock) (h .evictions) blank
