@@ -1,4 +1,5 @@
--- Sections, drops and clearings one after another: the heads as `rows` and `tick_rows` leave them, and the touch order as the rules have it. What a row holds is left out.
+-- Sections, drops and clearings one after another: the heads as `rows` and `tick_rows` leave them, and the touch order as the rules have it.
+-- Left out: what a row holds, a known row that begins anew, and the end of the counts (11). What a drop leaves (`lastTo`) is no function's yet.
 -- Assumes nothing.
 use Prim.Native.Nat.{ℕ, _+_, _-_, _*_}
 use mathlib.Core.List.{List, [], _∷_}
