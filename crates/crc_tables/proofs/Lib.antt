@@ -1,0 +1,4 @@
+pub mod Sums
+pub mod Looks
+pub mod Tables
+pub mod Words
