@@ -2,17 +2,18 @@
 -- Assumes nothing.
 use mathlib.Core.Path.{_≡_, refl, sym, ap, _∙_}
 use mathlib.Core.List.{List, _++_, append-assoc}
-use mathlib.Core.Bool.{Bool, true, false, cond, _&&_, and-assoc, and-true}
+use mathlib.Core.Bool.{Bool, true, false, cond, _&&_, and-assoc, and-true, and-false}
 use Prim.Native.Nat.{ℕ, zero, suc, _+_, _-_, _*_, _≤_, _<_}
 use native.Mathlib.Nat.{le-of-eq}
 use native.Mathlib.Numerals.{add-one}
 use native.Mathlib.Omega.{arith}
 use borrow.Author.Tests.{lt-ltb, le-ltb, eq-eqb, ne-eqb}
 use lib.Dec.{ltb, eqb}
-use lib.ListN.{length, take, drop, set, replicate, length-drop, length-replicate}
+use lib.ListN.{length, getD, take, drop, set, replicate, length-drop, length-replicate}
 use lib.Seq.{paste, set-getD, length-take-le, take-all, drop-drop}
 use Rattle.laws.proofs.Lists.{paste-end}
-use Rattle.cells.specs.Cells.{allWhole, allFilled, markedAll}
+use Rattle.cells.specs.Cells.{slotWhole, allWhole, allFilled, markedAll}
+use Rattle.cells.proofs.Laws.{one-slot}
 use Rattle.rows.specs.declared.Origin.{Origin}
 use Rattle.rows.specs.declared.Key.{Key}
 use Rattle.rows.specs.declared.Entry.{Entry}
@@ -92,6 +93,12 @@ touch-done used i a h h' h'' e p q = rw (← e, ← p) q
 pub key-is : (heads : List ℕ) (i : ℕ) (key k : Key) (r : Bool) → k ≡ keyAt heads i → r ≡ sameKey k key → r ≡ sameKey (keyAt heads i) key
 key-is heads i key k r e q = rw (← e) q
 
+-- one word that differs is enough
+pub key-differs : (heads : List ℕ) (i : ℕ) (key : Key) (w : ℕ) → w ≡ word heads i 2 → (w ≡ key .extension → ⊥) → false ≡ sameKey (keyAt heads i) key
+unfolding sameKey
+key-differs heads i key w e h =
+    rw (← e, ne-eqb w (key .extension) h, and-false (sameOrigin (originAt heads i) (key .from) && eqb (word heads i 1) (key .«table_id»)))
+
 -- ---- a row for a section
 
 pub words-end : (h₀ h words : List ℕ) (at k : ℕ) → h ≡ paste h₀ at words k → length words ≤ k → k ≤ length words → h ≡ paste h₀ at words (length words)
@@ -135,13 +142,13 @@ slot-kept r e w l l' l'' p q = rw (← p) q
 
 -- ---- all rows in use
 
-pub rows-turn : (heads slots : List ℕ) (count size used i : ℕ) (part : List ℕ) (ok r : Bool) → 0 < i → part ≡ rowSlots heads slots (i - 1) → r ≡ allWhole count size part
+pub rows-turn : (heads slots : List ℕ) (count size used i : ℕ) (ok r : Bool) → 0 < i → r ≡ allWhole count size (rowSlots heads slots (i - 1))
     → rowsWhole heads slots count size used ≡ (ok && rowsWhole heads slots count size i)
     → rowsWhole heads slots count size used ≡ (ok && r && rowsWhole heads slots count size (i - 1))
 unfolding rowsWhole
-rows-turn heads slots count size used i part ok r p d e q =
+rows-turn heads slots count size used i ok r p e q =
     q ∙ ap (λ (k : ℕ). ok && rowsWhole heads slots count size k) (before i p)
-    ∙ sym (and-assoc ok (allWhole count size (rowSlots heads slots (i - 1))) (rowsWhole heads slots count size (i - 1))) ∙ rw (e, d)
+    ∙ sym (and-assoc ok (allWhole count size (rowSlots heads slots (i - 1))) (rowsWhole heads slots count size (i - 1))) ∙ rw e
 
 pub rows-end : (heads slots : List ℕ) (count size used i : ℕ) (ok : Bool) → i ≤ 0 → rowsWhole heads slots count size used ≡ (ok && rowsWhole heads slots count size i)
     → ok ≡ rowsWhole heads slots count size used
@@ -171,3 +178,17 @@ where-not fresh l at n t = rw t
 
 pub full-row : (heads slots : List ℕ) (i : ℕ) (part : List ℕ) (r : Bool) → part ≡ rowSlots heads slots i → r ≡ allFilled part → r ≡ allFilled (rowSlots heads slots i)
 full-row heads slots i part r e q = rw (← e) q
+
+-- ---- a row of one slot, which is filled
+
+pub row-single : (heads slots : List ℕ) (count size i l w : ℕ) (r : Bool) → l ≡ lastOf heads i → l ≡ 0 → i * 288 + 288 ≤ length slots → w ≡ getD slots (slotsAt i + 0) 0
+    → (r ≡ true → slotWhole count size w ≡ true) → r ≡ true → true ≡ allWhole count size (rowSlots heads slots i)
+unfolding rowSlots
+row-single heads slots count size i l w r e z h f g t =
+    let s : slotsAt i + 0 ≡ slotsAt i = omega arith in
+    let one : lastOf heads i ≡ 0 = sym e ∙ z in
+    let ok : slotWhole count size (getD slots (slotsAt i) 0) ≡ true = rw (← s, ← f) (g t) in
+    rw one (sym (one-slot slots (slotsAt i) count size (omega arith) ok))
+
+pub row-each : (heads slots : List ℕ) (count size i : ℕ) (part : List ℕ) (r : Bool) → part ≡ rowSlots heads slots i → r ≡ allWhole count size part → r ≡ allWhole count size (rowSlots heads slots i)
+row-each heads slots count size i part r e q = rw (← e) q

@@ -6,7 +6,7 @@ ghost use mathlib.Core.Bool.{true, cond};
 ghost use Prim.Native.Nat.{_+_, _-_, _*_, _<_, _≤_};
 ghost use lib.ListN.{length, getD};
 ghost use lib.Seq.{paste};
-ghost use Rattle.cells.specs.Cells.{allFilled};
+ghost use Rattle.cells.specs.Cells.{allWhole, allFilled};
 ghost use Rattle.rows.specs.Rows.{roomNew, goneRow, keptHeads, slotsAt, slotCount, rowSlots, emptied, keptSlots, rowsWhole, markedRow, markedRows, ageOf, lastOf, markOf, versionOf, withMark};
 ghost use Rattle.rows.specs.Rows.{word, put, originAt, sameOrigin, keyAt, sameKey, rowOf, elderOf, oldestOf, older, aged, touched, freshHead};
 
@@ -55,6 +55,8 @@ pub const HEAD_WORDS: usize = 12;
 pub const ROW_WORDS: usize = 288;
 
 pub const SEGMENT_WORDS: usize = 32;
+
+const EXTENSION: usize = 2;
 
 const VERSION: usize = 6;
 
@@ -158,10 +160,14 @@ pub fn same_key(a: Key, b: Key) -> bool
         & (a.original_network_id == b.original_network_id)
 }
 
+// Whether row i has the key. Rows differ most often in the extension: of those that do, one word is read.
 fn key_is(heads: &[u64], i: usize, key: Key) -> bool
     requires { ⌜ i * 12 + 12 ≤ length (now heads) ⌝ }
     ensures { λ r. ⌜ r ≡ sameKey (keyAt (now (heads .entry)) i) key ⌝ }
 {
+    if get(heads, i, EXTENSION) != key.extension {
+        return false;
+    }
     same_key(key_at(heads, i), key)
 }
 
@@ -384,6 +390,20 @@ pub fn row_full(heads: &[u64], slots: &[u32], i: usize) -> bool
     ensures { λ r. ⌜ r ≡ allFilled (rowSlots (now (heads .entry)) (now (slots .entry)) i) ⌝ }
 {
     cells::all_filled(row_slots(heads, slots, i))
+}
+
+// Whether each slot of row i is whole. Every call of a collector asks it of every row, and most rows have one slot, which is filled: the
+// loop over the slots is for the others.
+pub fn row_whole(heads: &[u64], slots: &[u32], count: u16, size: u16, i: usize) -> bool
+    requires { ⌜ (i * 12 + 12 ≤ length (now heads)) × (i * 288 + 288 ≤ length (now slots)) × (12 ≤ size) × (size ≤ 4096) ⌝ }
+    ensures { λ r. ⌜ r ≡ allWhole count size (rowSlots (now (heads .entry)) (now (slots .entry)) i) ⌝ }
+{
+    if last(heads, i) == 0 {
+        if cells::filled_whole(slot(slots, i, 0), count, size) {
+            return true;
+        }
+    }
+    cells::all_whole(row_slots(heads, slots, i), count, size)
 }
 
 // ---- all rows in use

@@ -13,7 +13,7 @@ use Rattle.rows.specs.declared.Entry.{Entry}
 use Rattle.rows.specs.declared.Room.{Room}
 use Rattle.rows.proofs.Loops.{before}
 use Rattle.placing.proofs.Fits.{oldest-below}
-use Rattle.units.specs.Units.{firstTable, unitsWhole, markedUnits, allPresent, withoutUnits, withSet, refilled}
+use Rattle.units.specs.Units.{firstTable, unitWhole, unitsWhole, markedUnits, allPresent, withoutUnits, withSet, refilled}
 use Rattle.schedules.specs.declared.ScheduleRoom.{ScheduleRoom}
 use Rattle.schedules.specs.Schedules.{tableCount, tablesOf, schedulesWhole, markedSchedules, RoomFits, roomKnown, roomOf, scheduledHeads, readyUnits, scheduledUnits, tablesThere}
 
@@ -39,13 +39,25 @@ tables-counted schedule-heads k kind last r e f q = (rw (← e, ← f) (q .0), q
 
 -- ---- all schedules in use
 
+module _ (schedule-heads units : List ℕ) (count size k : ℕ) where
+  pub schedule-single : (kind last first : ℕ) (r : Bool) → kind ≡ tableWord schedule-heads k → last ≡ lastOf schedule-heads k → (first ≡ firstTable kind) × (first ≤ 96) → last ≤ first
+      → (r ≡ true → unitWhole units count size (k * 16) ≡ true) → r ≡ true → true ≡ unitsWhole units count size (k * 16) (tablesOf schedule-heads k)
+  unfolding tablesOf unitsWhole
+  schedule-single kind last first r e f g h u t =
+      let one : tableCount (tableWord schedule-heads k) (lastOf schedule-heads k) ≡ 1 = rw (← e, ← f, ← g .0) (omega arith) in
+      let z : k * 16 + 0 ≡ k * 16 = omega arith in
+      rw (one, z, u t)
+
+  pub schedule-each : (n : ℕ) (r : Bool) → (n ≡ tablesOf schedule-heads k) × (n ≤ 16) → r ≡ unitsWhole units count size (k * 16) n → r ≡ unitsWhole units count size (k * 16) (tablesOf schedule-heads k)
+  schedule-each n r e q = rw (← e .0) q
+
 module _ (schedule-heads units : List ℕ) (count size n k : ℕ) (ok : Bool) (q : schedulesWhole schedule-heads units count size n ≡ (ok && schedulesWhole schedule-heads units count size k)) where
-  pub schedules-turn : (t : ℕ) (r : Bool) → 0 < k → t ≡ tablesOf schedule-heads (k - 1) → r ≡ unitsWhole units count size ((k - 1) * 16) t
+  pub schedules-turn : (r : Bool) → 0 < k → r ≡ unitsWhole units count size ((k - 1) * 16) (tablesOf schedule-heads (k - 1))
       → schedulesWhole schedule-heads units count size n ≡ (ok && r && schedulesWhole schedule-heads units count size (k - 1))
   unfolding schedulesWhole
-  schedules-turn t r p f e =
+  schedules-turn r p f =
       q ∙ ap (λ (m : ℕ). ok && schedulesWhole schedule-heads units count size m) (before k p)
-      ∙ sym (and-assoc ok (unitsWhole units count size ((k - 1) * 16) (tablesOf schedule-heads (k - 1))) (schedulesWhole schedule-heads units count size (k - 1))) ∙ rw (← f, ← e)
+      ∙ sym (and-assoc ok (unitsWhole units count size ((k - 1) * 16) (tablesOf schedule-heads (k - 1))) (schedulesWhole schedule-heads units count size (k - 1))) ∙ rw (← f)
 
   pub schedules-end : k ≤ 0 → ok ≡ schedulesWhole schedule-heads units count size n
   unfolding schedulesWhole

@@ -8,6 +8,7 @@ ghost use Prim.Native.Nat.{ℕ, _+_, _-_, _*_, _%_, _<_, _≤_};
 ghost use lib.ListN.{length};
 ghost use Rattle.cells.specs.Cells.{lowestFree};
 ghost use Rattle.rows.specs.Rows.{tableWord};
+ghost use Rattle.units.specs.Units.{unitsWhole};
 ghost use Rattle.schedules.specs.Schedules.{tableCount, tablesOf, schedulesWhole, markedSchedules, takenAnywhere};
 ghost use Rattle.schedules.specs.Schedules.{roomKnown, roomOf, scheduledHeads, readyUnits, scheduledUnits, tablesThere};
 
@@ -58,6 +59,19 @@ pub fn tables_of(heads: &[u64], k: usize) -> usize
 
 // ---- all schedules in use
 
+// Whether the tables of the schedule of row k are whole.
+fn schedule_whole(heads: &[u64], units: &[u32], count: u16, size: u16, k: usize) -> bool
+    requires { ⌜ (k * 12 + 12 ≤ length (now heads)) × (k * 4608 + 4608 ≤ length (now units)) × (12 ≤ size) × (size ≤ 4096) ⌝ }
+    ensures { λ r. ⌜ r ≡ unitsWhole (now (units .entry)) count size (k * 16) (tablesOf (now (heads .entry)) k) ⌝ }
+{
+    if rows::last(heads, k) <= units::first_table(kind_at(heads, k)) {
+        if units::single_whole(units, count, size, k * TABLES) {
+            return true;
+        }
+    }
+    units::units_whole(units, count, size, k * TABLES, tables_of(heads, k))
+}
+
 // Whether the tables of the first n schedules are whole.
 pub fn schedules_whole(heads: &[u64], units: &[u32], count: u16, size: u16, n: usize) -> bool
     requires { ⌜ (n * 12 ≤ length (now heads)) × (n * 4608 ≤ length (now units)) × (12 ≤ size) × (size ≤ 4096) ⌝ }
@@ -67,7 +81,7 @@ pub fn schedules_whole(heads: &[u64], units: &[u32], count: u16, size: u16, n: u
     let mut k = n;
     while k > 0 {
         k -= 1;
-        ok = ok & units::units_whole(units, count, size, k * TABLES, tables_of(heads, k));
+        ok = ok & schedule_whole(heads, units, count, size, k);
     }
     ok
 }

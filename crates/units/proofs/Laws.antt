@@ -8,12 +8,14 @@ use native.Mathlib.Omega.{arith}
 use mir.Val.{Fits}
 use mir.Syntax.{w32}
 use native.Mathlib.Nat.{lt-of-le-of-lt}
-use borrow.Author.Tests.{eq-eqb, ne-eqb, lt-ltb, le-ltb}
+use borrow.Author.Tests.{eq-eqb, ne-eqb, lt-ltb, le-ltb, eqb-true}
 use lib.Dec.{eqb, ltb, lit<}
 use lib.ListN.{length, take, drop, getD, set, length-drop, length-set}
 use lib.Seq.{paste, length-take-le}
 use Rattle.laws.proofs.Lists.{paste-end}
-use Rattle.cells.specs.Cells.{allWhole, markedAll}
+use Rattle.laws.proofs.Tests.{and-true as and-true-both}
+use Rattle.cells.specs.Cells.{slotWhole, allWhole, markedAll}
+use Rattle.cells.proofs.Laws.{one-slot}
 use Rattle.rows.specs.Rows.{rowOf, slotsAt, slotCount, rowSlots, lastOf, versionOf}
 use Rattle.rows.specs.declared.Key.{Key}
 use Rattle.rows.proofs.Loops.{before}
@@ -25,6 +27,23 @@ unfolding unitSlots
 unit-part units u w x n e g f = let s : u * 288 + 32 + n - (u * 288 + 32) ≡ n = omega arith in rw (s, f, g, e)
 
 -- ---- all units in use
+
+-- a unit of one slot that is whole is so whether it is present or not
+pub single-whole : (units : List ℕ) (count size u l w : ℕ) (r : Bool) → l ≡ wordOf units u 2 → w ≡ wordOf units u 32 → u * 288 + 288 ≤ length units
+    → (r ≡ true → slotWhole count size w ≡ true) → (eqb l 0 && r) ≡ true → unitWhole units count size u ≡ true
+unfolding unitWhole unitSlots
+single-whole units count size u l w r e f h g t =
+    let both = and-true-both (eqb l 0) r t in
+    let one : wordOf units u 2 ≡ 0 = sym e ∙ eqb-true l 0 (both .0) in
+    let slot : slotWhole count size (getD units (slotsAt u) 0) ≡ true = rw (← f) (g (both .1)) in
+    rw (one, one-slot units (slotsAt u) count size (omega arith) slot) (either (isPresent units u))
+  where
+    either : (b : Bool) → cond b true true ≡ true
+    either true = refl
+    either false = refl
+
+pub unit-single : (units : List ℕ) (count size u : ℕ) (r : Bool) → (r ≡ true → unitWhole units count size u ≡ true) → r ≡ true → true ≡ unitWhole units count size u
+unit-single units count size u r g t = sym (g t)
 
 pub unit-whole-there : (units : List ℕ) (count size u : ℕ) (part : List ℕ) (b r : Bool) → b ≡ isPresent units u → b ≡ true → part ≡ unitSlots units u → r ≡ allWhole count size part → r ≡ unitWhole units count size u
 unfolding unitWhole

@@ -42,11 +42,25 @@ pub fn unit_slots<'a>(units: &'a [u32], u: usize) -> &'a [u32]
 
 // ---- all units in use
 
+// Whether unit u has one slot, which is filled and whole; then it need not be asked whether it is present. One of which this is not so may
+// still be whole.
+pub fn single_whole(units: &[u32], count: u16, size: u16, u: usize) -> bool
+    requires { ⌜ (u * 288 + 288 ≤ length (now units)) × (12 ≤ size) × (size ≤ 4096) ⌝ }
+    ensures { λ r. ⌜ (r ≡ true → unitWhole (now (units .entry)) count size u ≡ true) ⌝ }
+{
+    let last = segments::word(units, u, UNIT_LAST);
+    let first = segments::word(units, u, rows::SEGMENT_WORDS);
+    (last == 0) & cells::filled_whole(first, count, size)
+}
+
 // Whether unit u is not present, or each of its slots is whole.
 fn unit_whole(units: &[u32], count: u16, size: u16, u: usize) -> bool
     requires { ⌜ (u * 288 + 288 ≤ length (now units)) × (12 ≤ size) × (size ≤ 4096) ⌝ }
     ensures { λ r. ⌜ r ≡ unitWhole (now (units .entry)) count size u ⌝ }
 {
+    if single_whole(units, count, size, u) {
+        return true;
+    }
     if is_present(units, u) {
         return cells::all_whole(unit_slots(units, u), count, size);
     }

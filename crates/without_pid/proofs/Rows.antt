@@ -1,15 +1,17 @@
 -- What the test says of the rows, both ways, and examples.
 -- Assumes nothing.
-use mathlib.Core.Path.{_≡_, refl, sym, _∙_}
+use mathlib.Core.Path.{_≡_, refl, sym, ap, _∙_}
 use mathlib.Core.List.{List, [], _∷_}
-use mathlib.Core.Bool.{Bool, true, false, _||_, or-true, or-false}
+use mathlib.Core.Bool.{Bool, true, false, _&&_, _||_, and-true, or-true, or-false, true≢false}
 use Prim.Native.Nat.{ℕ, zero, suc, _+_, _-_, _*_, _≤_, _<_}
 use native.Mathlib.Omega.{arith}
 use borrow.Author.Tests.{eq-eqb, ne-eqb, eqb-true, eqb-false}
 use lib.Dec.{eqb}
 use lib.ListN.{length, getD, replicate}
 use mathlib.Core.List.{_++_}
-use Rattle.rows.specs.Rows.{word}
+use Rattle.cells.specs.Cells.{slotWhole, allWhole}
+use Rattle.rows.specs.Rows.{word, lastOf, slotsAt, rowSlots, rowsWhole}
+use Rattle.rows.proofs.Loops.{row-single, rows-turn}
 use Rattle.without_pid.specs.Pids.{withoutPid}
 
 -- ---- the loop
@@ -52,6 +54,36 @@ pub down-end : (heads : List ℕ) (used i : ℕ) (found : Bool) → i ≤ 0 → 
 unfolding withoutPid
 down-end heads used zero found p e = sym e
 down-end heads used (suc i) found p e = absurd (omega (arith, p))
+
+-- ---- a row of one slot that is filled and whole, with a PID
+
+pub not-plain : (A : Type 0) → false ≡ true → A
+not-plain A e = absurd (true≢false (sym e))
+
+pub plain-slot : (heads slots : List ℕ) (count size i l w : ℕ) (r : Bool) → l ≡ lastOf heads i → l ≡ 0 → i * 288 + 288 ≤ length slots → w ≡ getD slots (slotsAt i + 0) 0
+    → (r ≡ true → slotWhole count size w ≡ true) → r ≡ true → allWhole count size (rowSlots heads slots i) ≡ true
+plain-slot heads slots count size i l w r e z h f g t = sym (row-single heads slots count size i l w r e z h f g t)
+
+-- such a row changes nothing of what was seen
+pub plain-whole : (heads slots : List ℕ) (count size used i : ℕ) (ok r : Bool) → 0 < i → (r ≡ true → allWhole count size (rowSlots heads slots (i - 1)) ≡ true) → r ≡ true
+    → rowsWhole heads slots count size used ≡ (ok && rowsWhole heads slots count size i)
+    → rowsWhole heads slots count size used ≡ (ok && rowsWhole heads slots count size (i - 1))
+plain-whole heads slots count size used i ok r p h t e =
+    rows-turn heads slots count size used i ok true p (sym (h t)) e ∙ ap (λ (b : Bool). b && rowsWhole heads slots count size (i - 1)) (and-true ok)
+
+pub plain-pid : (heads : List ℕ) (used i : ℕ) (found r : Bool) → 0 < i → (r ≡ true → eqb (getD heads ((i - 1) * 12) 0) 8192 ≡ false) → r ≡ true
+    → withoutPid heads used ≡ (withoutPid heads i || found)
+    → withoutPid heads used ≡ (withoutPid heads (i - 1) || found)
+plain-pid heads used i found r p h t e =
+    down-row heads used i found p e
+    ∙ ap (λ (b : Bool). withoutPid heads (i - 1) || (found || b)) (h t)
+    ∙ ap (λ (b : Bool). withoutPid heads (i - 1) || b) (or-false found)
+
+pub first : {A B C : Type 0} → (C → A × B) → C → A
+first h c = h c .0
+
+pub second : {A B C : Type 0} → (C → A × B) → C → B
+second h c = h c .1
 
 -- ---- what it says
 

@@ -20,14 +20,8 @@ loop-holds c = (omega arith, refl)
 sub-k : tie.Need-sub-k Inv-loop μ-loop
 sub-k c = search needs
 
-mul-units-whole : tie.Need-mul-units-whole Inv-loop μ-loop
-mul-units-whole c = search needs
-
-tables-of-requires : tie.Need-tables-of-requires Inv-loop μ-loop
-tables-of-requires c κs = search needs
-
-units-whole-requires : tie.Need-units-whole-requires Inv-loop μ-loop
-units-whole-requires c κs = search needs
+schedule-whole-requires : tie.Need-schedule-whole-requires Inv-loop μ-loop
+schedule-whole-requires c κs = search needs
 
 loop-less : tie.Need-loop-less Inv-loop μ-loop
 loop-less c = search needs
@@ -41,4 +35,4 @@ returns c = search schedules-end
 pub schedules-whole-spec : {M : Type 1} → statement M
 schedules-whole-spec =
     tie.close
-    (tie.spec Inv-loop μ-loop loop-holds sub-k mul-units-whole tables-of-requires units-whole-requires loop-less loop-again returns)
+    (tie.spec Inv-loop μ-loop loop-holds sub-k schedule-whole-requires loop-less loop-again returns)
