@@ -466,6 +466,7 @@ typedef struct petrizolu_sets {
     uint64_t count;    /* cells, at most 65535 */
     uint64_t used;     /* rows in use */
     uint64_t evictions;
+    uint64_t clock;    /* rises by one with each touch of a row, 22 too, and stands in the row's head then */
 } petrizolu_sets;
 
 /*
@@ -515,7 +516,7 @@ uint8_t petrizolu_sets_push_all(petrizolu_sets *sets, uint64_t *heads, size_t he
                                 size_t cell_bytes, const uint8_t *sections, size_t section_bytes, uint64_t *row, uint64_t *taken);
 
 /*
- * Empties all rows; the eviction count stays. 7; 10, 41 (a row in use has no PID): as before.
+ * Empties all rows; the eviction count and the clock stay. 7; 10, 41 (a row in use has no PID): as before.
  *
  *     petrizolu_sets_clear(&sets, heads, sizeof heads / 8, slots, sizeof slots / 4, cells, sizeof cells);
  */
@@ -546,6 +547,7 @@ typedef struct petrizolu_eit {
     uint64_t evictions;
     uint64_t schedules;    /* schedules in use */
     uint64_t schedule_evictions;
+    uint64_t clock;    /* as the set collector's; one for sets and schedules */
 } petrizolu_eit;
 
 /*

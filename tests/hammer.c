@@ -483,7 +483,7 @@ enum { KEYS, CHANGES, BUCKETS, LINKS, WATCH, PAT_SLOTS, PAT_CELLS, GATE_ARRAYS }
 enum { GATE_WORDS = sizeof(petrizolu_gate) / 8, FOLLOW = offsetof(petrizolu_gate, follow) / 8, USED = offsetof(petrizolu_gate, used) / 8 };
 
 /* Words of a watch record: the three sets, then of the PAT store the rows in use, the evictions and the head of its row. */
-enum { SET_WORDS = 384, PAT_ROWS = SET_WORDS, PAT_EVICTIONS = PETRIZOLU_WATCH_PAT_EVICTIONS, PAT_HEAD = 386, PAT_LAST = PAT_HEAD + PETRIZOLU_HEAD_LAST };
+enum { SET_WORDS = 384, PAT_ROWS = SET_WORDS, PAT_EVICTIONS = PETRIZOLU_WATCH_PAT_EVICTIONS, PAT_HEAD = 386, PAT_LAST = PAT_HEAD + PETRIZOLU_HEAD_LAST, PAT_TICK = PAT_HEAD + 9 };
 
 /* A row's slots stand behind 32 words that a set collector does not use. */
 enum { FIRST_SLOT = 32 };
@@ -527,6 +527,13 @@ static bool pats_whole(const struct part *p)
             return false;
     }
     return true;
+}
+
+/* The larger of the PAT store's evictions and its clock, which is its row's tick. */
+static uint64_t pats_count(const struct part *p)
+{
+    uint64_t evictions = watch_of(p)[PAT_EVICTIONS], clock = watch_of(p)[PAT_ROWS] == 0 ? 0 : watch_of(p)[PAT_TICK];
+    return evictions < clock ? clock : evictions;
 }
 
 /* That the record is as before from word `from` on, and its slots and cells. */
@@ -607,7 +614,7 @@ static unsigned gate_offer(struct part *p, bool with_index, uint32_t input, uint
 {
     unsigned answer;
     petrizolu_failure before = {any_word(), any_word(), any_word()}, failure = before;
-    bool tables = follows_tables(p->words[FOLLOW]), whole = pats_whole(p), full = whole && watch_of(p)[PAT_EVICTIONS] == UINT64_MAX;
+    bool tables = follows_tables(p->words[FOLLOW]), whole = pats_whole(p), full = whole && pats_count(p) == UINT64_MAX;
     remember(p);
     if (with_index) {
         answer = petrizolu_indexed_offer((petrizolu_gate *)p->words, A(p, KEYS), A(p, CHANGES), A(p, BUCKETS), A(p, LINKS), RECORD(p), input, pid, SECTION, &failure);
@@ -678,6 +685,7 @@ static void likely(struct part *p, uint64_t capacity)
     for (int i = 0; i < (int)PETRIZOLU_HEAD_WORDS; i++)
         watch[PAT_HEAD + i] = below(3) == 0 ? 1 : 0;
     watch[PAT_LAST] = once_in(4) ? any_word() : below(3);
+    watch[PAT_TICK] = once_in(8) ? UINT64_MAX - below(2) : below(4);
     for (int i = 0; i < 256; i++) {
         uint32_t slot = once_in(4) ? 0 : (uint32_t)(12 + below(1013)) << 16 | (uint32_t)below(256);
         memcpy(p->arrays[PAT_SLOTS].data + 4 * (FIRST_SLOT + i), &slot, 4);
@@ -799,7 +807,7 @@ static void round_of_gates(void)
 /* ---- the collectors */
 
 enum { HEADS, SLOTS, CELLS, SCHEDULE_HEADS, UNITS, EIT_ARRAYS };
-enum { SETS_ARRAYS = 3, SETS_WORDS = 5, EIT_WORDS = 7 };
+enum { SETS_ARRAYS = 3, SETS_WORDS = 6, EIT_WORDS = 8 };
 
 static struct part sets, eit;
 
@@ -836,12 +844,20 @@ static void check_pid(enum call call, const struct part *p, bool none_given, uns
         fail(call, answer, "whether there is a PID");
 }
 
-/* 22: the key becomes newest, else as before. Ages are words of the heads. */
-static void check_conflict(enum call call, const struct part *p)
+/* The word with the clock is the last. */
+static uint64_t *clock_of(struct part *p)
+{
+    return &p->words[(p->array_count == EIT_ARRAYS ? EIT_WORDS : SETS_WORDS) - 1];
+}
+
+/* 22: the key becomes newest by the clock that has risen, else as before. Ticks are words of the heads. */
+static void check_conflict(enum call call, struct part *p)
 {
     const uint64_t *now = (const uint64_t *)p->arrays[HEADS].data, *before = (const uint64_t *)p->arrays[HEADS].before;
+    uint64_t clock = (*clock_of(p))--;
     if (memcmp(p->words, p->words_before, sizeof p->words) != 0)
         fail(call, 22, "counts changed");
+    *clock_of(p) = clock;
     for (size_t i = 0; i < p->array_count; i++)
         if (i != HEADS && !array_as_before(&p->arrays[i]))
             fail(call, 22, "more than the order changed");
@@ -1413,7 +1429,7 @@ static void round_of_collectors(void)
         for (size_t i = 0; i < word_count; i++)
             p->words[i] = any_word();
         if (once_in(2)) {
-            const uint64_t good[EIT_WORDS] = {limit, size, count, below(limit + 1), draw(), below(limit + 1), draw()};
+            const uint64_t good[EIT_WORDS] = {limit, size, count, below(limit + 1), draw(), below(limit + 1), draw(), draw()};
             memcpy(p->words, good, word_count * sizeof good[0]);
         }
     } else {
@@ -1573,7 +1589,7 @@ static bool feed_is_full(const struct part *p)
 {
     const petrizolu_gate *g = (const petrizolu_gate *)p->words;
     bool full = near_end(g->completed) || near_end(g->emitted) || near_end(g->suppressed) || near_end(g->crc_failures) || near_end(g->short_sections) || near_end(g->crc_mismatches) || near_end(g->evictions);
-    return full || near_end(p->words[PACKETS]) || near_end(p->words[MALFORMED]) || (follows_tables(g->follow) && near_end(watch_of(p)[PAT_EVICTIONS]));
+    return full || near_end(p->words[PACKETS]) || near_end(p->words[MALFORMED]) || (follows_tables(g->follow) && near_end(pats_count(p)));
 }
 
 static bool watches(const uint64_t *watch, uint32_t pid)

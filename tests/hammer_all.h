@@ -45,8 +45,9 @@ static void push_all(enum call call, struct part *p)
     uint64_t row = 77, taken = 78, known_row = 77, known_taken = 0;
     unsigned answer, known;
     draw_list();
+    uint64_t *count = once_in(2) ? &p->words[4] : clock_of(p);
     if (once_in(30)) /* the count ends between two sections of the list, or before them */
-        p->words[4] = UINT64_MAX - below(3);
+        *count = UINT64_MAX - below(3);
     memcpy(listed.before, listed.data, size_of(&listed));
     memcpy(copied_words, p->words, sizeof p->words);
     for (size_t i = 0; i < p->array_count; i++)
@@ -67,6 +68,6 @@ static void push_all(enum call call, struct part *p)
     for (size_t i = 0; i < p->array_count; i++)
         if (memcmp(copies[i], p->arrays[i].data, size_of(&p->arrays[i])) != 0)
             fail(call, answer, "not what one by one leaves");
-    if (p->words[4] > UINT64_MAX / 2)
-        p->words[4] = below(8);
+    if (*count > UINT64_MAX / 2)
+        *count = below(8);
 }

@@ -40,7 +40,7 @@ pub struct StreamsState {
     pub malformed: u64,
 }
 
-/// A set collector's settings and counts.
+/// A set collector's settings and counts. `clock` rises by one with each touch of a row.
 #[repr(C)]
 #[derive(Debug, Clone, Copy, Default, PartialEq, Eq)]
 pub struct SetsState {
@@ -49,9 +49,10 @@ pub struct SetsState {
     pub count: u64,
     pub used: u64,
     pub evictions: u64,
+    pub clock: u64,
 }
 
-/// An EIT collector's settings and counts.
+/// An EIT collector's settings and counts. `clock` rises by one with each touch of a row.
 #[repr(C)]
 #[derive(Debug, Clone, Copy, Default, PartialEq, Eq)]
 pub struct EitState {
@@ -62,6 +63,7 @@ pub struct EitState {
     pub evictions: u64,
     pub schedules: u64,
     pub schedule_evictions: u64,
+    pub clock: u64,
 }
 
 /// Where a section of a row is. A question that is answered yes (8) writes it, any other answer leaves it as it was.

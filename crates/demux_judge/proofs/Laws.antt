@@ -3,7 +3,7 @@
 use mathlib.Core.Path.{_≡_, refl, sym, ap, _∙_}
 use mathlib.Core.Bool.{Bool, true, false, cond, not, _&&_, true≢false}
 use mathlib.Core.List.{List}
-use Prim.Native.Nat.{ℕ, _*_, _≤_, _<_}
+use Prim.Native.Nat.{ℕ, _*_, _≤_, _<_, max}
 use native.Mathlib.Omega.{arith}
 use lib.Dec.{leb, ltb}
 use lib.ListN.{length, getD}
@@ -16,7 +16,7 @@ use Rattle.gate_state.specs.declared.Follow.{Follow}
 use Rattle.gate_state.specs.declared.Gate.{Gate}
 use Rattle.gate.specs.Store.{wholeOf}
 use Rattle.gate.proofs.Laws.{fits}
-use Rattle.pats.specs.Store.{Record, recordOf, patsWhole}
+use Rattle.pats.specs.Store.{Record, recordOf, patsWhole, patClock}
 use Rattle.pats.proofs.Laws.{whole-long}
 use Rattle.streams.specs.Store.{areEnough}
 use Rattle.streams.specs.declared.Streams.{Streams}
@@ -26,7 +26,7 @@ use Rattle.demux_packets.specs.declared.Plan.{Plan}
 use Rattle.demux_packets.specs.Plans.{planOf, Lent}
 use Rattle.demux_judge.specs.declared.Verdict.{Verdict}
 use Rattle.demux_judge.specs.declared.Verdict.the-variants.{Refused, Goes}
-use Rattle.demux_judge.specs.Verdicts.{recordWhole, lentWhole, wholeWith, patEvictions, verdictOf, Enough, Wholes, HasCount}
+use Rattle.demux_judge.specs.Verdicts.{recordWhole, lentWhole, wholeWith, patCount, verdictOf, Enough, Wholes, HasCount}
 
 -- ---- the record
 
@@ -37,10 +37,10 @@ module _ (f : Follow) (b : Bool) (e : b ≡ byTables f) where
   pub record-else : (r : Record) → b ≡ false → true ≡ recordWhole f r
   record-else r t = rw (← e, t) refl
 
-  pub count-tables : (words : List ℕ) → b ≡ true → getD words 385 0 ≡ patEvictions f words
-  count-tables words t = rw (← e, t) refl
+  pub count-tables : (words : List ℕ) (c m : ℕ) → b ≡ true → c ≡ patClock words → m ≡ max (getD words 385 0) c → m ≡ patCount f words
+  count-tables words c m t k q = rw (← e, t, ← k) q
 
-  pub count-else : (words : List ℕ) → b ≡ false → 0 ≡ patEvictions f words
+  pub count-else : (words : List ℕ) → b ≡ false → 0 ≡ patCount f words
   count-else words t = rw (← e, t) refl
 
   pub count-there : (words : List ℕ) → HasCount f words → b ≡ true → 398 ≤ length words
@@ -99,8 +99,8 @@ module _ (g : Gate) (c : Counters) (s : Streams) (keys changes : ℕ) (r : Recor
     pub has-count : HasCount (g .follow) (r .words)
     has-count = record { there = λ t. whole-long r (is-whole .pats t) .words }
 
-    module _ (n : ℕ) (q : n ≡ patEvictions (g .follow) (r .words)) (b : Bool) (f : b ≡ nearEnd c s n) where
-      same-near : b ≡ nearEnd c s (patEvictions (g .follow) (r .words))
+    module _ (n : ℕ) (q : n ≡ patCount (g .follow) (r .words)) (b : Bool) (f : b ≡ nearEnd c s n) where
+      same-near : b ≡ nearEnd c s (patCount (g .follow) (r .words))
       same-near = f ∙ ap (nearEnd c s) q
 
       pub near-its-end : b ≡ true → Refused CounterFull ≡ verdict
@@ -126,23 +126,23 @@ module _ (g : Gate) (c : Counters) (s : Streams) (keys changes : ℕ) (r : Recor
 
 pub record Goings (g : Gate) (c : Counters) (s : Streams) (keys changes : ℕ) (r : Record) (pids : List ℕ) (buffers input : ℕ) (packet : List ℕ) (places : ℕ) (p : Plan) : Type 0 where
   pub whole : Wholes g s keys changes r (length pids) buffers places
-  pub spares : Spares c s (patEvictions (g .follow) (r .words))
+  pub spares : Spares c s (patCount (g .follow) (r .words))
   pub known : input < 16
   pub plan : planOf (r .words) (s .count) pids packet ≡ p
 
 pub goings : (g : Gate) (c : Counters) (s : Streams) (keys changes : ℕ) (r : Record) (pids : List ℕ) (buffers input : ℕ) (packet : List ℕ) (places : ℕ) (p : Plan)
     → verdictOf g c s keys changes r pids buffers input packet places ≡ Goes p → Goings g c s keys changes r pids buffers input packet places p
 unfolding verdictOf
-goings g c s keys changes r pids buffers input packet places p = go (wholeWith g s keys changes r (length pids) buffers places) (nearEnd c s (patEvictions (g .follow) (r .words))) (ltb input 16) refl refl refl
+goings g c s keys changes r pids buffers input packet places p = go (wholeWith g s keys changes r (length pids) buffers places) (nearEnd c s (patCount (g .follow) (r .words))) (ltb input 16) refl refl refl
   where
     plan : Plan
     plan = planOf (r .words) (s .count) pids packet
 
-    go : (a b d : Bool) → wholeWith g s keys changes r (length pids) buffers places ≡ a → nearEnd c s (patEvictions (g .follow) (r .words)) ≡ b → ltb input 16 ≡ d
+    go : (a b d : Bool) → wholeWith g s keys changes r (length pids) buffers places ≡ a → nearEnd c s (patCount (g .follow) (r .words)) ≡ b → ltb input 16 ≡ d
         → cond a (cond b (Refused CounterFull) (cond d (Goes plan) (Refused BadInput))) (Refused NotWhole) ≡ Goes p → Goings g c s keys changes r pids buffers input packet places p
     go true false true x y z e = record {
       whole = wholes g s keys changes r (length pids) buffers places x;
-      spares = spares c s (patEvictions (g .follow) (r .words)) y;
+      spares = spares c s (patCount (g .follow) (r .words)) y;
       known = ltb-true _ _ z;
       plan = cc;
     }

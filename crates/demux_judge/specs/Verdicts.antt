@@ -5,14 +5,14 @@ use mathlib.Core.Bool.{Bool, true, cond, _&&_}
 use mathlib.Core.List.{List}
 use Prim.Native.Nat.{ℕ, _*_, _≤_}
 use lib.Dec.{leb, ltb}
-use lib.ListN.{length, getD}
+use lib.ListN.{length}
 use Rattle.answers.specs.declared.Refusal.the-variants.{NotWhole, CounterFull, BadInput}
 use Rattle.counters.specs.declared.Counters.{Counters}
 use Rattle.gate_state.specs.State.{byTables}
 use Rattle.gate_state.specs.declared.Follow.{Follow}
 use Rattle.gate_state.specs.declared.Gate.{Gate}
 use Rattle.gate.specs.Store.{wholeOf}
-use Rattle.pats.specs.Store.{Record, patsWhole}
+use Rattle.pats.specs.Store.{Record, patMost, patsWhole}
 use Rattle.streams.specs.Store.{areEnough}
 use Rattle.streams.specs.declared.Streams.{Streams}
 use Rattle.demux_state.specs.State.{nearEnd}
@@ -32,15 +32,15 @@ lentWhole s pids buffers places = areEnough (s .count) pids buffers && leb 384 p
 abbrev pub wholeWith : Gate → Streams → (keys changes : ℕ) → Record → (pids buffers places : ℕ) → Bool
 wholeWith g s keys changes r pids buffers places = wholeOf g keys changes (length (r .words)) && recordWhole (g .follow) r && lentWhole s pids buffers places
 
--- the PAT store's count, which 11 looks at only where complete PATs are followed
-abbrev pub patEvictions : Follow → List ℕ → ℕ
-patEvictions f words = cond (byTables f) (getD words 385 0) 0
+-- the larger of the PAT store's evictions and its clock, which 11 looks at only where complete PATs are followed
+abbrev pub patCount : Follow → List ℕ → ℕ
+patCount f words = cond (byTables f) (patMost words) 0
 
 -- 10, 11, 37, then what the packet comes to
 unfoldable pub verdictOf : Gate → Counters → Streams → (keys changes : ℕ) → Record → (pids : List ℕ) → (buffers input : ℕ) → (packet : List ℕ) → (places : ℕ) → Verdict
 verdictOf g c s keys changes r pids buffers input packet places =
     cond (wholeWith g s keys changes r (length pids) buffers places)
-    (cond (nearEnd c s (patEvictions (g .follow) (r .words))) (Refused CounterFull)
+    (cond (nearEnd c s (patCount (g .follow) (r .words))) (Refused CounterFull)
     (cond (ltb input 16) (Goes (planOf (r .words) (s .count) pids packet)) (Refused BadInput)))
     (Refused NotWhole)
 

@@ -7,8 +7,9 @@ use gate_state::Gate;
 use streams::Streams;
 ghost use mathlib.Core.Path.{_≡_};
 ghost use lib.ListN.{length};
+ghost use Prim.Native.Nat.{max};
 ghost use Rattle.pats.specs.Store.{recordOf};
-ghost use Rattle.demux_judge.specs.Verdicts.{recordWhole, patEvictions, lentWhole, wholeWith, verdictOf, HasCount};
+ghost use Rattle.demux_judge.specs.Verdicts.{recordWhole, patCount, lentWhole, wholeWith, verdictOf, HasCount};
 
 // A refusal that changes nothing, or a packet that is counted.
 pub enum Verdict {
@@ -66,13 +67,19 @@ fn is_whole(
 
 // ---- 11
 
-// The PAT store's count, 0 where complete PATs are not followed.
-fn pat_evictions(follow: Follow, words: &[u64]) -> u64
+fn larger(a: u64, b: u64) -> u64
+    ensures { λ r. ⌜ r ≡ max a b ⌝ }
+{
+    if a < b { b } else { a }
+}
+
+// The larger of the PAT store's evictions and its clock, 0 where complete PATs are not followed.
+fn pat_count(follow: Follow, words: &[u64]) -> u64
     requires { ⌜ HasCount follow (now words) ⌝ }
-    ensures { λ r. ⌜ r ≡ patEvictions follow (now (words .entry)) ⌝ }
+    ensures { λ r. ⌜ r ≡ patCount follow (now (words .entry)) ⌝ }
 {
     if follow.by_tables() {
-        return words[PAT_EVICTIONS];
+        return larger(words[PAT_EVICTIONS], pats::clock_of(words));
     }
     0
 }
@@ -111,7 +118,7 @@ pub fn judge(
         return Verdict::Refused(Refusal::NotWhole);
     }
     let follow = gate.follow;
-    if demux_state::near_end(counters, streams, pat_evictions(follow, words)) {
+    if demux_state::near_end(counters, streams, pat_count(follow, words)) {
         return Verdict::Refused(Refusal::CounterFull);
     }
     if input < INPUTS {

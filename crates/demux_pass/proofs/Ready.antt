@@ -21,7 +21,7 @@ use Rattle.demux_packets.specs.declared.Plan.{Plan}
 use Rattle.demux_packets.specs.Plans.{planOf}
 use Rattle.demux_judge.specs.declared.Verdict.{Verdict}
 use Rattle.demux_judge.specs.declared.Verdict.the-variants.{Refused, Goes}
-use Rattle.demux_judge.specs.Verdicts.{wholeWith, patEvictions, verdictOf}
+use Rattle.demux_judge.specs.Verdicts.{wholeWith, patCount, verdictOf}
 use Rattle.demux_judge.proofs.Laws.{lends}
 use Rattle.demux_pass.specs.Passing.{isPassed, CanPass}
 
@@ -30,7 +30,7 @@ module _ (g : Gate) (c : Counters) (keys changes : ℕ) (r : Record) (buffers in
   verdictAt t pids packet = verdictOf g c t keys changes r pids buffers input packet places
 
   abbrev pats : ℕ
-  pats = patEvictions (g .follow) (r .words)
+  pats = patCount (g .follow) (r .words)
 
   pub record Ready (t : Streams) (size : ℕ) : Type 0 where
     pub whole : wholeWith g t keys changes r size buffers places ≡ true

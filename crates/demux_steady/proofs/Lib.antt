@@ -1,3 +1,2 @@
-pub mod Evictions
 pub mod Sections
 pub mod Steady

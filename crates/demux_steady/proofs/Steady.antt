@@ -7,17 +7,16 @@ use Prim.Native.Nat.{ℕ, suc, _+_, _^_, _≤_, _<_}
 use native.Mathlib.Omega.{arith}
 use lib.Dec.{leb, eqb}
 use lib.ListN.{length, getD}
-use borrow.Author.Tests.{ne-eqb}
 use Rattle.gate_state.specs.State.{Said, byTables}
 use Rattle.gate.specs.Store.{Store, Offering, isWhole, wholeOf, offered, Fits}
 use Rattle.gate.proofs.Laws.{fits}
-use Rattle.pats.specs.Store.{Record, recordOf, patsWhole, patsFull, enteredIn, PatsReady}
+use Rattle.pats.specs.Store.{Record, recordOf, patMost, patsWhole, enteredIn, PatsReady}
 use Rattle.pats.proofs.Laws.{ready, entered-lengths, entered-whole}
+use Rattle.pats.proofs.Counts.{entered-few, not-full}
 use Rattle.gate_pats.specs.Store.{Kept, keptOf, sectionsIn, soundBy, recordAfter, takenWith, RecordReady}
 use Rattle.gate_pats.proofs.Laws.{words-kept}
 use Rattle.demux_state.specs.State.{Spare}
 use Rattle.demux_steady.specs.Steady.{acts, Steady}
-use Rattle.demux_steady.proofs.Evictions.{entered-few}
 use Rattle.demux_steady.proofs.Sections.{Stays, Rises, offered-stays}
 
 -- ---- who can judge m more can judge fewer
@@ -42,21 +41,17 @@ module _ (m n : ℕ) (h : n ≤ m) where
           evictions = few (c .evictions) (p .evictions);
         };
         pats = o .pats;
-        evictions = λ t. few (getD (s .watch .words) 385 0) (o .evictions t);
+        evictions = λ t. few (patMost (s .watch .words)) (o .evictions t);
       }
 
 -- ---- what is ready for one
-
-not-full : (n : ℕ) (words : List ℕ) → getD words 385 0 + suc n < 2 ^ 64 → patsFull words ≡ false
-unfolding patsFull
-not-full n words h = ne-eqb (getD words 385 0) 18446744073709551615 (λ (e : getD words 385 0 ≡ 18446744073709551615). omega arith)
 
 pub words-whole : (s : Kept) → isWhole (sectionsIn s) ≡ true → 384 ≤ length (s .watch .words)
 words-whole s w = fits (s .gate) (length (s .keys)) (length (s .changes)) (length (s .watch .words)) (isWhole (sectionsIn s)) refl w .watch
 
 module _ (n : ℕ) (s : Kept) (o : Steady (suc n) s) where
   pub pats-ready : byTables (s .gate .follow) ≡ true → PatsReady (s .watch)
-  pats-ready t = ready (s .watch) (o .pats t) (not-full n (s .watch .words) (o .evictions t))
+  pats-ready t = ready (s .watch) (o .pats t) (not-full (s .watch .words) (omega (arith, o .evictions t)))
 
   pub record-ready : RecordReady (s .gate .follow) (s .watch)
   record-ready = record { pats = pats-ready }
@@ -70,12 +65,12 @@ module _ (n : ℕ) (s : Kept) (o : Steady (suc n) s) where
 record Keeps (n : ℕ) (r t : Record) : Type 0 where
   pub long : length (t .words) ≡ length (r .words)
   pub whole : patsWhole t ≡ true
-  pub evictions : getD (t .words) 385 0 + n < 2 ^ 64
-  pub more : getD (r .words) 385 0 ≤ getD (t .words) 385 0
+  pub evictions : patMost (t .words) + n < 2 ^ 64
+  pub more : patMost (r .words) ≤ patMost (t .words)
 
-module _ (n : ℕ) (r : Record) (w : patsWhole r ≡ true) (e : getD (r .words) 385 0 + suc n < 2 ^ 64) (input : ℕ) (section : List ℕ) (b : getD section 7 0 < 256) where
+module _ (n : ℕ) (r : Record) (w : patsWhole r ≡ true) (e : patMost (r .words) + suc n < 2 ^ 64) (input : ℕ) (section : List ℕ) (b : getD section 7 0 < 256) where
   is-ready : PatsReady r
-  is-ready = ready r w (not-full n (r .words) e)
+  is-ready = ready r w (not-full (r .words) (omega (arith, e)))
 
   after-keeps : (t : Bool) → Keeps n r (cond t (enteredIn r input section) r)
   after-keeps true = record {
@@ -122,7 +117,7 @@ module _ (n : ℕ) (s : Kept) (o : Steady (suc n) s) (input pid : ℕ) (section 
           evictions = λ h. by-tables (sym same ∙ h) .evictions;
         }
 
-    pub evictions-after : byTables (s .gate .follow) ≡ true → getD (s .watch .words) 385 0 ≤ getD (then .words) 385 0
+    pub evictions-after : byTables (s .gate .follow) ≡ true → patMost (s .watch .words) ≤ patMost (then .words)
     evictions-after h = by-tables h .more
 
 module _ (n : ℕ) (s : Kept) (o : Steady (suc n) s) (input pid : ℕ) (section : List ℕ) (b : getD section 7 0 < 256) where
@@ -141,7 +136,7 @@ module _ (n : ℕ) (s : Kept) (o : Steady (suc n) s) (input pid : ℕ) (section 
   unfolding takenWith
   counters-rise = stays .rises
 
-  pub evictions-rise : byTables (s .gate .follow) ≡ true → getD (s .watch .words) 385 0 ≤ getD ((acts s input pid section) .watch .words) 385 0
+  pub evictions-rise : byTables (s .gate .follow) ≡ true → patMost (s .watch .words) ≤ patMost ((acts s input pid section) .watch .words)
   unfolding takenWith
   evictions-rise t = evictions-after n s o input pid section b (x .answer) (x .store) stays (λ h. words-kept (sectionsIn s) section h input pid) t
 

@@ -3,10 +3,9 @@ use mathlib.Core.Path.{_≡_}
 use mathlib.Core.Bool.{true}
 use mathlib.Core.List.{List}
 use Prim.Native.Nat.{ℕ, _+_, _^_, _<_}
-use lib.ListN.{getD}
 use Rattle.gate_state.specs.State.{Said, byTables}
 use Rattle.gate.specs.Store.{isWhole}
-use Rattle.pats.specs.Store.{patsWhole}
+use Rattle.pats.specs.Store.{patMost, patsWhole}
 use Rattle.gate_pats.specs.Store.{Kept, sectionsIn, takenWith}
 use Rattle.demux_state.specs.State.{Spare}
 
@@ -24,4 +23,4 @@ pub record Steady (n : ℕ) (s : Kept) : Type 0 where
   pub whole : isWhole (sectionsIn s) ≡ true
   pub spare : Spare n (s .counters)
   pub pats : byTables (s .gate .follow) ≡ true → patsWhole (s .watch) ≡ true
-  pub evictions : byTables (s .gate .follow) ≡ true → getD (s .watch .words) 385 0 + n < 2 ^ 64
+  pub evictions : byTables (s .gate .follow) ≡ true → patMost (s .watch .words) + n < 2 ^ 64

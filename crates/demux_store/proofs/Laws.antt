@@ -4,7 +4,8 @@ use mathlib.Core.Path.{_≡_, refl, sym, subst, _∙_}
 use mathlib.Core.Bool.{Bool, true, cond}
 use mathlib.Core.List.{List}
 use Prim.Native.Nat.{ℕ, _+_, _^_, _<_}
-use lib.ListN.{length, getD}
+use lib.ListN.{length}
+use Rattle.pats.specs.Store.{patMost}
 use Rattle.answers.specs.Answers.{refusalNo}
 use Rattle.answers.specs.declared.Refusal.{Refusal}
 use Rattle.section.specs.Facts.{Bytes}
@@ -29,7 +30,7 @@ module _ (s : Kept) (t : Streams) (pids : List ℕ) (buffers input : ℕ) (packe
         whole = x .whole .gate;
         spare = x .spares .gate;
         pats = x .whole .pats;
-        evictions = λ h. subst (λ (y : Bool). cond y (getD (s .watch .words) 385 0) 0 + 64 < 2 ^ 64) h (x .spares .sets);
+        evictions = λ h. subst (λ (y : Bool). cond y (patMost (s .watch .words)) 0 + 64 < 2 ^ 64) h (x .spares .sets);
       }
 
 -- ---- every packet

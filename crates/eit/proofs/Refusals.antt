@@ -1,4 +1,4 @@
--- A refusal leaves everything as it was, but 22, which makes the key the newest, and 23, which keeps the section.
+-- A refusal leaves everything as it was, but 22, which makes the key the newest by the next tick of the clock, and 23, which keeps the section.
 -- Assumes nothing.
 use mathlib.Core.Path.{_≡_, refl, _∙_}
 use mathlib.Core.Logic.{_≢_}
@@ -16,7 +16,7 @@ use Rattle.schedules.specs.Schedules.{roomOf, scheduledUnits, tablesThere}
 use Rattle.schedules.specs.declared.ScheduleRoom.{ScheduleRoom}
 use Rattle.eit_state.specs.declared.PushAnswer.{PushAnswer}
 use Rattle.eit_state.specs.declared.PushAnswer.the-variants as answer
-use Rattle.eit_state.specs.State.{Store, store, Rows, rows, rowsOf, wholeOf, pushNumber, emptyEit}
+use Rattle.eit_state.specs.State.{Store, store, Rows, rows, rowsOf, risenRows, wholeOf, pushNumber, emptyEit}
 use Rattle.eit_plan.specs.declared.Plan.{Plan}
 use Rattle.eit_plan.specs.declared.Plan.the-variants as plan
 use Rattle.eit_plan.specs.Plan.{planOf}
@@ -54,7 +54,7 @@ settling becomes.Enters r a i h =
 settled-past : (r : Rows) (a : Arrival) (i : ℕ) → 10 ≤ pushNumber ((settled r a i) .answer) → pushNumber ((settled r a i) .answer) ≡ 23
 unfolding settled
 settled-past r a i =
-    let heads : List ℕ = touched (r .eit .sets .used) i (r .heads) in
+    let heads : List ℕ = touched (r .eit .sets .clock) i (r .heads) in
     let b : Becomes = becomesOf heads (r .slots) a i in
     settling b (rows (r .eit) (markedHeads (isMarked b) i heads) (r .slots) (r .schedule-heads) (r .units)) a i
 
@@ -62,7 +62,7 @@ carried-keeps : (s : Store) (bytes : List ℕ) (p : Plan) → 10 ≤ pushNumber 
 unfolding keptAndSettled
 carried-keeps s bytes (plan.Leave a) h k l = refl
 carried-keeps s bytes (plan.Conflict i) h k l = absurd (k refl)
-carried-keeps s bytes (plan.Repeat x) h k l = absurd (l (settled-past (rowsOf s) (x .arrival) (x .row) h))
+carried-keeps s bytes (plan.Repeat x) h k l = absurd (l (settled-past (risenRows (rowsOf s)) (x .arrival) (x .row) h))
 carried-keeps s bytes (plan.Keep n) h k l = absurd (l (settled-past _ (n .arrival) (n .room .row) h))
 
 -- the number that is told is the answer's

@@ -78,7 +78,7 @@ pub fn push(
     }
 }
 
-// Every set and every schedule leaves. The counts of evictions stay.
+// Every set and every schedule leaves. The counts of evictions and the clock stay.
 pub fn clear(
     eit: Eit,
     heads: &[u64],
@@ -101,7 +101,7 @@ pub fn clear(
     eit_state::cleared(eit, false)
 }
 
-// The sets and the schedules that match the filter leave. The order of the others stays, and so do the counts of evictions.
+// The sets and the schedules that match the filter leave. The order of the others stays, and so do the counts of evictions and the clock.
 pub fn drop(
     eit: Eit,
     heads: &mut [u64],

@@ -29,7 +29,7 @@ fn keep_section(
     let room = k.room;
     let then = eit_state::with_sets(eit, room.used, room.evictions);
     eit_settle::settle(
-        then,
+        eit_state::risen(then),
         heads,
         slots,
         schedule_heads,
@@ -56,12 +56,13 @@ pub fn carry(
     match plan {
         Plan::Leave(answer) => Pushed { answer, eit },
         Plan::Conflict(i) => {
-            let sets = eit.sets;
-            let answer = eit_settle::conflict(heads, sets.used, i);
-            Pushed { answer, eit }
+            let then = eit_state::risen(eit);
+            let sets = then.sets;
+            let answer = eit_settle::conflict(heads, i, sets.clock);
+            Pushed { answer, eit: then }
         }
         Plan::Repeat(x) => eit_settle::settle(
-            eit,
+            eit_state::risen(eit),
             heads,
             slots,
             schedule_heads,

@@ -48,7 +48,7 @@ module _ (e : Eit) (heads slots schedule-heads units : List ℕ) (i : ℕ) (s : 
   room-units u l = let f = room-fits e heads slots schedule-heads units i s r o q in let k = o .room in omega arith
 
 pub entered-done : (e : Eit) (heads slots schedule-heads units : List ℕ) (a : Arrival) (i : ℕ) (s : Entry) (r : ScheduleRoom) (t u : List ℕ) (own : ℕ) (all : Bool) (x : PushAnswer) (e' : Eit)
-    → s ≡ scheduleEntry a → r ≡ roomOf schedule-heads (e .sets .limit) (e .schedules) (e .«schedule_evictions») s → t ≡ scheduledHeads (r .room) s schedule-heads → own ≡ ownTable a
+    → s ≡ scheduleEntry a → r ≡ roomOf schedule-heads (e .sets .limit) (e .schedules) (e .«schedule_evictions») s → t ≡ scheduledHeads (e .sets .clock) (r .room) s schedule-heads → own ≡ ownTable a
     → u ≡ scheduledUnits heads slots (e .sets .used) s own i r units → all ≡ tablesThere u (r .room .row) s → x ≡ enteredAnswer all (r .room .row)
     → e' ≡ withSchedules e (r .room .used) (r .room .evictions)
     → _≡_ {A = Settled} (record { answer = x; rows = rows e' heads slots t u }) (entered (rows e heads slots schedule-heads units) a i)

@@ -30,14 +30,14 @@ scheduleEntry a = record { key = withTable (a .entry .key) (a .kind); version = 
 abbrev pub enteredAnswer : (all : Bool) → (row : ℕ) → PushAnswer
 enteredAnswer all row = cond all (answer.Schedule row) answer.Nothing
 
--- the set of row i enters the schedule there
+-- the set of row i enters the schedule there, which is touched with the clock's tick
 unfoldable pub enteredIn : Rows → Arrival → ℕ → ScheduleRoom → Settled
 enteredIn r a i there =
     let e : Entry = scheduleEntry a in
     let units : List ℕ = scheduledUnits (r .heads) (r .slots) (r .eit .sets .used) e (ownTable a) i there (r .units) in
     record {
       answer = enteredAnswer (tablesThere units (there .room .row) e) (there .room .row);
-      rows = rows (withSchedules (r .eit) (there .room .used) (there .room .evictions)) (r .heads) (r .slots) (scheduledHeads (there .room) e (r .schedule-heads)) units;
+      rows = rows (withSchedules (r .eit) (there .room .used) (there .room .evictions)) (r .heads) (r .slots) (scheduledHeads (r .eit .sets .clock) (there .room) e (r .schedule-heads)) units;
     }
 
 -- the schedule of its service, which is found or made

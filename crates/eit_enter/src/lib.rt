@@ -56,7 +56,7 @@ pub fn enter(
         e,
     );
     let room = r.room;
-    schedules::put_head(schedule_heads, room, e);
+    schedules::put_head(schedule_heads, room, e, sets.clock);
     schedules::put_units(
         units,
         heads,

@@ -39,7 +39,7 @@ use Rattle.placing.specs.declared.Place.{Place}
 use Rattle.placing.specs.declared.Place.the-variants as place
 use Rattle.schedules.specs.Schedules.{scheduledHeads}
 use Rattle.eit_state.specs.declared.PushAnswer.the-variants as answer
-use Rattle.eit_state.specs.State.{Store, Rows, rows, rowsOf, setStore, RowsFit, wholeOf, countersFull}
+use Rattle.eit_state.specs.State.{Store, Rows, rows, rowsOf, risenRows, setStore, RowsFit, wholeOf, countersFull}
 use Rattle.eit_state.proofs.Whole.{whole-room}
 use Rattle.eit_pids.specs.Rows.{anyWithout}
 use Rattle.eit_pids.proofs.Heads.{each-with}
@@ -53,6 +53,7 @@ use Rattle.eit_becomes.specs.Becoming.{becomesOf, isMarked}
 use Rattle.eit_enter.specs.Entering.{scheduleEntry, enteredIn, entered}
 use Rattle.eit_settle.specs.Settle.{markedHeads, settledAs, settled}
 use Rattle.eit_carry.specs.Carried.{keptAndSettled, carried, pushedWhole}
+use Rattle.eit_carry.proofs.Ways.{risen-fit}
 use Rattle.eit_admit.specs.Admitting.{admitted}
 use Rattle.eit.specs.Store.{pushedAs, pushedOf}
 use Rattle.eit_keeps.specs.Keeps.{WholeStore, HasPids}
@@ -103,10 +104,10 @@ module _ (a : Arrival) (i : ℕ) (n : a .entry .key .from .pid ≢ 8192) where
       in-heads : roomFor a i r .room .row * 12 + 12 ≤ length (r .schedule-heads)
       in-heads = let x = o .row in let y = o .room in let z = f .schedule-heads-long in omega arith
 
-      each : (k : ℕ) → k < roomFor a i r .room .used → word (touched (roomFor a i r .room .used) (roomFor a i r .room .row) (keptHeads (roomFor a i r .room) (scheduleEntry a) (r .schedule-heads))) k 0 ≢ 8192
+      each : (k : ℕ) → k < roomFor a i r .room .used → word (touched (r .eit .sets .clock) (roomFor a i r .room .row) (keptHeads (roomFor a i r .room) (scheduleEntry a) (r .schedule-heads))) k 0 ≢ 8192
       each k l z =
           kept-pid (r .schedule-heads) (r .eit .schedules) (roomFor a i r .room) (scheduleEntry a) in-heads (o .next) (o .all) (o .known) n (p .schedules) k l (ℕ-discrete k (roomFor a i r .room .row))
-          (sym (touched-not (roomFor a i r .room .used) (roomFor a i r .room .row) (keptHeads (roomFor a i r .room) (scheduleEntry a) (r .schedule-heads)) k 0 (omega arith) (omega arith)) ∙ z)
+          (sym (touched-not (r .eit .sets .clock) (roomFor a i r .room .row) (keptHeads (roomFor a i r .room) (scheduleEntry a) (r .schedule-heads)) k 0 (omega arith) (omega arith)) ∙ z)
 
   as-pids : (b : Becomes) (r : Rows) → RowsFit r → i < r .eit .sets .used → RowPids r → RowPids ((settledAs b r a i) .rows)
   as-pids becomes.Stays r f h p = p
@@ -117,9 +118,9 @@ module _ (a : Arrival) (i : ℕ) (n : a .entry .key .from .pid ≢ 8192) where
   settled-pids : (r : Rows) → RowsFit r → i < r .eit .sets .used → RowPids r → RowPids ((settled r a i) .rows)
   unfolding settled
   settled-pids r f h p =
-      let heads : List ℕ = touched (r .eit .sets .used) i (r .heads) in
+      let heads : List ℕ = touched (r .eit .sets .clock) i (r .heads) in
       let b : Becomes = becomesOf heads (r .slots) a i in
-      let l : length (markedHeads (isMarked b) i heads) ≡ length (r .heads) = marked-length (isMarked b) (r .eit .sets .used) i (r .heads) in
+      let l : length (markedHeads (isMarked b) i heads) ≡ length (r .heads) = marked-length (isMarked b) (r .eit .sets .clock) i (r .heads) in
       as-pids b (rows (r .eit) (markedHeads (isMarked b) i heads) (r .slots) (r .schedule-heads) (r .units))
       (record {
         used = f .used;
@@ -129,7 +130,7 @@ module _ (a : Arrival) (i : ℕ) (n : a .entry .key .from .pid ≢ 8192) where
         units-long = f .units-long;
         schedules = f .schedules;
       }) h
-      (record { sets = λ j k z. p .sets j k (sym (marked-word (isMarked b) (r .eit .sets .used) i (r .heads) j 0 (omega arith) (omega arith) (omega arith)) ∙ z); schedules = p .schedules })
+      (record { sets = λ j k z. p .sets j k (sym (marked-word (isMarked b) (r .eit .sets .clock) i (r .heads) j 0 (omega arith) (omega arith) (omega arith)) ∙ z); schedules = p .schedules })
 
 -- ---- every plan
 
@@ -141,7 +142,7 @@ PlanPid (plan.Repeat x) = x .arrival .entry .key .from .pid ≢ 8192
 PlanPid (plan.Keep k) = k .arrival .entry .key .from .pid ≢ 8192
 
 module _ (s : Store) (bytes : List ℕ) (w : WholeStore s) (h : HasPids s) where
-  before : RowPids (rowsOf s)
+  before : RowPids (risenRows (rowsOf s))
   before = record { sets = h .sets; schedules = h .schedules }
 
   kept-pids : (k : Keeping) → KeepFits s bytes k → k .arrival .entry .key .from .pid ≢ 8192 → RowPids (keptRows s bytes k)
@@ -156,8 +157,8 @@ module _ (s : Store) (bytes : List ℕ) (w : WholeStore s) (h : HasPids s) where
   carried-pids : 12 ≤ length bytes → (p : Plan) → PlanFits s bytes p → PlanPid p → HasPids ((carried s bytes p) .store)
   unfolding keptAndSettled
   carried-pids long (plan.Leave x) o n = h
-  carried-pids long (plan.Conflict i) o n = record { sets = λ j l z. h .sets j l (sym (touched-not (s .eit .sets .used) i (s .heads) j 0 (omega arith) (omega arith)) ∙ z); schedules = h .schedules }
-  carried-pids long (plan.Repeat x) o n = let p = settled-pids (x .arrival) (x .row) n (rowsOf s) (whole-room s (w .fits)) o before in record { sets = p .sets; schedules = p .schedules }
+  carried-pids long (plan.Conflict i) o n = record { sets = λ j l z. h .sets j l (sym (touched-not (s .eit .sets .clock + 1) i (s .heads) j 0 (omega arith) (omega arith)) ∙ z); schedules = h .schedules }
+  carried-pids long (plan.Repeat x) o n = let p = settled-pids (x .arrival) (x .row) n (risenRows (rowsOf s)) (risen-fit (rowsOf s) (whole-room s (w .fits))) o before in record { sets = p .sets; schedules = p .schedules }
   carried-pids long (plan.Keep k) o n =
       let p = settled-pids (k .arrival) (k .room .row) n (keptRows s bytes k) (kept-whole s bytes k w o long .fit) (o .room .row) (kept-pids k o n) in
       record { sets = p .sets; schedules = p .schedules }

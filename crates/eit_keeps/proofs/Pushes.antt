@@ -38,7 +38,7 @@ use Rattle.placing.specs.declared.Place.the-variants as place
 use Rattle.schedules.specs.Schedules.{scheduledUnits, tablesThere}
 use Rattle.eit_state.specs.declared.PushAnswer.{PushAnswer}
 use Rattle.eit_state.specs.declared.PushAnswer.the-variants as answer
-use Rattle.eit_state.specs.State.{Store, Rows, rows, rowsOf, setStore, countersFull}
+use Rattle.eit_state.specs.State.{Store, Rows, rows, rowsOf, risenRows, setStore, countersFull}
 use Rattle.eit_pids.specs.Rows.{anyWithout}
 use Rattle.eit_plan.specs.declared.Plan.the-variants as plan
 use Rattle.eit_plan.specs.Plan.{freeCell, planPlaced, planOf}
@@ -129,7 +129,7 @@ ten-as becomes.Enters r a i = ten-entered r a i
 ten-settled : (r : Rows) (a : Arrival) (i : ℕ) → ten ((settled r a i) .answer) ≡ false
 unfolding settled
 ten-settled r a i =
-    let heads : List ℕ = touched (r .eit .sets .used) i (r .heads) in
+    let heads : List ℕ = touched (r .eit .sets .clock) i (r .heads) in
     let b : Becomes = becomesOf heads (r .slots) a i in
     ten-as b (rows (r .eit) (markedHeads (isMarked b) i heads) (r .slots) (r .schedule-heads) (r .units)) a i
 
@@ -140,7 +140,7 @@ ten-kept s bytes a r c = ten-settled _ a (r .row)
 ten-placed : (s : Store) (bytes : List ℕ) (a : Arrival) (p : Place) → ten ((carried s bytes (planPlaced s a p)) .answer) ≡ false
 unfolding ten
 ten-placed s bytes a (place.Conflict i) = refl
-ten-placed s bytes a (place.Repeat i) = ten-settled (rowsOf s) a i
+ten-placed s bytes a (place.Repeat i) = ten-settled (risenRows (rowsOf s)) a i
 ten-placed s bytes a (place.Goes r) = go (ltb (freeCell (rowsOf s) (place.Goes r)) (s .eit .sets .count))
   where
     go : (b : Bool) → ten ((carried s bytes (cond b (plan.Keep (record { arrival = a; room = r; cell = freeCell (rowsOf s) (place.Goes r) })) (plan.Leave (answer.Refused refusal.NoCell)))) .answer) ≡ false

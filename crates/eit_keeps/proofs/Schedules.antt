@@ -13,10 +13,10 @@ use lib.Dec.{eqb, ltb}
 use lib.ListN.{length}
 use Rattle.laws.proofs.Tests.{and-true}
 use Rattle.cells.specs.Cells.{allWhole}
-use Rattle.rows.specs.Rows.{word, rowOf, oldestOf, roomIn, roomRenewed, roomNew, rowSlots, touched, keptHeads, ageOf, lastOf}
+use Rattle.rows.specs.Rows.{word, rowOf, oldestOf, roomIn, roomRenewed, roomNew, rowSlots, touched, keptHeads, lastOf}
 use Rattle.rows.specs.declared.Entry.{Entry}
 use Rattle.rows.proofs.Words.{touched-not, kept-row, kept-known, length-kept, length-touched}
-use Rattle.placing.proofs.Fits.{oldest-below}
+use Rattle.rows.proofs.Least.{oldest-below}
 use Rattle.units.specs.Units.{unitWhole, unitsWhole, withoutUnits, refilled}
 use Rattle.schedules.specs.Schedules.{tableCount, tablesOf, schedulesWhole, roomKnown, roomOf, scheduledHeads, readyUnits, scheduledUnits}
 use Rattle.schedules.specs.declared.ScheduleRoom.{ScheduleRoom}
@@ -37,7 +37,7 @@ module _ (schedule-heads : List ℕ) (limit held evictions : ℕ) (e : Entry) (z
   unfolding roomKnown
   known-found k h = go (eqb (lastOf schedule-heads k) (e .last))
     where
-      go : (b : Bool) → Found limit held (cond b (record { room = roomIn held evictions k; refill = false }) (record { room = roomRenewed held evictions k (ageOf schedule-heads k); refill = true }))
+      go : (b : Bool) → Found limit held (cond b (record { room = roomIn held evictions k; refill = false }) (record { room = roomRenewed held evictions k; refill = true }))
       go true = record { row = h; room = f; next = omega arith; all = omega arith; known = λ q. h }
       go false = record { row = h; room = f; next = omega arith; all = omega arith; known = λ q. h }
 
@@ -48,7 +48,7 @@ module _ (schedule-heads : List ℕ) (limit held evictions : ℕ) (e : Entry) (z
       o : ℕ
       o = oldestOf schedule-heads held
 
-      go : (b : Bool) → ltb held limit ≡ b → Found limit held (record { room = cond b (roomRenewed (held + 1) evictions held held) (roomRenewed held (evictions + 1) o (ageOf schedule-heads o)); refill = false })
+      go : (b : Bool) → ltb held limit ≡ b → Found limit held (record { room = cond b (roomRenewed (held + 1) evictions held) (roomRenewed held (evictions + 1) o); refill = false })
       go true q = let h : held < limit = ltb-true held limit q in record { row = omega arith; room = omega arith; next = omega arith; all = omega arith; known = λ t. absurd (true≢false t) }
       go false q =
           let h : limit ≤ held = ltb-false held limit q in
@@ -97,7 +97,7 @@ module _ (count size : ℕ) where
 
   -- ---- a set enters
 
-  module _ (heads slots : List ℕ) (used : ℕ) (e : Entry) (own i limit held : ℕ) (r : ScheduleRoom) (schedule-heads units : List ℕ) (slots-long : used * 288 ≤ length slots)
+  module _ (heads slots : List ℕ) (used clock : ℕ) (e : Entry) (own i limit held : ℕ) (r : ScheduleRoom) (schedule-heads units : List ℕ) (slots-long : used * 288 ≤ length slots)
       (rows : (j : ℕ) → j < used → allWhole count size (rowSlots heads slots j) ≡ true) (in-use : i < used) (heads-long : limit * 12 ≤ length schedule-heads)
       (units-long : limit * 4608 ≤ length units) (o : Found limit held r) where
     abbrev base : ℕ
@@ -116,7 +116,7 @@ module _ (count size : ℕ) where
     then = scheduledUnits heads slots used e own i r units
 
     abbrev heads′ : List ℕ
-    heads′ = scheduledHeads (r .room) e schedule-heads
+    heads′ = scheduledHeads clock (r .room) e schedule-heads
 
     in-units : (base + 16) * 288 ≤ length units
     in-units = let a = o .row in let b = o .room in omega arith
@@ -171,19 +171,19 @@ module _ (count size : ℕ) where
     unfolding scheduledHeads
     other-tables k ne = same-tables schedule-heads heads′ k (same 1 (omega arith) (omega arith)) (same 7 (omega arith) (omega arith))
       where
-        same : (m : ℕ) → m ≢ 9 → m < 12 → word (touched (r .room .used) (r .room .row) (keptHeads (r .room) e schedule-heads)) k m ≡ word schedule-heads k m
-        same m d h = touched-not (r .room .used) (r .room .row) (keptHeads (r .room) e schedule-heads) k m d h ∙ kept-row (r .room) e schedule-heads in-heads k m ne h
+        same : (m : ℕ) → m ≢ 9 → m < 12 → word (touched clock (r .room .row) (keptHeads (r .room) e schedule-heads)) k m ≡ word schedule-heads k m
+        same m d h = touched-not clock (r .room .row) (keptHeads (r .room) e schedule-heads) k m d h ∙ kept-row (r .room) e schedule-heads in-heads k m ne h
 
     own-tables : r .room .fresh ≡ false → tablesOf heads′ (r .room .row) ≡ tablesOf schedule-heads (r .room .row)
     unfolding scheduledHeads
     own-tables t = same-tables schedule-heads heads′ (r .room .row) (same 1 (omega arith) (omega arith) (omega arith)) (same 7 (omega arith) (omega arith) (omega arith))
       where
-        same : (m : ℕ) → m ≢ 9 → m ≢ 8 → m < 12 → word (touched (r .room .used) (r .room .row) (keptHeads (r .room) e schedule-heads)) (r .room .row) m ≡ word schedule-heads (r .room .row) m
-        same m d d' h = touched-not (r .room .used) (r .room .row) (keptHeads (r .room) e schedule-heads) (r .room .row) m d h ∙ kept-known (r .room) e schedule-heads in-heads t m d' h
+        same : (m : ℕ) → m ≢ 9 → m ≢ 8 → m < 12 → word (touched clock (r .room .row) (keptHeads (r .room) e schedule-heads)) (r .room .row) m ≡ word schedule-heads (r .room .row) m
+        same m d d' h = touched-not clock (r .room .row) (keptHeads (r .room) e schedule-heads) (r .room .row) m d h ∙ kept-known (r .room) e schedule-heads in-heads t m d' h
 
     pub heads-length : length heads′ ≡ length schedule-heads
     unfolding scheduledHeads
-    heads-length = length-touched (r .room .used) (r .room .row) (keptHeads (r .room) e schedule-heads) ∙ length-kept (r .room) e schedule-heads in-heads
+    heads-length = length-touched clock (r .room .row) (keptHeads (r .room) e schedule-heads) ∙ length-kept (r .room) e schedule-heads in-heads
 
     module _ (w : schedulesWhole schedule-heads units count size held ≡ true) (held-few : held ≤ limit) where
       old : (k j : ℕ) → k < held → j < tablesOf schedule-heads k → unitWhole then count size (k * 16 + j) ≡ true

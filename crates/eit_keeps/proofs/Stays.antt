@@ -28,7 +28,7 @@ use Rattle.segments.specs.Segments.{keptSection}
 use Rattle.schedules.specs.Schedules.{schedulesWhole, roomOf, scheduledHeads, scheduledUnits}
 use Rattle.schedules.specs.declared.ScheduleRoom.{ScheduleRoom}
 use Rattle.eit_state.specs.declared.PushAnswer.the-variants as answer
-use Rattle.eit_state.specs.State.{Store, store, storeWith, Rows, rows, rowsOf, setStore, wholeOf, withSets, RowsFit}
+use Rattle.eit_state.specs.State.{Store, store, storeWith, Rows, rows, rowsOf, setStore, wholeOf, withSets, risenEit, risenRows, RowsFit}
 use Rattle.eit_state.proofs.Whole.{whole-store, units-whole, whole-room}
 use Rattle.eit_plan.specs.declared.Keeping.{Keeping}
 use Rattle.eit_plan.specs.declared.Plan.{Plan}
@@ -40,6 +40,7 @@ use Rattle.eit_becomes.specs.Becoming.{ownTable, becomesOf, isMarked}
 use Rattle.eit_enter.specs.Entering.{scheduleEntry, enteredIn, entered}
 use Rattle.eit_settle.specs.Settle.{markedHeads, settledAs, settled}
 use Rattle.eit_carry.specs.Carried.{keptAndSettled, carried, pushedWhole}
+use Rattle.eit_carry.proofs.Ways.{risen-fit}
 use Rattle.eit_keeps.specs.Keeps.{WholeStore}
 use Rattle.eit_keeps.proofs.Schedules.{Found, room-found, enter-keeps, heads-length, enter-whole}
 use Rattle.eit_keeps.proofs.Kept.{word-whole, section-length, section-whole}
@@ -74,11 +75,12 @@ pub record CellsFit (s : Sets) (cells : List ℕ) : Type 0 where
   pub few : s .count ≤ 65535
   pub long : s .count * s .size ≤ length cells
 
-cells-fit : (s : Store) → WholeStore s → CellsFit (s .eit .sets) (s .cells)
+-- of a store whose clock has risen
+cells-fit : (s : Store) → WholeStore s → CellsFit (risenEit (s .eit) .sets) (s .cells)
 cells-fit s w = let f = w .fits .sets in record { size-low = f .size-low; size-high = f .size-high; few = f .few; long = f .cells-long }
 
-pub of-store : (s : Store) → WholeStore s → WholeRows (rowsOf s)
-of-store s w = record { fit = whole-room s (w .fits); sets = w .fits .sets .rows; units = w .units }
+of-store : (s : Store) → WholeStore s → WholeRows (risenRows (rowsOf s))
+of-store s w = record { fit = risen-fit (rowsOf s) (whole-room s (w .fits)); sets = w .fits .sets .rows; units = w .units }
 
 with-cells : (r : Rows) (cells : List ℕ) → WholeRows r → CellsFit (r .eit .sets) cells → WholeStore (storeWith r cells)
 with-cells r cells w c =
@@ -124,14 +126,14 @@ other-heads r heads′ e l w =
       units = w .units;
     }
 
--- neither its age nor its mark is another word
-pub marked-word : (b : Bool) (used i : ℕ) (heads : List ℕ) (j m : ℕ) → m ≢ 8 → m ≢ 9 → m < 12 → word (markedHeads b i (touched used i heads)) j m ≡ word heads j m
-marked-word true used i heads j m d d' h = put-not (touched used i heads) i 8 1 j m d (omega arith) h ∙ touched-not used i heads j m d' h
-marked-word false used i heads j m d d' h = touched-not used i heads j m d' h
+-- neither its tick nor its mark is another word
+pub marked-word : (b : Bool) (clock i : ℕ) (heads : List ℕ) (j m : ℕ) → m ≢ 8 → m ≢ 9 → m < 12 → word (markedHeads b i (touched clock i heads)) j m ≡ word heads j m
+marked-word true clock i heads j m d d' h = put-not (touched clock i heads) i 8 1 j m d (omega arith) h ∙ touched-not clock i heads j m d' h
+marked-word false clock i heads j m d d' h = touched-not clock i heads j m d' h
 
-pub marked-length : (b : Bool) (used i : ℕ) (heads : List ℕ) → length (markedHeads b i (touched used i heads)) ≡ length heads
-marked-length true used i heads = length-put i 8 1 (touched used i heads) ∙ length-touched used i heads
-marked-length false used i heads = length-touched used i heads
+pub marked-length : (b : Bool) (clock i : ℕ) (heads : List ℕ) → length (markedHeads b i (touched clock i heads)) ≡ length heads
+marked-length true clock i heads = length-put i 8 1 (touched clock i heads) ∙ length-touched clock i heads
+marked-length false clock i heads = length-touched clock i heads
 
 module _ (a : Arrival) (i : ℕ) where
   -- the schedule that the set of row i enters
@@ -155,7 +157,7 @@ module _ (a : Arrival) (i : ℕ) where
       schedules = o .room;
     };
     sets = w .sets;
-    units = enter-whole (r .eit .sets .count) (r .eit .sets .size) (r .heads) (r .slots) (r .eit .sets .used) (scheduleEntry a) (ownTable a) i (r .eit .sets .limit) (r .eit .schedules) (roomFor r) (r .schedule-heads) (r .units)
+    units = enter-whole (r .eit .sets .count) (r .eit .sets .size) (r .heads) (r .slots) (r .eit .sets .used) (r .eit .sets .clock) (scheduleEntry a) (ownTable a) i (r .eit .sets .limit) (r .eit .schedules) (roomFor r) (r .schedule-heads) (r .units)
         slots-long (λ j l. rows-get (r .heads) (r .slots) (r .eit .sets .count) (r .eit .sets .size) (r .eit .sets .used) j (w .sets) l) h (f .schedule-heads-long) (f .units-long) o (w .units) (f .schedules);
   }
     where
@@ -168,14 +170,14 @@ module _ (a : Arrival) (i : ℕ) where
       slots-long : r .eit .sets .used * 288 ≤ length (r .slots)
       slots-long = let u = w .fit .used in let l = w .fit .slots-long in omega arith
 
-      heads-same : length (scheduledHeads (roomFor r .room) (scheduleEntry a) (r .schedule-heads)) ≡ length (r .schedule-heads)
+      heads-same : length (scheduledHeads (r .eit .sets .clock) (roomFor r .room) (scheduleEntry a) (r .schedule-heads)) ≡ length (r .schedule-heads)
       heads-same =
-          heads-length (r .eit .sets .count) (r .eit .sets .size) (r .heads) (r .slots) (r .eit .sets .used) (scheduleEntry a) (ownTable a) i (r .eit .sets .limit) (r .eit .schedules) (roomFor r) (r .schedule-heads) (r .units)
+          heads-length (r .eit .sets .count) (r .eit .sets .size) (r .heads) (r .slots) (r .eit .sets .used) (r .eit .sets .clock) (scheduleEntry a) (ownTable a) i (r .eit .sets .limit) (r .eit .schedules) (roomFor r) (r .schedule-heads) (r .units)
           slots-long (λ j l. rows-get (r .heads) (r .slots) (r .eit .sets .count) (r .eit .sets .size) (r .eit .sets .used) j (w .sets) l) h (w .fit .schedule-heads-long) (w .fit .units-long) o
 
       units-same : length (scheduledUnits (r .heads) (r .slots) (r .eit .sets .used) (scheduleEntry a) (ownTable a) i (roomFor r) (r .units)) ≡ length (r .units)
       units-same =
-          enter-keeps (r .eit .sets .count) (r .eit .sets .size) (r .heads) (r .slots) (r .eit .sets .used) (scheduleEntry a) (ownTable a) i (r .eit .sets .limit) (r .eit .schedules) (roomFor r) (r .schedule-heads) (r .units)
+          enter-keeps (r .eit .sets .count) (r .eit .sets .size) (r .heads) (r .slots) (r .eit .sets .used) (r .eit .sets .clock) (scheduleEntry a) (ownTable a) i (r .eit .sets .limit) (r .eit .schedules) (roomFor r) (r .schedule-heads) (r .units)
           slots-long (λ j l. rows-get (r .heads) (r .slots) (r .eit .sets .count) (r .eit .sets .size) (r .eit .sets .used) j (w .sets) l) h (w .fit .schedule-heads-long) (w .fit .units-long) o .same
 
   as-whole : (b : Becomes) (r : Rows) → WholeRows r → i < r .eit .sets .used → WholeRows ((settledAs b r a i) .rows)
@@ -194,16 +196,16 @@ module _ (a : Arrival) (i : ℕ) where
   settled-whole : (r : Rows) → WholeRows r → i < r .eit .sets .used → WholeRows ((settled r a i) .rows)
   unfolding settled
   settled-whole r w h =
-      let heads : List ℕ = touched (r .eit .sets .used) i (r .heads) in
+      let heads : List ℕ = touched (r .eit .sets .clock) i (r .heads) in
       let b : Becomes = becomesOf heads (r .slots) a i in
       as-whole b (rows (r .eit) (markedHeads (isMarked b) i heads) (r .slots) (r .schedule-heads) (r .units))
-      (other-heads r (markedHeads (isMarked b) i heads) (λ j. marked-word (isMarked b) (r .eit .sets .used) i (r .heads) j 7 (omega arith) (omega arith) (omega arith))
-      (marked-length (isMarked b) (r .eit .sets .used) i (r .heads)) w) h
+      (other-heads r (markedHeads (isMarked b) i heads) (λ j. marked-word (isMarked b) (r .eit .sets .clock) i (r .heads) j 7 (omega arith) (omega arith) (omega arith))
+      (marked-length (isMarked b) (r .eit .sets .clock) i (r .heads)) w) h
 
   settled-sets : (r : Rows) → (settled r a i) .rows .eit .sets ≡ r .eit .sets
   unfolding settled
   settled-sets r =
-      let heads : List ℕ = touched (r .eit .sets .used) i (r .heads) in
+      let heads : List ℕ = touched (r .eit .sets .clock) i (r .heads) in
       let b : Becomes = becomesOf heads (r .slots) a i in
       as-sets b (rows (r .eit) (markedHeads (isMarked b) i heads) (r .slots) (r .schedule-heads) (r .units))
 
@@ -228,7 +230,7 @@ PlanFits s bytes (plan.Keep k) = KeepFits s bytes k
 -- all but the cells, once it is kept and before its row is settled
 abbrev pub keptRows : Store → List ℕ → Keeping → Rows
 keptRows s bytes k =
-    rows (withSets (s .eit) (k .room .used) (k .room .evictions)) (keptHeads (k .room) (k .arrival .entry) (s .heads))
+    rows (risenEit (withSets (s .eit) (k .room .used) (k .room .evictions))) (keptHeads (k .room) (k .arrival .entry) (s .heads))
     (keptSection (k .room) (k .arrival .entry) (k .arrival .segment) (slotWord (length bytes) (k .cell)) (s .slots)) (s .schedule-heads) (s .units)
 
 module _ (s : Store) (bytes : List ℕ) (k : Keeping) (w : WholeStore s) (o : KeepFits s bytes k) (long : 12 ≤ length bytes) where
@@ -292,10 +294,10 @@ module _ (s : Store) (bytes : List ℕ) (w : WholeStore s) where
     carried-whole : (p : Plan) → PlanFits s bytes p → WholeStore ((carried s bytes p) .store)
     carried-whole (plan.Leave a) o = w
     carried-whole (plan.Conflict i) o =
-        with-cells (rows (s .eit) (touched (s .eit .sets .used) i (s .heads)) (s .slots) (s .schedule-heads) (s .units)) (s .cells)
-        (other-heads (rowsOf s) (touched (s .eit .sets .used) i (s .heads)) (λ j. touched-not (s .eit .sets .used) i (s .heads) j 7 (omega arith) (omega arith)) (length-touched (s .eit .sets .used) i (s .heads)) (of-store s w))
+        with-cells (rows (risenEit (s .eit)) (touched (s .eit .sets .clock + 1) i (s .heads)) (s .slots) (s .schedule-heads) (s .units)) (s .cells)
+        (other-heads (risenRows (rowsOf s)) (touched (s .eit .sets .clock + 1) i (s .heads)) (λ j. touched-not (s .eit .sets .clock + 1) i (s .heads) j 7 (omega arith) (omega arith)) (length-touched (s .eit .sets .clock + 1) i (s .heads)) (of-store s w))
         (cells-fit s w)
-    carried-whole (plan.Repeat x) o = settled-store (x .arrival) (x .row) (rowsOf s) (s .cells) (of-store s w) (cells-fit s w) o
+    carried-whole (plan.Repeat x) o = settled-store (x .arrival) (x .row) (risenRows (rowsOf s)) (s .cells) (of-store s w) (cells-fit s w) o
     carried-whole (plan.Keep k) o = kept-store s bytes k w o long
 
     -- the part behind the refusals

@@ -42,7 +42,7 @@ module _ (e : Eit) (heads slots schedule-heads units : List ℕ) (a : Arrival) (
   as-entered l h g = rw h g
 
 pub settle-done : (e : Eit) (heads slots schedule-heads units : List ℕ) (a : Arrival) (i : ℕ) (h : List ℕ) (b : Becomes) (m : Bool) (h' : List ℕ) (l : Settled)
-    → h ≡ touched (e .sets .used) i heads → b ≡ becomesOf h slots a i → m ≡ isMarked b → h' ≡ markedHeads m i h → l ≡ settledAs b (rows e h' slots schedule-heads units) a i
+    → h ≡ touched (e .sets .clock) i heads → b ≡ becomesOf h slots a i → m ≡ isMarked b → h' ≡ markedHeads m i h → l ≡ settledAs b (rows e h' slots schedule-heads units) a i
     → l ≡ settled (rows e heads slots schedule-heads units) a i
 unfolding settled
 settle-done e heads slots schedule-heads units a i h b m h' l eh eb em eh' g = rw (← eh, ← eb, ← em, ← eh') g

@@ -28,9 +28,9 @@ settledAs becomes.GoesOut r a i = record { answer = answer.Set i; rows = r }
 settledAs becomes.OutOfRange r a i = record { answer = answer.Refused refusal.Range; rows = r }
 settledAs becomes.Enters r a i = entered r a i
 
--- row i becomes the newest, and what becomes of its set is done
+-- row i becomes the newest, by the clock that has risen, and what becomes of its set is done
 unfoldable pub settled : Rows → Arrival → ℕ → Settled
 settled r a i =
-    let heads : List ℕ = touched (r .eit .sets .used) i (r .heads) in
+    let heads : List ℕ = touched (r .eit .sets .clock) i (r .heads) in
     let b : Becomes = becomesOf heads (r .slots) a i in
     settledAs b (rows (r .eit) (markedHeads (isMarked b) i heads) (r .slots) (r .schedule-heads) (r .units)) a i

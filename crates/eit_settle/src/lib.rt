@@ -14,12 +14,12 @@ ghost use Rattle.eit_enter.specs.Entering.{answered, SettleOk};
 ghost use Rattle.eit_settle.specs.Settle.{conflicting, markedHeads, settledAs, settled};
 
 // 22: the row in conflict becomes the newest, and nothing else changes.
-pub fn conflict(heads: &mut [u64], used: usize, i: usize) -> PushAnswer
-    requires { ⌜ (i < used) × (used * 12 ≤ length (now heads)) ⌝ }
+pub fn conflict(heads: &mut [u64], i: usize, clock: u64) -> PushAnswer
+    requires { ⌜ i * 12 + 12 ≤ length (now heads) ⌝ }
     ensures { λ r. ⌜ r ≡ conflicting ⌝ }
-    ensures { λ _. ⌜ now (heads .exit) ≡ touched used i (now (heads .entry)) ⌝ }
+    ensures { λ _. ⌜ now (heads .exit) ≡ touched clock i (now (heads .entry)) ⌝ }
 {
-    rows::touch(heads, used, i);
+    rows::touch(heads, i, clock);
     PushAnswer::Refused(Refusal::Conflict)
 }
 
@@ -64,7 +64,7 @@ fn settle_as(
     }
 }
 
-// Row i becomes the newest, and what becomes of its set is done.
+// Row i becomes the newest, by the clock that has risen, and what becomes of its set is done.
 pub fn settle(
     eit: Eit,
     heads: &mut [u64],
@@ -78,7 +78,7 @@ pub fn settle(
     ensures { λ r. ⌜ answered r (now (heads .exit)) (now (slots .entry)) (now («schedule_heads» .exit)) (now (units .exit)) ≡ settled (rows eit (now (heads .entry)) (now (slots .entry)) (now («schedule_heads» .entry)) (now (units .entry))) a i ⌝ }
 {
     let sets = eit.sets;
-    rows::touch(heads, sets.used, i);
+    rows::touch(heads, i, sets.clock);
     let b = eit_becomes::becomes_of(heads, slots, a, i);
     mark_where(heads, eit_becomes::is_marked(b), i);
     settle_as(eit, heads, slots, schedule_heads, units, a, i, b)

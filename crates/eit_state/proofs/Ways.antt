@@ -1,13 +1,15 @@
--- One law for each way out of opening and clearing.
+-- One law for each way out of opening and clearing, and for the clock.
 -- Assumes nothing.
 use mathlib.Core.Path.{_≡_}
 use mathlib.Core.Bool.{Bool, true, false}
 use Prim.Native.Nat.{ℕ}
 use Rattle.answers.specs.declared.Refusal.the-variants as refusal
 use Rattle.answers.specs.declared.Outcome.the-variants as outcome
+use Rattle.store.specs.declared.Sets.{Sets}
+use Rattle.store.specs.Store.{risenSets}
 use Rattle.eit_state.specs.declared.Eit.{Eit}
 use Rattle.eit_state.specs.declared.Turned.{Turned}
-use Rattle.eit_state.specs.State.{withSets, withSchedules, settingsFit, openedAs, clearedAs}
+use Rattle.eit_state.specs.State.{withSets, risenEit, withSchedules, settingsFit, openedAs, clearedAs}
 
 module _ (b : Bool) (e : Eit) (heads slots cells schedule-heads units : ℕ) (q : b ≡ settingsFit e heads slots cells schedule-heads units) where
   pub opened-yes : b ≡ true → _≡_ {A = Turned} (record { answer = outcome.Done; eit = e }) (openedAs (settingsFit e heads slots cells schedule-heads units) e)
@@ -23,3 +25,6 @@ module _ (b : Bool) (e : Eit) where
 
   pub cleared-no : b ≡ false → _≡_ {A = Turned} (record { answer = outcome.Refused refusal.NotWhole; eit = e }) (clearedAs b e)
   cleared-no t = rw t
+
+pub rises : (e : Eit) (s : Sets) → s ≡ risenSets (e .sets) → _≡_ {A = Eit} (record { sets = s; schedules = e .schedules; «schedule_evictions» = e .«schedule_evictions» }) (risenEit e)
+rises e s q = rw q

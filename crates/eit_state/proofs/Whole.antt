@@ -1,6 +1,7 @@
 -- The test for 10 and what it tells; one law for each way out of the functions that make it.
 -- Assumes nothing.
 use mathlib.Core.Path.{_≡_, refl, sym, ap, _∙_}
+use mathlib.Core.Logic.{_≢_}
 use mathlib.Core.List.{List}
 use mathlib.Core.Bool.{Bool, true, false, cond, _&&_, _||_}
 use Prim.Native.Nat.{ℕ, _+_, _*_, _/_, _≤_, _<_}
@@ -16,7 +17,7 @@ use Rattle.without_pid.specs.Pids.{withoutPid}
 use Rattle.without_pid.specs.declared.Looked.{Looked}
 use Rattle.store.specs.Store as sets
 use Rattle.store.specs.declared.Sets.{Sets}
-use Rattle.store.proofs.Whole.{whole-means}
+use Rattle.store.proofs.Whole.{whole-means, evictions-go-on, clock-goes-on}
 use Rattle.schedules.specs.Schedules.{schedulesWhole}
 use Rattle.eit_state.specs.declared.Eit.{Eit}
 use Rattle.eit_state.specs.State.{Store, store, Rows, rows, rowsOf, setStore, schedulesFit, settingsFit, wholeOf, countersFull, Whole, RowsFit, CanCount}
@@ -134,10 +135,13 @@ is-whole-room e heads slots cells schedule-heads units w = whole-room (store e h
 
 -- ---- 11
 
--- neither count is at its end; both fit 64 bits
+pub full : (e : Eit) (a : Bool) → a ≡ sets.countersFull (e .sets) → (a || eqb (e .«schedule_evictions») 18446744073709551615) ≡ countersFull e
+full e a q = rw q
+
+-- no count is at its end; the evictions fit 64 bits
 pub can-count : (e : Eit) (full : Bool) → full ≡ countersFull e → full ≡ false → e .sets .evictions < 18446744073709551616 → e .«schedule_evictions» < 18446744073709551616 → CanCount e
 can-count e full g h l k =
-    let o = or-false (eqb (e .sets .evictions) 18446744073709551615) (eqb (e .«schedule_evictions») 18446744073709551615) (sym g ∙ h) in
-    let a : e .sets .evictions ≡ 18446744073709551615 → ⊥ = eqb-false _ _ (o .0) in
-    let b : e .«schedule_evictions» ≡ 18446744073709551615 → ⊥ = eqb-false _ _ (o .1) in
-    record { sets = omega arith; schedules = omega arith }
+    let o = or-false (sets.countersFull (e .sets)) (eqb (e .«schedule_evictions») 18446744073709551615) (sym g ∙ h) in
+    let a : e .sets .evictions ≢ 18446744073709551615 = evictions-go-on (e .sets) (sets.countersFull (e .sets)) refl (o .0) in
+    let b : e .«schedule_evictions» ≢ 18446744073709551615 = eqb-false _ _ (o .1) in
+    record { sets = omega arith; runs = clock-goes-on (e .sets) (sets.countersFull (e .sets)) refl (o .0); schedules = omega arith }

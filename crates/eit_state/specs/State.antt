@@ -2,6 +2,7 @@
 -- `cond test a b` is a where the test is true, else b.
 use Prim.Native.Nat.{ℕ, _*_, _≤_, _<_}
 use mathlib.Core.Path.{_≡_}
+use mathlib.Core.Logic.{_≢_}
 use mathlib.Core.List.{List}
 use mathlib.Core.Bool.{Bool, true, cond, _&&_, _||_}
 use lib.ListN.{length}
@@ -68,7 +69,7 @@ asked limit size count = record { sets = sets.asked limit size count; schedules 
 -- the sets in use and their evictions become those
 abbrev pub withSets : Eit → (used evictions : ℕ) → Eit
 withSets e used evictions = record {
-  sets = record { limit = e .sets .limit; size = e .sets .size; count = e .sets .count; used = used; evictions = evictions };
+  sets = record { limit = e .sets .limit; size = e .sets .size; count = e .sets .count; used = used; evictions = evictions; clock = e .sets .clock };
   schedules = e .schedules;
   «schedule_evictions» = e .«schedule_evictions»;
 }
@@ -77,7 +78,14 @@ withSets e used evictions = record {
 abbrev pub withSchedules : Eit → (schedules evictions : ℕ) → Eit
 withSchedules e schedules evictions = record { sets = e .sets; schedules = schedules; «schedule_evictions» = evictions }
 
--- no rows; "not the eviction counts"
+-- one touch more: the clock is that of the sets and of the schedules
+abbrev pub risenEit : Eit → Eit
+risenEit e = record { sets = sets.risenSets (e .sets); schedules = e .schedules; «schedule_evictions» = e .«schedule_evictions» }
+
+abbrev pub risenRows : Rows → Rows
+risenRows r = rows (risenEit (r .eit)) (r .heads) (r .slots) (r .schedule-heads) (r .units)
+
+-- no rows; "not the eviction counts", nor the clock
 abbrev pub emptyEit : Eit → Eit
 emptyEit e = withSchedules (withSets e 0 (e .sets .evictions)) 0 (e .«schedule_evictions»)
 
@@ -88,9 +96,9 @@ openedAs fits e = record { answer = cond fits outcome.Done (outcome.Refused refu
 abbrev pub clearedAs : (whole : Bool) → Eit → Turned
 clearedAs whole e = cond whole (record { answer = outcome.Done; eit = emptyEit e }) (record { answer = outcome.Refused refusal.NotWhole; eit = e })
 
--- 11 looks at both eviction counts
+-- 11 looks at both eviction counts and at the clock
 abbrev pub countersFull : Eit → Bool
-countersFull e = eqb (e .sets .evictions) 18446744073709551615 || eqb (e .«schedule_evictions») 18446744073709551615
+countersFull e = sets.countersFull (e .sets) || eqb (e .«schedule_evictions») 18446744073709551615
 
 -- ---- 13 and 10
 
@@ -128,7 +136,8 @@ pub record RowsFit (r : Rows) : Type 0 where
   pub units-long : r .eit .sets .limit * 4608 ≤ length (r .units)
   pub schedules : r .eit .schedules ≤ r .eit .sets .limit
 
--- neither eviction count is at its end
+-- neither eviction count is at its end, nor the clock
 pub record CanCount (e : Eit) : Type 0 where
   pub sets : e .sets .evictions < 18446744073709551615
+  pub runs : e .sets .clock ≢ 18446744073709551615
   pub schedules : e .«schedule_evictions» < 18446744073709551615

@@ -6,8 +6,9 @@ use store::Sets;
 use without_pid::Looked;
 ghost use mathlib.Core.Path.{_≡_};
 ghost use mathlib.Core.Bool.{true};
+ghost use mathlib.Core.Logic.{_≢_};
 ghost use Rattle.without_pid.specs.Pids.{withoutPid};
-ghost use Rattle.eit_state.specs.State.{store, schedulesFit, settingsFit, wholeOf, countersFull, withSets, withSchedules, pushNumber, asked, openedAs, clearedAs};
+ghost use Rattle.eit_state.specs.State.{store, schedulesFit, settingsFit, wholeOf, countersFull, withSets, risenEit, withSchedules, pushNumber, asked, openedAs, clearedAs};
 
 // Settings and counts. `sets` has the settings and the counts of the sets, and its limit is that of the schedules too; schedules 0 to
 // schedules - 1 are in use.
@@ -129,12 +130,12 @@ pub fn is_whole(
     seen.whole
 }
 
-// Whether one of the two counts of evictions is at its end.
+// Whether one of the two counts of evictions, or the clock, is at its end.
 pub fn counters_full(eit: Eit) -> bool
     ensures { λ r. ⌜ r ≡ countersFull eit ⌝ }
 {
     let sets = eit.sets;
-    (sets.evictions == u64::MAX) | (eit.schedule_evictions == u64::MAX)
+    store::counters_full(sets) | (eit.schedule_evictions == u64::MAX)
 }
 
 // The sets in use and their evictions become those.
@@ -148,6 +149,7 @@ pub fn with_sets(eit: Eit, used: usize, evictions: u64) -> Eit
         count: was.count,
         used,
         evictions,
+        clock: was.clock,
     };
     Eit {
         sets,
@@ -165,6 +167,19 @@ pub fn with_schedules(eit: Eit, schedules: usize, schedule_evictions: u64) -> Ei
         sets,
         schedules,
         schedule_evictions,
+    }
+}
+
+// One touch more: the clock is that of the sets and of the schedules.
+pub fn risen(eit: Eit) -> Eit
+    requires { ⌜ eit .sets .clock ≢ 18446744073709551615 ⌝ }
+    ensures { λ r. ⌜ r ≡ risenEit eit ⌝ }
+{
+    let sets = eit.sets;
+    Eit {
+        sets: store::risen(sets),
+        schedules: eit.schedules,
+        schedule_evictions: eit.schedule_evictions,
     }
 }
 
@@ -187,6 +202,7 @@ pub fn opened(
         count,
         used: 0,
         evictions: 0,
+        clock: 0,
     };
     let eit = Eit {
         sets,
@@ -205,7 +221,7 @@ pub fn opened(
     }
 }
 
-// A collector as it is cleared: every set and every schedule leaves, and the counts of evictions stay; 10 where the store is not whole.
+// A collector as it is cleared: every set and every schedule leaves, and the counts of evictions and the clock stay; 10 where the store is not whole.
 pub fn cleared(eit: Eit, whole: bool) -> Turned
     ensures { λ r. ⌜ r ≡ clearedAs whole eit ⌝ }
 {

@@ -18,14 +18,14 @@ use Rattle.eit_section.specs.declared.MaybeKind.the-variants as maybe
 use Rattle.arrivals.specs.Arrivals.{kindNumber}
 use Rattle.rows.specs.declared.Origin.{Origin}
 use Rattle.rows.specs.declared.Key.{Key}
-use Rattle.rows.specs.Rows.{keyAt, ageOf, withAge, younger}
+use Rattle.rows.specs.Rows.{keyAt}
 use Rattle.filter.specs.declared.Wanted.{Wanted}
 use Rattle.filter.specs.declared.Wanted.the-variants as wanted
 use Rattle.filter.specs.declared.WantedOrigin.{WantedOrigin}
 use Rattle.filter.specs.declared.Fields.{Fields}
 use Rattle.filter.specs.declared.Of.{Of}
 use Rattle.filter.specs.declared.Of.the-variants as of
-use Rattle.filter.specs.Drops.{matches, wants, wantsOrigin, kindTold, kindWord, kindIn, widthOf, movedTo, youngered, removedHeads, removedWords, Rest, rest, droppedRow, droppedRows, Fits}
+use Rattle.filter.specs.Drops.{matches, wants, wantsOrigin, kindTold, kindWord, kindIn, widthOf, movedTo, removedHeads, removedWords, Rest, rest, droppedRow, droppedRows, Fits}
 
 before : (n : ℕ) → 0 < n → n ≡ suc (n - 1)
 before n h = omega arith
@@ -88,28 +88,11 @@ move-turn xs₀ xs to from n k q h l m =
 pub move-end : (xs₀ xs : List ℕ) (to from n k : ℕ) → xs ≡ paste xs₀ to (part from n xs₀) k → n ≤ k → k ≤ n → xs ≡ movedTo to from n xs₀
 move-end xs₀ xs to from n k q a b = paste-end xs₀ xs to (part from n xs₀) k n q (omega arith)
 
--- ---- ages
-
-pub one-less : (age a : ℕ) → a < age → age - 1 ≡ younger a age
-one-less age a h = rw (lt-ltb a age h)
-
-pub none-less : (age a : ℕ) → age ≤ a → age ≡ younger a age
-none-less age a h = rw (le-ltb a age h)
-
-pub younger-turn : (a used n : ℕ) (h₀ h h′ : List ℕ) (w v : ℕ) → 0 < n → w ≡ ageOf h (n - 1) → v ≡ younger a w → h′ ≡ withAge (n - 1) v h → youngered a used h₀ ≡ youngered a n h
-    → youngered a used h₀ ≡ youngered a (n - 1) h′
-unfolding youngered
-younger-turn a used n h₀ h h′ w v p e f g q = q ∙ ap (λ (k : ℕ). youngered a k h) (before n p) ∙ rw (g, f, e)
-
-pub younger-end : (a used n : ℕ) (h₀ h : List ℕ) → n ≤ 0 → youngered a used h₀ ≡ youngered a n h → h ≡ youngered a used h₀
-unfolding youngered
-younger-end a used n h₀ h p q = let s : n ≡ 0 = omega arith in sym (q ∙ rw s)
-
 -- ---- a row leaves
 
-pub head-removed : (used i a : ℕ) (h h′ h″ : List ℕ) → a ≡ ageOf h i → h′ ≡ movedTo (i * 12) ((used - 1) * 12) 12 h → h″ ≡ youngered a (used - 1) h′ → h″ ≡ removedHeads used i h
+pub head-removed : (used i : ℕ) (h h′ : List ℕ) → h′ ≡ movedTo (i * 12) ((used - 1) * 12) 12 h → h′ ≡ removedHeads used i h
 unfolding removedHeads
-head-removed used i a h h′ h″ e p q = rw (← e, ← p) q
+head-removed used i h h′ e = e
 
 pub words-removed : (used i n : ℕ) (o : Of) (w w′ : List ℕ) → n ≡ widthOf o → w′ ≡ movedTo (i * n) ((used - 1) * n) n w → w′ ≡ removedWords o used i w
 unfolding removedWords

@@ -12,7 +12,7 @@ use Rattle.eit_section.specs.declared.MaybeKind.the-variants as maybe
 use Rattle.arrivals.specs.Arrivals.{kindNumber}
 use Rattle.rows.specs.declared.Origin.{Origin}
 use Rattle.rows.specs.declared.Key.{Key}
-use Rattle.rows.specs.Rows.{keyAt, ageOf, withAge, younger}
+use Rattle.rows.specs.Rows.{keyAt}
 use Rattle.filter.specs.declared.Wanted.{Wanted}
 use Rattle.filter.specs.declared.Wanted.the-variants as wanted
 use Rattle.filter.specs.declared.WantedOrigin.{WantedOrigin}
@@ -51,7 +51,7 @@ matches o f k =
     && wants (f .«transport_stream_id») (k .«transport_stream_id») && wants (f .«original_network_id») (k .«original_network_id»)
     && wants (f .«current_next») (k .«current_next»)
 
--- ---- a row leaves: the last row in use takes its place, and each row that was older is one younger
+-- ---- a row leaves: the last row in use takes its place
 
 abbrev pub widthOf : Of → ℕ
 widthOf of.Sets = 288
@@ -61,13 +61,8 @@ widthOf of.Schedules = 4608
 abbrev pub movedTo : (to from n : ℕ) → List ℕ → List ℕ
 movedTo to from n words = paste words to (take n (drop from words)) n
 
--- each of the first n rows whose age is above a is one younger
-unfoldable pub youngered : ℕ → ℕ → List ℕ → List ℕ
-youngered a zero heads = heads
-youngered a (suc n) heads = youngered a n (withAge n (younger a (ageOf heads n)) heads)
-
 unfoldable pub removedHeads : (used i : ℕ) → List ℕ → List ℕ
-removedHeads used i heads = youngered (ageOf heads i) (used - 1) (movedTo (i * 12) ((used - 1) * 12) 12 heads)
+removedHeads used i heads = movedTo (i * 12) ((used - 1) * 12) 12 heads
 
 unfoldable pub removedWords : Of → (used i : ℕ) → List ℕ → List ℕ
 removedWords o used i words = movedTo (i * widthOf o) ((used - 1) * widthOf o) (widthOf o) words

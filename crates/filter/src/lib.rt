@@ -1,6 +1,6 @@
 // What a drop by filter does to the rows of a collector, sets and schedules alike (docs/RULES.md, "Collectors": "sets and schedules that match
-// go"). The rows in use are the first `used`. From the last down to the first, a row that matches leaves: the last row in use takes its place,
-// and each row that was older is one younger. Words past the rows in use stay as they are, and nothing is counted.
+// go"). The rows in use are the first `used`. From the last down to the first, a row that matches leaves: the last row in use takes its place.
+// Words past the rows in use stay as they are, and nothing is counted.
 use eit_section::Kind;
 use eit_section::MaybeKind;
 use rows::Key;
@@ -9,8 +9,7 @@ ghost use mathlib.Core.Path.{_≡_};
 ghost use mathlib.Core.Bool.{Bool, true, false};
 ghost use Prim.Native.Nat.{ℕ, _+_, _-_, _*_, _<_, _≤_};
 ghost use lib.ListN.{length};
-ghost use Rattle.rows.specs.Rows.{younger};
-ghost use Rattle.filter.specs.Drops.{wants, wantsOrigin, kindTold, kindWord, kindIn, matches, widthOf, movedTo, youngered, removedHeads, removedWords};
+ghost use Rattle.filter.specs.Drops.{wants, wantsOrigin, kindTold, kindWord, kindIn, matches, widthOf, movedTo, removedHeads, removedWords};
 ghost use Rattle.filter.specs.Drops.{Fits, rest, droppedRow, droppedRows};
 
 // A field of a filter: free, or exactly a word.
@@ -40,8 +39,6 @@ pub enum Of {
     Sets,
     Schedules,
 }
-
-const AGE: usize = 9;
 
 // No kind has this number.
 const NO_KIND: u64 = 4;
@@ -147,34 +144,13 @@ fn move_words(words: &mut [u32], to: usize, from: usize, n: usize)
     }
 }
 
-fn one_younger(age: u64, a: u64) -> u64
-    ensures { λ r. ⌜ r ≡ younger a age ⌝ }
-{
-    if a < age { age - 1 } else { age }
-}
-
-// Each row in use whose age is above a is one younger.
-fn make_younger(heads: &mut [u64], used: usize, a: u64)
-    requires { ⌜ used * 12 ≤ length (now heads) ⌝ }
-    ensures { λ _. ⌜ now (heads .exit) ≡ youngered a used (now (heads .entry)) ⌝ }
-{
-    let mut n = used;
-    while n > 0 {
-        n -= 1;
-        let v = one_younger(rows::age(heads, n), a);
-        heads[n * rows::HEAD_WORDS + AGE] = v;
-    }
-}
-
 // The head of row i leaves: the last row in use takes its place.
 fn remove_head(heads: &mut [u64], used: usize, i: usize)
     requires { ⌜ (i < used) × (used * 12 ≤ length (now heads)) ⌝ }
     ensures { λ _. ⌜ now (heads .exit) ≡ removedHeads used i (now (heads .entry)) ⌝ }
 {
-    let a = rows::age(heads, i);
     let last = used - 1;
     move_head(heads, i * rows::HEAD_WORDS, last * rows::HEAD_WORDS);
-    make_younger(heads, last, a);
 }
 
 // So the words of row i.

@@ -31,7 +31,7 @@ eit-open-refused words limit size count heads slots cells schedule-heads units a
 
 -- 10 and 41
 pub eit-clear-refused :
-    (words heads slots cells schedule-heads units : List ℕ) (answer : ℕ) → length words ≡ 7 →
+    (words heads slots cells schedule-heads units : List ℕ) (answer : ℕ) → length words ≡ 8 →
     answer ≡ (eitCleared words heads slots cells schedule-heads units) .answer → (answer ≡ 7 → ⊥) →
     eitCleared words heads slots cells schedule-heads units ≡ answers.words answer words
 unfolding eitCleared clearedOf
@@ -57,7 +57,7 @@ no-row (eit.refused r) row h = refl
 
 -- every refusal but 22 and 23
 pub eit-push-refused :
-    (words heads slots cells schedule-heads units : List ℕ) (input pid : ℕ) (section row : List ℕ) (answer : ℕ) → length words ≡ 7 →
+    (words heads slots cells schedule-heads units : List ℕ) (input pid : ℕ) (section row : List ℕ) (answer : ℕ) → length words ≡ 8 →
     answer ≡ (eitPushed words heads slots cells schedule-heads units input pid section row) .answer → 10 ≤ answer → answer ≢ 22 → answer ≢ 23 →
     eitPushed words heads slots cells schedule-heads units input pid section row ≡ eitLeft answer words heads slots cells schedule-heads units row
 unfolding eitPushed
@@ -76,7 +76,7 @@ eit-push-refused words heads slots cells schedule-heads units input pid section 
 
 -- 10, 41, 12 and 37
 pub eit-drop-refused :
-    (words heads slots cells schedule-heads units filter : List ℕ) (answer : ℕ) → length words ≡ 7 →
+    (words heads slots cells schedule-heads units filter : List ℕ) (answer : ℕ) → length words ≡ 8 →
     answer ≡ (eitDropped words heads slots cells schedule-heads units filter) .answer → 10 ≤ answer →
     eitDropped words heads slots cells schedule-heads units filter ≡ eitDroppedTo answer words heads slots schedule-heads units
 unfolding eitDropped

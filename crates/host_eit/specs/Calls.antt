@@ -12,7 +12,7 @@ use Rattle.eit_state.specs.State.{store, asked}
 use Rattle.eit.specs.Store.{Told, done, nothing, a-set, a-schedule, refused, number, After, openedOf, pushedOf, clearedOf, droppedOf, nextOf, nextInOf}
 use Rattle.host_eit_words.specs.Words.{eitOf, wordsOf, wordsAfter, filterOf}
 
--- 7 writes all seven words; a refused opening leaves them as they were
+-- 7 writes all eight words; a refused opening leaves them as they were
 abbrev pub openedAs : List ℕ → After → Words
 openedAs eit l = words (number (l .told)) (cond (eqb (number (l .told)) 7) (wordsOf (l .store .eit)) eit)
 
@@ -26,7 +26,7 @@ clearedAs eit l = words (number (l .told)) (wordsAfter eit (l .store .eit))
 unfoldable pub eitCleared : List ℕ → List ℕ → List ℕ → List ℕ → List ℕ → List ℕ → Words
 eitCleared eit heads slots cells schedule-heads units = clearedAs eit (clearedOf (store (eitOf eit) heads slots cells schedule-heads units))
 
--- an answer, the collector's seven words, the words of the five lent slices, and the row that goes out
+-- an answer, the collector's eight words, the words of the five lent slices, and the row that goes out
 pub record EitLeft : Type 0 where
   pub answer : ℕ
   pub eit : List ℕ
@@ -64,7 +64,7 @@ unfoldable pub eitPushed : List ℕ → List ℕ → List ℕ → List ℕ → L
 eitPushed eit heads slots cells schedule-heads units input pid section row =
     pushedAs eit row (pushedOf (store (eitOf eit) heads slots cells schedule-heads units) (inputNumber input) (maybePid pid) section)
 
--- an answer, the collector's seven words, and the words of the four slices that a drop may write
+-- an answer, the collector's eight words, and the words of the four slices that a drop may write
 pub record EitDropped : Type 0 where
   pub answer : ℕ
   pub eit : List ℕ

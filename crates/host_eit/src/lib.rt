@@ -6,7 +6,7 @@ ghost use Rattle.host_eit.specs.Calls.{eitOpened, eitLeft, eitPushed, ei
 
 // Opens an EIT collector: 7 or 13. A refusal leaves the words as they were; nothing else lent is written.
 pub fn open(
-    eit: &mut [u64; 7],
+    eit: &mut [u64; 8],
     limit: u64,
     size: u64,
     count: u64,
@@ -33,7 +33,7 @@ pub fn open(
 
 // Offers a section, with the input and the PID that it came on; PID 0xFFFFFFFF stands for none, which is refused (41). 5 writes the set's row into `row`, 6 the schedule's.
 pub fn push(
-    eit: &mut [u64; 7],
+    eit: &mut [u64; 8],
     heads: &mut [u64],
     slots: &mut [u32],
     cells: &mut [u8],
@@ -65,7 +65,7 @@ pub fn push(
 
 // Every set and every schedule leaves: 7, 10 or 41.
 pub fn clear(
-    eit: &mut [u64; 7],
+    eit: &mut [u64; 8],
     heads: &[u64],
     slots: &[u32],
     cells: &[u8],
@@ -82,7 +82,7 @@ pub fn clear(
 // Sets and schedules that match the filter go: 7, 10, 41, 12 for a PID of the filter that is none, or 37 for such an input. A word with all 64 bits set is free, the PID
 // 0xFFFFFFFF is "exactly none", which is refused (41).
 pub fn drop(
-    eit: &mut [u64; 7],
+    eit: &mut [u64; 8],
     heads: &mut [u64],
     slots: &mut [u32],
     cells: &[u8],
@@ -100,7 +100,7 @@ pub fn drop(
 
 // Has the set in a row another section, from a slot on? 8, 9, 10 or 41; 8 writes its number into `next`, and where its bytes are in the cells.
 pub fn next(
-    eit: &[u64; 7],
+    eit: &[u64; 8],
     heads: &[u64],
     slots: &[u32],
     cells: &[u8],
@@ -128,7 +128,7 @@ pub fn next(
 
 // Has that table of the schedule in a row another section, from a slot on? Tables count from the first of the kind, 0x50 or 0x60, on.
 pub fn next_in_schedule(
-    eit: &[u64; 7],
+    eit: &[u64; 8],
     heads: &[u64],
     slots: &[u32],
     cells: &[u8],

@@ -45,7 +45,7 @@ takes-some s g gs = go (isNothing ((pushedGiven s g) .told)) (takes m ((pushedGi
     go true h = omega (arith, h)
     go false h = omega arith
 
-module _ (words heads slots cells tops units row : List ℕ) (n : length words ≡ 7) where
+module _ (words heads slots cells tops units row : List ℕ) (n : length words ≡ 8) where
   abbrev here : Store
   here = store (eitOf words) heads slots cells tops units
 

@@ -9,7 +9,7 @@ ghost use Rattle.host_eit.specs.Calls.{eitLeft};
 ghost use Rattle.host_eit_all.specs.Calls.{tellsAll, allLeft, eitPushedAll};
 
 // Writes what the pushes left as one push does, and gives the answer's number. 42 leaves the words as they were.
-fn write_told(eit: &mut [u64; 7], row: &mut [u64; 1], answer: AllAnswer, left: Eit) -> u8
+fn write_told(eit: &mut [u64; 8], row: &mut [u64; 1], answer: AllAnswer, left: Eit) -> u8
     ensures { λ r. ⌜ pushes r (now (eit .exit)) (now (row .exit)) ≡ tellsAll answer left (now (eit .entry)) (now (row .entry)) ⌝ }
 {
     match answer {
@@ -23,7 +23,7 @@ fn write_told(eit: &mut [u64; 7], row: &mut [u64; 1], answer: AllAnswer, left: E
 // Offers the sections of a list one after another, until one answers something else than 4: what that one answered, and 5 writes the set's row into `row`, 6 the schedule's.
 // How many bytes of the list were taken is written into `taken`, by every answer: 0 where the list or the store is refused before anything is pushed.
 pub fn push_all(
-    eit: &mut [u64; 7],
+    eit: &mut [u64; 8],
     heads: &mut [u64],
     slots: &mut [u32],
     cells: &mut [u8],

@@ -8,7 +8,7 @@ use lib.ListN.{length}
 use Rattle.host_words.proofs.Same.{word, none}
 use Rattle.host_eit_words.specs.Words as eits
 
-pub eit-same : (w : List ℕ) → length w ≡ 7 → eits.wordsAfter w (eits.eitOf w) ≡ w
+pub eit-same : (w : List ℕ) → length w ≡ 8 → eits.wordsAfter w (eits.eitOf w) ≡ w
 eit-same w h =
     sym
     (word w 0 _ (omega arith)
@@ -18,4 +18,5 @@ eit-same w h =
     (word w 4 _ (omega arith)
     (word w 5 _ (omega arith)
     (word w 6 _ (omega arith)
-    (none w 7 h))))))))
+    (word w 7 _ (omega arith)
+    (none w 8 h)))))))))

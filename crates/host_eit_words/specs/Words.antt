@@ -1,5 +1,5 @@
--- The seven words of an EIT collector: 0 limit, 1 size, 2 count, 3 used, 4 evictions, 5 schedules, 6 schedule evictions; the word of a row that
--- goes out; and the seven words of a filter.
+-- The eight words of an EIT collector: 0 limit, 1 size, 2 count, 3 used, 4 evictions, 5 schedules, 6 schedule evictions, 7 clock; the word of a
+-- row that goes out; and the seven words of a filter.
 use Prim.Native.Nat.{ℕ}
 use mathlib.Core.List.{List, [], _∷_}
 use mathlib.Core.Bool.{cond}
@@ -23,16 +23,16 @@ use Rattle.host_words.specs.Pids.{pidNumber}
 
 abbrev pub eitOf : List ℕ → Eit
 eitOf w = record {
-  sets = record { limit = at w 0; size = at w 1; count = at w 2; used = at w 3; evictions = at w 4 };
+  sets = record { limit = at w 0; size = at w 1; count = at w 2; used = at w 3; evictions = at w 4; clock = at w 7 };
   schedules = at w 5;
   «schedule_evictions» = at w 6;
 }
 
--- words 3 to 6
+-- words 3 to 7
 abbrev pub countsOf : Eit → List ℕ
-countsOf e = e .sets .used ∷ e .sets .evictions ∷ e .schedules ∷ e .«schedule_evictions» ∷ []
+countsOf e = e .sets .used ∷ e .sets .evictions ∷ e .schedules ∷ e .«schedule_evictions» ∷ e .sets .clock ∷ []
 
--- all seven
+-- all eight
 abbrev pub wordsOf : Eit → List ℕ
 wordsOf e = e .sets .limit ∷ e .sets .size ∷ e .sets .count ∷ countsOf e
 
@@ -40,7 +40,7 @@ wordsOf e = e .sets .limit ∷ e .sets .size ∷ e .sets .count ∷ countsOf e
 abbrev pub wordsAfter : List ℕ → Eit → List ℕ
 wordsAfter w e = at w 0 ∷ at w 1 ∷ at w 2 ∷ countsOf e
 
--- an opening that answers 7 writes all seven, a refused one none
+-- an opening that answers 7 writes all eight, a refused one none
 abbrev pub wordsOpened : Outcome → Eit → List ℕ → List ℕ
 wordsOpened outcome.Done e w = wordsOf e
 wordsOpened (outcome.Refused r) e w = w

@@ -1,5 +1,5 @@
-// The seven words of an EIT collector: 0 limit, 1 size, 2 count, 3 used, 4 evictions, 5 schedules, 6 schedule_evictions; the word of a row that
-// goes out; and the seven words of a filter: 0 pid, 1 kind, 2 service_id, 3 transport_stream_id, 4 original_network_id, 5 current_next, 6 input.
+// The eight words of an EIT collector: 0 limit, 1 size, 2 count, 3 used, 4 evictions, 5 schedules, 6 schedule_evictions, 7 clock; the word of a
+// row that goes out; and the seven words of a filter: 0 pid, 1 kind, 2 service_id, 3 transport_stream_id, 4 original_network_id, 5 current_next, 6 input.
 use answers::Outcome;
 use eit_drop::Filter;
 use eit_drop::WantedPid;
@@ -17,7 +17,7 @@ ghost use Rattle.host_eit_words.specs.Words.{eitOf, wordsOf, wordsOpened
 // A field of a filter that is free: all 64 bits set.
 const FREE: u64 = 18446744073709551615;
 
-pub fn eit(words: &[u64; 7]) -> Eit
+pub fn eit(words: &[u64; 8]) -> Eit
     ensures { λ r. ⌜ r ≡ eitOf (now (words .entry)) ⌝ }
 {
     let sets = Sets {
@@ -26,6 +26,7 @@ pub fn eit(words: &[u64; 7]) -> Eit
         count: words[2] as usize,
         used: words[3] as usize,
         evictions: words[4],
+        clock: words[7],
     };
     Eit {
         sets,
@@ -34,8 +35,8 @@ pub fn eit(words: &[u64; 7]) -> Eit
     }
 }
 
-// All seven words.
-fn write(words: &mut [u64; 7], eit: Eit)
+// All eight words.
+fn write(words: &mut [u64; 8], eit: Eit)
     ensures { λ _. ⌜ now (words .exit) ≡ wordsOf eit ⌝ }
 {
     let sets = eit.sets;
@@ -47,11 +48,12 @@ fn write(words: &mut [u64; 7], eit: Eit)
         sets.evictions,
         eit.schedules as u64,
         eit.schedule_evictions,
+        sets.clock,
     ];
 }
 
-// A collector that was opened writes all seven; a refused opening none.
-fn write_where(words: &mut [u64; 7], answer: Outcome, eit: Eit)
+// A collector that was opened writes all eight; a refused opening none.
+fn write_where(words: &mut [u64; 8], answer: Outcome, eit: Eit)
     ensures { λ _. ⌜ now (words .exit) ≡ wordsOpened answer eit (now (words .entry)) ⌝ }
 {
     match answer {
@@ -61,7 +63,7 @@ fn write_where(words: &mut [u64; 7], answer: Outcome, eit: Eit)
 }
 
 // The counts: no call but opening changes the settings.
-fn write_counts(words: &mut [u64; 7], eit: Eit)
+fn write_counts(words: &mut [u64; 8], eit: Eit)
     ensures { λ _. ⌜ now (words .exit) ≡ wordsAfter (now (words .entry)) eit ⌝ }
 {
     let sets = eit.sets;
@@ -73,6 +75,7 @@ fn write_counts(words: &mut [u64; 7], eit: Eit)
         sets.evictions,
         eit.schedules as u64,
         eit.schedule_evictions,
+        sets.clock,
     ];
 }
 
@@ -89,7 +92,7 @@ fn write_row(row: &mut [u64; 1], answer: PushAnswer)
 }
 
 // Writes what an opening leaves in the words, and gives its number.
-pub fn write_opened(eit: &mut [u64; 7], opened: Turned) -> u8
+pub fn write_opened(eit: &mut [u64; 8], opened: Turned) -> u8
     ensures { λ r. ⌜ words r (now (eit .exit)) ≡ tellsOpened opened (now (eit .entry)) ⌝ }
 {
     let answer = opened.answer;
@@ -98,7 +101,7 @@ pub fn write_opened(eit: &mut [u64; 7], opened: Turned) -> u8
 }
 
 // Writes what a push leaves in the words, and gives its number.
-pub fn write_pushed(eit: &mut [u64; 7], row: &mut [u64; 1], pushed: Pushed) -> u8
+pub fn write_pushed(eit: &mut [u64; 8], row: &mut [u64; 1], pushed: Pushed) -> u8
     ensures { λ r. ⌜ pushes r (now (eit .exit)) (now (row .exit)) ≡ tellsPushed pushed (now (eit .entry)) (now (row .entry)) ⌝ }
 {
     let answer = pushed.answer;
@@ -108,7 +111,7 @@ pub fn write_pushed(eit: &mut [u64; 7], row: &mut [u64; 1], pushed: Pushed) -> u
 }
 
 // Writes what a clearing or a drop leaves in the words, and gives its number.
-pub fn write_turned(eit: &mut [u64; 7], turned: Turned) -> u8
+pub fn write_turned(eit: &mut [u64; 8], turned: Turned) -> u8
     ensures { λ r. ⌜ words r (now (eit .exit)) ≡ tellsTurned turned (now (eit .entry)) ⌝ }
 {
     let answer = turned.answer;

@@ -59,7 +59,7 @@ pub fn entries(
 // The same of the set in a row that was handed out: 8, 9, 10, 35, 36 or 41.
 pub fn sets_entries(
     reader: u32,
-    sets: &[u64; 5],
+    sets: &[u64; 6],
     heads: &[u64],
     slots: &[u32],
     cells: &[u8],

@@ -33,7 +33,7 @@ sets-open-refused words limit size count heads slots cells answer e h = refused-
 
 -- 10 and 41
 pub sets-clear-refused :
-    (words heads slots cells : List ℕ) (answer : ℕ) → length words ≡ 5 →
+    (words heads slots cells : List ℕ) (answer : ℕ) → length words ≡ 6 →
     answer ≡ (setsCleared words heads slots cells) .answer → (answer ≡ 7 → ⊥) →
     setsCleared words heads slots cells ≡ answers.words answer words
 unfolding setsCleared clearedOf
@@ -61,7 +61,7 @@ kept-as s l row (refused r) e f h k = (f r e (λ (q : r ≡ Conflict). k (ap ref
 
 -- every refusal but 22
 pub sets-push-refused :
-    (words heads slots cells : List ℕ) (input pid : ℕ) (section row : List ℕ) (answer : ℕ) → length words ≡ 5 →
+    (words heads slots cells : List ℕ) (input pid : ℕ) (section row : List ℕ) (answer : ℕ) → length words ≡ 6 →
     answer ≡ (setsPushed words heads slots cells input pid section row) .answer → 10 ≤ answer → answer ≢ 22 →
     setsPushed words heads slots cells input pid section row ≡ setsLeft answer words heads slots cells row
 unfolding setsPushed

@@ -13,7 +13,7 @@ use Rattle.sets_settle.specs.Settle.{Told, done, nothing, handed, refused, told
 use Rattle.sets.specs.Store.{openedOf, pushedOf, clearedOf, nextOf}
 use Rattle.host_sets_words.specs.Words.{setsOf, wordsOf, wordsAfter}
 
--- 7 writes all five words; a refused opening leaves them as they were
+-- 7 writes all six words; a refused opening leaves them as they were
 abbrev pub openedAs : List ℕ → SetsAfter → Words
 openedAs sets l = words (toldNo (l .told)) (cond (eqb (toldNo (l .told)) 7) (wordsOf (l .store .sets)) sets)
 
@@ -27,7 +27,7 @@ clearedAs sets l = words (toldNo (l .told)) (wordsAfter sets (l .store .sets))
 unfoldable pub setsCleared : List ℕ → List ℕ → List ℕ → List ℕ → Words
 setsCleared sets heads slots cells = clearedAs sets (clearedOf (store (setsOf sets) heads slots cells))
 
--- an answer, the collector's five words, the words of the three lent slices, and the row that goes out
+-- an answer, the collector's six words, the words of the three lent slices, and the row that goes out
 pub record SetsLeft : Type 0 where
   pub answer : ℕ
   pub sets : List ℕ

@@ -6,7 +6,7 @@ ghost use Rattle.host_sets.specs.Calls.{setsLeft, setsOpened, setsPushed
 
 // Opens a set collector: 7 or 13. A refusal leaves the words as they were; nothing else lent is written.
 pub fn open(
-    sets: &mut [u64; 5],
+    sets: &mut [u64; 6],
     limit: u64,
     size: u64,
     count: u64,
@@ -29,7 +29,7 @@ pub fn open(
 
 // Offers a section, with the input and the PID that it came on; PID 0xFFFFFFFF stands for none, which is refused (41). 5 writes the set's row into `row`.
 pub fn push(
-    sets: &mut [u64; 5],
+    sets: &mut [u64; 6],
     heads: &mut [u64],
     slots: &mut [u32],
     cells: &mut [u8],
@@ -48,7 +48,7 @@ pub fn push(
 }
 
 // Empties all rows: 7, 10 or 41.
-pub fn clear(sets: &mut [u64; 5], heads: &[u64], slots: &[u32], cells: &[u8]) -> u8
+pub fn clear(sets: &mut [u64; 6], heads: &[u64], slots: &[u32], cells: &[u8]) -> u8
     ensures { λ r. ⌜ words r (now (sets .exit)) ≡ setsCleared (now (sets .entry)) (now (heads .entry)) (now (slots .entry)) (now (cells .entry)) ⌝ }
 {
     let before = host_sets_words::sets(sets);
@@ -58,7 +58,7 @@ pub fn clear(sets: &mut [u64; 5], heads: &[u64], slots: &[u32], cells: &[u8]) ->
 
 // Has the set in a row another section, from a slot on? 8, 9, 10 or 41; 8 writes its number into `next`, and where its bytes are in the cells.
 pub fn next(
-    sets: &[u64; 5],
+    sets: &[u64; 6],
     heads: &[u64],
     slots: &[u32],
     cells: &[u8],

@@ -6,11 +6,10 @@ use mathlib.Core.Path.{_≡_, refl, ap, _∙_}
 use mathlib.Core.List.{List, [], _∷_}
 use mathlib.Core.Bool.{Bool, true, false, cond}
 use native.Mathlib.Omega.{arith}
-use lib.Dec.{eqb}
 use lib.ListN.{length}
 use Rattle.answers.specs.declared.Refusal.the-variants.{NotWhole, CounterFull, NoPid}
 use Rattle.without_pid.specs.Pids.{withoutPid}
-use Rattle.store.specs.Store.{Store, store, wholeOf}
+use Rattle.store.specs.Store.{Store, store, wholeOf, countersFull}
 use Rattle.sets_settle.specs.Settle.{refused}
 use Rattle.rules_logs.specs.Sections.{Given, Listed, tooLong, cut, sections, sectionsIn}
 use Rattle.sets_all.specs.All.{AllTold, of, AllAfter, allAfter, isNothing, pushedGiven, pushedEach, pushedSections, pushedList, pushedAll}
@@ -45,7 +44,7 @@ takes-some s g gs = go (isNothing ((pushedGiven s g) .told)) (takes m ((pushedGi
     go true h = omega (arith, h)
     go false h = omega arith
 
-module _ (words heads slots cells row : List ℕ) (n : length words ≡ 5) where
+module _ (words heads slots cells row : List ℕ) (n : length words ≡ 6) where
   abbrev here : Store
   here = store (setsOf words) heads slots cells
 
@@ -59,7 +58,7 @@ module _ (words heads slots cells row : List ℕ) (n : length words ≡ 5) where
 
   sections-kept : (gs : List Given) → (pushedSections here gs) .taken ≡ 0 → Kept (pushedSections here gs)
   unfolding pushedSections
-  sections-kept gs = go (wholeOf here) (eqb (here .sets .evictions) 18446744073709551615) (withoutPid heads (here .sets .used))
+  sections-kept gs = go (wholeOf here) (countersFull (here .sets)) (withoutPid heads (here .sets .used))
     where
       by : (whole full without : Bool) → AllAfter
       by whole full without =

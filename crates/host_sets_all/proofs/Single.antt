@@ -4,12 +4,11 @@ use Prim.Native.Nat.{ℕ, _+_}
 use mathlib.Core.Path.{_≡_, refl}
 use mathlib.Core.List.{List, _∷_}
 use mathlib.Core.Bool.{Bool, true, false, cond}
-use lib.Dec.{eqb}
 use lib.ListN.{length}
 use Rattle.answers.specs.declared.Refusal.the-variants.{NotWhole, CounterFull, NoPid}
 use Rattle.section.specs.declared.ids.MaybePid.the-variants as maybe
 use Rattle.without_pid.specs.Pids.{withoutPid}
-use Rattle.store.specs.Store.{Store, wholeOf}
+use Rattle.store.specs.Store.{Store, wholeOf, countersFull}
 use Rattle.arrivals.specs.Arrivals.{setArrival}
 use Rattle.arrivals.specs.declared.SetArrival.{SetArrival}
 use Rattle.arrivals.specs.declared.SetArrival.the-variants as arrival
@@ -26,7 +25,7 @@ pub record Alike (a b : AllAfter) : Type 0 where
 
 pub sections-each : (s : Store) (g : Given) (gs : List Given) → Alike (pushedSections s (g ∷ gs)) (pushedEach 0 s (g ∷ gs))
 unfolding pushedSections pushedEach pushedOf admitted
-sections-each s g gs = go (wholeOf s) (eqb (s .sets .evictions) 18446744073709551615) (withoutPid (s .heads) (s .sets .used))
+sections-each s g gs = go (wholeOf s) (countersFull (s .sets)) (withoutPid (s .heads) (s .sets .used))
   where
     m : ℕ
     m = 0 + (5 + length (g .section))

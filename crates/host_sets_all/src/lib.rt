@@ -9,7 +9,7 @@ ghost use Rattle.host_sets.specs.Calls.{setsLeft};
 ghost use Rattle.host_sets_all.specs.Calls.{tellsAll, allLeft, setsPushedAll};
 
 // Writes what the pushes left as one push does, and gives the answer's number. 42 leaves the words as they were.
-fn write_told(sets: &mut [u64; 5], row: &mut [u64; 1], answer: AllAnswer, left: Sets) -> u8
+fn write_told(sets: &mut [u64; 6], row: &mut [u64; 1], answer: AllAnswer, left: Sets) -> u8
     ensures { λ r. ⌜ pushes r (now (sets .exit)) (now (row .exit)) ≡ tellsAll answer left (now (sets .entry)) (now (row .entry)) ⌝ }
 {
     match answer {
@@ -23,7 +23,7 @@ fn write_told(sets: &mut [u64; 5], row: &mut [u64; 1], answer: AllAnswer, left: 
 // Offers the sections of a list one after another, until one answers something else than 4: what that one answered, and 5 writes the set's row into `row`.
 // How many bytes of the list were taken is written into `taken`, by every answer: 0 where the list or the store is refused before anything is pushed.
 pub fn push_all(
-    sets: &mut [u64; 5],
+    sets: &mut [u64; 6],
     heads: &mut [u64],
     slots: &mut [u32],
     cells: &mut [u8],

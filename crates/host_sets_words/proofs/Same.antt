@@ -8,7 +8,7 @@ use lib.ListN.{length}
 use Rattle.host_words.proofs.Same.{word, none}
 use Rattle.host_sets_words.specs.Words as collectors
 
-pub sets-same : (w : List ℕ) → length w ≡ 5 → collectors.wordsAfter w (collectors.setsOf w) ≡ w
+pub sets-same : (w : List ℕ) → length w ≡ 6 → collectors.wordsAfter w (collectors.setsOf w) ≡ w
 sets-same w h =
     sym
     (word w 0 _ (omega arith)
@@ -16,4 +16,5 @@ sets-same w h =
     (word w 2 _ (omega arith)
     (word w 3 _ (omega arith)
     (word w 4 _ (omega arith)
-    (none w 5 h))))))
+    (word w 5 _ (omega arith)
+    (none w 6 h)))))))

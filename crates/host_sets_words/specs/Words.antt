@@ -1,4 +1,4 @@
--- The five words of a set collector: 0 limit, 1 size, 2 count, 3 used, 4 evictions; and the word of a row that goes out.
+-- The six words of a set collector: 0 limit, 1 size, 2 count, 3 used, 4 evictions, 5 clock; and the word of a row that goes out.
 use Prim.Native.Nat.{ℕ}
 use mathlib.Core.List.{List, [], _∷_}
 use Rattle.answers.specs.Answers.{outcomeNo}
@@ -14,17 +14,17 @@ use Rattle.sets.specs.declared.Cleared.{Cleared}
 use Rattle.host_words.specs.Answers.{Words, words, Pushes, pushes, at}
 
 abbrev pub setsOf : List ℕ → Sets
-setsOf w = record { limit = at w 0; size = at w 1; count = at w 2; used = at w 3; evictions = at w 4 }
+setsOf w = record { limit = at w 0; size = at w 1; count = at w 2; used = at w 3; evictions = at w 4; clock = at w 5 }
 
--- all five
+-- all six
 abbrev pub wordsOf : Sets → List ℕ
-wordsOf s = s .limit ∷ s .size ∷ s .count ∷ s .used ∷ s .evictions ∷ []
+wordsOf s = s .limit ∷ s .size ∷ s .count ∷ s .used ∷ s .evictions ∷ s .clock ∷ []
 
 -- a call that is no opening writes the counts only
 abbrev pub wordsAfter : List ℕ → Sets → List ℕ
-wordsAfter w s = at w 0 ∷ at w 1 ∷ at w 2 ∷ s .used ∷ s .evictions ∷ []
+wordsAfter w s = at w 0 ∷ at w 1 ∷ at w 2 ∷ s .used ∷ s .evictions ∷ s .clock ∷ []
 
--- an opening that answers 7 writes all five, a refused one none
+-- an opening that answers 7 writes all six, a refused one none
 abbrev pub wordsOpened : Outcome → Sets → List ℕ → List ℕ
 wordsOpened outcome.Done s w = wordsOf s
 wordsOpened (outcome.Refused r) s w = w

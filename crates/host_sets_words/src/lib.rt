@@ -1,4 +1,4 @@
-// The five words of a set collector: 0 limit, 1 size, 2 count, 3 used, 4 evictions; and the word of a row that goes out.
+// The six words of a set collector: 0 limit, 1 size, 2 count, 3 used, 4 evictions, 5 clock; and the word of a row that goes out.
 use answers::Outcome;
 use sets::Cleared;
 use sets::Opened;
@@ -9,7 +9,7 @@ ghost use mathlib.Core.Path.{_≡_};
 ghost use Rattle.host_words.specs.Answers.{words, pushes};
 ghost use Rattle.host_sets_words.specs.Words.{setsOf, wordsOf, wordsOpened, wordsAfter, rowBy, tellsOpened, tellsPushed, tellsCleared};
 
-pub fn sets(words: &[u64; 5]) -> Sets
+pub fn sets(words: &[u64; 6]) -> Sets
     ensures { λ r. ⌜ r ≡ setsOf (now (words .entry)) ⌝ }
 {
     Sets {
@@ -18,11 +18,12 @@ pub fn sets(words: &[u64; 5]) -> Sets
         count: words[2] as usize,
         used: words[3] as usize,
         evictions: words[4],
+        clock: words[5],
     }
 }
 
-// All five words.
-fn write(words: &mut [u64; 5], sets: Sets)
+// All six words.
+fn write(words: &mut [u64; 6], sets: Sets)
     ensures { λ _. ⌜ now (words .exit) ≡ wordsOf sets ⌝ }
 {
     *words = [
@@ -31,11 +32,12 @@ fn write(words: &mut [u64; 5], sets: Sets)
         sets.count as u64,
         sets.used as u64,
         sets.evictions,
+        sets.clock,
     ];
 }
 
-// A collector that was opened writes all five; a refused opening none.
-fn write_where(words: &mut [u64; 5], answer: Outcome, sets: Sets)
+// A collector that was opened writes all six; a refused opening none.
+fn write_where(words: &mut [u64; 6], answer: Outcome, sets: Sets)
     ensures { λ _. ⌜ now (words .exit) ≡ wordsOpened answer sets (now (words .entry)) ⌝ }
 {
     match answer {
@@ -45,11 +47,18 @@ fn write_where(words: &mut [u64; 5], answer: Outcome, sets: Sets)
 }
 
 // The counts: no call but opening changes the settings.
-fn write_counts(words: &mut [u64; 5], sets: Sets)
+fn write_counts(words: &mut [u64; 6], sets: Sets)
     ensures { λ _. ⌜ now (words .exit) ≡ wordsAfter (now (words .entry)) sets ⌝ }
 {
     let used = sets.used as u64;
-    *words = [words[0], words[1], words[2], used, sets.evictions];
+    *words = [
+        words[0],
+        words[1],
+        words[2],
+        used,
+        sets.evictions,
+        sets.clock,
+    ];
 }
 
 // The row of a set that goes out. Any other answer leaves the word as it was.
@@ -64,7 +73,7 @@ fn write_row(row: &mut [u64; 1], answer: PushAnswer)
 }
 
 // Writes what an opening leaves in the words, and gives its number.
-pub fn write_opened(sets: &mut [u64; 5], opened: Opened) -> u8
+pub fn write_opened(sets: &mut [u64; 6], opened: Opened) -> u8
     ensures { λ r. ⌜ words r (now (sets .exit)) ≡ tellsOpened opened (now (sets .entry)) ⌝ }
 {
     let answer = opened.answer;
@@ -73,7 +82,7 @@ pub fn write_opened(sets: &mut [u64; 5], opened: Opened) -> u8
 }
 
 // Writes what a push leaves in the words, and gives its number.
-pub fn write_pushed(sets: &mut [u64; 5], row: &mut [u64; 1], pushed: Pushed) -> u8
+pub fn write_pushed(sets: &mut [u64; 6], row: &mut [u64; 1], pushed: Pushed) -> u8
     ensures { λ r. ⌜ pushes r (now (sets .exit)) (now (row .exit)) ≡ tellsPushed pushed (now (sets .entry)) (now (row .entry)) ⌝ }
 {
     let answer = pushed.answer;
@@ -83,7 +92,7 @@ pub fn write_pushed(sets: &mut [u64; 5], row: &mut [u64; 1], pushed: Pushed) -> 
 }
 
 // Writes what a clearing leaves in the words, and gives its number.
-pub fn write_cleared(sets: &mut [u64; 5], cleared: Cleared) -> u8
+pub fn write_cleared(sets: &mut [u64; 6], cleared: Cleared) -> u8
     ensures { λ r. ⌜ words r (now (sets .exit)) ≡ tellsCleared cleared (now (sets .entry)) ⌝ }
 {
     let answer = cleared.answer;

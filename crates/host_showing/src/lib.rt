@@ -37,7 +37,7 @@ pub fn events(section: &[u8], skip: u64, list: &mut [u32], listed: &mut [u64; 3]
 
 // The events of the set in a row: 8, 9, 10, 18, 19, 32 or 41.
 pub fn eit_events(
-    eit: &[u64; 7],
+    eit: &[u64; 8],
     heads: &[u64],
     slots: &[u32],
     cells: &[u8],
@@ -67,7 +67,7 @@ pub fn eit_events(
 
 // The same of a table of the schedule in a row. Tables count from the first of the kind, 0x50 or 0x60, on.
 pub fn eit_events_in_schedule(
-    eit: &[u64; 7],
+    eit: &[u64; 8],
     heads: &[u64],
     slots: &[u32],
     cells: &[u8],

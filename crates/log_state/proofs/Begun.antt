@@ -11,10 +11,10 @@ use borrow.Author.Tests.{lt-ltb, le-leb}
 use Rattle.laws.proofs.Tests.{and-true}
 use Rattle.section.specs.Judged.{ruleKnown}
 use Rattle.ring.specs.Store.{roomOf}
-use Rattle.store.specs.Store.{asked, settingsFit}
+use Rattle.store.specs.Store.{asked, settingsFit, countersFull}
 use Rattle.store.specs.Store.{wholeOf as setsWhole}
 use Rattle.rows.specs.Rows.{rowsWhole}
-use Rattle.log_state.specs.State.{lent, isWithout, canOpen, runOf, wholeOf, isFull}
+use Rattle.log_state.specs.State.{lent, isWithout, canOpen, runOf, wholeOf}
 use Rattle.log_state.specs.declared.Settings.{Settings}
 
 module _ (s : Settings) (keys changes heads slots cells : List ℕ) where
@@ -33,5 +33,5 @@ module _ (s : Settings) (keys changes heads slots cells : List ℕ) where
       let rows : leb 0 (s .limit) ≡ true = le-leb 0 (s .limit) (omega arith) in
       rw (none, first, b .0, b .1, c .1, d .1, e .1, rows) refl
 
-  pub opened-counts : isFull (runOf s .sets) ≡ false
+  pub opened-counts : countersFull (runOf s .sets) ≡ false
   opened-counts = refl

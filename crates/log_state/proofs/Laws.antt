@@ -7,7 +7,7 @@ use mathlib.Core.Bool.{Bool, true, false, not, _&&_}
 use lib.ListN.{length}
 use lib.Dec.{leb}
 use native.Mathlib.Omega.{arith}
-use borrow.Author.Tests.{lt-ltb, le-ltb, eq-eqb, ne-eqb}
+use borrow.Author.Tests.{lt-ltb, le-ltb}
 use Rattle.laws.proofs.Tests.{and-true}
 use Rattle.answers.specs.declared.Refusal.the-variants as refusal
 use Rattle.answers.specs.declared.Outcome.the-variants as outcome
@@ -25,9 +25,9 @@ use Rattle.section.proofs.Facts.{judged-parts, origin-one, origin-none, origin-
 use Rattle.ring.specs.Store.{roomOf}
 use Rattle.ring.specs.Store.{wholeOf as ringWhole}
 use Rattle.ring.proofs.Laws.{whole as ring-whole}
-use Rattle.store.specs.Store.{Store, asked, settingsFit}
+use Rattle.store.specs.Store.{Store, asked, settingsFit, countersFull}
 use Rattle.store.specs.Store.{wholeOf as setsWhole}
-use Rattle.store.proofs.Whole.{whole-means}
+use Rattle.store.proofs.Whole.{whole-means, evictions-go-on, clock-goes-on}
 use Rattle.offers.specs.Offers.{readAs, readOf}
 use Rattle.log_state.specs.State.{isWithout, canOpen, runOf, openedOf, gateWhole, ruledBy, rulingBy, RulingOk, FromOk}
 use Rattle.log_state.specs.declared.Settings.{Settings}
@@ -115,14 +115,14 @@ module _ (run : Run) (keys changes : ℕ) (sets : Store) (input pid : ℕ) (sect
       unfolding rulingBy
       ruled-sets k = rw (le-ltb 4098 (length section) n, ← e, h, ← d, k)
 
-      pub ruled-full : w ≡ true → sets .sets .evictions ≡ 18446744073709551615 → ruling.Refused (take.Refused refusal.CounterFull) ≡ rulingBy run keys changes sets input pid section
+      pub ruled-full : (full : Bool) → full ≡ countersFull (sets .sets) → w ≡ true → full ≡ true → ruling.Refused (take.Refused refusal.CounterFull) ≡ rulingBy run keys changes sets input pid section
       unfolding rulingBy
-      ruled-full k f = rw (le-ltb 4098 (length section) n, ← e, h, ← d, k, eq-eqb (sets .sets .evictions) 18446744073709551615 f)
+      ruled-full full q k f = rw (le-ltb 4098 (length section) n, ← e, h, ← d, k, ← q, f)
 
-      module _ (k : w ≡ true) (f : sets .sets .evictions ≡ 18446744073709551615 → ⊥) (r : Ruling) where
+      module _ (full : Bool) (q : full ≡ countersFull (sets .sets)) (k : w ≡ true) (f : full ≡ false) (r : Ruling) where
         pub ruled-read : r ≡ ruledBy (run .rule) section (readOf (run .rule) input pid section) → r ≡ rulingBy run keys changes sets input pid section
         unfolding rulingBy
-        ruled-read j = rw (le-ltb 4098 (length section) n, ← e, h, ← d, k, ne-eqb (sets .sets .evictions) 18446744073709551615 f) j
+        ruled-read j = rw (le-ltb 4098 (length section) n, ← e, h, ← d, k, ← q, f) j
 
         pub ruled-ok : FromOk input pid r → RulingOk run keys changes sets input pid section r
         ruled-ok o = go r o
@@ -134,7 +134,7 @@ module _ (run : Run) (keys changes : ℕ) (sets : Store) (input pid : ℕ) (sect
               rows =
                   let taken : (ringWhole (run .ring) keys changes && ruleKnown (run .rule)) ≡ true = and-true _ (not (isWithout (run .pids))) (sym e ∙ h) .0 in
                   ring-whole (run .ring) keys changes (ringWhole (run .ring) keys changes) refl (and-true (ringWhole (run .ring) keys changes) (ruleKnown (run .rule)) taken .0);
-              ready = record { whole = whole-means sets (sym d ∙ k); counts = f };
+              ready = record { whole = whole-means sets (sym d ∙ k); counts = evictions-go-on (sets .sets) full q f; runs = clock-goes-on (sets .sets) full q f };
               is-input = o .0;
               is-pid = o .1;
             }

@@ -12,7 +12,7 @@ use Rattle.answers.specs.declared.Outcome.the-variants as outcome
 use Rattle.section.specs.Judged.{ruleKnown, ruleOf, formOf, partsOf}
 use Rattle.ring.specs.Store.{roomOf, emptyRing, Whole}
 use Rattle.ring.specs.Store.{wholeOf as ringWhole}
-use Rattle.store.specs.Store.{Store, store, asked, settingsFit}
+use Rattle.store.specs.Store.{Store, store, asked, settingsFit, countersFull}
 use Rattle.store.specs.Store.{wholeOf as setsWhole}
 use Rattle.store.specs.declared.Sets.{Sets}
 use Rattle.sets_plan.specs.Plan.{Ready}
@@ -95,10 +95,6 @@ wholeBy run keys changes sets = gateWhole run keys changes && setsWhole sets
 unfoldable pub wholeOf : Lent → Bool
 wholeOf s = wholeBy (s .run) (length (s .keys)) (length (s .changes)) (setsIn s)
 
--- the collector's count of evictions is at its end
-abbrev pub isFull : Sets → Bool
-isFull s = eqb (s .evictions) 18446744073709551615
-
 -- what the gate makes of the section: a refusal, a failure, or its key and its parts
 unfoldable pub ruledBy : (rule : ℕ) → List ℕ → Verdict → Ruling
 ruledBy rule section (verdict.Refused r) = ruling.Refused (take.Refused r)
@@ -110,7 +106,7 @@ unfoldable pub rulingBy : Run → (keys changes : ℕ) → Store → (input pid 
 rulingBy run keys changes sets input pid section =
     cond (ltb 4098 (length section)) (ruling.Refused take.TooLong)
     (cond (wholeBy run keys changes sets)
-    (cond (isFull (sets .sets)) (ruling.Refused (take.Refused refusal.CounterFull)) (ruledBy (run .rule) section (readOf (run .rule) input pid section)))
+    (cond (countersFull (sets .sets)) (ruling.Refused (take.Refused refusal.CounterFull)) (ruledBy (run .rule) section (readOf (run .rule) input pid section)))
     (ruling.Refused (take.Refused refusal.NotWhole)))
 
 unfoldable pub rulingOf : Lent → (input pid : ℕ) → List ℕ → Ruling

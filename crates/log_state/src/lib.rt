@@ -126,6 +126,7 @@ fn run_of(settings: Settings) -> Run
             count: settings.count,
             used: 0,
             evictions: 0,
+            clock: 0,
         },
         pids,
     }
@@ -150,6 +151,7 @@ fn can_open(
         count: settings.count,
         used: 0,
         evictions: 0,
+        clock: 0,
     };
     (all <= keys)
         & (all <= changes)
@@ -252,7 +254,7 @@ pub fn judge(
     let sets = run.sets;
     if gate_whole(run, keys, changes) {
         if store::is_whole(sets, heads, slots, cells) {
-            if sets.evictions == u64::MAX {
+            if store::counters_full(sets) {
                 return Ruling::Refused(TakeAnswer::Refused(Refusal::CounterFull));
             }
             return read(run.rule, input, pid, section);

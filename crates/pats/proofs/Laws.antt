@@ -7,7 +7,8 @@ use mathlib.Core.List.{List, [], _∷_, _++_}
 use Prim.Native.Nat.{ℕ, _+_, _*_, _≤_, _<_}
 use native.Mathlib.Nat.{le-refl}
 use native.Mathlib.Omega.{arith}
-use borrow.Author.Tests.{le-leb, eqb-false}
+use borrow.Author.Tests.{le-leb}
+use lib.Dec.{eqb}
 use lib.ListN.{length, getD, take, drop, set, length-set, length-drop, length-append}
 use lib.Seq.{paste, drop-drop, take-append-le, take-take, take-set-le, getD-drop, getD-set-same, getD-set-other, length-take-le, length-paste}
 use Rattle.laws.proofs.Tests.{and-true}
@@ -21,7 +22,8 @@ use Rattle.rows.specs.Rows.{touched, withMark, rowsWhole}
 use Rattle.rows.specs.declared.Entry.{Entry}
 use Rattle.rows.proofs.Words.{length-put, length-touched, length-kept, length-kept-slots}
 use Rattle.store.specs.Store.{Store, store, wholeOf, WholeStore}
-use Rattle.store.proofs.Whole.{whole-means, means-whole, cell-fits}
+use Rattle.store.specs.declared.Sets.{Sets}
+use Rattle.store.proofs.Whole.{whole-means, means-whole, cell-fits, evictions-go-on, clock-goes-on}
 use Rattle.arrivals.specs.Arrivals.{setArrival, SetTaken}
 use Rattle.arrivals.specs.declared.SetArrival.{SetArrival}
 use Rattle.arrivals.specs.declared.SetArrival.the-variants as arrival
@@ -34,8 +36,8 @@ use Rattle.sets_plan.specs.declared.Plan.the-variants as plan
 use Rattle.sets_plan.proofs.May.{plan-ok}
 use Rattle.sets_settle.specs.Settle.{Told, done, nothing, handed, refused, SetsAfter, goesOut, settledHeads, settled, keptIn, carried}
 use Rattle.sets_push.specs.Pushing.{wholePushed}
-use Rattle.pats.specs.Store.{Record, recordOf, patHead, patStore, roomFor, patsWhole, patsFull, begunWords, enters, withAll, programsOf, withStore, pushedIn, watchAfter, followedIn, enteredAs, enteredIn, PatsReady, Arrives}
-use Rattle.pats.proofs.Store.{length-with, with-store, pushed-same, pushed-whole}
+use Rattle.pats.specs.Store.{Record, recordOf, patSets, patHead, patStore, roomFor, patsWhole, patsFull, begunWords, enters, withAll, programsOf, withStore, pushedIn, watchAfter, followedIn, enteredAs, enteredIn, PatsReady, Arrives}
+use Rattle.pats.proofs.Store.{length-with, with-store, pushed-same, pushed-whole, pat-clocked, pushed-clocked}
 use Rattle.pats.proofs.Ways.{Long, room-long}
 
 -- ---- whole, and its count not at its end
@@ -53,7 +55,9 @@ module _ (r : Record) (w : patsWhole r ≡ true) where
 
   pub ready : patsFull (r .words) ≡ false → PatsReady r
   unfolding patsFull
-  ready f = record { words = whole-long .words; ready = record { whole = whole-store; counts = eqb-false (getD (r .words) 385 0) 18446744073709551615 f } }
+  ready f =
+      let sets : Sets = patSets (r .words) in
+      record { words = whole-long .words; ready = record { whole = whole-store; counts = evictions-go-on sets false (sym f) refl; runs = clock-goes-on sets false (sym f) refl } }
 
 pub is-whole : (r : Record) → 398 ≤ length (r .words) → WholeStore (patStore r) → patsWhole r ≡ true
 unfolding patsWhole
@@ -113,7 +117,7 @@ module _ (words : List ℕ) where
 
     pub begun-not-full : patsFull (begunWords words) ≡ false
     unfolding patsFull
-    begun-not-full = rw begun-evictions refl
+    begun-not-full = rw (begun-evictions, begun-used) refl
 
     -- whatever the slices hold
     pub begun-whole : (slots cells : List ℕ) → 288 ≤ length slots → 262144 ≤ length cells → patsWhole (recordOf (begunWords words) slots cells) ≡ true
@@ -135,8 +139,8 @@ either false x y n p q = q
 settled-lengths : (s : Store) (i : ℕ) → SameLengths s ((settled s i) .store)
 unfolding settled settledHeads
 settled-lengths s i =
-    let h : List ℕ = touched (s .sets .used) i (s .heads) in
-    let t : length h ≡ length (s .heads) = length-touched (s .sets .used) i (s .heads) in
+    let h : List ℕ = touched (s .sets .clock + 1) i (s .heads) in
+    let t : length h ≡ length (s .heads) = length-touched (s .sets .clock + 1) i (s .heads) in
     record { heads = either (goesOut h (s .slots) i) (withMark i 1 h) h (length (s .heads)) (length-put i 8 1 h ∙ t) t; slots = refl; cells = refl }
 
 kept-lengths : (s : Store) (bytes : List ℕ) (k : Keeping) → KeepOk s bytes k → SameLengths s (keptIn s bytes k)
@@ -157,7 +161,7 @@ kept-lengths s bytes k o =
 carried-lengths : (s : Store) (bytes : List ℕ) (p : Plan) → PlanOk s bytes p → SameLengths s ((carried s bytes p) .store)
 carried-lengths s bytes (plan.Refuse r) o = record { heads = refl; slots = refl; cells = refl }
 carried-lengths s bytes plan.Silent o = record { heads = refl; slots = refl; cells = refl }
-carried-lengths s bytes (plan.Conflict i) o = record { heads = length-touched (s .sets .used) i (s .heads); slots = refl; cells = refl }
+carried-lengths s bytes (plan.Conflict i) o = record { heads = length-touched (s .sets .clock + 1) i (s .heads); slots = refl; cells = refl }
 carried-lengths s bytes (plan.Repeat i) o = settled-lengths s i
 carried-lengths s bytes (plan.Keep k) o =
     let a = settled-lengths (keptIn s bytes k) (k .room .row) in
@@ -194,8 +198,9 @@ store-stays t words slots cells h =
     let at : (i : ℕ) → getD (watchAfter t words) (384 + i) 0 ≡ getD words (384 + i) 0 = λ i. sym (getD-drop 384 (watchAfter t words) i 0) ∙ ap (λ (l : List ℕ). getD l i 0) p ∙ getD-drop 384 words i 0 in
     let u = at 0 in
     let v = at 1 in
+    let w = at 11 in
     let d : patHead (watchAfter t words) ≡ patHead words = sym (ap (take 12) (drop-drop 2 384 (watchAfter t words))) ∙ ap (λ (l : List ℕ). take 12 (drop 2 l)) p ∙ ap (take 12) (drop-drop 2 384 words) in
-    λ i. store (record { limit = 1; size = 1024; count = 256; used = u i; evictions = v i }) (d i) slots cells
+    λ i. store (record { limit = 1; size = 1024; count = 256; used = u i; evictions = v i; clock = cond (eqb (u i) 0) 0 (w i) }) (d i) slots cells
 
 -- ---- a section that arrived
 
@@ -213,7 +218,7 @@ module _ (r : Record) (o : PatsReady r) (section : List ℕ) (e : Entry) (a : Ar
 
   left-lengths : SameLengths (patStore r) (left .store)
   unfolding wholePushed
-  left-lengths = carried-lengths (patStore r) section (planOf (patStore r) e section) (plan-ok (patStore r) (o .ready .whole) e section (a .taken))
+  left-lengths = carried-lengths (patStore r) section (planOf (patStore r) e section) (plan-ok (patStore r) (o .ready) e section (a .taken))
 
   head-12 : length (left .store .heads) ≡ 12
   head-12 = let h = o .words in left-lengths .heads ∙ length-take-le 12 (drop 386 (r .words)) (rw (length-drop 386 (r .words)) (omega arith))
@@ -244,7 +249,7 @@ module _ (r : Record) (o : PatsReady r) (section : List ℕ) (e : Entry) (a : Ar
       let s = pushed-same (patStore r) e section in
       let h = o .words in
       store-stays (left .told) (withStore (r .words) (left .store)) (left .store .slots) (left .store .cells) (rw long-with (omega arith))
-      ∙ with-store (r .words) (left .store) (o .words) head-12 (s .limit) (s .size) (s .count)
+      ∙ with-store (r .words) (left .store) (o .words) head-12 (s .limit) (s .size) (s .count) (pushed-clocked (patStore r) e section refl (pat-clocked r) (o .ready) (a .taken))
 
   pub then-whole : patsWhole then ≡ true
   then-whole = is-whole then (rw (then-lengths .0) (o .words)) (subst WholeStore (sym then-store) (pushed-whole (patStore r) e section (o .ready) a))

@@ -1,16 +1,17 @@
 -- One law for each way out of the functions over a record.
 -- Assumes nothing.
 use mathlib.Core.Path.{_≡_, refl, sym, ap, subst, _∙_}
+use mathlib.Core.Bool as bool
 use mathlib.Core.Bool.{Bool, true, false, cond, _&&_}
 use mathlib.Core.List.{List, [], map}
 use Prim.Native.Nat.{ℕ, _+_, _-_, _*_, _≤_, _<_}
 use native.Mathlib.Numerals.{add-one}
 use native.Mathlib.Decide.{ℕ-discrete}
 use native.Mathlib.Omega.{arith}
-use borrow.Author.Tests.{le-leb, leb-true}
+use borrow.Author.Tests.{le-leb, lt-leb, leb-true, eq-eqb, ne-eqb}
 use lib.Dec.{leb, eqb}
-use lib.ListN.{length, getD, take, drop, set, drop-of-length-le}
-use lib.Seq.{drop-cons}
+use lib.ListN.{length, getD, take, drop, set, drop-of-length-le, length-drop}
+use lib.Seq.{drop-cons, length-take-le}
 use Rattle.laws.proofs.Tests.{and-true}
 use Rattle.laws.proofs.Search.{every-get}
 use Rattle.section.specs.Header.{currentNext}
@@ -19,11 +20,11 @@ use Rattle.answers.specs.declared.Refusal.{Refusal}
 use Rattle.cells.specs.Cells.{keptLength, cellNumber, slotWhole, allWhole, kept, partOf}
 use Rattle.pat.specs.Pat.{readable, withPrograms}
 use Rattle.watched.specs.Store.{noPids, following}
-use Rattle.rows.specs.Rows.{rowSlots}
+use Rattle.rows.specs.Rows.{rowSlots, rowsWhole}
 use Rattle.rows.proofs.Whole.{rows-get}
 use Rattle.rows.specs.declared.Entry.{Entry}
 use Rattle.placing.proofs.Fits.{slot-bounds}
-use Rattle.store.specs.Store.{Store, store, wholeOf}
+use Rattle.store.specs.Store.{Store, store, settingsFit, wholeOf, countersFull}
 use Rattle.store.specs.declared.Sets.{Sets}
 use Rattle.arrivals.specs.Arrivals.{setArrival, SetTaken}
 use Rattle.arrivals.specs.declared.SetArrival.{SetArrival}
@@ -32,7 +33,7 @@ use Rattle.sets_settle.specs.Settle.{setIn, answerOf}
 use Rattle.sets_settle.specs.declared.PushAnswer.{PushAnswer}
 use Rattle.sets_settle.specs.declared.PushAnswer.the-variants as push-answer
 use Rattle.sets_push.specs.Pushing.{wholePushed}
-use Rattle.pats.specs.Store.{Record, recordOf, patSets, patHead, patStore, roomFor, patsWhole, patsFull, begunWords, enters, withAll, programsOfRow, Entering, pushedBy, pushedIn, watchAfter, followedIn, enteredIn, Arrives, RowThere, Pushed, HasRow}
+use Rattle.pats.specs.Store.{Record, recordOf, patClock, patSets, patHead, patStore, roomFor, patsWhole, patsFull, begunWords, enters, withAll, programsOfRow, Entering, pushedBy, pushedIn, watchAfter, followedIn, enteredIn, Arrives, RowThere, Pushed, HasRow}
 
 -- ---- opening, and 10 and 11
 
@@ -40,9 +41,20 @@ pub begun : (words : List ℕ) → set (set words 384 0) 385 0 ≡ begunWords wo
 unfolding begunWords
 begun words = refl
 
-pub full-is : (words : List ℕ) → eqb (getD words 385 0) 18446744073709551615 ≡ patsFull words
+pub full-is : (words : List ℕ) (t : Sets) (b : Bool) → t ≡ patSets words → b ≡ countersFull t → b ≡ patsFull words
 unfolding patsFull
-full-is words = refl
+full-is words t b e q = q ∙ ap countersFull e
+
+-- the clock, without a row and with one
+pub clock-none : (words : List ℕ) → getD words 384 0 ≡ 0 → 0 ≡ patClock words
+clock-none words z = rw (eq-eqb (getD words 384 0) 0 z)
+
+pub clock-there : (words : List ℕ) → (getD words 384 0 ≡ 0 → ⊥) → getD words 395 0 ≡ patClock words
+clock-there words n = rw (ne-eqb (getD words 384 0) 0 n)
+
+pub sets-are : (words : List ℕ) (c : ℕ) → c ≡ patClock words
+    → _≡_ {A = Sets} (record { limit = 1; size = 1024; count = 256; used = getD words 384 0; evictions = getD words 385 0; clock = c }) (patSets words)
+sets-are words c e = rw e
 
 -- the three lengths
 pub record Long (w s c : ℕ) : Type 0 where
@@ -57,13 +69,32 @@ room-long words slots cells b e t =
     record { words = leb-true 398 words (d .0); slots = leb-true 288 slots (d .1); cells = leb-true 262144 cells (a .1) }
 
 module _ (words slots cells : List ℕ) (b : Bool) (e : b ≡ roomFor (length words) (length slots) (length cells)) where
-  pub whole-is : (t : Sets) (w : Bool) → b ≡ true → t ≡ patSets words → w ≡ wholeOf (store t (patHead words) slots cells) → w ≡ patsWhole (recordOf words slots cells)
-  unfolding patsWhole
-  whole-is t w h p q = rw (← e, h) (q ∙ ap (λ (k : Sets). wholeOf (store k (patHead words) slots cells)) p)
+  fits : b ≡ true → settingsFit (patSets words) (length (patHead words)) (length slots) (length cells) ≡ true
+  fits h =
+      let l = room-long (length words) (length slots) (length cells) b e h in
+      let n : length (patHead words) ≡ 12 = length-take-le 12 (drop 386 words) (rw (length-drop 386 words) (omega (arith, l .words))) in
+      rw (n, le-leb 288 (length slots) (l .slots), le-leb 262144 (length cells) (l .cells))
+
+  pub whole-is : (w : Bool) → b ≡ true → w ≡ (leb (getD words 384 0) 1 && rowsWhole (patHead words) slots 256 1024 (getD words 384 0)) → w ≡ patsWhole (recordOf words slots cells)
+  unfolding patsWhole wholeOf
+  whole-is w h q = rw (← e, h, fits h) q
 
   pub whole-short : b ≡ false → false ≡ patsWhole (recordOf words slots cells)
   unfolding patsWhole
   whole-short h = rw (← e, h)
+
+-- no row, one, more
+module _ (words slots : List ℕ) where
+  pub no-row : getD words 384 0 ≡ 0 → true ≡ (leb (getD words 384 0) 1 && rowsWhole (patHead words) slots 256 1024 (getD words 384 0))
+  unfolding rowsWhole
+  no-row z = rw z
+
+  pub one-row : (r : Bool) → getD words 384 0 ≡ 1 → r ≡ allWhole 256 1024 (rowSlots (patHead words) slots 0) → r ≡ (leb (getD words 384 0) 1 && rowsWhole (patHead words) slots 256 1024 (getD words 384 0))
+  unfolding rowsWhole
+  one-row r z q = rw z (q ∙ sym (bool.and-true (allWhole 256 1024 (rowSlots (patHead words) slots 0))))
+
+  pub more-rows : (getD words 384 0 ≡ 0 → ⊥) → (getD words 384 0 ≡ 1 → ⊥) → false ≡ (leb (getD words 384 0) 1 && rowsWhole (patHead words) slots 256 1024 (getD words 384 0))
+  more-rows n m = rw (lt-leb (getD words 384 0) 1 (omega (arith, n, m)))
 
 -- ---- which sections enter
 

@@ -1,6 +1,6 @@
 -- The record of a watch that follows complete PATs: what it holds, and exactly what each call leaves, for every content of the three lent slices
 -- (docs/RULES.md, "Watched PIDs" and "Collectors"; ISO/IEC 13818-1, 2.4.4.3). `cond test a b` is a where the test is true, else b.
-use Prim.Native.Nat.{ℕ, _≤_, _<_}
+use Prim.Native.Nat.{ℕ, _≤_, _<_, max}
 use mathlib.Core.Path.{_≡_}
 use mathlib.Core.List.{List, [], _∷_}
 use mathlib.Core.Bool.{Bool, true, cond, _&&_}
@@ -14,7 +14,7 @@ use Rattle.watched.specs.Store.{noPids, following}
 use Rattle.cells.specs.Cells.{allWhole}
 use Rattle.rows.specs.Rows.{rowSlots}
 use Rattle.rows.specs.declared.Entry.{Entry}
-use Rattle.store.specs.Store.{Store, store, wholeOf, WholeStore}
+use Rattle.store.specs.Store.{Store, store, wholeOf, countersFull, WholeStore}
 use Rattle.store.specs.declared.Sets.{Sets}
 use Rattle.arrivals.specs.Arrivals.{setArrival, Taken}
 use Rattle.arrivals.specs.declared.SetArrival.{SetArrival}
@@ -37,8 +37,12 @@ pub record Record : Type 0 where
 abbrev pub recordOf : List ℕ → List ℕ → List ℕ → Record
 recordOf words slots cells = record { words = words; slots = slots; cells = cells }
 
+-- the clock of a store of one row is the tick of that row
+abbrev pub patClock : List ℕ → ℕ
+patClock words = cond (eqb (getD words 384 0) 0) 0 (getD words 395 0)
+
 abbrev pub patSets : List ℕ → Sets
-patSets words = record { limit = 1; size = 1024; count = 256; used = getD words 384 0; evictions = getD words 385 0 }
+patSets words = record { limit = 1; size = 1024; count = 256; used = getD words 384 0; evictions = getD words 385 0; clock = patClock words }
 
 abbrev pub patHead : List ℕ → List ℕ
 patHead words = take 12 (drop 386 words)
@@ -55,9 +59,13 @@ roomFor words slots cells = leb 398 words && leb 288 slots && leb 262144 cells
 unfoldable pub patsWhole : Record → Bool
 patsWhole r = roomFor (length (r .words)) (length (r .slots)) (length (r .cells)) && wholeOf (patStore r)
 
--- 11: the evictions are at their end
+-- 11: the evictions or the clock are at their end
 unfoldable pub patsFull : List ℕ → Bool
-patsFull words = eqb (getD words 385 0) 18446744073709551615
+patsFull words = countersFull (patSets words)
+
+-- the larger of the two: what is left to it is left to both
+abbrev pub patMost : List ℕ → ℕ
+patMost words = max (getD words 385 0) (patClock words)
 
 -- a PAT store that is opened has no row and has evicted none
 unfoldable pub begunWords : List ℕ → List ℕ

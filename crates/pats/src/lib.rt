@@ -7,16 +7,18 @@ use section::ids::MaybePid;
 use sets_settle::PushAnswer;
 use store::Sets;
 ghost use mathlib.Core.Path.{_≡_};
-ghost use mathlib.Core.Bool.{true};
+ghost use mathlib.Core.Bool.{true, _&&_};
 ghost use mathlib.Core.List.{map};
 ghost use Prim.Native.Nat.{_≤_};
-ghost use lib.ListN.{length};
+ghost use lib.Dec.{leb};
+ghost use lib.ListN.{length, getD};
 ghost use Rattle.cells.specs.Cells.{kept, slotWhole, allWhole};
 ghost use Rattle.pat.specs.Pat.{withPrograms};
+ghost use Rattle.rows.specs.Rows.{rowsWhole};
 ghost use Rattle.watched.specs.Store.{following};
 ghost use Rattle.sets_settle.specs.Settle.{answerOf};
 ghost use Rattle.sets_push.specs.Pushing.{wholePushed};
-ghost use Rattle.pats.specs.Store.{recordOf, patSets, patStore, roomFor, patsWhole, patsFull, begunWords, enters, withAll, programsOfRow};
+ghost use Rattle.pats.specs.Store.{recordOf, patClock, patSets, patHead, patStore, roomFor, patsWhole, patsFull, begunWords, enters, withAll, programsOfRow};
 ghost use Rattle.pats.specs.Store.{pushedBy, pushedIn, watchAfter, followedIn, enteredIn, PatsReady, Arrives, Pushed, HasRow};
 
 // How many words, slots and bytes the host lends.
@@ -33,6 +35,9 @@ const EVICTIONS: usize = 385;
 
 const HEAD: usize = 386;
 
+// The tick in that head.
+const TICK: usize = 395;
+
 // The PAT store's cells: as long as a PAT section may be, one for each section_number.
 const SIZE: usize = 1024;
 
@@ -45,22 +50,37 @@ pub fn has_room(words: usize, slots: usize, cells: usize) -> bool
     (WORDS <= words) & (SLOTS <= slots) & (CELLS <= cells)
 }
 
+// No row, or one whose slots are all whole. Of a collector any number of rows is looked at; here, where every packet asks, one at most.
+fn row_whole(words: &[u64], slots: &[u32]) -> bool
+    requires { ⌜ (398 ≤ length (now words)) × (288 ≤ length (now slots)) ⌝ }
+    ensures { λ r. ⌜ r ≡ (leb (getD (now (words .entry)) 384 0) 1 && rowsWhole (patHead (now (words .entry))) (now (slots .entry)) 256 1024 (getD (now (words .entry)) 384 0)) ⌝ }
+{
+    let used = words[USED];
+    if used == 0 {
+        return true;
+    }
+    if used == 1 {
+        return rows::row_whole(&words[HEAD..WORDS], slots, COUNT as u16, SIZE as u16, 0);
+    }
+    false
+}
+
 // Whether the slices are long enough and the PAT store is whole: if not, a call answers 10.
 pub fn is_whole(words: &[u64], slots: &[u32], cells: &[u8]) -> bool
     ensures { λ r. ⌜ r ≡ patsWhole (recordOf (now (words .entry)) (now (slots .entry)) (now (cells .entry))) ⌝ }
 {
     if has_room(words.len(), slots.len(), cells.len()) {
-        return store::is_whole(pat_sets(words), &words[HEAD..WORDS], slots, cells);
+        return row_whole(words, slots);
     }
     false
 }
 
-// Whether the evictions of the PAT store are at their end: a call answers 11.
+// Whether the evictions or the clock of the PAT store are at their end: a call answers 11.
 pub fn is_full(words: &[u64]) -> bool
     requires { ⌜ 398 ≤ length (now words) ⌝ }
     ensures { λ r. ⌜ r ≡ patsFull (now (words .entry)) ⌝ }
 {
-    words[EVICTIONS] == u64::MAX
+    store::counters_full(pat_sets(words))
 }
 
 // Opens the PAT store: no row, no eviction. Its head, its slots and its cells are not written.
@@ -85,6 +105,17 @@ pub fn enter(words: &mut [u64], slots: &mut [u32], cells: &mut [u8], input: u8, 
     }
 }
 
+// The clock of the PAT store: it has one row at most, so that is the row's tick. 0 where there is no row.
+pub fn clock_of(words: &[u64]) -> u64
+    requires { ⌜ 398 ≤ length (now words) ⌝ }
+    ensures { λ r. ⌜ r ≡ patClock (now (words .entry)) ⌝ }
+{
+    if words[USED] == 0 {
+        return 0;
+    }
+    words[TICK]
+}
+
 // The settings and counts of the PAT store.
 fn pat_sets(words: &[u64]) -> Sets
     requires { ⌜ 398 ≤ length (now words) ⌝ }
@@ -96,6 +127,7 @@ fn pat_sets(words: &[u64]) -> Sets
         count: COUNT,
         used: words[USED] as usize,
         evictions: words[EVICTIONS],
+        clock: clock_of(words),
     }
 }
 

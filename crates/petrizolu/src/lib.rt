@@ -346,7 +346,7 @@ pub extern "C" fn petrizolu_indexed_pass(
 // Opens a set collector: 7 or 13. A refusal leaves the words as they were; nothing else lent is written.
 #[no_mangle]
 pub extern "C" fn petrizolu_sets_open(
-    sets: &mut [u64; 5],
+    sets: &mut [u64; 6],
     limit: u64,
     size: u64,
     count: u64,
@@ -362,7 +362,7 @@ pub extern "C" fn petrizolu_sets_open(
 // Offers a section, with the input and the PID that it came on; PID 0xFFFFFFFF stands for none, which is refused (41). 5 writes the set's row into `row`.
 #[no_mangle]
 pub extern "C" fn petrizolu_sets_push(
-    sets: &mut [u64; 5],
+    sets: &mut [u64; 6],
     heads: &mut [u64],
     slots: &mut [u32],
     cells: &mut [u8],
@@ -380,7 +380,7 @@ pub extern "C" fn petrizolu_sets_push(
 // the list, and 10, 11 and 41 of the store, before anything is pushed. Every answer writes into `taken` how many bytes of the list were taken.
 #[no_mangle]
 pub extern "C" fn petrizolu_sets_push_all(
-    sets: &mut [u64; 5],
+    sets: &mut [u64; 6],
     heads: &mut [u64],
     slots: &mut [u32],
     cells: &mut [u8],
@@ -396,7 +396,7 @@ pub extern "C" fn petrizolu_sets_push_all(
 // Empties all rows: 7, 10, or 41 where a row has no PID.
 #[no_mangle]
 pub extern "C" fn petrizolu_sets_clear(
-    sets: &mut [u64; 5],
+    sets: &mut [u64; 6],
     heads: &[u64],
     slots: &[u32],
     cells: &[u8],
@@ -409,7 +409,7 @@ pub extern "C" fn petrizolu_sets_clear(
 // Has the set in a row another section, from a slot on? 8, 9, 10 or 41; 8 writes its number into `next`, and where its bytes are in the cells.
 #[no_mangle]
 pub extern "C" fn petrizolu_sets_next(
-    sets: &[u64; 5],
+    sets: &[u64; 6],
     heads: &[u64],
     slots: &[u32],
     cells: &[u8],
@@ -425,7 +425,7 @@ pub extern "C" fn petrizolu_sets_next(
 // Opens an EIT collector: 7 or 13. A refusal leaves the words as they were; nothing else lent is written.
 #[no_mangle]
 pub extern "C" fn petrizolu_eit_open(
-    eit: &mut [u64; 7],
+    eit: &mut [u64; 8],
     limit: u64,
     size: u64,
     count: u64,
@@ -453,7 +453,7 @@ pub extern "C" fn petrizolu_eit_open(
 // Offers a section, with the input and the PID that it came on; PID 0xFFFFFFFF stands for none, which is refused (41). 5 writes the set's row into `row`, 6 the schedule's.
 #[no_mangle]
 pub extern "C" fn petrizolu_eit_push(
-    eit: &mut [u64; 7],
+    eit: &mut [u64; 8],
     heads: &mut [u64],
     slots: &mut [u32],
     cells: &mut [u8],
@@ -483,7 +483,7 @@ pub extern "C" fn petrizolu_eit_push(
 // Offers the sections of a list as `petrizolu_sets_push_all` does: 5 writes the set's row into `row`, 6 the schedule's, and every answer into `taken` how many bytes of the list were taken.
 #[no_mangle]
 pub extern "C" fn petrizolu_eit_push_all(
-    eit: &mut [u64; 7],
+    eit: &mut [u64; 8],
     heads: &mut [u64],
     slots: &mut [u32],
     cells: &mut [u8],
@@ -511,7 +511,7 @@ pub extern "C" fn petrizolu_eit_push_all(
 // Every set and every schedule leaves: 7, 10, or 41 where one has no PID.
 #[no_mangle]
 pub extern "C" fn petrizolu_eit_clear(
-    eit: &mut [u64; 7],
+    eit: &mut [u64; 8],
     heads: &[u64],
     slots: &[u32],
     cells: &[u8],
@@ -527,7 +527,7 @@ pub extern "C" fn petrizolu_eit_clear(
 // is "exactly none", which is refused (41).
 #[no_mangle]
 pub extern "C" fn petrizolu_eit_drop(
-    eit: &mut [u64; 7],
+    eit: &mut [u64; 8],
     heads: &mut [u64],
     slots: &mut [u32],
     cells: &[u8],
@@ -543,7 +543,7 @@ pub extern "C" fn petrizolu_eit_drop(
 // Has the set in a row another section, from a slot on? 8, 9, 10 or 41; 8 writes its number into `next`, and where its bytes are in the cells.
 #[no_mangle]
 pub extern "C" fn petrizolu_eit_next(
-    eit: &[u64; 7],
+    eit: &[u64; 8],
     heads: &[u64],
     slots: &[u32],
     cells: &[u8],
@@ -571,7 +571,7 @@ pub extern "C" fn petrizolu_eit_next(
 // Has that table of the schedule in a row another section, from a slot on? Tables count from the first of the kind, 0x50 or 0x60, on.
 #[no_mangle]
 pub extern "C" fn petrizolu_eit_next_in_schedule(
-    eit: &[u64; 7],
+    eit: &[u64; 8],
     heads: &[u64],
     slots: &[u32],
     cells: &[u8],
@@ -615,7 +615,7 @@ pub extern "C" fn petrizolu_events(
 // The same of the set in a row that was handed out: 8, 9, 10, 18, 19, 32 or 41. 10 and 41 leave all.
 #[no_mangle]
 pub extern "C" fn petrizolu_eit_events(
-    eit: &[u64; 7],
+    eit: &[u64; 8],
     heads: &[u64],
     slots: &[u32],
     cells: &[u8],
@@ -645,7 +645,7 @@ pub extern "C" fn petrizolu_eit_events(
 // The same of a table of the schedule in a row. Tables count from the first of the kind, 0x50 or 0x60, on.
 #[no_mangle]
 pub extern "C" fn petrizolu_eit_events_in_schedule(
-    eit: &[u64; 7],
+    eit: &[u64; 8],
     heads: &[u64],
     slots: &[u32],
     cells: &[u8],
@@ -701,7 +701,7 @@ pub extern "C" fn petrizolu_entries(
 #[no_mangle]
 pub extern "C" fn petrizolu_sets_entries(
     reader: u32,
-    sets: &[u64; 5],
+    sets: &[u64; 6],
     heads: &[u64],
     slots: &[u32],
     cells: &[u8],

@@ -2,9 +2,9 @@
 -- Assumes nothing.
 use mathlib.Core.Path.{_≡_, sym, _∙_}
 use mathlib.Core.List.{List}
-use mathlib.Core.Bool.{Bool, true, false, cond, _&&_}
-use Prim.Native.Nat.{ℕ, zero, suc, _+_, _*_, _≤_, _<_}
-use native.Mathlib.Nat.{mul-le-mul-right, mul-le-mul-left, le-trans, lt-of-le-of-lt, not-suc-le-zero}
+use mathlib.Core.Bool.{true, _&&_}
+use Prim.Native.Nat.{ℕ, _+_, _*_, _≤_, _<_}
+use native.Mathlib.Nat.{mul-le-mul-right, mul-le-mul-left, le-trans, lt-of-le-of-lt}
 use native.Mathlib.Omega.{arith}
 use borrow.Author.Tests.{ne-eqb, ltb-true, eqb-true, leb-true}
 use mir.Val.{Fits}
@@ -13,31 +13,13 @@ use lib.Dec.{eqb, ltb, leb, lit<}
 use lib.ListN.{length, getD}
 use Rattle.laws.proofs.Tests.{and-true}
 use Rattle.cells.specs.Cells.{keptLength, cellNumber, slotWhole}
-use Rattle.rows.specs.Rows.{elderOf, oldestOf, slotsAt, ageOf, lastOf}
+use Rattle.rows.specs.Rows.{slotsAt, lastOf}
 use Rattle.rows.specs.declared.Entry.{Entry}
 use Rattle.rows.proofs.Whole.{slot-get}
 use Rattle.arrivals.specs.Arrivals.{Numbered}
 use Rattle.store.specs.Store.{Whole}
 use Rattle.store.specs.declared.Sets.{Sets}
 use Rattle.store.proofs.Whole.{cell-fits}
-
--- ---- the oldest row is in use
-
-elder-below : (heads : List ℕ) (n b : ℕ) → b < suc n → elderOf heads b n < suc n
-unfolding elderOf
-elder-below heads n b l = at (ltb (ageOf heads b) (ageOf heads n))
-  where
-    at : (t : Bool) → cond t n b < suc n
-    at true = omega arith
-    at false = l
-
-pub oldest-below : (heads : List ℕ) (n : ℕ) → 0 < n → oldestOf heads n < n
-unfolding oldestOf
-oldest-below heads zero h = absurd (not-suc-le-zero h)
-oldest-below heads (suc zero) h = elder-below heads zero 0 (omega arith)
-oldest-below heads (suc (suc n)) h =
-    let l : oldestOf heads (suc n) < suc n = oldest-below heads (suc n) (omega arith) in
-    elder-below heads (suc n) (oldestOf heads (suc n)) (omega arith)
 
 -- ---- a slot that is whole
 

@@ -10,11 +10,11 @@ use lib.Dec.{eqb, ltb}
 use lib.ListN.{length, take, drop, getD}
 use Rattle.laws.specs.Lists.{sameList}
 use Rattle.cells.specs.Cells.{keptLength, cellNumber, kept}
-use Rattle.rows.specs.Rows.{oldestOf, rowOf, roomIn, roomRenewed, roomNew, slotsAt, ageOf, lastOf, versionOf}
+use Rattle.rows.specs.Rows.{oldestOf, rowOf, roomIn, roomRenewed, roomNew, slotsAt, lastOf, versionOf}
 use Rattle.rows.specs.declared.Entry.{Entry}
 use Rattle.rows.specs.declared.Room.{Room}
 use Rattle.store.specs.Store.{Store, Whole}
-use Rattle.placing.proofs.Fits.{oldest-below}
+use Rattle.rows.proofs.Least.{oldest-below}
 use Rattle.placing.specs.declared.Place.{Place}
 use Rattle.placing.specs.declared.Place.the-variants.{Conflict, Repeat, Goes}
 use Rattle.placing.specs.Places.{placeSlot, placeKnown, placeOf, RoomOk, PlaceOk}
@@ -41,10 +41,10 @@ pub known-same : (s : Store) (e : Entry) (bytes : List ℕ) (i v l w : ℕ) (p :
 unfolding placeKnown
 known-same s e bytes i v l w p a b t f q = rw (← a, ← b, t, ← f) q
 
-pub known-other : (s : Store) (e : Entry) (bytes : List ℕ) (i v l a : ℕ) (r : Room) → v ≡ versionOf (s .heads) i → l ≡ lastOf (s .heads) i → (eqb v (e .version) && eqb l (e .last)) ≡ false
-    → a ≡ ageOf (s .heads) i → r ≡ roomRenewed (s .sets .used) (s .sets .evictions) i a → Goes r ≡ placeKnown s e bytes i
+pub known-other : (s : Store) (e : Entry) (bytes : List ℕ) (i v l : ℕ) (r : Room) → v ≡ versionOf (s .heads) i → l ≡ lastOf (s .heads) i → (eqb v (e .version) && eqb l (e .last)) ≡ false
+    → r ≡ roomRenewed (s .sets .used) (s .sets .evictions) i → Goes r ≡ placeKnown s e bytes i
 unfolding placeKnown
-known-other s e bytes i v l a r f g t h q = rw (← f, ← g, t, ← h, q)
+known-other s e bytes i v l r f g t q = rw (← f, ← g, t, q)
 
 pub place-known : (s : Store) (e : Entry) (bytes : List ℕ) (i : ℕ) (p : Place) → i ≡ rowOf (s .heads) (e .key) (s .sets .used) → i < s .sets .used → p ≡ placeKnown s e bytes i → p ≡ placeOf s e bytes
 unfolding placeOf
@@ -71,7 +71,7 @@ module _ (s : Store) (f : Whole (s .sets) (s .heads) (s .slots) (s .cells)) wher
   unfolding placeKnown
   known-ok e bytes i h = go (eqb (versionOf (s .heads) i) (e .version) && eqb (lastOf (s .heads) i) (e .last))
     where
-      go : (b : Bool) → PlaceOk s (cond b (placeSlot s bytes i (getD (s .slots) (slotsAt i + e .number) 0)) (Goes (roomRenewed (s .sets .used) (s .sets .evictions) i (ageOf (s .heads) i))))
+      go : (b : Bool) → PlaceOk s (cond b (placeSlot s bytes i (getD (s .slots) (slotsAt i + e .number) 0)) (Goes (roomRenewed (s .sets .used) (s .sets .evictions) i)))
       go true = slot-ok bytes i (getD (s .slots) (slotsAt i + e .number) 0) h
       go false = record { row = h; room = f .used; next = omega arith; all = omega arith; known = λ q. h }
 
@@ -83,7 +83,7 @@ module _ (s : Store) (f : Whole (s .sets) (s .heads) (s .slots) (s .cells)) wher
       o = oldestOf (s .heads) (s .sets .used)
 
       go : (b : Bool) → ltb (s .sets .used) (s .sets .limit) ≡ b
-          → RoomOk (s .sets) (cond b (roomRenewed (s .sets .used + 1) (s .sets .evictions) (s .sets .used) (s .sets .used)) (roomRenewed (s .sets .used) (s .sets .evictions + 1) o (ageOf (s .heads) o)))
+          → RoomOk (s .sets) (cond b (roomRenewed (s .sets .used + 1) (s .sets .evictions) (s .sets .used)) (roomRenewed (s .sets .used) (s .sets .evictions + 1) o))
       go true q =
           let h : s .sets .used < s .sets .limit = ltb-true (s .sets .used) (s .sets .limit) q in
           record { row = omega arith; room = omega arith; next = omega arith; all = omega arith; known = λ t. absurd (true≢false t) }

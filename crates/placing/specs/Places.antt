@@ -8,7 +8,7 @@ use lib.ListN.{getD}
 use lib.Dec.{ltb, eqb}
 use Rattle.laws.specs.Lists.{sameList}
 use Rattle.cells.specs.Cells.{keptLength, kept}
-use Rattle.rows.specs.Rows.{rowOf, roomIn, roomRenewed, roomNew, slotsAt, ageOf, lastOf, versionOf}
+use Rattle.rows.specs.Rows.{rowOf, roomIn, roomRenewed, roomNew, slotsAt, lastOf, versionOf}
 use Rattle.rows.specs.declared.Entry.{Entry}
 use Rattle.rows.specs.declared.Room.{Room}
 use Rattle.store.specs.Store.{Store}
@@ -27,7 +27,7 @@ unfoldable pub placeKnown : Store → Entry → List ℕ → ℕ → Place
 placeKnown s e bytes i =
     cond (eqb (versionOf (s .heads) i) (e .version) && eqb (lastOf (s .heads) i) (e .last))
     (placeSlot s bytes i (getD (s .slots) (slotsAt i + e .number) 0))
-    (Goes (roomRenewed (s .sets .used) (s .sets .evictions) i (ageOf (s .heads) i)))
+    (Goes (roomRenewed (s .sets .used) (s .sets .evictions) i))
 
 -- a new key takes a further row, or at a full limit the least recently touched one
 unfoldable pub placeOf : Store → Entry → List ℕ → Place

@@ -25,20 +25,18 @@ pub fn room_in(used: usize, evictions: u64, i: usize) -> Room
     Room {
         row: i,
         fresh: false,
-        age: 0,
         used,
         evictions,
     }
 }
 
-// Row i begun anew; it keeps its age until it is touched.
-pub fn room_renewed(used: usize, evictions: u64, i: usize, age: u64) -> Room
-    ensures { λ r. ⌜ r ≡ roomRenewed used evictions i age ⌝ }
+// Row i begun anew.
+pub fn room_renewed(used: usize, evictions: u64, i: usize) -> Room
+    ensures { λ r. ⌜ r ≡ roomRenewed used evictions i ⌝ }
 {
     Room {
         row: i,
         fresh: true,
-        age,
         used,
         evictions,
     }
@@ -90,7 +88,7 @@ fn place_known(
         let w = rows::slot(slots, i, e.number);
         place_slot(sets, heads, slots, cells, bytes, i, w)
     } else {
-        Place::Goes(room_renewed(sets.used, sets.evictions, i, rows::age(heads, i)))
+        Place::Goes(room_renewed(sets.used, sets.evictions, i))
     }
 }
 

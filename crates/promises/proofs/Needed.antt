@@ -7,7 +7,7 @@ use mathlib.Core.List.{List, [], _∷_, map}
 use Prim.Native.Nat.{ℕ}
 use native.Mathlib.Omega.{arith}
 use lib.ListN.{drop, getElem?}
-use Rattle.laws.specs.Lists.{every}
+use Rattle.laws.specs.Lists.{every, firstFrom}
 use Rattle.laws.proofs.Facts.{anyOf}
 use Rattle.answers.specs.declared.Refusal.the-variants.{TooLong}
 use Rattle.rules_shared.specs.Same.{Bytes, sameBytes}
@@ -19,8 +19,8 @@ use Rattle.section.specs.Judged.{malformed, collectedLong, collectedOf}
 use Rattle.rules_sets.specs.Rules.{Call, Whole, Answer, cleared, nothing, handout, refused, conflict, notWhole, counterFull, noCell, numberOf}
 use Rattle.rules_sets.proofs.Cells.{settings-stay as stays}
 use Rattle.rules_sets.proofs.Examples.{replies}
-use Rattle.ages.specs.Order.{downFrom, inOrder, rowsSeen}
-use Rattle.ages.specs.Slots.{upFrom, cellsSeen}
+use Rattle.ticks.specs.Order.{listed, atTick, inOrder, rowsSeen}
+use Rattle.ticks.specs.Slots.{upFrom, cellsSeen}
 use Rattle.rules_sets.specs.Cells.{Store as Shown}
 use Rattle.rules_shared.specs.Cells.{Settings}
 use native.Mathlib.Nat.{le-of-eq}
@@ -108,10 +108,10 @@ clash-bytes = refl
 
 clash-small-opened : StartsEmpty (collector 1 16 2)
 unfolding openedOf
-clash-small-opened = record { opened = record { opened = refl; none = refl }; evictions = refl }
+clash-small-opened = record { opened = record { opened = refl; none = refl }; evictions = refl; clock = refl }
 
 clash-small-seen : seen (collector 1 16 2) ≡ shown 1 16 2
-unfolding seen untouched rowsSeen inOrder downFrom cellsSeen upFrom
+unfolding seen untouched rowsSeen inOrder listed atTick firstFrom cellsSeen upFrom
 clash-small-seen = refl
 
 clash-small-replies : replies (shown 1 16 2) clash-said ≡ nothing ∷ nothing ∷ nothing ∷ handout (set-of 0x40 1 (A-6 ∷ A-8 ∷ [])) ∷ []
@@ -123,10 +123,10 @@ clash-small = runs (collector 1 16 2) clash-small-opened (shown 1 16 2) clash-sm
 
 clash-large-opened : StartsEmpty (collector 2 16 3)
 unfolding openedOf
-clash-large-opened = record { opened = record { opened = refl; none = refl }; evictions = refl }
+clash-large-opened = record { opened = record { opened = refl; none = refl }; evictions = refl; clock = refl }
 
 clash-large-seen : seen (collector 2 16 3) ≡ shown 2 16 3
-unfolding seen untouched rowsSeen inOrder downFrom cellsSeen upFrom
+unfolding seen untouched rowsSeen inOrder listed atTick firstFrom cellsSeen upFrom
 clash-large-seen = refl
 
 clash-large-replies : replies (shown 2 16 3) clash-said ≡ nothing ∷ nothing ∷ conflict ∷ handout (set-of 0x40 1 (A-7 ∷ A-8 ∷ [])) ∷ []
@@ -169,10 +169,10 @@ driven-bytes = refl
 
 driven-small-opened : StartsEmpty (collector 2 16 3)
 unfolding openedOf
-driven-small-opened = record { opened = record { opened = refl; none = refl }; evictions = refl }
+driven-small-opened = record { opened = record { opened = refl; none = refl }; evictions = refl; clock = refl }
 
 driven-small-seen : seen (collector 2 16 3) ≡ shown 2 16 3
-unfolding seen untouched rowsSeen inOrder downFrom cellsSeen upFrom
+unfolding seen untouched rowsSeen inOrder listed atTick firstFrom cellsSeen upFrom
 driven-small-seen = refl
 
 driven-small-replies : replies (shown 2 16 3) driven-said ≡ nothing ∷ nothing ∷ handout (set-of 0x40 1 (A-7 ∷ A-8 ∷ [])) ∷ []
@@ -184,10 +184,10 @@ driven-small = runs (collector 2 16 3) driven-small-opened (shown 2 16 3) driven
 
 driven-large-opened : StartsEmpty (collector 1 16 2)
 unfolding openedOf
-driven-large-opened = record { opened = record { opened = refl; none = refl }; evictions = refl }
+driven-large-opened = record { opened = record { opened = refl; none = refl }; evictions = refl; clock = refl }
 
 driven-large-seen : seen (collector 1 16 2) ≡ shown 1 16 2
-unfolding seen untouched rowsSeen inOrder downFrom cellsSeen upFrom
+unfolding seen untouched rowsSeen inOrder listed atTick firstFrom cellsSeen upFrom
 driven-large-seen = refl
 
 driven-large-replies : replies (shown 1 16 2) driven-said ≡ nothing ∷ nothing ∷ nothing ∷ []
@@ -223,10 +223,10 @@ alone-bytes = refl
 
 alone-small-opened : StartsEmpty (collector 1 16 1)
 unfolding openedOf
-alone-small-opened = record { opened = record { opened = refl; none = refl }; evictions = refl }
+alone-small-opened = record { opened = record { opened = refl; none = refl }; evictions = refl; clock = refl }
 
 alone-small-seen : seen (collector 1 16 1) ≡ shown 1 16 1
-unfolding seen untouched rowsSeen inOrder downFrom cellsSeen upFrom
+unfolding seen untouched rowsSeen inOrder listed atTick firstFrom cellsSeen upFrom
 alone-small-seen = refl
 
 alone-small-replies : replies (shown 1 16 1) alone-said ≡ handout (set-of 0x46 0 (C-9 ∷ [])) ∷ []
@@ -238,10 +238,10 @@ alone-small = runs (collector 1 16 1) alone-small-opened (shown 1 16 1) alone-sm
 
 alone-short-opened : StartsEmpty (collector 1 12 1)
 unfolding openedOf
-alone-short-opened = record { opened = record { opened = refl; none = refl }; evictions = refl }
+alone-short-opened = record { opened = record { opened = refl; none = refl }; evictions = refl; clock = refl }
 
 alone-short-seen : seen (collector 1 12 1) ≡ shown 1 12 1
-unfolding seen untouched rowsSeen inOrder downFrom cellsSeen upFrom
+unfolding seen untouched rowsSeen inOrder listed atTick firstFrom cellsSeen upFrom
 alone-short-seen = refl
 
 alone-short-replies : replies (shown 1 12 1) alone-said ≡ refused TooLong ∷ []
@@ -253,10 +253,10 @@ alone-short = runs (collector 1 12 1) alone-short-opened (shown 1 12 1) alone-sh
 
 alone-none-opened : StartsEmpty (collector 1 16 0)
 unfolding openedOf
-alone-none-opened = record { opened = record { opened = refl; none = refl }; evictions = refl }
+alone-none-opened = record { opened = record { opened = refl; none = refl }; evictions = refl; clock = refl }
 
 alone-none-seen : seen (collector 1 16 0) ≡ shown 1 16 0
-unfolding seen untouched rowsSeen inOrder downFrom cellsSeen upFrom
+unfolding seen untouched rowsSeen inOrder listed atTick firstFrom cellsSeen upFrom
 alone-none-seen = refl
 
 alone-none-replies : replies (shown 1 16 0) alone-said ≡ noCell ∷ []
@@ -303,10 +303,10 @@ wanting-bytes = refl
 
 wanting-small-opened : StartsEmpty (collector 2 16 3)
 unfolding openedOf
-wanting-small-opened = record { opened = record { opened = refl; none = refl }; evictions = refl }
+wanting-small-opened = record { opened = record { opened = refl; none = refl }; evictions = refl; clock = refl }
 
 wanting-small-seen : seen (collector 2 16 3) ≡ shown 2 16 3
-unfolding seen untouched rowsSeen inOrder downFrom cellsSeen upFrom
+unfolding seen untouched rowsSeen inOrder listed atTick firstFrom cellsSeen upFrom
 wanting-small-seen = refl
 
 wanting-small-replies : replies (shown 2 16 3) wanting-said ≡ nothing ∷ nothing ∷ nothing ∷ noCell ∷ handout (set-of 0x46 0 (C-9 ∷ [])) ∷ conflict ∷ handout (set-of 0x42 1 (B-7 ∷ B-8 ∷ [])) ∷ []
@@ -318,10 +318,10 @@ wanting-small = runs (collector 2 16 3) wanting-small-opened (shown 2 16 3) want
 
 wanting-large-opened : StartsEmpty (collector 2 16 9)
 unfolding openedOf
-wanting-large-opened = record { opened = record { opened = refl; none = refl }; evictions = refl }
+wanting-large-opened = record { opened = record { opened = refl; none = refl }; evictions = refl; clock = refl }
 
 wanting-large-seen : seen (collector 2 16 9) ≡ shown 2 16 9
-unfolding seen untouched rowsSeen inOrder downFrom cellsSeen upFrom
+unfolding seen untouched rowsSeen inOrder listed atTick firstFrom cellsSeen upFrom
 wanting-large-seen = refl
 
 wanting-large-replies : replies (shown 2 16 9) wanting-said ≡ nothing ∷ nothing ∷ nothing ∷ handout (set-of 0x40 2 (D-1 ∷ D-2 ∷ D-3 ∷ [])) ∷ handout (set-of 0x46 0 (C-9 ∷ [])) ∷ nothing ∷ handout (set-of 0x42 1 (B-6 ∷ B-8 ∷ [])) ∷ []
@@ -371,10 +371,10 @@ second-bytes = refl
 
 both-small-opened : StartsEmpty (collector 1 16 2)
 unfolding openedOf
-both-small-opened = record { opened = record { opened = refl; none = refl }; evictions = refl }
+both-small-opened = record { opened = record { opened = refl; none = refl }; evictions = refl; clock = refl }
 
 both-small-seen : seen (collector 1 16 2) ≡ shown 1 16 2
-unfolding seen untouched rowsSeen inOrder downFrom cellsSeen upFrom
+unfolding seen untouched rowsSeen inOrder listed atTick firstFrom cellsSeen upFrom
 both-small-seen = refl
 
 both-small-replies : replies (shown 1 16 2) both-said ≡ nothing ∷ handout (set-of 0x40 1 (A-7 ∷ A-8 ∷ [])) ∷ []
@@ -386,10 +386,10 @@ both-small = runs (collector 1 16 2) both-small-opened (shown 1 16 2) both-small
 
 second-large-opened : StartsEmpty (collector 1 16 2)
 unfolding openedOf
-second-large-opened = record { opened = record { opened = refl; none = refl }; evictions = refl }
+second-large-opened = record { opened = record { opened = refl; none = refl }; evictions = refl; clock = refl }
 
 second-large-seen : seen (collector 1 16 2) ≡ shown 1 16 2
-unfolding seen untouched rowsSeen inOrder downFrom cellsSeen upFrom
+unfolding seen untouched rowsSeen inOrder listed atTick firstFrom cellsSeen upFrom
 second-large-seen = refl
 
 second-large-replies : replies (shown 1 16 2) second-said ≡ nothing ∷ []

@@ -5,7 +5,7 @@ use mathlib.Core.Path.{_≡_, refl, ap, _∙_}
 use mathlib.Core.List.{List, [], _∷_, map}
 use native.Mathlib.Omega.{arith}
 use lib.ListN.{getElem?}
-use Rattle.laws.specs.Lists.{every}
+use Rattle.laws.specs.Lists.{every, firstFrom}
 use Rattle.laws.proofs.Facts.{anyOf}
 use Rattle.rules_shared.specs.Same.{Bytes}
 use Rattle.rules_shared.specs.Touch.{untouched}
@@ -14,8 +14,8 @@ use Rattle.section.specs.Header.{storedCrc, workedCrc, headerOf}
 use Rattle.section.specs.Judged.{malformed, collectedLong, collectedOf}
 use Rattle.rules_sets.specs.Rules.{Call, Whole, Answer, nothing, handout, numberOf}
 use Rattle.rules_sets.proofs.Examples.{replies}
-use Rattle.ages.specs.Order.{downFrom, inOrder, rowsSeen}
-use Rattle.ages.specs.Slots.{upFrom, cellsSeen}
+use Rattle.ticks.specs.Order.{listed, atTick, inOrder, rowsSeen}
+use Rattle.ticks.specs.Slots.{upFrom, cellsSeen}
 use Rattle.sets.specs.Store.{openedOf}
 use Rattle.ties_sets.specs.View.{readsAs, readSection, reads, seen}
 use Rattle.promises.specs.Demand3.{Collector, StartsEmpty, EqualCellSize, LimitNoLarger, Calls, SectionsOfBytes, answersOf, RefusesNoneAsConflicting, RefusesNoneForItsStore, HandsOut}
@@ -66,18 +66,18 @@ larger = collector 2 16 3
 
 smaller-opened : StartsEmpty smaller
 unfolding openedOf
-smaller-opened = record { opened = record { opened = refl; none = refl }; evictions = refl }
+smaller-opened = record { opened = record { opened = refl; none = refl }; evictions = refl; clock = refl }
 
 larger-opened : StartsEmpty larger
 unfolding openedOf
-larger-opened = record { opened = record { opened = refl; none = refl }; evictions = refl }
+larger-opened = record { opened = record { opened = refl; none = refl }; evictions = refl; clock = refl }
 
 smaller-seen : seen smaller ≡ shown 1 16 2
-unfolding seen untouched rowsSeen inOrder downFrom cellsSeen upFrom
+unfolding seen untouched rowsSeen inOrder listed atTick firstFrom cellsSeen upFrom
 smaller-seen = refl
 
 larger-seen : seen larger ≡ shown 2 16 3
-unfolding seen untouched rowsSeen inOrder downFrom cellsSeen upFrom
+unfolding seen untouched rowsSeen inOrder listed atTick firstFrom cellsSeen upFrom
 larger-seen = refl
 
 -- ---- the answers

@@ -66,7 +66,7 @@ abbrev pub collector : (limit size count : ℕ) → Collector
 collector limit size count = store (asked limit size count) (replicate (limit * 12) 7) (replicate (limit * 288) 7) (replicate (count * size) 7)
 
 abbrev pub shown : (limit size count : ℕ) → Shown
-shown limit size count = record { settings = record { limit = limit; cellSize = size }; sets = untouched; cells = replicate count (replicate size 7) }
+shown limit size count = record { settings = record { limit = limit; cellSize = size }; sets = untouched; cells = replicate count (replicate size 7); clock = 0 }
 
 -- ---- the answers
 

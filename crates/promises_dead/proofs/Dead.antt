@@ -23,7 +23,7 @@ use Rattle.arrivals.specs.declared.EitArrival.the-variants as arrival
 use Rattle.arrivals.proofs.ByKind.{OfKind, arrived-kind}
 use Rattle.placing.specs.Places.{placeOf}
 use Rattle.units.specs.Units.{firstTable}
-use Rattle.eit_state.specs.State.{Store, store, Rows, rows, rowsOf, setStore, emptyEit, wholeOf}
+use Rattle.eit_state.specs.State.{Store, store, Rows, rows, rowsOf, risenRows, setStore, emptyEit, wholeOf}
 use Rattle.eit_state.specs.declared.PushAnswer.the-variants as answer
 use Rattle.eit_plan.specs.declared.Plan.{Plan}
 use Rattle.eit_plan.specs.declared.Plan.the-variants as plan
@@ -91,9 +91,9 @@ never-empty s input pid bytes a w r f = never-empty-anywhere s input pid bytes a
 
 settled-limit : (r : Rows) (a : Arrival) (i : ℕ) → settled r a i .rows .eit .sets .limit ≡ r .eit .sets .limit
 unfolding settled entered enteredIn
-settled-limit r a i = go (becomesOf (touched (r .eit .sets .used) i (r .heads)) (r .slots) a i)
+settled-limit r a i = go (becomesOf (touched (r .eit .sets .clock) i (r .heads)) (r .slots) a i)
   where
-    go : (b : Becomes) → settledAs b (rows (r .eit) (markedHeads (isMarked b) i (touched (r .eit .sets .used) i (r .heads))) (r .slots) (r .schedule-heads) (r .units)) a i .rows .eit .sets .limit
+    go : (b : Becomes) → settledAs b (rows (r .eit) (markedHeads (isMarked b) i (touched (r .eit .sets .clock) i (r .heads))) (r .slots) (r .schedule-heads) (r .units)) a i .rows .eit .sets .limit
         ≡ r .eit .sets .limit
     go becomes.Stays = refl
     go becomes.GoesOut = refl
@@ -104,7 +104,7 @@ carried-limit : (s : Store) (bytes : List ℕ) (p : Plan) → carried s bytes p 
 unfolding keptAndSettled
 carried-limit s bytes (plan.Leave a) = refl
 carried-limit s bytes (plan.Conflict i) = refl
-carried-limit s bytes (plan.Repeat x) = settled-limit (rowsOf s) (x .arrival) (x .row)
+carried-limit s bytes (plan.Repeat x) = settled-limit (risenRows (rowsOf s)) (x .arrival) (x .row)
 carried-limit s bytes (plan.Keep k) = settled-limit _ (k .arrival) (k .room .row)
 
 pushed-limit : (s : Store) (bytes : List ℕ) (v : EitArrival) → pushedAs s bytes v .store .eit .sets .limit ≡ s .eit .sets .limit

@@ -10,7 +10,7 @@ use native.Mathlib.Omega.{arith}
 use native.Mathlib.Nat.{le-of-eq}
 use lib.Dec.{eqb, ltb}
 use lib.ListN.{length, getElem?, replicate, drop as skip}
-use Rattle.laws.specs.Lists.{every}
+use Rattle.laws.specs.Lists.{every, firstFrom}
 use Rattle.laws.proofs.Tests.{none≢some, and-true}
 use Rattle.laws.proofs.Facts.{anyOf, not-among}
 use Rattle.rules_shared.specs.Same.{Bytes, sameBytes}
@@ -32,8 +32,8 @@ use Rattle.rules_eit.specs.Keys.{presentActual}
 use Rattle.rules_eit.specs.Rules.{Section, Call, clear, drop, refuse, offer, Whole, Answer, done, refused, nothing, handout, schedule, numberOf}
 use Rattle.rules_eit.specs.Cells.{Store as Shown, onCopy, onSchedule, onEit, onWhole, onGuide, onAnswer, setTakes, copyTakes, scheduleTakes, taken, storeWhole, anyAtEnd, ended, shows, rest, roomFor, placeOf, carry, pushIn, admitIn, offerIn, dropIn, good, guarded, call, callTells, callActs}
 use Rattle.rules_eit.proofs.Examples.{gives}
-use Rattle.ages.specs.Order.{downFrom, inOrder, rowsSeen}
-use Rattle.ages.specs.Slots.{upFrom, cellsSeen}
+use Rattle.ticks.specs.Order.{listed, atTick, inOrder, rowsSeen}
+use Rattle.ticks.specs.Slots.{upFrom, cellsSeen}
 use Rattle.eit_state.specs.State.{store, asked}
 use Rattle.eit.specs.Store.{openedOf}
 use Rattle.ties_eit.specs.View as ties
@@ -151,22 +151,22 @@ abbrev collector : ℕ → Collector
 collector limit = store (asked limit 20 3) (replicate (limit * 12) 7) (replicate (limit * 288) 7) (replicate 60 7) (replicate (limit * 12) 7) (replicate (limit * 4608) 7)
 
 abbrev shown : ℕ → Shown
-shown limit = record { settings = record { limit = limit; cellSize = 20 }; eit = record { sets = untouched; schedules = untouched }; cells = replicate 3 (replicate 20 7) }
+shown limit = record { settings = record { limit = limit; cellSize = 20 }; eit = record { sets = untouched; schedules = untouched }; cells = replicate 3 (replicate 20 7); clock = 0 }
 
 opened-1 : StartsEmpty (collector 1)
 unfolding openedOf
-opened-1 = record { opened = refl; sets = refl; evictions = refl; schedules = refl; schedule-evictions = refl }
+opened-1 = record { opened = refl; sets = refl; evictions = refl; clock = refl; schedules = refl; schedule-evictions = refl }
 
 opened-2 : StartsEmpty (collector 2)
 unfolding openedOf
-opened-2 = record { opened = refl; sets = refl; evictions = refl; schedules = refl; schedule-evictions = refl }
+opened-2 = record { opened = refl; sets = refl; evictions = refl; clock = refl; schedules = refl; schedule-evictions = refl }
 
 seen-1 : seen (collector 1) ≡ shown 1
-unfolding seen untouched rowsSeen inOrder downFrom cellsSeen upFrom
+unfolding seen untouched rowsSeen inOrder listed atTick firstFrom cellsSeen upFrom
 seen-1 = refl
 
 seen-2 : seen (collector 2) ≡ shown 2
-unfolding seen untouched rowsSeen inOrder downFrom cellsSeen upFrom
+unfolding seen untouched rowsSeen inOrder listed atTick firstFrom cellsSeen upFrom
 seen-2 = refl
 
 unfoldable replies : Shown → List Call → List Answer

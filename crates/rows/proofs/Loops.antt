@@ -18,7 +18,7 @@ use Rattle.rows.specs.declared.Origin.{Origin}
 use Rattle.rows.specs.declared.Key.{Key}
 use Rattle.rows.specs.declared.Entry.{Entry}
 use Rattle.rows.specs.declared.Room.{Room}
-use Rattle.rows.specs.Rows.{word, originAt, sameOrigin, keyAt, sameKey, elderOf, oldestOf, older, aged, touched, freshHead, roomNew, keptHeads, slotsAt, slotCount, rowSlots, emptied, keptSlots, rowsWhole, markedRow, markedRows, ageOf, lastOf, withAge, withMark}
+use Rattle.rows.specs.Rows.{word, originAt, sameOrigin, keyAt, sameKey, earlierOf, oldestOf, freshHead, roomNew, keptHeads, slotsAt, slotCount, rowSlots, emptied, keptSlots, rowsWhole, markedRow, markedRows, tickOf, lastOf, withMark}
 
 pub before : (n : ℕ) → 0 < n → n ≡ suc (n - 1)
 before n h = omega arith
@@ -40,55 +40,32 @@ keys-same a b o e = rw e
 
 -- ---- oldest
 
-pub elder-new : (heads : List ℕ) (best i a b : ℕ) → a ≡ ageOf heads best → b ≡ ageOf heads i → a < b → i ≡ elderOf heads best i
-unfolding elderOf
+pub elder-new : (heads : List ℕ) (best i a b : ℕ) → a ≡ tickOf heads i → b ≡ tickOf heads best → a < b → i ≡ earlierOf heads best i
+unfolding earlierOf
 elder-new heads best i a b p q h = rw (← p, ← q, lt-ltb a b h)
 
-pub elder-old : (heads : List ℕ) (best i a b : ℕ) → a ≡ ageOf heads best → b ≡ ageOf heads i → b ≤ a → best ≡ elderOf heads best i
-unfolding elderOf
+pub elder-old : (heads : List ℕ) (best i a b : ℕ) → a ≡ tickOf heads i → b ≡ tickOf heads best → b ≤ a → best ≡ earlierOf heads best i
+unfolding earlierOf
 elder-old heads best i a b p q h = rw (← p, ← q, le-ltb a b h)
 
 pub oldest-start : (heads : List ℕ) → 0 ≡ oldestOf heads 0
 unfolding oldestOf
 oldest-start heads = refl
 
-pub oldest-turn : (heads : List ℕ) (i b b' : ℕ) → b ≡ oldestOf heads i → b' ≡ elderOf heads b i → b' ≡ oldestOf heads (i + 1)
+pub oldest-turn : (heads : List ℕ) (i b b' : ℕ) → b ≡ oldestOf heads i → b' ≡ earlierOf heads b i → b' ≡ oldestOf heads (i + 1)
 unfolding oldestOf
 oldest-turn heads i b b' e k = rw (add-one i, ← e) k
 
-pub elder-below : (heads : List ℕ) (b i r n : ℕ) → r ≡ elderOf heads b i → b < n → i < n → r < n
-unfolding elderOf
-elder-below heads b i r n e h k = rw e (go (ltb (ageOf heads b) (ageOf heads i)))
+pub elder-within : (heads : List ℕ) (b i r : ℕ) → r ≡ earlierOf heads b i → b ≤ i → r ≤ i + 1
+unfolding earlierOf
+elder-within heads b i r e h = rw e (go (ltb (tickOf heads i) (tickOf heads b)))
   where
-    go : (t : Bool) → cond t i b < n
-    go true = k
-    go false = h
+    go : (t : Bool) → cond t i b ≤ i + 1
+    go true = omega arith
+    go false = omega arith
 
 pub oldest-end : (heads : List ℕ) (i b used : ℕ) → b ≡ oldestOf heads i → used ≤ i → i ≤ used → b ≡ oldestOf heads used
 oldest-end heads i b used e h k = let s : i ≡ used = omega arith in rw (← s) e
-
--- ---- touch
-
-pub aged-none : (n : ℕ) (h : List ℕ) → h ≡ aged 0 n h
-unfolding aged
-aged-none zero h = refl
-aged-none (suc n) h = rw (le-ltb (ageOf h n) 0 (omega arith), set-getD h (n * 12 + 9) 0) (aged-none n h)
-
-pub aged-turn : (a used n : ℕ) (h₀ h h' : List ℕ) (w v : ℕ) → 0 < n → w ≡ ageOf h (n - 1) → v ≡ older a w → h' ≡ withAge (n - 1) v h → aged a used h₀ ≡ aged a n h
-    → aged a used h₀ ≡ aged a (n - 1) h'
-unfolding aged
-aged-turn a used n h₀ h h' w v p e f g q = q ∙ ap (λ (k : ℕ). aged a k h) (before n p) ∙ rw (g, f, e)
-
-pub aged-end : (a used n : ℕ) (h₀ h : List ℕ) → n ≤ 0 → aged a used h₀ ≡ aged a n h → h ≡ aged a used h₀
-unfolding aged
-aged-end a used n h₀ h p q = let s : n ≡ 0 = omega arith in sym (q ∙ rw s)
-
-pub aged-zero : (a used : ℕ) (h : List ℕ) → a ≡ 0 → h ≡ aged a used h
-aged-zero a used h e = rw e (aged-none used h)
-
-pub touch-done : (used i a : ℕ) (h h' h'' : List ℕ) → a ≡ ageOf h i → h' ≡ aged a used h → h'' ≡ withAge i 0 h' → h'' ≡ touched used i h
-unfolding touched
-touch-done used i a h h' h'' e p q = rw (← e, ← p) q
 
 pub key-is : (heads : List ℕ) (i : ℕ) (key k : Key) (r : Bool) → k ≡ keyAt heads i → r ≡ sameKey k key → r ≡ sameKey (keyAt heads i) key
 key-is heads i key k r e q = rw (← e) q
@@ -105,16 +82,16 @@ pub words-end : (h₀ h words : List ℕ) (at k : ℕ) → h ≡ paste h₀ at w
 words-end h₀ h words at k e a b = paste-end h₀ h at words k (length words) e (omega arith)
 
 pub room-added : (heads : List ℕ) (limit used evictions : ℕ) → used < limit
-    → _≡_ {A = Room} (record { row = used; fresh = true; age = used; used = used + 1; evictions = evictions }) (roomNew heads limit used evictions)
+    → _≡_ {A = Room} (record { row = used; fresh = true; used = used + 1; evictions = evictions }) (roomNew heads limit used evictions)
 unfolding roomNew
 room-added heads limit used evictions h = rw (lt-ltb used limit h)
 
-pub room-evicted : (heads : List ℕ) (limit used evictions o a : ℕ) → limit ≤ used → o ≡ oldestOf heads used → a ≡ ageOf heads o
-    → _≡_ {A = Room} (record { row = o; fresh = true; age = a; used = used; evictions = evictions + 1 }) (roomNew heads limit used evictions)
+pub room-evicted : (heads : List ℕ) (limit used evictions o : ℕ) → limit ≤ used → o ≡ oldestOf heads used
+    → _≡_ {A = Room} (record { row = o; fresh = true; used = used; evictions = evictions + 1 }) (roomNew heads limit used evictions)
 unfolding roomNew
-room-evicted heads limit used evictions o a h e f = rw (le-ltb used limit h, ← e, ← f)
+room-evicted heads limit used evictions o h e = rw (le-ltb used limit h, ← e)
 
-pub head-fresh : (r : Room) (e : Entry) (h h' : List ℕ) → r .fresh ≡ true → h' ≡ freshHead (r .row) e (r .age) h → h' ≡ keptHeads r e h
+pub head-fresh : (r : Room) (e : Entry) (h h' : List ℕ) → r .fresh ≡ true → h' ≡ freshHead (r .row) e h → h' ≡ keptHeads r e h
 unfolding keptHeads
 head-fresh r e h h' t q = rw t q
 

@@ -13,7 +13,7 @@ use lib.Seq.{getD-set-same, getD-set-other, paste, length-paste, getD-take, getD
 use Rattle.laws.proofs.Lists.{paste-past, paste-before, paste-in, getD-none}
 use Rattle.rows.specs.declared.Entry.{Entry}
 use Rattle.rows.specs.declared.Room.{Room}
-use Rattle.rows.specs.Rows.{word, put, KeyWord, to-5, is-10, older, aged, touched, headOf, freshHead, keptHeads, slotsAt, slotCount, rowSlots, emptied, keptSlots, ageOf, lastOf, withAge, withMark}
+use Rattle.rows.specs.Rows.{word, put, KeyWord, to-5, is-10, touched, headOf, freshHead, keptHeads, slotsAt, slotCount, rowSlots, emptied, keptSlots, tickOf, lastOf, withMark}
 
 -- ---- one word
 
@@ -29,98 +29,65 @@ put-not h i k v j m ne hk hm = getD-set-other h (i * 12 + k) (j * 12 + m) v 0 (o
 pub length-put : (i k v : ℕ) (h : List ℕ) → length (put i k v h) ≡ length h
 length-put i k v h = length-set h (i * 12 + k) v
 
--- ---- ages
-
-pub length-aged : (a n : ℕ) (h : List ℕ) → length (aged a n h) ≡ length h
-unfolding aged
-length-aged a zero h = refl
-length-aged a (suc n) h = length-aged a n (withAge n (older a (ageOf h n)) h) ∙ length-put n 9 (older a (ageOf h n)) h
-
-pub aged-not : (a n : ℕ) (h : List ℕ) (j m : ℕ) → m ≢ 9 → m < 12 → word (aged a n h) j m ≡ word h j m
-unfolding aged
-aged-not a zero h j m ne l = refl
-aged-not a (suc n) h j m ne l = aged-not a n (withAge n (older a (ageOf h n)) h) j m ne l ∙ put-not h n 9 (older a (ageOf h n)) j m ne (omega arith) l
-
-aged-past : (a n : ℕ) (h : List ℕ) (j : ℕ) → n ≤ j → ageOf (aged a n h) j ≡ ageOf h j
-unfolding aged
-aged-past a zero h j l = refl
-aged-past a (suc n) h j l = aged-past a n (withAge n (older a (ageOf h n)) h) j (omega arith) ∙ put-row h n 9 (older a (ageOf h n)) j 9 (omega arith) (omega arith) (omega arith)
-
-pub aged-age : (a n : ℕ) (h : List ℕ) (j : ℕ) → n * 12 ≤ length h → j < n → ageOf (aged a n h) j ≡ older a (ageOf h j)
-unfolding aged
-aged-age a zero h j l k = absurd (not-suc-le-zero k)
-aged-age a (suc n) h j l k =
-    let v : ℕ = older a (ageOf h n) in
-    let e : length (withAge n v h) ≡ length h = length-put n 9 v h in
-    go (ℕ-discrete j n) (λ q. aged-age a n (withAge n v h) j (omega arith) q)
-  where
-    go : Dec (j ≡ n) → (j < n → ageOf (aged a n (withAge n (older a (ageOf h n)) h)) j ≡ older a (ageOf (withAge n (older a (ageOf h n)) h) j))
-        → ageOf (aged a n (withAge n (older a (ageOf h n)) h)) j ≡ older a (ageOf h j)
-    go (yes q) ih =
-        let v : ℕ = older a (ageOf h n) in
-        aged-past a n (withAge n v h) j (omega arith) ∙ ap (λ (z : ℕ). ageOf (withAge n v h) z) q ∙ put-same h n 9 v (omega arith) ∙ ap (λ (z : ℕ). older a (ageOf h z)) (sym q)
-    go (no d) ih = ih (omega arith) ∙ ap (older a) (put-row h n 9 (older a (ageOf h n)) j 9 d (omega arith) (omega arith))
-
 -- ---- a touch
 
-pub length-touched : (used i : ℕ) (h : List ℕ) → length (touched used i h) ≡ length h
+pub length-touched : (clock i : ℕ) (h : List ℕ) → length (touched clock i h) ≡ length h
 unfolding touched
-length-touched used i h = length-put i 9 0 (aged (ageOf h i) used h) ∙ length-aged (ageOf h i) used h
+length-touched clock i h = length-put i 9 clock h
 
--- a touch changes ages alone
-pub touched-not : (used i : ℕ) (h : List ℕ) (j m : ℕ) → m ≢ 9 → m < 12 → word (touched used i h) j m ≡ word h j m
+-- a touch changes a tick alone
+pub touched-not : (clock i : ℕ) (h : List ℕ) (j m : ℕ) → m ≢ 9 → m < 12 → word (touched clock i h) j m ≡ word h j m
 unfolding touched
-touched-not used i h j m ne l = put-not (aged (ageOf h i) used h) i 9 0 j m ne (omega arith) l ∙ aged-not (ageOf h i) used h j m ne l
+touched-not clock i h j m ne l = put-not h i 9 clock j m ne (omega arith) l
 
-pub touched-newest : (used i : ℕ) (h : List ℕ) → used * 12 ≤ length h → i < used → ageOf (touched used i h) i ≡ 0
+pub touched-newest : (clock i : ℕ) (h : List ℕ) → i * 12 + 12 ≤ length h → tickOf (touched clock i h) i ≡ clock
 unfolding touched
-touched-newest used i h l k =
-    let e : length (aged (ageOf h i) used h) ≡ length h = length-aged (ageOf h i) used h in
-    put-same (aged (ageOf h i) used h) i 9 0 (omega arith)
+touched-newest clock i h l = put-same h i 9 clock (omega arith)
 
-pub touched-other : (used i : ℕ) (h : List ℕ) (j : ℕ) → used * 12 ≤ length h → j < used → j ≢ i → ageOf (touched used i h) j ≡ older (ageOf h i) (ageOf h j)
+-- .. and that of its row
+pub touched-other : (clock i : ℕ) (h : List ℕ) (j m : ℕ) → j ≢ i → m < 12 → word (touched clock i h) j m ≡ word h j m
 unfolding touched
-touched-other used i h j l k ne = put-row (aged (ageOf h i) used h) i 9 0 j 9 ne (omega arith) (omega arith) ∙ aged-age (ageOf h i) used h j l k
+touched-other clock i h j m ne l = put-row h i 9 clock j m ne (omega arith) l
 
 -- ---- the words of a key
 
--- a word of a key is one of the 12, and neither the mark nor the age
+-- a word of a key is one of the 12, and neither the mark nor the tick
 pub record OfKey (m : ℕ) : Type 0 where
   pub below : m < 12
   pub no-mark : m ≢ 8
-  pub no-age : m ≢ 9
+  pub no-tick : m ≢ 9
 
 pub of-key : (m : ℕ) → KeyWord m → OfKey m
-of-key m (to-5 n h) = record { below = omega arith; no-mark = omega arith; no-age = omega arith }
-of-key m is-10 = record { below = omega arith; no-mark = omega arith; no-age = omega arith }
+of-key m (to-5 n h) = record { below = omega arith; no-mark = omega arith; no-tick = omega arith }
+of-key m is-10 = record { below = omega arith; no-mark = omega arith; no-tick = omega arith }
 
 -- ---- a row that begins anew
 
-module _ (i : ℕ) (e : Entry) (age : ℕ) (h : List ℕ) (l : i * 12 + 12 ≤ length h) where
-  pub length-fresh : length (freshHead i e age h) ≡ length h
+module _ (i : ℕ) (e : Entry) (h : List ℕ) (l : i * 12 + 12 ≤ length h) where
+  pub length-fresh : length (freshHead i e h) ≡ length h
   unfolding freshHead
-  length-fresh = length-paste h (i * 12) (headOf e age) 12 l (le-refl 12)
+  length-fresh = length-paste h (i * 12) (headOf e) 12 l (le-refl 12)
 
   -- its head is the section's
-  pub fresh-word : (k : ℕ) → k < 12 → word (freshHead i e age h) i k ≡ getD (headOf e age) k 0
+  pub fresh-word : (k : ℕ) → k < 12 → word (freshHead i e h) i k ≡ getD (headOf e) k 0
   unfolding freshHead
-  fresh-word k hk = paste-in h (i * 12) (headOf e age) 12 k 0 l (le-refl 12) hk
+  fresh-word k hk = paste-in h (i * 12) (headOf e) 12 k 0 l (le-refl 12) hk
 
-  pub fresh-row : (j k : ℕ) → j ≢ i → k < 12 → word (freshHead i e age h) j k ≡ word h j k
+  pub fresh-row : (j k : ℕ) → j ≢ i → k < 12 → word (freshHead i e h) j k ≡ word h j k
   unfolding freshHead
   fresh-row j k ne hk = go (decLt j i)
     where
-      go : Dec (j < i) → word (paste h (i * 12) (headOf e age) 12) j k ≡ word h j k
-      go (yes lt) = paste-before h (i * 12) (headOf e age) 12 (j * 12 + k) 0 l (le-refl 12) (omega arith)
-      go (no ge) = paste-past h (i * 12) (headOf e age) 12 (j * 12 + k) 0 (omega arith) (le-refl 12) (omega arith)
+      go : Dec (j < i) → word (paste h (i * 12) (headOf e) 12) j k ≡ word h j k
+      go (yes lt) = paste-before h (i * 12) (headOf e) 12 (j * 12 + k) 0 l (le-refl 12) (omega arith)
+      go (no ge) = paste-past h (i * 12) (headOf e) 12 (j * 12 + k) 0 (omega arith) (le-refl 12) (omega arith)
 
 module _ (r : Room) (e : Entry) (h : List ℕ) (l : r .row * 12 + 12 ≤ length h) where
   pub length-kept : length (keptHeads r e h) ≡ length h
   unfolding keptHeads
   length-kept = go (r .fresh)
     where
-      go : (b : Bool) → length (cond b (freshHead (r .row) e (r .age) h) (withMark (r .row) 0 h)) ≡ length h
-      go true = length-fresh (r .row) e (r .age) h l
+      go : (b : Bool) → length (cond b (freshHead (r .row) e h) (withMark (r .row) 0 h)) ≡ length h
+      go true = length-fresh (r .row) e h l
       go false = length-put (r .row) 8 0 h
 
   -- the other rows' heads are as they were
@@ -128,13 +95,13 @@ module _ (r : Room) (e : Entry) (h : List ℕ) (l : r .row * 12 + 12 ≤ length 
   unfolding keptHeads
   kept-row j k ne hk = go (r .fresh)
     where
-      go : (b : Bool) → word (cond b (freshHead (r .row) e (r .age) h) (withMark (r .row) 0 h)) j k ≡ word h j k
-      go true = fresh-row (r .row) e (r .age) h l j k ne hk
+      go : (b : Bool) → word (cond b (freshHead (r .row) e h) (withMark (r .row) 0 h)) j k ≡ word h j k
+      go true = fresh-row (r .row) e h l j k ne hk
       go false = put-row h (r .row) 8 0 j k ne (omega arith) hk
 
-  pub kept-fresh : r .fresh ≡ true → (k : ℕ) → k < 12 → word (keptHeads r e h) (r .row) k ≡ getD (headOf e (r .age)) k 0
+  pub kept-fresh : r .fresh ≡ true → (k : ℕ) → k < 12 → word (keptHeads r e h) (r .row) k ≡ getD (headOf e) k 0
   unfolding keptHeads
-  kept-fresh t k hk = rw t (fresh-word (r .row) e (r .age) h l k hk)
+  kept-fresh t k hk = rw t (fresh-word (r .row) e h l k hk)
 
   -- a known row's head loses its mark, and is else as it was
   pub kept-known : r .fresh ≡ false → (k : ℕ) → k ≢ 8 → k < 12 → word (keptHeads r e h) (r .row) k ≡ word h (r .row) k

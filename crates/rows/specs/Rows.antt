@@ -14,7 +14,7 @@ use Rattle.rows.specs.declared.Entry.{Entry}
 use Rattle.rows.specs.declared.Room.{Room}
 
 -- ---- heads, 12 words a row: 0 PID (8192 is none), 1 table_id, 2 extension, 3 current_next, 4 transport_stream_id, 5 original_network_id,
--- 6 version, 7 last_section_number, 8 mark (not 0: handed out), 9 age, 10 input, 11 spare
+-- 6 version, 7 last_section_number, 8 mark (not 0: handed out), 9 tick, 10 input, 11 spare
 
 -- word k of row i's head
 abbrev pub word : List ℕ → ℕ → ℕ → ℕ
@@ -23,7 +23,7 @@ word heads i k = getD heads (i * 12 + k) 0
 abbrev pub put : ℕ → ℕ → ℕ → List ℕ → List ℕ
 put i k v heads = set heads (i * 12 + k) v
 
--- of row i's head: the table_id (a schedule's: the kind), the version, last_section_number (a schedule's: last_table_id), the mark (not 0: handed out) and the age
+-- of row i's head: the table_id (a schedule's: the kind), the version, last_section_number (a schedule's: last_table_id), the mark (not 0: handed out) and the tick
 abbrev pub tableWord : List ℕ → ℕ → ℕ
 tableWord heads i = word heads i 1
 
@@ -36,14 +36,11 @@ lastOf heads i = word heads i 7
 abbrev pub markOf : List ℕ → ℕ → ℕ
 markOf heads i = word heads i 8
 
-abbrev pub ageOf : List ℕ → ℕ → ℕ
-ageOf heads i = word heads i 9
+abbrev pub tickOf : List ℕ → ℕ → ℕ
+tickOf heads i = word heads i 9
 
 abbrev pub withMark : ℕ → ℕ → List ℕ → List ℕ
 withMark i mark heads = put i 8 mark heads
-
-abbrev pub withAge : ℕ → ℕ → List ℕ → List ℕ
-withAge i age heads = put i 9 age heads
 
 -- the words of a head that make its key
 pub data KeyWord : ℕ → Type 0 where
@@ -75,60 +72,44 @@ sameKey a b =
 abbrev pub rowOf : List ℕ → Key → ℕ → ℕ
 rowOf heads key used = firstFrom (λ (i : ℕ). sameKey (keyAt heads i) key) used 0
 
--- ---- the touch order: a row's age is 0 if it was touched last, and so on
+-- ---- the touch order: a row's tick is what the clock showed when it was touched last
 
--- row i where it is older than the row best
-unfoldable pub elderOf : List ℕ → ℕ → ℕ → ℕ
-elderOf heads best i = cond (ltb (ageOf heads best) (ageOf heads i)) i best
+-- row i where it was touched before the row best
+unfoldable pub earlierOf : List ℕ → ℕ → ℕ → ℕ
+earlierOf heads best i = cond (ltb (tickOf heads i) (tickOf heads best)) i best
 
--- of the first n rows the least recently touched: the first of the largest age
+-- of the first n rows the least recently touched: the first of the smallest tick
 unfoldable pub oldestOf : List ℕ → ℕ → ℕ
 oldestOf heads zero = 0
-oldestOf heads (suc n) = elderOf heads (oldestOf heads n) n
+oldestOf heads (suc n) = earlierOf heads (oldestOf heads n) n
 
--- an age below a goes up by 1
-abbrev pub older : ℕ → ℕ → ℕ
-older a age = cond (ltb age a) (age + 1) age
-
--- an age above a goes down by 1
-abbrev pub younger : ℕ → ℕ → ℕ
-younger a age = cond (ltb a age) (age - 1) age
-
--- each of the first n rows whose age is below a is one older
-unfoldable pub aged : ℕ → ℕ → List ℕ → List ℕ
-aged a zero heads = heads
-aged a (suc n) heads = aged a n (withAge n (older a (ageOf heads n)) heads)
-
--- row i becomes the newest: those that were newer are one older
+-- row i becomes the newest: no other word changes
 unfoldable pub touched : ℕ → ℕ → List ℕ → List ℕ
-touched used i heads = withAge i 0 (aged (ageOf heads i) used heads)
+touched clock i heads = put i 9 clock heads
 
 -- ---- a row for a section
 
--- the head of a row that begins with the section: no mark
-abbrev pub headOf : Entry → ℕ → List ℕ
-headOf e age =
+-- the head of a row that begins with the section: no mark, and tick 0 until the touch
+abbrev pub headOf : Entry → List ℕ
+headOf e =
     e .key .from .pid ∷ e .key .«table_id» ∷ e .key .extension ∷ e .key .«current_next» ∷ e .key .«transport_stream_id» ∷ e .key .«original_network_id»
-    ∷ e .version ∷ e .last ∷ 0 ∷ age ∷ e .key .from .input ∷ 0 ∷ []
+    ∷ e .version ∷ e .last ∷ 0 ∷ 0 ∷ e .key .from .input ∷ 0 ∷ []
 
-unfoldable pub freshHead : ℕ → Entry → ℕ → List ℕ → List ℕ
-freshHead i e age heads = paste heads (i * 12) (headOf e age) 12
+unfoldable pub freshHead : ℕ → Entry → List ℕ → List ℕ
+freshHead i e heads = paste heads (i * 12) (headOf e) 12
 
 -- row i as it is, with `used` rows in use
 abbrev pub roomIn : ℕ → ℕ → ℕ → Room
-roomIn used evictions i = record { row = i; fresh = false; age = 0; used = used; evictions = evictions }
+roomIn used evictions i = record { row = i; fresh = false; used = used; evictions = evictions }
 
--- row i emptied, of age a
-abbrev pub roomRenewed : ℕ → ℕ → ℕ → ℕ → Room
-roomRenewed used evictions i a = record { row = i; fresh = true; age = a; used = used; evictions = evictions }
+-- row i emptied
+abbrev pub roomRenewed : ℕ → ℕ → ℕ → Room
+roomRenewed used evictions i = record { row = i; fresh = true; used = used; evictions = evictions }
 
--- "A new key at a full limit removes the least recently touched key and counts one eviction": else a further row, older than all others
+-- "A new key at a full limit removes the least recently touched key and counts one eviction": else a further row
 unfoldable pub roomNew : List ℕ → ℕ → ℕ → ℕ → Room
 roomNew heads limit used evictions =
-    let o : ℕ = oldestOf heads used in
-    cond (ltb used limit)
-    (roomRenewed (used + 1) evictions used used)
-    (roomRenewed used (evictions + 1) o (ageOf heads o))
+    cond (ltb used limit) (roomRenewed (used + 1) evictions used) (roomRenewed used (evictions + 1) (oldestOf heads used))
 
 -- the row whose slots no longer count once there is such room, or `used` where there is none
 abbrev pub goneRow : Room → ℕ → ℕ
@@ -136,7 +117,7 @@ goneRow r used = cond (r .fresh) (r .row) used
 
 -- "A new section clears the mark"
 unfoldable pub keptHeads : Room → Entry → List ℕ → List ℕ
-keptHeads r e heads = cond (r .fresh) (freshHead (r .row) e (r .age) heads) (withMark (r .row) 0 heads)
+keptHeads r e heads = cond (r .fresh) (freshHead (r .row) e heads) (withMark (r .row) 0 heads)
 
 -- ---- slots, 288 words a row: 32 of segments, then 256 slots
 

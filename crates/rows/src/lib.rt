@@ -1,4 +1,4 @@
-// The rows of a collector. No row ever moves to keep an order: a row's age says how many were touched after it, 0 the newest.
+// The rows of a collector. No row ever moves to keep an order: a row's tick is what a clock showed when it was touched last.
 // Lent are heads, 12 words a row, and slots, 288 words a row. Rows 0 to used - 1 are in use. What a collector adds (when a row is
 // complete, what an answer is) is its own; how it finds, touches, evicts, empties and scans rows is here.
 ghost use mathlib.Core.Path.{_≡_};
@@ -7,8 +7,8 @@ ghost use Prim.Native.Nat.{_+_, _-_, _*_, _<_, _≤_};
 ghost use lib.ListN.{length, getD};
 ghost use lib.Seq.{paste};
 ghost use Rattle.cells.specs.Cells.{allWhole, allFilled};
-ghost use Rattle.rows.specs.Rows.{roomNew, goneRow, keptHeads, slotsAt, slotCount, rowSlots, emptied, keptSlots, rowsWhole, markedRow, markedRows, ageOf, lastOf, markOf, versionOf, withMark};
-ghost use Rattle.rows.specs.Rows.{word, put, originAt, sameOrigin, keyAt, sameKey, rowOf, elderOf, oldestOf, older, aged, touched, freshHead};
+ghost use Rattle.rows.specs.Rows.{roomNew, goneRow, keptHeads, slotsAt, slotCount, rowSlots, emptied, keptSlots, rowsWhole, markedRow, markedRows, tickOf, lastOf, markOf, versionOf, withMark};
+ghost use Rattle.rows.specs.Rows.{word, put, originAt, sameOrigin, keyAt, sameKey, rowOf, earlierOf, oldestOf, touched, freshHead};
 
 // Where a row's sections came from, in the words of a head.
 pub struct Origin {
@@ -39,12 +39,10 @@ pub struct Entry {
     pub number: usize,
 }
 
-// Where a section that is kept goes: its row; whether that row begins anew, and then with which age; and the rows in use and the
-// evictions from then on.
+// Where a section that is kept goes: its row; whether that row begins anew; and the rows in use and the evictions from then on.
 pub struct Room {
     pub row: usize,
     pub fresh: bool,
-    pub age: u64,
     pub used: usize,
     pub evictions: u64,
 }
@@ -64,7 +62,7 @@ const LAST: usize = 7;
 
 const MARK: usize = 8;
 
-const AGE: usize = 9;
+const TICK: usize = 9;
 
 const INPUT: usize = 10;
 
@@ -105,11 +103,11 @@ pub fn mark(heads: &[u64], i: usize) -> u64
     get(heads, i, MARK)
 }
 
-pub fn age(heads: &[u64], i: usize) -> u64
+fn tick(heads: &[u64], i: usize) -> u64
     requires { ⌜ i * 12 + 12 ≤ length (now heads) ⌝ }
-    ensures { λ r. ⌜ r ≡ ageOf (now (heads .entry)) i ⌝ }
+    ensures { λ r. ⌜ r ≡ tickOf (now (heads .entry)) i ⌝ }
 {
-    get(heads, i, AGE)
+    get(heads, i, TICK)
 }
 
 pub fn set_mark(heads: &mut [u64], i: usize, v: u64)
@@ -188,22 +186,22 @@ pub fn find(heads: &[u64], key: Key, used: usize) -> usize
 
 // ---- the touch order
 
-// Row i where it is older than the row best, else best.
+// Row i where it was touched before the row best, else best.
 fn elder(heads: &[u64], best: usize, i: usize) -> usize
     requires { ⌜ (best * 12 + 12 ≤ length (now heads)) × (i * 12 + 12 ≤ length (now heads)) ⌝ }
-    ensures { λ r. ⌜ r ≡ elderOf (now (heads .entry)) best i ⌝ }
+    ensures { λ r. ⌜ r ≡ earlierOf (now (heads .entry)) best i ⌝ }
 {
-    if age(heads, best) < age(heads, i) {
+    if tick(heads, i) < tick(heads, best) {
         i
     } else {
         best
     }
 }
 
-// The first of the rows in use that have the largest age.
+// The first of the rows in use that have the smallest tick, 0 where none is in use.
 pub fn oldest(heads: &[u64], used: usize) -> usize
-    requires { ⌜ (0 < used) × (used * 12 ≤ length (now heads)) ⌝ }
-    ensures { λ r. ⌜ (r ≡ oldestOf (now (heads .entry)) used) × (r < used) ⌝ }
+    requires { ⌜ used * 12 ≤ length (now heads) ⌝ }
+    ensures { λ r. ⌜ r ≡ oldestOf (now (heads .entry)) used ⌝ }
 {
     let mut best = 0;
     let mut i = 0;
@@ -214,36 +212,12 @@ pub fn oldest(heads: &[u64], used: usize) -> usize
     best
 }
 
-fn one_older(age: u64, a: u64) -> u64
-    ensures { λ r. ⌜ r ≡ older a age ⌝ }
+// Row i becomes the newest: its tick is the clock's, which has risen above every tick in use.
+pub fn touch(heads: &mut [u64], i: usize, clock: u64)
+    requires { ⌜ i * 12 + 12 ≤ length (now heads) ⌝ }
+    ensures { λ _. ⌜ now (heads .exit) ≡ touched clock i (now (heads .entry)) ⌝ }
 {
-    if age < a { age + 1 } else { age }
-}
-
-// Each row in use whose age is below a is one older. Below 0 there is none: the row that is touched is the newest already.
-fn age_rows(heads: &mut [u64], used: usize, a: u64)
-    requires { ⌜ used * 12 ≤ length (now heads) ⌝ }
-    ensures { λ _. ⌜ now (heads .exit) ≡ aged a used (now (heads .entry)) ⌝ }
-{
-    if a == 0 {
-        return;
-    }
-    let mut n = used;
-    while n > 0 {
-        n -= 1;
-        let v = one_older(get(heads, n, AGE), a);
-        change(heads, n, AGE, v);
-    }
-}
-
-// Row i becomes the newest.
-pub fn touch(heads: &mut [u64], used: usize, i: usize)
-    requires { ⌜ (i < used) × (used * 12 ≤ length (now heads)) ⌝ }
-    ensures { λ _. ⌜ now (heads .exit) ≡ touched used i (now (heads .entry)) ⌝ }
-{
-    let a = get(heads, i, AGE);
-    age_rows(heads, used, a);
-    change(heads, i, AGE, 0);
+    change(heads, i, TICK, clock);
 }
 
 // ---- a row for a section
@@ -260,10 +234,10 @@ fn put_words(heads: &mut [u64], at: usize, words: &[u64])
     }
 }
 
-// Row i begins anew with the section, of that age and with no mark.
-pub fn fresh_head(heads: &mut [u64], i: usize, e: Entry, age: u64)
+// Row i begins anew with the section, with no mark; its tick is 0 until it is touched.
+pub fn fresh_head(heads: &mut [u64], i: usize, e: Entry)
     requires { ⌜ i * 12 + 12 ≤ length (now heads) ⌝ }
-    ensures { λ _. ⌜ now (heads .exit) ≡ freshHead i e age (now (heads .entry)) ⌝ }
+    ensures { λ _. ⌜ now (heads .exit) ≡ freshHead i e (now (heads .entry)) ⌝ }
 {
     let k = e.key;
     let from = k.from;
@@ -277,7 +251,7 @@ pub fn fresh_head(heads: &mut [u64], i: usize, e: Entry, age: u64)
         e.version,
         e.last,
         0,
-        age,
+        0,
         from.input,
         0,
     ];
@@ -286,14 +260,13 @@ pub fn fresh_head(heads: &mut [u64], i: usize, e: Entry, age: u64)
 
 // Room for a key that no row in use has.
 pub fn room_new(heads: &[u64], limit: usize, used: usize, evictions: u64) -> Room
-    requires { ⌜ (0 < limit) × (used ≤ limit) × (used * 12 ≤ length (now heads)) × (evictions < 18446744073709551615) ⌝ }
+    requires { ⌜ (used * 12 ≤ length (now heads)) × (evictions < 18446744073709551615) ⌝ }
     ensures { λ r. ⌜ r ≡ roomNew (now (heads .entry)) limit used evictions ⌝ }
 {
     if used < limit {
         Room {
             row: used,
             fresh: true,
-            age: used as u64,
             used: used + 1,
             evictions,
         }
@@ -302,7 +275,6 @@ pub fn room_new(heads: &[u64], limit: usize, used: usize, evictions: u64) -> Roo
         Room {
             row: o,
             fresh: true,
-            age: age(heads, o),
             used,
             evictions: evictions + 1,
         }
@@ -322,7 +294,7 @@ pub fn keep_head(heads: &mut [u64], room: Room, e: Entry)
     ensures { λ _. ⌜ now (heads .exit) ≡ keptHeads room e (now (heads .entry)) ⌝ }
 {
     if room.fresh {
-        fresh_head(heads, room.row, e, room.age);
+        fresh_head(heads, room.row, e);
     } else {
         set_mark(heads, room.row, 0);
     }

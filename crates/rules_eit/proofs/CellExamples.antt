@@ -20,7 +20,7 @@ use Rattle.rules_eit.proofs.Examples.{one, set-of, guide-of, gives, fre
 -- a store as it is opened: so many keys, so many cells of 20 bytes
 store : (limit count : ℕ) → Store
 unfolding untouched
-store keys n = record { settings = record { limit = keys; cellSize = 20 }; eit = record { sets = untouched; schedules = untouched }; cells = replicate n (replicate 20 0) }
+store keys n = record { settings = record { limit = keys; cellSize = 20 }; eit = record { sets = untouched; schedules = untouched }; cells = replicate n (replicate 20 0); clock = 0 }
 
 replies : Store → List Call → List Answer
 unfolding gives store someHeld everyHeld onSlots someRow everyRow seenAs onOrder onRow bytesOf names lowest write placeNew placeHeld place roomWhole heldWhole atEnd onCopy onSchedule onEit onWhole onGuide onAnswer setTakes copyTakes scheduleTakes taken storeWhole anyAtEnd ended shows rest roomFor placeOf carry pushIn admitIn offerIn dropIn good guarded call callTells callActs

@@ -19,7 +19,7 @@ use Rattle.rules_shared.proofs.Cells.{kept-shown, rules-keep, rules-ignore, rul
 use Rattle.rules_shared.specs.Refusals as refusals
 use Rattle.rules_eit.specs.Keys.{Kind, kindOf, SetKey}
 use Rattle.rules_eit.specs.Rules.{Section, keyOf, partOf, Call, offer, refused, nothing, barred, StepOf, Eit, Step, gives, judge, cleared, finish, push, admit, offered, dropping, step, tells, acts}
-use Rattle.rules_eit.specs.Cells.{Store, Turn, onEit, onAnswer, view, setTakes, shows, rest, roomFor, call, callTells, callActs}
+use Rattle.rules_eit.specs.Cells.{Store, Turn, onEit, onAnswer, view, setTakes, shows, rest, roomFor, call, callTells, callActs, risen}
 use Rattle.rules_eit.proofs.Views.{met-on, setAside-on, setNewest-on, dropped-on, onStep, judge-on, free-cell-unseen, free-parts}
 use Rattle.rules_eit.proofs.Outcome.{row, Asks, Outcome, broken, stopped, clears, drops, keepsAll, refuses, foreign, long, keyless, lacks, keeps, ignores, conflicts, outcome}
 
@@ -32,9 +32,9 @@ module _ (s : Store) where
   abbrev read : Held → Bytes
   read = bytesOf (s .cells)
 
-  shown : (cells : Cells) (t : StepOf Held) (d : Step) → d ≡ onStep (bytesOf cells) t → Fits (shows s cells t) d
+  shown : (now : Store) (cells : Cells) (t : StepOf Held) (d : Step) → d ≡ onStep (bytesOf cells) t → Fits (shows now cells t) d
   unfolding shows view
-  shown cells t d e = fits (ap (λ (q : Step). q .answer) (sym e)) (ap (λ (q : Step). q .eit) (sym e))
+  shown now cells t d e = fits (ap (λ (q : Step). q .answer) (sym e)) (ap (λ (q : Step). q .eit) (sym e))
 
   -- a section of a kind, by the rules
   kinded : (x : Section) (kind : Kind) → kindOf (x .tableId) ≡ some kind
@@ -71,12 +71,12 @@ module _ (s : Store) where
   well (drops f w h) = rw h (fits refl (sym (dropped-on read f (s .eit))))
   well (keepsAll f r b w h) = rw h (fits refl refl)
   well (refuses r b w) = fits refl refl
-  well (foreign x w h) = shown (s .cells) (gives (refused refusal.NotEit) (s .eit)) (step (s .settings) (view s) (offer x)) (ap (offered (s .settings) (view s) x) h)
+  well (foreign x w h) = shown s (s .cells) (gives (refused refusal.NotEit) (s .eit)) (step (s .settings) (view s) (offer x)) (ap (offered (s .settings) (view s) x) h)
   well (long x kind w h l) =
-      shown (s .cells) (gives (refused refusal.TooLong) (s .eit)) (step (s .settings) (view s) (offer x))
+      shown s (s .cells) (gives (refused refusal.TooLong) (s .eit)) (step (s .settings) (view s) (offer x))
       (kinded x kind h ∙ ap (admit (s .settings .limit) (view s) x (keyOf x kind)) (lt-leb (length (x .bytes)) (s .settings .cellSize) l))
   well (keyless x kind w h l q) =
-      shown (s .cells) (gives nothing (s .eit)) (step (s .settings) (view s) (offer x))
+      shown s (s .cells) (gives nothing (s .eit)) (step (s .settings) (view s) (offer x))
       (kinded x kind h ∙ ap (admit (s .settings .limit) (view s) x (keyOf x kind)) (le-leb (length (x .bytes)) (s .settings .cellSize) l)
       ∙ ap (λ (n : ℕ). push n (view s) x (keyOf x kind)) q)
   well (lacks x k a e f) = out refl
@@ -84,16 +84,16 @@ module _ (s : Store) where
       let n = s .settings .limit in
       let now : Held → Bytes = bytesOf (write (s .cells) c (x .bytes)) in
       let z = free-parts c k (row s x k) (rest s k) (f .free) in
-      shown (write (s .cells) c (x .bytes)) (judge n (rest s k) k (x .lastTable) (keep (partOf x) (heldIn c (x .bytes)) (row s x k))) (step (s .settings) (view s) (offer x))
+      shown (risen s) (write (s .cells) c (x .bytes)) (judge n (rest s k) k (x .lastTable) (keep (partOf x) (heldIn c (x .bytes)) (row s x k))) (step (s .settings) (view s) (offer x))
       (finished x k a _ (rules-keep (s .cells) (partOf x) (x .bytes) (row s x k) e)
       ∙ ap (λ (q : Eit). judge n q k (x .lastTable) (keep (partOf x) (x .bytes) (onRow read (row s x k)))) (sym (free-cell-unseen (s .cells) c (x .bytes) (rest s k) (z .0)))
       ∙ ap (judge n (onEit now (rest s k)) k (x .lastTable)) (kept-shown (s .cells) c (x .bytes) (partOf x) (row s x k) (z .1) (f .inside))
       ∙ judge-on now n (rest s k) k (x .lastTable) (keep (partOf x) (heldIn c (x .bytes)) (row s x k)))
   well (ignores x k a h e q) =
-      shown (s .cells) (judge (s .settings .limit) (rest s k) k (x .lastTable) (row s x k)) (step (s .settings) (view s) (offer x))
+      shown (risen s) (s .cells) (judge (s .settings .limit) (rest s k) k (x .lastTable) (row s x k)) (step (s .settings) (view s) (offer x))
       (finished x k a _ (rules-ignore (s .cells) (partOf x) (x .bytes) (row s x k) h e q) ∙ judge-on read (s .settings .limit) (rest s k) k (x .lastTable) (row s x k))
   well (conflicts x k a h e q) =
-      shown (s .cells) (gives (refused refusal.Conflict) (roomFor s x k)) (step (s .settings) (view s) (offer x))
+      shown (risen s) (s .cells) (gives (refused refusal.Conflict) (roomFor s x k)) (step (s .settings) (view s) (offer x))
       (finished x k a _ (rules-refuse (s .cells) (partOf x) (x .bytes) (row s x k) h e q) ∙ ap (gives (refused refusal.Conflict)) (setNewest-on read k (row s x k) (rest s k)))
 
   settings-of : {i : Call} {t : Turn} → Outcome s i t → t .store .settings ≡ s .settings

@@ -6,7 +6,7 @@ use mathlib.Core.Logic.{_≢_}
 use mathlib.Core.Bool.{true, false, true≢false}
 use mathlib.Core.Option.{Option, none, some, Option·map, Option·some-injective, map-eq-none-iff}
 use mathlib.Core.List.{[], _∷_, _++_}
-use Prim.Native.Nat.{ℕ, _<_}
+use Prim.Native.Nat.{ℕ, suc, _<_}
 use native.Mathlib.Omega.{arith}
 use lib.ListN.{length}
 use Rattle.laws.proofs.Tests.{none≢some}
@@ -218,6 +218,7 @@ pub record Conflicting (s : Store) (x : Section) (k : SetKey) (after : Store) : 
       schedules = s .eit .schedules;
     };
     cells = s .cells;
+    clock = suc (s .clock);
   }
 
 pub conflict-touches : (s : Store) (i : Call) → callTells s i ≡ (refused refusal.Conflict) → (x : Section) × (k : SetKey) × (i ≡ offer x) × Conflicting s x k (callActs s i)
@@ -250,6 +251,6 @@ conflict-touches s i e = go (outcome s i) e
       record {
         found = start-held (partOf x) (find sameSet k (s .eit .sets .rows)) h q;
         differs = (h, q, f);
-        leaves = (let t = touched x k h q in λ i. record { settings = s .settings; eit = record { sets = t i; schedules = s .eit .schedules }; cells = s .cells });
+        leaves = (let t = touched x k h q in λ i. record { settings = s .settings; eit = record { sets = t i; schedules = s .eit .schedules }; cells = s .cells; clock = suc (s .clock) });
       },
     )

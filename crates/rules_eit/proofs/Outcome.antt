@@ -20,7 +20,7 @@ use Rattle.rules_eit.specs.Keys.{Kind, kindOf, firstOf, SetKey, Filter, 
 use Rattle.rules_eit.specs.Segments.{SetOf, complete}
 use Rattle.rules_eit.specs.Schedules.{ScheduleOf, allTables}
 use Rattle.rules_eit.specs.Rules.{fromBytes, EitOf, Section, keyOf, partOf, Call, clear, drop, refuse, offer, done, refused, nothing, handout, schedule, metRow, told, ranged, ready, judged, judge, cleared, dropped, Answer}
-use Rattle.rules_eit.specs.Cells.{Store, Turn, onAnswer, taken, storeWhole, ended, shows, rest, roomFor, placeOf, carry, pushIn, admitIn, offerIn, dropIn, good, guarded, call}
+use Rattle.rules_eit.specs.Cells.{Store, Turn, onAnswer, taken, storeWhole, ended, shows, rest, roomFor, placeOf, carry, pushIn, admitIn, offerIn, dropIn, good, guarded, call, risen}
 
 -- a filter is refused by what it is given alone
 bad-given : (f : Filter) (r : Refusal) → badFilter f ≡ some r → fromBytes r ≡ true
@@ -54,8 +54,8 @@ pub record Asks (s : Store) (x : Section) (k : SetKey) : Type 0 where
 pub data Outcome (s : Store) : Call → Turn → Type 0 where
   broken : (i : Call) → storeWhole s ≡ false → Outcome s i (record { answer = (refused refusal.NotWhole); store = s })
   stopped : (i : Call) → storeWhole s ≡ true → ended s i ≡ true → Outcome s i (record { answer = (refused refusal.CounterFull); store = s })
-  clears : storeWhole s ≡ true → Outcome s clear (record { answer = done; store = record { settings = s .settings; eit = cleared (s .eit); cells = s .cells } })
-  drops : (f : Filter) → storeWhole s ≡ true → badFilter f ≡ none → Outcome s (drop f) (record { answer = done; store = record { settings = s .settings; eit = dropped f (s .eit); cells = s .cells } })
+  clears : storeWhole s ≡ true → Outcome s clear (record { answer = done; store = record { settings = s .settings; eit = cleared (s .eit); cells = s .cells; clock = s .clock } })
+  drops : (f : Filter) → storeWhole s ≡ true → badFilter f ≡ none → Outcome s (drop f) (record { answer = done; store = record { settings = s .settings; eit = dropped f (s .eit); cells = s .cells; clock = s .clock } })
   keepsAll : (f : Filter) (r : Refusal) → fromBytes r ≡ true → storeWhole s ≡ true → badFilter f ≡ some r → Outcome s (drop f) (record { answer = refused r; store = s })
   refuses : (r : Refusal) (b : fromBytes r ≡ true) → storeWhole s ≡ true → Outcome s (refuse r b) (record { answer = refused r; store = s })
   foreign : (x : Section) → storeWhole s ≡ true → kindOf (x .tableId) ≡ none → Outcome s (offer x) (record { answer = refused refusal.NotEit; store = s })
@@ -65,11 +65,11 @@ pub data Outcome (s : Store) : Call → Turn → Type 0 where
       → Outcome s (offer x) (record { answer = nothing; store = s })
   lacks : (x : Section) (k : SetKey) → Asks s x k → slot s x k ≡ none → AllTaken (taken (roomFor s x k)) (length (s .cells)) → Outcome s (offer x) (record { answer = (refused refusal.NoCell); store = s })
   keeps : (x : Section) (k : SetKey) → Asks s x k → slot s x k ≡ none → (c : ℕ) → LowestFree (taken (roomFor s x k)) (length (s .cells)) c
-      → Outcome s (offer x) (shows s (write (s .cells) c (x .bytes)) (judge (s .settings .limit) (rest s k) k (x .lastTable) (keep (partOf x) (heldIn c (x .bytes)) (row s x k))))
+      → Outcome s (offer x) (shows (risen s) (write (s .cells) c (x .bytes)) (judge (s .settings .limit) (rest s k) k (x .lastTable) (keep (partOf x) (heldIn c (x .bytes)) (row s x k))))
   ignores : (x : Section) (k : SetKey) → Asks s x k → (h : Held) → slot s x k ≡ some h → bytesOf (s .cells) h ≡ x .bytes
-      → Outcome s (offer x) (shows s (s .cells) (judge (s .settings .limit) (rest s k) k (x .lastTable) (row s x k)))
+      → Outcome s (offer x) (shows (risen s) (s .cells) (judge (s .settings .limit) (rest s k) k (x .lastTable) (row s x k)))
   conflicts : (x : Section) (k : SetKey) → Asks s x k → (h : Held) → slot s x k ≡ some h → bytesOf (s .cells) h ≢ x .bytes
-      → Outcome s (offer x) (record { answer = (refused refusal.Conflict); store = record { settings = s .settings; eit = roomFor s x k; cells = s .cells } })
+      → Outcome s (offer x) (record { answer = (refused refusal.Conflict); store = record { settings = s .settings; eit = roomFor s x k; cells = s .cells; clock = suc (s .clock) } })
 
 module _ (s : Store) where
   carried : (x : Section) (k : SetKey) → Asks s x k → {p : Place} → Placed (s .cells) (taken (roomFor s x k)) (x .bytes) (slot s x k) p → Outcome s (offer x) (carry s x k p)

@@ -22,6 +22,12 @@ pub record Store : Type 0 where
   pub settings : Settings
   pub eit : EitOf Held
   pub cells : Cells
+  -- how often a key was touched since opening
+  pub clock : ℕ
+
+-- once more
+abbrev pub risen : Store → Store
+risen s = record { settings = s .settings; eit = s .eit; cells = s .cells; clock = suc (s .clock) }
 
 -- what a call answers and leaves
 pub record Turn : Type 0 where
@@ -85,7 +91,7 @@ storeWhole s =
 
 -- 11: "a section is given and a counter of this part is at 2^64 − 1"
 unfoldable pub anyAtEnd : Store → Bool
-anyAtEnd s = atEnd (s .eit .sets .evicted) || atEnd (s .eit .schedules .evicted)
+anyAtEnd s = atEnd (s .eit .sets .evicted) || atEnd (s .clock) || atEnd (s .eit .schedules .evicted)
 
 unfoldable pub ended : Store → Call → Bool
 ended s clear = false
@@ -97,7 +103,7 @@ ended s (offer x) = anyAtEnd s
 
 -- the cells are `cells` now, and what is handed out is read from them
 unfoldable pub shows : Store → Cells → StepOf Held → Turn
-shows s cells t = record { answer = onAnswer (bytesOf cells) (t .answer); store = record { settings = s .settings; eit = t .eit; cells = cells } }
+shows s cells t = record { answer = onAnswer (bytesOf cells) (t .answer); store = record { settings = s .settings; eit = t .eit; cells = cells; clock = s .clock } }
 
 -- the rows beside the section's, once room was made for it
 unfoldable pub rest : Store → SetKey → EitOf Held
@@ -113,10 +119,10 @@ placeOf s x k = place (s .cells) (taken (roomFor s x k)) (x .bytes) (slotOf (par
 -- "A section kept takes one cell", and only then a cell's bytes change; on 21 all is as before
 unfoldable pub carry : Store → Section → SetKey → Place → Turn
 carry s x k (into c) =
-    shows s (write (s .cells) c (x .bytes)) (judge (s .settings .limit) (rest s k) k (x .lastTable) (keep (partOf x) (heldIn c (x .bytes)) (metRow x k (s .eit))))
+    shows (risen s) (write (s .cells) c (x .bytes)) (judge (s .settings .limit) (rest s k) k (x .lastTable) (keep (partOf x) (heldIn c (x .bytes)) (metRow x k (s .eit))))
 carry s x k noneFree = record { answer = (refused refusal.NoCell); store = s }
-carry s x k ignored = shows s (s .cells) (judge (s .settings .limit) (rest s k) k (x .lastTable) (metRow x k (s .eit)))
-carry s x k conflicting = shows s (s .cells) (gives (refused refusal.Conflict) (roomFor s x k))
+carry s x k ignored = shows (risen s) (s .cells) (judge (s .settings .limit) (rest s k) k (x .lastTable) (metRow x k (s .eit)))
+carry s x k conflicting = shows (risen s) (s .cells) (gives (refused refusal.Conflict) (roomFor s x k))
 
 unfoldable pub pushIn : (limit : ℕ) → Store → Section → SetKey → Turn
 pushIn zero s x k = shows s (s .cells) (gives nothing (s .eit))

@@ -41,7 +41,7 @@ pub record Kept : Type 0 where
 
 -- "no rows, counts 0", over these cells
 abbrev pub openedOver : Settings → Cells → Kept
-openedOver o cells = record { rows = []; sets = record { settings = record { limit = o .limit; cellSize = o .size }; sets = untouched; cells = cells } }
+openedOver o cells = record { rows = []; sets = record { settings = record { limit = o .limit; cellSize = o .size }; sets = untouched; cells = cells; clock = 0 } }
 
 -- what the cells hold before matters to no record
 abbrev pub opened : Settings → Kept

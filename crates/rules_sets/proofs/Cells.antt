@@ -16,7 +16,7 @@ use Rattle.laws.specs.Runs.{Obeys, bars, does}
 use Rattle.rules_shared.proofs.Views.{aside-on, newest-on}
 use Rattle.rules_shared.proofs.Cells.{kept-shown, rules-keep, rules-ignore, rules-refuse}
 use Rattle.rules_sets.specs.Rules.{sameKey, SetsOf, Section, partOf, Call, offer, conflict, barred, StepOf, Step, gives, judge, finish, push, admit, step, tells, acts}
-use Rattle.rules_sets.specs.Cells.{Store, Turn, onSets, onAnswer, view, takes, shows, rest, roomFor, call, callTells, callActs}
+use Rattle.rules_sets.specs.Cells.{Store, Turn, onSets, onAnswer, view, takes, shows, rest, roomFor, call, callTells, callActs, risen}
 use Rattle.rules_sets.specs.Demand.{withCells, Keeping}
 use Rattle.rules_sets.proofs.Views.{met-on, onStep, judge-on, free-cell-unseen, free-parts}
 use Rattle.rules_sets.proofs.Outcome.{row, Asks, Outcome, broken, stopped, clears, refuses, long, keyless, lacks, keeps, ignores, conflicts, outcome}
@@ -30,7 +30,7 @@ module _ (s : Store) where
   abbrev read : Held → Bytes
   read = bytesOf (s .cells)
 
-  shown : (cells : Cells) (t : StepOf Held) (d : Step) → d ≡ onStep (bytesOf cells) t → Fits (shows s cells t) d
+  shown : (cells : Cells) (t : StepOf Held) (d : Step) → d ≡ onStep (bytesOf cells) t → Fits (shows (risen s) cells t) d
   unfolding shows view
   shown cells t d e = fits (ap (λ (q : Step). q .answer) (sym e)) (ap (λ (q : Step). q .sets) (sym e))
 

@@ -7,7 +7,7 @@ use mathlib.Core.Logic.{_≢_, _⊎_, inl, inr}
 use mathlib.Core.Bool.{true, false, true≢false}
 use mathlib.Core.Option.{Option, none, some, Option·map, map-eq-none-iff}
 use mathlib.Core.List.{[], _∷_, _++_}
-use Prim.Native.Nat.{ℕ, _≤_, _<_}
+use Prim.Native.Nat.{ℕ, suc, _≤_, _<_}
 use native.Mathlib.Omega.{arith}
 use lib.ListN.{length, getD, drop}
 use Rattle.laws.proofs.Tests.{none≢some}
@@ -145,6 +145,7 @@ pub record Conflicting (s : Store) (x : Section) (after : Store) : Type 0 where
     settings = s .settings;
     sets = record { rows = remove sameKey (x .key) (s .sets .rows) ++ (under (x .key) (row s x) ∷ []); evicted = s .sets .evicted };
     cells = s .cells;
+    clock = suc (s .clock);
   }
 
 pub conflict-touches : (s : Store) (i : Call) → CanCome i → callTells s i ≡ conflict → (x : Section) × (i ≡ offer x) × Conflicting s x (callActs s i)
@@ -171,7 +172,7 @@ conflict-touches s i c e = go (outcome s i) c e
       record {
         found = start-held (partOf x) (find sameKey (x .key) (s .sets .rows)) h q;
         differs = (h, q, f);
-        leaves = ap (λ (r : SetsOf Held). record { settings = s .settings; sets = r; cells = s .cells }) (touched x h q);
+        leaves = ap (λ (r : SetsOf Held). record { settings = s .settings; sets = r; cells = s .cells; clock = suc (s .clock) }) (touched x h q);
       },
     )
 

@@ -47,7 +47,7 @@ after-rules limit calls = storeAfter (acts (record { limit = limit; cellSize = 1
 -- a store as it is opened: so many keys, so many cells of so many bytes
 unfoldable pub store : (limit size count : ℕ) → Store
 unfolding untouched
-store limit size n = record { settings = record { limit = limit; cellSize = size }; sets = untouched; cells = replicate n (replicate size 0) }
+store limit size n = record { settings = record { limit = limit; cellSize = size }; sets = untouched; cells = replicate n (replicate size 0); clock = 0 }
 
 unfoldable pub replies : Store → List Call → List Answer
 unfolding by-rules store someHeld everyHeld onSlots someRow everyRow seenAs onOrder onRow bytesOf names lowest write placeNew placeHeld place roomWhole heldWhole atEnd onSets onWhole onAnswer view takes taken storeWhole ended shows rest roomFor placeOf carry pushIn admitIn good guarded call callTells callActs

@@ -179,6 +179,7 @@ half-full = record {
     evicted = 0;
   };
   cells = replicate 2 (replicate 16 7);
+  clock = 0;
 }
 
 second-section : List Call

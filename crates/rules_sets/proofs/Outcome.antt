@@ -17,7 +17,7 @@ use Rattle.rules_shared.specs.Row.{slotOf, keep}
 use Rattle.rules_shared.specs.Cells.{Held, bytesOf, write, Place, heldIn}
 use Rattle.rules_shared.proofs.Cells.{LowestFree, AllTaken, Placed, laid, lacking, alike, unlike, placed}
 use Rattle.rules_sets.specs.Rules.{Key, SetOf, SetsOf, Section, partOf, Call, clear, refuse, offer, cleared, refused, nothing, handout, conflict, notWhole, counterFull, noCell, metRow, judged, judge, full, Answer}
-use Rattle.rules_sets.specs.Cells.{Store, Turn, onAnswer, taken, storeWhole, ended, shows, rest, roomFor, placeOf, carry, pushIn, admitIn, good, guarded, call}
+use Rattle.rules_sets.specs.Cells.{Store, Turn, onAnswer, taken, storeWhole, ended, shows, rest, roomFor, placeOf, carry, pushIn, admitIn, good, guarded, call, risen}
 
 -- the row that a section meets
 abbrev pub row : Store → Section → SetOf Held
@@ -37,17 +37,17 @@ pub record Asks (s : Store) (x : Section) : Type 0 where
 pub data Outcome (s : Store) : Call → Turn → Type 0 where
   broken : (i : Call) → storeWhole s ≡ false → Outcome s i (record { answer = notWhole; store = s })
   stopped : (i : Call) → storeWhole s ≡ true → ended s i ≡ true → Outcome s i (record { answer = counterFull; store = s })
-  clears : storeWhole s ≡ true → Outcome s clear (record { answer = cleared; store = record { settings = s .settings; sets = emptied (s .sets); cells = s .cells } })
+  clears : storeWhole s ≡ true → Outcome s clear (record { answer = cleared; store = record { settings = s .settings; sets = emptied (s .sets); cells = s .cells; clock = s .clock } })
   refuses : (r : Refusal) → storeWhole s ≡ true → Outcome s (refuse r) (record { answer = refused r; store = s })
   long : (x : Section) → storeWhole s ≡ true → s .settings .cellSize < length (x .bytes) → Outcome s (offer x) (record { answer = refused TooLong; store = s })
   keyless : (x : Section) → storeWhole s ≡ true → length (x .bytes) ≤ s .settings .cellSize → s .settings .limit ≡ 0 → Outcome s (offer x) (record { answer = nothing; store = s })
   lacks : (x : Section) → Asks s x → slot s x ≡ none → AllTaken (taken (roomFor s x)) (length (s .cells)) → Outcome s (offer x) (record { answer = noCell; store = s })
   keeps : (x : Section) → Asks s x → slot s x ≡ none → (c : ℕ) → LowestFree (taken (roomFor s x)) (length (s .cells)) c
-      → Outcome s (offer x) (shows s (write (s .cells) c (x .bytes)) (judge (rest s x) (x .key) (keep (partOf x) (heldIn c (x .bytes)) (row s x))))
+      → Outcome s (offer x) (shows (risen s) (write (s .cells) c (x .bytes)) (judge (rest s x) (x .key) (keep (partOf x) (heldIn c (x .bytes)) (row s x))))
   ignores : (x : Section) → Asks s x → (h : Held) → slot s x ≡ some h → bytesOf (s .cells) h ≡ x .bytes
-      → Outcome s (offer x) (shows s (s .cells) (judge (rest s x) (x .key) (row s x)))
+      → Outcome s (offer x) (shows (risen s) (s .cells) (judge (rest s x) (x .key) (row s x)))
   conflicts : (x : Section) → Asks s x → (h : Held) → slot s x ≡ some h → bytesOf (s .cells) h ≢ x .bytes
-      → Outcome s (offer x) (record { answer = conflict; store = record { settings = s .settings; sets = roomFor s x; cells = s .cells } })
+      → Outcome s (offer x) (record { answer = conflict; store = record { settings = s .settings; sets = roomFor s x; cells = s .cells; clock = suc (s .clock) } })
 
 module _ (s : Store) where
   carried : (x : Section) → Asks s x → {p : Place} → Placed (s .cells) (taken (roomFor s x)) (x .bytes) (slot s x) p → Outcome s (offer x) (carry s x p)

@@ -1,6 +1,6 @@
 -- The set collector with cells (docs/RULES.md, "Cells"): a slot names the cell that holds a section's bytes, and how many they are. 10, 11 and 21 come in here.
 -- Assumes nothing.
-use mathlib.Core.Bool.{Bool, true, false, _&&_}
+use mathlib.Core.Bool.{Bool, true, false, _&&_, _||_}
 use mathlib.Core.List.{map}
 use Prim.Native.Nat.{ℕ, zero, suc}
 use lib.Dec.{leb}
@@ -16,6 +16,12 @@ pub record Store : Type 0 where
   pub settings : Settings
   pub sets : SetsOf Held
   pub cells : Cells
+  -- how often a key was touched since opening
+  pub clock : ℕ
+
+-- once more
+abbrev pub risen : Store → Store
+risen s = record { settings = s .settings; sets = s .sets; cells = s .cells; clock = suc (s .clock) }
 
 -- what a call answers and leaves
 pub record Turn : Type 0 where
@@ -61,14 +67,14 @@ storeWhole s =
 -- 11: "a section is given and a counter of this part is at 2^64 − 1"
 unfoldable pub ended : Store → Call → Bool
 ended s clear = false
-ended s (refuse r) = atEnd (s .sets .evicted)
-ended s (offer x) = atEnd (s .sets .evicted)
+ended s (refuse r) = atEnd (s .sets .evicted) || atEnd (s .clock)
+ended s (offer x) = atEnd (s .sets .evicted) || atEnd (s .clock)
 
 -- ---- one call
 
 -- the cells are `cells` now, and what is handed out is read from them
 unfoldable pub shows : Store → Cells → StepOf Held → Turn
-shows s cells t = record { answer = onAnswer (bytesOf cells) (t .answer); store = record { settings = s .settings; sets = t .sets; cells = cells } }
+shows s cells t = record { answer = onAnswer (bytesOf cells) (t .answer); store = record { settings = s .settings; sets = t .sets; cells = cells; clock = s .clock } }
 
 -- the rows beside the section's, once room was made for it
 unfoldable pub rest : Store → Section → SetsOf Held
@@ -83,10 +89,10 @@ placeOf s x = place (s .cells) (taken (roomFor s x)) (x .bytes) (slotOf (partOf 
 
 -- "A section kept takes one cell", and only then a cell's bytes change; on 21 all is as before
 unfoldable pub carry : Store → Section → Place → Turn
-carry s x (into c) = shows s (write (s .cells) c (x .bytes)) (judge (rest s x) (x .key) (keep (partOf x) (heldIn c (x .bytes)) (metRow x (s .sets))))
+carry s x (into c) = shows (risen s) (write (s .cells) c (x .bytes)) (judge (rest s x) (x .key) (keep (partOf x) (heldIn c (x .bytes)) (metRow x (s .sets))))
 carry s x noneFree = record { answer = noCell; store = s }
-carry s x ignored = shows s (s .cells) (judge (rest s x) (x .key) (metRow x (s .sets)))
-carry s x conflicting = shows s (s .cells) (gives conflict (roomFor s x))
+carry s x ignored = shows (risen s) (s .cells) (judge (rest s x) (x .key) (metRow x (s .sets)))
+carry s x conflicting = shows (risen s) (s .cells) (gives conflict (roomFor s x))
 
 unfoldable pub pushIn : (limit : ℕ) → Store → Section → Turn
 pushIn zero s x = shows s (s .cells) (gives nothing (s .sets))

@@ -7,12 +7,12 @@ use Prim.Native.Nat.{ℕ, _+_, _-_, _*_, _%_, _≤_, _<_}
 use native.Mathlib.Omega.{arith}
 use borrow.Author.Tests.{eq-eqb, ne-eqb, lt-ltb, le-ltb, ltb-true, ltb-false}
 use lib.Dec.{eqb, ltb}
-use Rattle.rows.specs.Rows.{tableWord, keyAt, oldestOf, rowOf, touched, roomIn, roomRenewed, roomNew, keptHeads, ageOf, lastOf}
+use Rattle.rows.specs.Rows.{tableWord, keyAt, oldestOf, rowOf, touched, roomIn, roomRenewed, roomNew, keptHeads, lastOf}
 use Rattle.rows.specs.declared.Key.{Key}
 use Rattle.rows.specs.declared.Entry.{Entry}
 use Rattle.rows.specs.declared.Room.{Room}
 use Rattle.rows.proofs.Loops.{before}
-use Rattle.placing.proofs.Fits.{oldest-below}
+use Rattle.rows.proofs.Least.{oldest-below}
 use Rattle.units.specs.Units.{firstTable, unitWhole, unitsWhole, markedUnits, allPresent, withoutUnits, withSet, refilled}
 use Rattle.schedules.specs.declared.ScheduleRoom.{ScheduleRoom}
 use Rattle.schedules.specs.Schedules.{tableCount, tablesOf, schedulesWhole, markedSchedules, RoomFits, roomKnown, roomOf, scheduledHeads, readyUnits, scheduledUnits, tablesThere}
@@ -79,9 +79,9 @@ module _ (heads : List ℕ) (held evictions : ℕ) (e : Entry) (k l : ℕ) (r : 
   unfolding roomKnown
   known-same h q = rw (← p, eq-eqb l (e .last) h, q)
 
-  pub known-other : (a : ℕ) → (l ≡ e .last → ⊥) → a ≡ ageOf heads k → r ≡ roomRenewed held evictions k a → _≡_ {A = ScheduleRoom} (record { room = r; refill = true }) (roomKnown heads held evictions e k)
+  pub known-other : (l ≡ e .last → ⊥) → r ≡ roomRenewed held evictions k → _≡_ {A = ScheduleRoom} (record { room = r; refill = true }) (roomKnown heads held evictions e k)
   unfolding roomKnown
-  known-other a h f q = rw (← p, ne-eqb l (e .last) h, q, f)
+  known-other h q = rw (← p, ne-eqb l (e .last) h, q)
 
 module _ (heads : List ℕ) (limit held evictions : ℕ) (e : Entry) (k : ℕ) (p : k ≡ rowOf heads (e .key) held) where
   pub room-known : (b : ScheduleRoom) → k < held → b ≡ roomKnown heads held evictions e k → b ≡ roomOf heads limit held evictions e
@@ -97,7 +97,7 @@ module _ (heads : List ℕ) (limit held evictions : ℕ) (e : Entry) (z : 0 < li
   unfolding roomKnown
   known-ok k h = go (eqb (lastOf heads k) (e .last))
     where
-      go : (b : Bool) → RoomFits limit (cond b (record { room = roomIn held evictions k; refill = false }) (record { room = roomRenewed held evictions k (ageOf heads k); refill = true }))
+      go : (b : Bool) → RoomFits limit (cond b (record { room = roomIn held evictions k; refill = false }) (record { room = roomRenewed held evictions k; refill = true }))
       go true = record { row = h; room = f }
       go false = record { row = h; room = f }
 
@@ -108,7 +108,7 @@ module _ (heads : List ℕ) (limit held evictions : ℕ) (e : Entry) (z : 0 < li
       o : ℕ
       o = oldestOf heads held
 
-      go : (b : Bool) → ltb held limit ≡ b → RoomFits limit (record { room = cond b (roomRenewed (held + 1) evictions held held) (roomRenewed held (evictions + 1) o (ageOf heads o)); refill = false })
+      go : (b : Bool) → ltb held limit ≡ b → RoomFits limit (record { room = cond b (roomRenewed (held + 1) evictions held) (roomRenewed held (evictions + 1) o); refill = false })
       go true q = let h : held < limit = ltb-true held limit q in record { row = omega arith; room = omega arith }
       go false q =
           let h : limit ≤ held = ltb-false held limit q in
@@ -128,9 +128,9 @@ module _ (heads : List ℕ) (limit held evictions : ℕ) (e : Entry) (z : 0 < li
 
 -- ---- head and units
 
-pub head-put : (r : Room) (e : Entry) (h h' h'' : List ℕ) → h' ≡ keptHeads r e h → h'' ≡ touched (r .used) (r .row) h' → h'' ≡ scheduledHeads r e h
+pub head-put : (clock : ℕ) (r : Room) (e : Entry) (h h' h'' : List ℕ) → h' ≡ keptHeads r e h → h'' ≡ touched clock (r .row) h' → h'' ≡ scheduledHeads clock r e h
 unfolding scheduledHeads
-head-put r e h h' h'' p q = rw (← p) q
+head-put clock r e h h' h'' p q = rw (← p) q
 
 module _ (heads slots : List ℕ) (used : ℕ) (e : Entry) (own : ℕ) (r : ScheduleRoom) (units : List ℕ) where
   pub ready-kept : r .room .fresh ≡ false → units ≡ readyUnits heads slots used e own r units

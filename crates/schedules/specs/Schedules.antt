@@ -5,7 +5,7 @@ use Prim.Native.Nat.{ℕ, zero, suc, _+_, _-_, _*_, _%_, _≤_, _<_, min}
 use mathlib.Core.List.{List}
 use mathlib.Core.Bool.{Bool, true, false, cond, _&&_, _||_}
 use lib.Dec.{ltb, eqb}
-use Rattle.rows.specs.Rows.{tableWord, rowOf, touched, takenIn, roomIn, roomRenewed, roomNew, keptHeads, ageOf, lastOf}
+use Rattle.rows.specs.Rows.{tableWord, rowOf, touched, takenIn, roomIn, roomRenewed, roomNew, keptHeads, lastOf}
 use Rattle.rows.specs.declared.Entry.{Entry}
 use Rattle.rows.specs.declared.Room.{Room}
 use Rattle.units.specs.Units.{firstTable, unitsWhole, takenInUnits, markedUnits, allPresent, withoutUnits, withSet, refilled}
@@ -49,7 +49,7 @@ unfoldable pub roomKnown : (schedule-heads : List ℕ) → (held evictions : ℕ
 roomKnown schedule-heads held evictions e k =
     cond (eqb (lastOf schedule-heads k) (e .last))
     (record { room = roomIn held evictions k; refill = false })
-    (record { room = roomRenewed held evictions k (ageOf schedule-heads k); refill = true })
+    (record { room = roomRenewed held evictions k; refill = true })
 
 -- "the schedule row is found or made under the same limit by its own touch order and eviction count": of the first `held` schedules the one of
 -- that key, or a new one, which is not refilled
@@ -59,8 +59,8 @@ roomOf schedule-heads limit held evictions e =
     cond (ltb k held) (roomKnown schedule-heads held evictions e k) (record { room = roomNew schedule-heads limit held evictions; refill = false })
 
 -- the schedule's head is written, and it "becomes newest"
-unfoldable pub scheduledHeads : Room → Entry → List ℕ → List ℕ
-scheduledHeads r e schedule-heads = touched (r .used) (r .row) (keptHeads r e schedule-heads)
+unfoldable pub scheduledHeads : (clock : ℕ) → Room → Entry → List ℕ → List ℕ
+scheduledHeads clock r e schedule-heads = touched clock (r .row) (keptHeads r e schedule-heads)
 
 -- a schedule that begins anew has no tables; one whose range changed has those that are complete, but the table `own`
 unfoldable pub readyUnits : (heads slots : List ℕ) → (used : ℕ) → Entry → (own : ℕ) → ScheduleRoom → List ℕ → List ℕ

@@ -133,7 +133,7 @@ fn known_room(heads: &[u64], held: usize, evictions: u64, e: Entry, k: usize) ->
             refill: false,
         }
     } else {
-        let room = placing::room_renewed(held, evictions, k, rows::age(heads, k));
+        let room = placing::room_renewed(held, evictions, k);
         ScheduleRoom { room, refill: true }
     }
 }
@@ -156,12 +156,12 @@ pub fn find_room(heads: &[u64], limit: usize, held: usize, evictions: u64, e: En
 }
 
 // The schedule's head is written, and it becomes the newest.
-pub fn put_head(heads: &mut [u64], room: Room, e: Entry)
+pub fn put_head(heads: &mut [u64], room: Room, e: Entry, clock: u64)
     requires { ⌜ (room .row < room .used) × (room .used * 12 ≤ length (now heads)) ⌝ }
-    ensures { λ _. ⌜ now (heads .exit) ≡ scheduledHeads room e (now (heads .entry)) ⌝ }
+    ensures { λ _. ⌜ now (heads .exit) ≡ scheduledHeads clock room e (now (heads .entry)) ⌝ }
 {
     rows::keep_head(heads, room, e);
-    rows::touch(heads, room.used, room.row);
+    rows::touch(heads, room.row, clock);
 }
 
 // A schedule that begins anew is emptied, and refilled where its range changed, but for the table `own`.

@@ -28,8 +28,8 @@ use Rattle.rows.specs.declared.Origin.{Origin}
 use Rattle.rows.specs.declared.Room.{Room}
 use Rattle.without_pid.specs.Pids.{withoutPid}
 use Rattle.without_pid.proofs.Rows.{each-has, one-without}
-use Rattle.store.specs.Store.{Store, store, emptySets, wholeOf, WholeStore}
-use Rattle.store.proofs.Whole.{whole-means}
+use Rattle.store.specs.Store.{Store, store, emptySets, wholeOf, countersFull}
+use Rattle.store.proofs.Whole.{whole-means, evictions-go-on, clock-goes-on}
 use Rattle.arrivals.specs.Arrivals.{madeWords, setKey, entryOf, setRead, setJudged, setArrival, SetTaken, Taken}
 use Rattle.arrivals.proofs.Facts.{set-taken}
 use Rattle.arrivals.specs.declared.SetArrival.{SetArrival}
@@ -37,7 +37,7 @@ use Rattle.arrivals.specs.declared.SetArrival.the-variants as arrival
 use Rattle.sets_plan.specs.declared.Keeping.{Keeping}
 use Rattle.sets_plan.specs.declared.Plan.{Plan}
 use Rattle.sets_plan.specs.declared.Plan.the-variants as plan
-use Rattle.sets_plan.specs.Plan.{planKeep, planOf, KeepOk, PlanOk}
+use Rattle.sets_plan.specs.Plan.{planKeep, planOf, Ready, KeepOk, PlanOk}
 use Rattle.sets_plan.proofs.May.{plan-ok}
 use Rattle.sets_plan.proofs.Every.{plan-by}
 use Rattle.sets_settle.specs.Settle.{done, refused, after, goesOut, settledHeads, settled, keptIn, carried}
@@ -54,19 +54,19 @@ has-pids s e i h z = true≢false (sym (one-without (s .heads) (s .sets .used) i
 pub none-without : (s : Store) → HasPids s → withoutPid (s .heads) (s .sets .used) ≡ false
 none-without s h = each-has (s .heads) (s .sets .used) h
 
--- ---- a row is settled: neither its age nor its mark is its PID
+-- ---- a row is settled: neither its tick nor its mark is its PID
 
-settled-word : (used i : ℕ) (heads slots : List ℕ) (j : ℕ) → word (settledHeads used heads slots i) j 0 ≡ word heads j 0
+settled-word : (clock i : ℕ) (heads slots : List ℕ) (j : ℕ) → word (settledHeads clock heads slots i) j 0 ≡ word heads j 0
 unfolding settledHeads
-settled-word used i heads slots j = go (goesOut (touched used i heads) slots i)
+settled-word clock i heads slots j = go (goesOut (touched clock i heads) slots i)
   where
-    go : (b : Bool) → word (cond b (withMark i 1 (touched used i heads)) (touched used i heads)) j 0 ≡ word heads j 0
-    go true = put-not (touched used i heads) i 8 1 j 0 (omega arith) (omega arith) (omega arith) ∙ touched-not used i heads j 0 (omega arith) (omega arith)
-    go false = touched-not used i heads j 0 (omega arith) (omega arith)
+    go : (b : Bool) → word (cond b (withMark i 1 (touched clock i heads)) (touched clock i heads)) j 0 ≡ word heads j 0
+    go true = put-not (touched clock i heads) i 8 1 j 0 (omega arith) (omega arith) (omega arith) ∙ touched-not clock i heads j 0 (omega arith) (omega arith)
+    go false = touched-not clock i heads j 0 (omega arith) (omega arith)
 
 settled-pids : (s : Store) (i : ℕ) → HasPids s → HasPids ((settled s i) .store)
 unfolding settled
-settled-pids s i h j l z = h j l (sym (settled-word (s .sets .used) i (s .heads) (s .slots) j) ∙ z)
+settled-pids s i h j l z = h j l (sym (settled-word (s .sets .clock + 1) i (s .heads) (s .slots) j) ∙ z)
 
 -- ---- a section is kept: its row has its PID
 
@@ -98,11 +98,11 @@ module _ (s : Store) (bytes : List ℕ) (k : Keeping) (o : KeepOk s bytes k) (n 
 
 -- ---- every plan
 
-pub whole-pids : (s : Store) (e : Entry) (bytes : List ℕ) → WholeStore s → Taken bytes e → (e .key .from .pid ≡ 8192 → ⊥) → HasPids s → HasPids ((wholePushed s e bytes) .store)
+pub whole-pids : (s : Store) (e : Entry) (bytes : List ℕ) → Ready s → Taken bytes e → (e .key .from .pid ≡ 8192 → ⊥) → HasPids s → HasPids ((wholePushed s e bytes) .store)
 unfolding wholePushed planKeep
 whole-pids s e bytes w t n h =
     plan-by s e bytes (λ p. PlanOk s bytes p → HasPids ((carried s bytes p) .store)) (λ o. h) (λ o. h) (λ i o. settled-pids s i h)
-    (λ i o j l z. h j l (sym (touched-not (s .sets .used) i (s .heads) j 0 (omega arith) (omega arith)) ∙ z)) keep (plan-ok s w e bytes t)
+    (λ i o j l z. h j l (sym (touched-not (s .sets .clock + 1) i (s .heads) j 0 (omega arith) (omega arith)) ∙ z)) keep (plan-ok s w e bytes t)
   where
     keep : (r : Room) → PlanOk s bytes (planKeep s e r) → HasPids ((carried s bytes (planKeep s e r)) .store)
     keep r = go (lowestFree (takenIn (s .heads) (s .slots) (goneRow r (s .sets .used)) (s .sets .used)) (s .sets .count))
@@ -141,16 +141,17 @@ arrived-pid input (maybe.Some v) bytes e q z = go (ltb v 8192) (ltb input 16) re
 
 pub push-pids : (s : Store) (input : ℕ) (pid : MaybePid) (bytes : List ℕ) → getD bytes 7 0 < 256 → HasPids s → HasPids ((pushedOf s input pid bytes) .store)
 unfolding pushedOf admitted
-push-pids s input pid bytes b h = rw (none-without s h) (go (wholeOf s) (eqb (s .sets .evictions) 18446744073709551615) refl)
+push-pids s input pid bytes b h = rw (none-without s h) (go (wholeOf s) (countersFull (s .sets)) refl refl)
   where
-    arrived : WholeStore s → (a : SetArrival) → setArrival input pid bytes ≡ a → SetTaken bytes a → HasPids ((pushedAs s bytes a) .store)
+    arrived : Ready s → (a : SetArrival) → setArrival input pid bytes ≡ a → SetTaken bytes a → HasPids ((pushedAs s bytes a) .store)
     arrived w (arrival.Refused r) q o = h
     arrived w (arrival.Arrived e) q o = whole-pids s e bytes w o (arrived-pid input pid bytes e q) h
 
-    go : (w t : Bool) → wholeOf s ≡ w → HasPids ((pushedAs s bytes (cond w (cond t (arrival.Refused CounterFull) (setArrival input pid bytes)) (arrival.Refused NotWhole))) .store)
-    go false t q = h
-    go true true q = h
-    go true false q = arrived (whole-means s q) (setArrival input pid bytes) refl (set-taken bytes b input pid)
+    go : (w t : Bool) → wholeOf s ≡ w → countersFull (s .sets) ≡ t → HasPids ((pushedAs s bytes (cond w (cond t (arrival.Refused CounterFull) (setArrival input pid bytes)) (arrival.Refused NotWhole))) .store)
+    go false t q f = h
+    go true true q f = h
+    go true false q f =
+        arrived (record { whole = whole-means s q; counts = evictions-go-on (s .sets) false (sym f) refl; runs = clock-goes-on (s .sets) false (sym f) refl }) (setArrival input pid bytes) refl (set-taken bytes b input pid)
 
 pub clear-pids : (s : Store) → HasPids s → HasPids ((clearedOf s) .store)
 unfolding clearedOf

@@ -1,17 +1,17 @@
 -- A refusal leaves all as before; 22 touches the key, and leaves all else as before.
 -- Assumes nothing.
 use mathlib.Core.Path.{_≡_, refl, sym}
-use mathlib.Core.Logic.{_≢_}
+use mathlib.Core.Logic.{_≢_, _⊎_, inl, inr}
 use mathlib.Core.List.{List}
 use mathlib.Core.Bool.{Bool, true, false, cond}
-use Prim.Native.Nat.{ℕ, _<_}
+use Prim.Native.Nat.{ℕ, _+_, _<_}
 use native.Mathlib.Omega.{arith}
 use Rattle.answers.specs.declared.Refusal.{Refusal}
 use Rattle.answers.specs.declared.Refusal.the-variants.{Conflict}
 use Rattle.section.specs.declared.ids.MaybePid.{MaybePid}
 use Rattle.rows.specs.Rows.{word, touched}
 use Rattle.rows.proofs.Words.{touched-not}
-use Rattle.store.specs.Store.{Store, store}
+use Rattle.store.specs.Store.{Store, store, risenSets}
 use Rattle.arrivals.specs.declared.SetArrival.{SetArrival}
 use Rattle.arrivals.specs.declared.SetArrival.the-variants as arrival
 use Rattle.sets_settle.specs.declared.PushAnswer.the-variants.{Nothing, Set, Refused}
@@ -25,10 +25,10 @@ use Rattle.sets.specs.Store.{pushedAs, pushedOf}
 -- what a row that is settled tells is 4 or 5
 settled-tells : (s : Store) (i : ℕ) (r : Refusal) → (settled s i) .told ≢ refused r
 unfolding settled settledAnswer
-settled-tells s i r = go (goesOut (touched (s .sets .used) i (s .heads)) (s .slots) i)
+settled-tells s i r = go (goesOut (touched (s .sets .clock + 1) i (s .heads)) (s .slots) i)
   where
     left-it : Store
-    left-it = store (s .sets) (settledHeads (s .sets .used) (s .heads) (s .slots) i) (s .slots) (s .cells)
+    left-it = store (risenSets (s .sets)) (settledHeads (s .sets .clock + 1) (s .heads) (s .slots) i) (s .slots) (s .cells)
 
     go : (b : Bool) → answerOf (cond b (Set i) Nothing) left-it ≢ refused r
     go true q = let t : handed (setIn left-it i) ≡ refused r = q in let z : _≡_ {A = ℕ} 0 1 = cc in omega arith
@@ -47,20 +47,20 @@ module _ (s : Store) (bytes : List ℕ) where
   pushed-keeps (arrival.Refused x) r e k = refl
   pushed-keeps (arrival.Arrived x) r e k = carried-keeps (planOf s x bytes) r e k
 
-  -- what a conflict leaves: settings, counts, slots and cells, and every word of a head but the ages
+  -- what a conflict leaves: settings, counts, slots and cells, and every word of a head but the ticks; the clock rises
   pub record AsBefore (t : Store) : Type 0 where
-    pub sets : t .sets ≡ s .sets
+    pub sets : (t .sets ≡ s .sets) ⊎ (t .sets ≡ risenSets (s .sets))
     pub slots : t .slots ≡ s .slots
     pub cells : t .cells ≡ s .cells
     pub heads : (j m : ℕ) → m ≢ 9 → m < 12 → word (t .heads) j m ≡ word (s .heads) j m
 
   unchanged : AsBefore s
-  unchanged = record { sets = refl; slots = refl; cells = refl; heads = λ j m ne h. refl }
+  unchanged = record { sets = inl refl; slots = refl; cells = refl; heads = λ j m ne h. refl }
 
   carried-conflicts : (p : Plan) → (carried s bytes p) .told ≡ refused Conflict → AsBefore ((carried s bytes p) .store)
   carried-conflicts (plan.Refuse x) e = unchanged
   carried-conflicts plan.Silent e = unchanged
-  carried-conflicts (plan.Conflict i) e = record { sets = refl; slots = refl; cells = refl; heads = λ j m ne h. touched-not (s .sets .used) i (s .heads) j m ne h }
+  carried-conflicts (plan.Conflict i) e = record { sets = inr refl; slots = refl; cells = refl; heads = λ j m ne h. touched-not (s .sets .clock + 1) i (s .heads) j m ne h }
   carried-conflicts (plan.Repeat i) e = absurd (settled-tells s i Conflict e)
   carried-conflicts (plan.Keep m) e = absurd (settled-tells (keptIn s bytes m) (m .room .row) Conflict e)
 

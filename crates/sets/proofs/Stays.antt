@@ -23,7 +23,7 @@ use Rattle.rows.proofs.Whole.{slot-get, slot-all}
 use Rattle.rows.specs.declared.Entry.{Entry}
 use Rattle.rows.specs.declared.Room.{Room}
 use Rattle.without_pid.specs.Pids.{withoutPid}
-use Rattle.store.specs.Store.{Store, store, emptySets, settingsFit, wholeOf, Whole, WholeStore}
+use Rattle.store.specs.Store.{Store, store, emptySets, risenSets, settingsFit, wholeOf, countersFull, Whole, WholeStore}
 use Rattle.store.specs.declared.Sets.{Sets}
 use Rattle.store.proofs.Whole.{long, means-whole, cell-fits}
 use Rattle.arrivals.specs.Arrivals.{setArrival, Taken}
@@ -35,7 +35,7 @@ use Rattle.sets_settle.specs.declared.PushAnswer.the-variants.{Nothing, Set, Re
 use Rattle.sets_plan.specs.declared.Keeping.{Keeping}
 use Rattle.sets_plan.specs.declared.Plan.{Plan}
 use Rattle.sets_plan.specs.declared.Plan.the-variants as plan
-use Rattle.sets_plan.specs.Plan.{planKeep, planOf, KeepOk, PlanOk}
+use Rattle.sets_plan.specs.Plan.{planKeep, planOf, Ready, KeepOk, PlanOk}
 use Rattle.sets_settle.specs.Settle.{Told, done, nothing, handed, refused, after, answerOf, goesOut, settledAnswer, settledHeads, settled, keptIn, carried}
 use Rattle.sets_push.specs.Pushing.{wholePushed, admitted, AdmittedOk}
 use Rattle.sets.specs.Store.{pushedAs, pushedOf, clearedOf, openedOf}
@@ -46,7 +46,7 @@ use Rattle.sets_plan.proofs.Every.{plan-by}
 
 -- ---- heads that differ in no last_section_number
 
-heads-whole : (s : Sets) (heads heads' slots cells : List ℕ) → ((j : ℕ) → lastOf heads' j ≡ lastOf heads j) → length heads' ≡ length heads → Whole s heads slots cells → Whole s heads' slots cells
+heads-whole : (s : Sets) (heads heads' slots cells : List ℕ) → ((j : ℕ) → lastOf heads' j ≡ lastOf heads j) → length heads' ≡ length heads → Whole s heads slots cells → Whole (risenSets s) heads' slots cells
 heads-whole s heads heads' slots cells e l w =
     let u = w .used in
     let sl = w .slots-long in
@@ -62,27 +62,27 @@ heads-whole s heads heads' slots cells e l w =
           slot-get heads slots (s .count) (s .size) (s .used) i k (w .rows) h (omega arith) (rw (e i) at hk));
     }
 
-settled-last : (used i : ℕ) (heads slots : List ℕ) (j : ℕ) → lastOf (settledHeads used heads slots i) j ≡ lastOf heads j
+settled-last : (clock i : ℕ) (heads slots : List ℕ) (j : ℕ) → lastOf (settledHeads clock heads slots i) j ≡ lastOf heads j
 unfolding settledHeads
-settled-last used i heads slots j = go (goesOut (touched used i heads) slots i)
+settled-last clock i heads slots j = go (goesOut (touched clock i heads) slots i)
   where
-    go : (b : Bool) → lastOf (cond b (withMark i 1 (touched used i heads)) (touched used i heads)) j ≡ lastOf heads j
-    go true = put-not (touched used i heads) i 8 1 j 7 (omega arith) (omega arith) (omega arith) ∙ touched-not used i heads j 7 (omega arith) (omega arith)
-    go false = touched-not used i heads j 7 (omega arith) (omega arith)
+    go : (b : Bool) → lastOf (cond b (withMark i 1 (touched clock i heads)) (touched clock i heads)) j ≡ lastOf heads j
+    go true = put-not (touched clock i heads) i 8 1 j 7 (omega arith) (omega arith) (omega arith) ∙ touched-not clock i heads j 7 (omega arith) (omega arith)
+    go false = touched-not clock i heads j 7 (omega arith) (omega arith)
 
-settled-length : (used i : ℕ) (heads slots : List ℕ) → length (settledHeads used heads slots i) ≡ length heads
+settled-length : (clock i : ℕ) (heads slots : List ℕ) → length (settledHeads clock heads slots i) ≡ length heads
 unfolding settledHeads
-settled-length used i heads slots = go (goesOut (touched used i heads) slots i)
+settled-length clock i heads slots = go (goesOut (touched clock i heads) slots i)
   where
-    go : (b : Bool) → length (cond b (withMark i 1 (touched used i heads)) (touched used i heads)) ≡ length heads
-    go true = length-put i 8 1 (touched used i heads) ∙ length-touched used i heads
-    go false = length-touched used i heads
+    go : (b : Bool) → length (cond b (withMark i 1 (touched clock i heads)) (touched clock i heads)) ≡ length heads
+    go true = length-put i 8 1 (touched clock i heads) ∙ length-touched clock i heads
+    go false = length-touched clock i heads
 
 settled-whole : (s : Store) (i : ℕ) → WholeStore s → WholeStore ((settled s i) .store)
 unfolding settled
 settled-whole s i w =
-    heads-whole (s .sets) (s .heads) (settledHeads (s .sets .used) (s .heads) (s .slots) i) (s .slots) (s .cells)
-    (settled-last (s .sets .used) i (s .heads) (s .slots)) (settled-length (s .sets .used) i (s .heads) (s .slots)) w
+    heads-whole (s .sets) (s .heads) (settledHeads (s .sets .clock + 1) (s .heads) (s .slots) i) (s .slots) (s .cells)
+    (settled-last (s .sets .clock + 1) i (s .heads) (s .slots)) (settled-length (s .sets .clock + 1) i (s .heads) (s .slots)) w
 
 -- ---- a section is kept
 
@@ -174,19 +174,19 @@ carried-whole : (s : Store) (bytes : List ℕ) → WholeStore s → (p : Plan) �
 carried-whole s bytes w (plan.Refuse r) o = w
 carried-whole s bytes w plan.Silent o = w
 carried-whole s bytes w (plan.Conflict i) o =
-    heads-whole (s .sets) (s .heads) (touched (s .sets .used) i (s .heads)) (s .slots) (s .cells) (λ j. touched-not (s .sets .used) i (s .heads) j 7 (omega arith) (omega arith))
-    (length-touched (s .sets .used) i (s .heads)) w
+    heads-whole (s .sets) (s .heads) (touched (s .sets .clock + 1) i (s .heads)) (s .slots) (s .cells) (λ j. touched-not (s .sets .clock + 1) i (s .heads) j 7 (omega arith) (omega arith))
+    (length-touched (s .sets .clock + 1) i (s .heads)) w
 carried-whole s bytes w (plan.Repeat i) o = settled-whole s i w
 carried-whole s bytes w (plan.Keep k) o = settled-whole (keptIn s bytes k) (k .room .row) (kept-whole s bytes k o)
 
 -- the part behind the refusals: whatever a section came with, a store that is whole stays whole
-pub whole-stays : (s : Store) (e : Entry) (bytes : List ℕ) → WholeStore s → Taken bytes e → WholeStore ((wholePushed s e bytes) .store)
+pub whole-stays : (s : Store) (e : Entry) (bytes : List ℕ) → Ready s → Taken bytes e → WholeStore ((wholePushed s e bytes) .store)
 unfolding wholePushed
-whole-stays s e bytes w t = carried-whole s bytes w (planOf s e bytes) (plan-ok s w e bytes t)
+whole-stays s e bytes w t = carried-whole s bytes (w .whole) (planOf s e bytes) (plan-ok s w e bytes t)
 
 pushed-whole : (s : Store) (bytes : List ℕ) → WholeStore s → (a : SetArrival) → AdmittedOk s bytes a → WholeStore ((pushedAs s bytes a) .store)
 pushed-whole s bytes w (arrival.Refused r) o = w
-pushed-whole s bytes w (arrival.Arrived e) o = whole-stays s e bytes w (o .1)
+pushed-whole s bytes w (arrival.Arrived e) o = whole-stays s e bytes (o .0) (o .1)
 
 pub push-stays : (s : Store) (input : ℕ) (pid : MaybePid) (bytes : List ℕ) → getD bytes 7 0 < 256 → WholeStore s → WholeStore ((pushedOf s input pid bytes) .store)
 unfolding pushedOf
@@ -262,10 +262,10 @@ not-ten (refused r) e q = let z : r ≡ NotWhole = cc in eqb-false (refusalNo r)
 
 ten-settled : (s : Store) (i : ℕ) → ten ((settled s i) .told) ≡ false
 unfolding settled settledAnswer ten
-ten-settled s i = go (goesOut (touched (s .sets .used) i (s .heads)) (s .slots) i)
+ten-settled s i = go (goesOut (touched (s .sets .clock + 1) i (s .heads)) (s .slots) i)
   where
     after-it : Store
-    after-it = store (s .sets) (settledHeads (s .sets .used) (s .heads) (s .slots) i) (s .slots) (s .cells)
+    after-it = store (risenSets (s .sets)) (settledHeads (s .sets .clock + 1) (s .heads) (s .slots) i) (s .slots) (s .cells)
 
     go : (b : Bool) → ten (answerOf (cond b (Set i) Nothing) after-it) ≡ false
     go true = refl
@@ -288,7 +288,7 @@ ten-planned s e bytes = plan-by s e bytes (λ p. ten ((carried s bytes p) .told)
 
 ten-pushed : (s : Store) (input : ℕ) (pid : MaybePid) (bytes : List ℕ) → wholeOf s ≡ true → ten ((pushedOf s input pid bytes) .told) ≡ false
 unfolding pushedOf admitted ten
-ten-pushed s input pid bytes w = rw w (go (eqb (s .sets .evictions) 18446744073709551615) (withoutPid (s .heads) (s .sets .used)))
+ten-pushed s input pid bytes w = rw w (go (countersFull (s .sets)) (withoutPid (s .heads) (s .sets .used)))
   where
     arrived : (a : SetArrival) → setArrival input pid bytes ≡ a → ten ((pushedAs s bytes a) .told) ≡ false
     arrived (arrival.Refused r) q = set-not-ten input pid bytes r q

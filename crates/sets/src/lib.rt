@@ -42,6 +42,7 @@ pub fn open(
         count,
         used: 0,
         evictions: 0,
+        clock: 0,
     };
     if store::settings_fit(sets, heads.len(), slots.len(), cells.len()) {
         Opened {
@@ -79,7 +80,7 @@ pub fn push(
     }
 }
 
-// Empties all rows: 10, 41 where a row has no PID, else 7. The count of evictions stays.
+// Empties all rows: 10, 41 where a row has no PID, else 7. The count of evictions and the clock stay.
 pub fn clear(sets: Sets, heads: &[u64], slots: &[u32], cells: &[u8]) -> Cleared
     ensures { λ r. ⌜ afterClear r (now (heads .entry)) (now (slots .entry)) (now (cells .entry)) ≡ clearedOf (store sets (now (heads .entry)) (now (slots .entry)) (now (cells .entry))) ⌝ }
 {
@@ -98,6 +99,7 @@ pub fn clear(sets: Sets, heads: &[u64], slots: &[u32], cells: &[u8]) -> Cleared
                 count: sets.count,
                 used: 0,
                 evictions: sets.evictions,
+                clock: sets.clock,
             },
         };
     }

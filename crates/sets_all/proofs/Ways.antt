@@ -17,9 +17,9 @@ use Rattle.section.specs.declared.ids.MaybePid.{MaybePid}
 use Rattle.section.specs.declared.ids.MaybePid.the-variants as maybe
 use Rattle.rows.specs.declared.Entry.{Entry}
 use Rattle.without_pid.specs.Pids.{withoutPid}
-use Rattle.store.specs.Store.{Store, store, wholeOf}
+use Rattle.store.specs.Store.{Store, store, wholeOf, countersFull}
 use Rattle.store.specs.declared.Sets.{Sets}
-use Rattle.store.proofs.Whole.{means-whole, is-whole-means}
+use Rattle.store.proofs.Whole.{means-whole, is-whole-means, evictions-go-on, clock-goes-on}
 use Rattle.arrivals.specs.Arrivals.{setArrival, SetTaken, Taken}
 use Rattle.arrivals.specs.declared.SetArrival.{SetArrival}
 use Rattle.arrivals.specs.declared.SetArrival.the-variants as arrival
@@ -62,18 +62,19 @@ module _ (sets : Sets) (heads slots cells : List ℕ) (w : Pushable sets heads s
         pids = none-without ((pushedOf here input pid bytes) .store) (push-pids here input pid bytes b (has-pids here (w .pids)));
       })
 
-  pub ready-full : sets .evictions ≡ 18446744073709551615 → afterPush (record { answer = push-answer.Refused CounterFull; sets = sets }) heads slots cells ≡ pushedOf here input pid bytes
-  ready-full h = pushed-refused here input pid bytes (arrival.Refused CounterFull) (admit-full here input pid bytes true whole refl h) CounterFull refl
+  module _ (full : Bool) (g : full ≡ countersFull sets) where
+    pub ready-full : full ≡ true → afterPush (record { answer = push-answer.Refused CounterFull; sets = sets }) heads slots cells ≡ pushedOf here input pid bytes
+    ready-full h = pushed-refused here input pid bytes (arrival.Refused CounterFull) (admit-full here input pid bytes true whole full g refl h) CounterFull refl
 
-  pub ready-refused : (a : SetArrival) → (sets .evictions ≡ 18446744073709551615 → ⊥) → a ≡ setArrival input pid bytes → (r : Refusal) → a ≡ arrival.Refused r
-      → afterPush (record { answer = push-answer.Refused r; sets = sets }) heads slots cells ≡ pushedOf here input pid bytes
-  ready-refused a ne e r q = pushed-refused here input pid bytes a (admit-section here input pid bytes true whole false a refl ne (sym (w .pids)) refl e) r q
+    pub ready-refused : (a : SetArrival) → full ≡ false → a ≡ setArrival input pid bytes → (r : Refusal) → a ≡ arrival.Refused r
+        → afterPush (record { answer = push-answer.Refused r; sets = sets }) heads slots cells ≡ pushedOf here input pid bytes
+    ready-refused a ne e r q = pushed-refused here input pid bytes a (admit-section here input pid bytes true whole full g refl false a ne (sym (w .pids)) refl e) r q
 
-  pub ready-arrived : (a : SetArrival) → (sets .evictions ≡ 18446744073709551615 → ⊥) → a ≡ setArrival input pid bytes → (x : Entry) → a ≡ arrival.Arrived x → (k : SetsAfter) → k ≡ wholePushed here x bytes → k ≡ pushedOf here input pid bytes
-  ready-arrived a ne e x q k f = pushed-arrived here input pid bytes a (admit-section here input pid bytes true whole false a refl ne (sym (w .pids)) refl e) x k q f
+    pub ready-arrived : (a : SetArrival) → full ≡ false → a ≡ setArrival input pid bytes → (x : Entry) → a ≡ arrival.Arrived x → (k : SetsAfter) → k ≡ wholePushed here x bytes → k ≡ pushedOf here input pid bytes
+    ready-arrived a ne e x q k f = pushed-arrived here input pid bytes a (admit-section here input pid bytes true whole full g refl false a ne (sym (w .pids)) refl e) x k q f
 
-  pub ready-may : (a : SetArrival) → (sets .evictions ≡ 18446744073709551615 → ⊥) → SetTaken bytes a → (x : Entry) → a ≡ arrival.Arrived x → Ready here × Taken bytes x
-  ready-may a ne t x q = (record { whole = w .whole; counts = ne }, subst (SetTaken bytes) q t)
+    pub ready-may : (a : SetArrival) → full ≡ false → SetTaken bytes a → (x : Entry) → a ≡ arrival.Arrived x → Ready here × Taken bytes x
+    ready-may a ne t x q = (record { whole = w .whole; counts = evictions-go-on sets full g ne; runs = clock-goes-on sets full g ne }, subst (SetTaken bytes) q t)
 
 -- ---- one after another
 
@@ -126,19 +127,20 @@ module _ (sets : Sets) (heads slots cells : List ℕ) (gs : List Given) (w : Boo
   unfolding pushedSections
   listed-broken r t q = rw (q, ← e, t)
 
-  pub listed-full : (r : AllPushed) → w ≡ true → sets .evictions ≡ 18446744073709551615 → r ≡ none CounterFull sets → afterAll r heads slots cells ≡ pushedSections (store sets heads slots cells) gs
-  unfolding pushedSections
-  listed-full r t h q = rw (q, ← e, t, eq-eqb (sets .evictions) 18446744073709551615 h)
+  module _ (full : Bool) (g : full ≡ countersFull sets) (t : w ≡ true) where
+    pub listed-full : (r : AllPushed) → full ≡ true → r ≡ none CounterFull sets → afterAll r heads slots cells ≡ pushedSections (store sets heads slots cells) gs
+    unfolding pushedSections
+    listed-full r h q = rw (q, ← e, t, ← g, h)
 
-  pub listed-without : (n : Bool) (r : AllPushed) → w ≡ true → (sets .evictions ≡ 18446744073709551615 → ⊥) → n ≡ withoutPid heads (sets .used) → n ≡ true → r ≡ none NoPid sets
-      → afterAll r heads slots cells ≡ pushedSections (store sets heads slots cells) gs
-  unfolding pushedSections
-  listed-without n r t h f y q = rw (q, ← e, t, ne-eqb (sets .evictions) 18446744073709551615 h, ← f, y)
+    pub listed-without : (n : Bool) (r : AllPushed) → full ≡ false → n ≡ withoutPid heads (sets .used) → n ≡ true → r ≡ none NoPid sets
+        → afterAll r heads slots cells ≡ pushedSections (store sets heads slots cells) gs
+    unfolding pushedSections
+    listed-without n r h f y q = rw (q, ← e, t, ← g, h, ← f, y)
 
-  pub listed-each : (n : Bool) (k : AllAfter) → w ≡ true → (sets .evictions ≡ 18446744073709551615 → ⊥) → n ≡ withoutPid heads (sets .used) → n ≡ false → k ≡ pushedEach 0 (store sets heads slots cells) gs
-      → k ≡ pushedSections (store sets heads slots cells) gs
-  unfolding pushedSections
-  listed-each n k t h f y q = rw (← e, t, ne-eqb (sets .evictions) 18446744073709551615 h, ← f, y) q
+    pub listed-each : (n : Bool) (k : AllAfter) → full ≡ false → n ≡ withoutPid heads (sets .used) → n ≡ false → k ≡ pushedEach 0 (store sets heads slots cells) gs
+        → k ≡ pushedSections (store sets heads slots cells) gs
+    unfolding pushedSections
+    listed-each n k h f y q = rw (← e, t, ← g, h, ← f, y) q
 
 -- a store that passed both looks
 pub looked : (s : Sets) (heads slots cells : List ℕ) (w n : Bool) → w ≡ wholeOf (store s heads slots cells) → w ≡ true → n ≡ withoutPid heads (s .used) → n ≡ false → Pushable s heads slots cells

@@ -5,12 +5,11 @@ use Prim.Native.Nat.{ℕ, _+_}
 use mathlib.Core.Path.{_≡_}
 use mathlib.Core.List.{List, [], _∷_}
 use mathlib.Core.Bool.{Bool, true, false, cond}
-use lib.Dec.{eqb}
 use lib.ListN.{length}
 use Rattle.answers.specs.declared.Refusal.the-variants.{NotWhole, CounterFull, NoPid}
 use Rattle.section.specs.declared.ids.MaybePid.the-variants as maybe
 use Rattle.without_pid.specs.Pids.{withoutPid}
-use Rattle.store.specs.Store.{Store, store, wholeOf, Whole}
+use Rattle.store.specs.Store.{Store, store, wholeOf, Whole, countersFull}
 use Rattle.store.specs.declared.Sets.{Sets}
 use Rattle.sets_settle.specs.Settle.{Told, done, nothing, handed, refused, SetsAfter, answerOf, pushNo}
 use Rattle.sets.specs.Store.{pushedOf}
@@ -61,7 +60,7 @@ pushedEach n s (g ∷ gs) =
 unfoldable pub pushedSections : Store → List Given → AllAfter
 pushedSections s gs =
     cond (wholeOf s)
-    (cond (eqb (s .sets .evictions) 18446744073709551615) (allAfter (of (refused CounterFull)) s 0)
+    (cond (countersFull (s .sets)) (allAfter (of (refused CounterFull)) s 0)
     (cond (withoutPid (s .heads) (s .sets .used)) (allAfter (of (refused NoPid)) s 0) (pushedEach 0 s gs)))
     (allAfter (of (refused NotWhole)) s 0)
 

@@ -56,7 +56,7 @@ fn push_ready(
     ensures { λ r. ⌜ afterPush r (now (heads .exit)) (now (slots .exit)) (now (cells .exit)) ≡ pushedOf (store sets (now (heads .entry)) (now (slots .entry)) (now (cells .entry))) input pid (now (bytes .entry)) ⌝ }
     ensures { λ r. ⌜ Pushable (r .sets) (now (heads .exit)) (now (slots .exit)) (now (cells .exit)) ⌝ }
 {
-    if sets.evictions == u64::MAX {
+    if store::counters_full(sets) {
         return Pushed {
             answer: PushAnswer::Refused(Refusal::CounterFull),
             sets,
@@ -158,8 +158,7 @@ fn push_listed(
     ensures { λ r. ⌜ afterAll r (now (heads .exit)) (now (slots .exit)) (now (cells .exit)) ≡ pushedSections (store sets (now (heads .entry)) (now (slots .entry)) (now (cells .entry))) (givensFrom (now (list .entry)) 0) ⌝ }
 {
     if store::is_whole(sets, heads, slots, cells) {
-        let evictions = sets.evictions;
-        if evictions == u64::MAX {
+        if store::counters_full(sets) {
             return refuse(
                 AllAnswer::Pushed(PushAnswer::Refused(Refusal::CounterFull)),
                 sets,

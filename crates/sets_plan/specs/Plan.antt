@@ -2,6 +2,7 @@
 -- (docs/RULES.md, "Collectors" and "Cells"). `cond test a b` is a where the test is true, else b.
 use Prim.Native.Nat.{ℕ, _≤_, _<_}
 use mathlib.Core.Path.{_≡_}
+use mathlib.Core.Logic.{_≢_}
 use mathlib.Core.List.{List}
 use mathlib.Core.Bool.{cond}
 use lib.ListN.{length}
@@ -43,6 +44,7 @@ planOf s e bytes =
 pub record Ready (s : Store) : Type 0 where
   pub whole : Whole (s .sets) (s .heads) (s .slots) (s .cells)
   pub counts : s .sets .evictions ≡ 18446744073709551615 → ⊥
+  pub runs : s .sets .clock ≢ 18446744073709551615
 
 pub record KeepOk (s : Store) (bytes : List ℕ) (k : Keeping) : Type 0 where
   pub whole : Whole (s .sets) (s .heads) (s .slots) (s .cells)
@@ -51,10 +53,12 @@ pub record KeepOk (s : Store) (bytes : List ℕ) (k : Keeping) : Type 0 where
   pub cell : k .cell < s .sets .count
   pub long : 12 ≤ length bytes
   pub fits : length bytes ≤ s .sets .size
+  pub runs : s .sets .clock ≢ 18446744073709551615
 
 pub record RowOk (s : Store) (i : ℕ) : Type 0 where
   pub whole : Whole (s .sets) (s .heads) (s .slots) (s .cells)
   pub row : i < s .sets .used
+  pub runs : s .sets .clock ≢ 18446744073709551615
 
 -- what a plan may say
 abbrev pub PlanOk : Store → List ℕ → Plan → Type 0

@@ -4,17 +4,15 @@ use mathlib.Core.Path.{_≡_, refl, sym, _∙_}
 use mathlib.Core.List.{List}
 use mathlib.Core.Bool.{Bool, true, false, cond}
 use Prim.Native.Nat.{ℕ, _*_, _≤_, _<_}
-use borrow.Author.Tests.{eq-eqb, ne-eqb, eqb-false}
-use lib.Dec.{eqb}
 use native.Mathlib.Omega.{arith}
 use lib.ListN.{length, getD}
 use Rattle.answers.specs.declared.Refusal.the-variants.{NotWhole, CounterFull, NoPid}
 use Rattle.section.specs.declared.ids.MaybePid.{MaybePid}
 use Rattle.rows.specs.declared.Entry.{Entry}
 use Rattle.without_pid.specs.Pids.{withoutPid}
-use Rattle.store.specs.Store.{Store, store, wholeOf}
+use Rattle.store.specs.Store.{Store, store, wholeOf, countersFull}
 use Rattle.store.specs.declared.Sets.{Sets}
-use Rattle.store.proofs.Whole.{whole-means, is-whole-means}
+use Rattle.store.proofs.Whole.{whole-means, is-whole-means, evictions-go-on, clock-goes-on}
 use Rattle.arrivals.specs.Arrivals.{setArrival, SetTaken}
 use Rattle.arrivals.specs.declared.SetArrival.{SetArrival}
 use Rattle.arrivals.specs.declared.SetArrival.the-variants as arrival
@@ -32,17 +30,18 @@ module _ (s : Store) (input : ℕ) (pid : MaybePid) (bytes : List ℕ) (w : Bool
   unfolding admitted
   admit-broken t = rw (← e, t)
 
-  pub admit-full : w ≡ true → s .sets .evictions ≡ 18446744073709551615 → arrival.Refused CounterFull ≡ admitted s input pid bytes
-  unfolding admitted
-  admit-full t h = rw (← e, t, eq-eqb (s .sets .evictions) 18446744073709551615 h)
+  module _ (full : Bool) (g : full ≡ countersFull (s .sets)) (t : w ≡ true) where
+    pub admit-full : full ≡ true → arrival.Refused CounterFull ≡ admitted s input pid bytes
+    unfolding admitted
+    admit-full h = rw (← e, t, ← g, h)
 
-  pub admit-without : (n : Bool) → w ≡ true → (s .sets .evictions ≡ 18446744073709551615 → ⊥) → n ≡ withoutPid (s .heads) (s .sets .used) → n ≡ true → arrival.Refused NoPid ≡ admitted s input pid bytes
-  unfolding admitted
-  admit-without n t h f y = rw (← e, t, ne-eqb (s .sets .evictions) 18446744073709551615 h, ← f, y)
+    pub admit-without : (n : Bool) → full ≡ false → n ≡ withoutPid (s .heads) (s .sets .used) → n ≡ true → arrival.Refused NoPid ≡ admitted s input pid bytes
+    unfolding admitted
+    admit-without n h f y = rw (← e, t, ← g, h, ← f, y)
 
-  pub admit-section : (n : Bool) (a : SetArrival) → w ≡ true → (s .sets .evictions ≡ 18446744073709551615 → ⊥) → n ≡ withoutPid (s .heads) (s .sets .used) → n ≡ false → a ≡ setArrival input pid bytes → a ≡ admitted s input pid bytes
-  unfolding admitted
-  admit-section n a t h f y q = rw (← e, t, ne-eqb (s .sets .evictions) 18446744073709551615 h, ← f, y) q
+    pub admit-section : (n : Bool) (a : SetArrival) → full ≡ false → n ≡ withoutPid (s .heads) (s .sets .used) → n ≡ false → a ≡ setArrival input pid bytes → a ≡ admitted s input pid bytes
+    unfolding admitted
+    admit-section n a h f y q = rw (← e, t, ← g, h, ← f, y) q
 
 -- the heads of a store that is whole have all rows in use
 pub rows-lent : (s : Sets) (heads slots cells : List ℕ) (w : Bool) → w ≡ wholeOf (store s heads slots cells) → w ≡ true → s .used * 12 ≤ length heads
@@ -54,19 +53,20 @@ module _ (s : Store) (bytes : List ℕ) where
   arrived-ok r (arrival.Refused x) t = tt
   arrived-ok r (arrival.Arrived e) t = (r, t)
 
-  pub admitted-may : (w : Bool) (a : SetArrival) → w ≡ wholeOf s → w ≡ true → (s .sets .evictions ≡ 18446744073709551615 → ⊥) → SetTaken bytes a → AdmittedOk s bytes a
-  admitted-may w a e t ne x = arrived-ok (record { whole = whole-means s (sym e ∙ t); counts = ne }) a x
+  pub admitted-may : (w full : Bool) (a : SetArrival) → w ≡ wholeOf s → w ≡ true → full ≡ countersFull (s .sets) → full ≡ false → SetTaken bytes a → AdmittedOk s bytes a
+  admitted-may w full a e t g h x =
+      arrived-ok (record { whole = whole-means s (sym e ∙ t); counts = evictions-go-on (s .sets) full g h; runs = clock-goes-on (s .sets) full g h }) a x
 
   pub admitted-ok : (input : ℕ) (pid : MaybePid) → getD bytes 7 0 < 256 → AdmittedOk s bytes (admitted s input pid bytes)
   unfolding admitted
-  admitted-ok input pid b = go (wholeOf s) (eqb (s .sets .evictions) 18446744073709551615) (withoutPid (s .heads) (s .sets .used)) refl refl
+  admitted-ok input pid b = go (wholeOf s) (countersFull (s .sets)) (withoutPid (s .heads) (s .sets .used)) refl refl
     where
-      go : (w t n : Bool) → wholeOf s ≡ w → eqb (s .sets .evictions) 18446744073709551615 ≡ t
+      go : (w t n : Bool) → wholeOf s ≡ w → countersFull (s .sets) ≡ t
           → AdmittedOk s bytes (cond w (cond t (arrival.Refused CounterFull) (cond n (arrival.Refused NoPid) (setArrival input pid bytes))) (arrival.Refused NotWhole))
       go false t n p q = tt
       go true true n p q = tt
       go true false true p q = tt
-      go true false false p q = admitted-may true (setArrival input pid bytes) (sym p) refl (eqb-false (s .sets .evictions) 18446744073709551615 q) (set-taken bytes b input pid)
+      go true false false p q = admitted-may true false (setArrival input pid bytes) (sym p) refl (sym q) refl (set-taken bytes b input pid)
 
 pub pushed-whole : (s : Store) (e : Entry) (bytes : List ℕ) (p : Plan) (k : SetsAfter) → p ≡ planOf s e bytes → k ≡ carried s bytes p → k ≡ wholePushed s e bytes
 unfolding wholePushed

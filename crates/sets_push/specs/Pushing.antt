@@ -3,12 +3,11 @@
 use Prim.Native.Nat.{ℕ}
 use mathlib.Core.List.{List}
 use mathlib.Core.Bool.{cond}
-use lib.Dec.{eqb}
 use Rattle.answers.specs.declared.Refusal.the-variants.{NotWhole, CounterFull, NoPid}
 use Rattle.section.specs.declared.ids.MaybePid.{MaybePid}
 use Rattle.rows.specs.declared.Entry.{Entry}
 use Rattle.without_pid.specs.Pids.{withoutPid}
-use Rattle.store.specs.Store.{Store, wholeOf}
+use Rattle.store.specs.Store.{Store, wholeOf, countersFull}
 use Rattle.arrivals.specs.Arrivals.{setArrival, Taken}
 use Rattle.arrivals.specs.declared.SetArrival.{SetArrival}
 use Rattle.arrivals.specs.declared.SetArrival.the-variants as arrival
@@ -23,7 +22,7 @@ wholePushed s e bytes = carried s bytes (planOf s e bytes)
 unfoldable pub admitted : Store → (input : ℕ) → MaybePid → List ℕ → SetArrival
 admitted s input pid bytes =
     cond (wholeOf s)
-    (cond (eqb (s .sets .evictions) 18446744073709551615) (arrival.Refused CounterFull)
+    (cond (countersFull (s .sets)) (arrival.Refused CounterFull)
     (cond (withoutPid (s .heads) (s .sets .used)) (arrival.Refused NoPid) (setArrival input pid bytes)))
     (arrival.Refused NotWhole)
 

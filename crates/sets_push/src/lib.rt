@@ -27,7 +27,7 @@ pub fn admit(
 {
     let seen = store::look(sets, heads, slots, cells);
     if seen.whole {
-        if sets.evictions == u64::MAX {
+        if store::counters_full(sets) {
             return SetArrival::Refused(Refusal::CounterFull);
         }
         if seen.without {

@@ -1,6 +1,6 @@
 -- What a section that arrived leads to: what the set collector tells of it and leaves (docs/RULES.md, "Collectors", "Cells" and "Answers"), for every
 -- content of the lent memory. `cond test a b` is a where the test is true, else b.
-use Prim.Native.Nat.{ℕ, _*_}
+use Prim.Native.Nat.{ℕ, _+_, _*_}
 use mathlib.Core.List.{List, map}
 use mathlib.Core.Bool.{Bool, cond, _&&_}
 use lib.ListN.{length}
@@ -13,7 +13,7 @@ use Rattle.cells.specs.Cells.{slotWord, allFilled, kept}
 use Rattle.rows.specs.Rows.{keyAt, touched, keptHeads, rowSlots, keptSlots, lastOf, markOf, versionOf, withMark}
 use Rattle.rows.specs.declared.Key.{Key}
 use Rattle.rows.specs.declared.Room.{Room}
-use Rattle.store.specs.Store.{Store, store}
+use Rattle.store.specs.Store.{Store, store, risenSets}
 use Rattle.store.specs.declared.Sets.{Sets}
 use Rattle.sets_plan.specs.declared.Keeping.{Keeping}
 use Rattle.sets_plan.specs.declared.Plan.{Plan}
@@ -90,20 +90,20 @@ goesOut heads slots i = eqb (markOf heads i) 0 && allFilled (rowSlots heads slot
 
 -- row i becomes the newest, and goes out where it is full and not marked
 unfoldable pub settledAnswer : ℕ → List ℕ → List ℕ → ℕ → PushAnswer
-settledAnswer used heads slots i = cond (goesOut (touched used i heads) slots i) (push-answer.Set i) push-answer.Nothing
+settledAnswer clock heads slots i = cond (goesOut (touched clock i heads) slots i) (push-answer.Set i) push-answer.Nothing
 
 unfoldable pub settledHeads : ℕ → List ℕ → List ℕ → ℕ → List ℕ
-settledHeads used heads slots i =
-    let h : List ℕ = touched used i heads in
+settledHeads clock heads slots i =
+    let h : List ℕ = touched clock i heads in
     cond (goesOut h slots i) (withMark i 1 h) h
 
 unfoldable pub settled : Store → ℕ → SetsAfter
 settled s i =
-    answered (settledAnswer (s .sets .used) (s .heads) (s .slots) i)
-    (store (s .sets) (settledHeads (s .sets .used) (s .heads) (s .slots) i) (s .slots) (s .cells))
+    answered (settledAnswer (s .sets .clock + 1) (s .heads) (s .slots) i)
+    (store (risenSets (s .sets)) (settledHeads (s .sets .clock + 1) (s .heads) (s .slots) i) (s .slots) (s .cells))
 
 abbrev pub keptSets : Sets → Room → Sets
-keptSets s r = record { limit = s .limit; size = s .size; count = s .count; used = r .used; evictions = r .evictions }
+keptSets s r = record { limit = s .limit; size = s .size; count = s .count; used = r .used; evictions = r .evictions; clock = s .clock }
 
 -- the section's bytes are in its cell, its slot names them, and its row has no mark
 unfoldable pub keptIn : Store → List ℕ → Keeping → Store
@@ -115,6 +115,6 @@ keptIn s bytes k =
 abbrev pub carried : Store → List ℕ → Plan → SetsAfter
 carried s bytes (plan.Refuse r) = answered (push-answer.Refused r) s
 carried s bytes plan.Silent = answered push-answer.Nothing s
-carried s bytes (plan.Conflict i) = answered (push-answer.Refused Conflict) (store (s .sets) (touched (s .sets .used) i (s .heads)) (s .slots) (s .cells))
+carried s bytes (plan.Conflict i) = answered (push-answer.Refused Conflict) (store (risenSets (s .sets)) (touched (s .sets .clock + 1) i (s .heads)) (s .slots) (s .cells))
 carried s bytes (plan.Repeat i) = settled s i
 carried s bytes (plan.Keep k) = settled (keptIn s bytes k) (k .room .row)

@@ -45,12 +45,12 @@ fn goes_out(heads: &[u64], slots: &[u32], i: usize) -> bool
 }
 
 // Row i becomes the newest, and goes out and is marked where it is full and not marked.
-fn settle(heads: &mut [u64], slots: &[u32], used: usize, i: usize) -> PushAnswer
-    requires { ⌜ (i < used) × (used * 12 ≤ length (now heads)) × (used * 288 ≤ length (now slots)) ⌝ }
-    ensures { λ r. ⌜ r ≡ settledAnswer used (now (heads .entry)) (now (slots .entry)) i ⌝ }
-    ensures { λ r. ⌜ now (heads .exit) ≡ settledHeads used (now (heads .entry)) (now (slots .entry)) i ⌝ }
+fn settle(heads: &mut [u64], slots: &[u32], clock: u64, i: usize) -> PushAnswer
+    requires { ⌜ (i * 12 + 12 ≤ length (now heads)) × (i * 288 + 288 ≤ length (now slots)) ⌝ }
+    ensures { λ r. ⌜ r ≡ settledAnswer clock (now (heads .entry)) (now (slots .entry)) i ⌝ }
+    ensures { λ r. ⌜ now (heads .exit) ≡ settledHeads clock (now (heads .entry)) (now (slots .entry)) i ⌝ }
 {
-    rows::touch(heads, used, i);
+    rows::touch(heads, i, clock);
     if goes_out(heads, slots, i) {
         rows::set_mark(heads, i, 1);
         return PushAnswer::Set(i);
@@ -77,12 +77,13 @@ fn keep(
         count: sets.count,
         used: room.used,
         evictions: room.evictions,
+        clock: sets.clock + 1,
     };
     rows::keep_head(heads, room, k.entry);
     rows::keep_slot(slots, room, k.entry, cells::slot_word(bytes.len(), k.cell));
     cells::keep(cells, k.cell * sets.size, bytes);
     Pushed {
-        answer: settle(heads, slots, room.used, room.row),
+        answer: settle(heads, slots, then.clock, room.row),
         sets: then,
     }
 }
@@ -109,15 +110,15 @@ pub fn carry(
             sets,
         },
         Plan::Conflict(i) => {
-            rows::touch(heads, sets.used, i);
+            rows::touch(heads, i, sets.clock + 1);
             Pushed {
                 answer: PushAnswer::Refused(Refusal::Conflict),
-                sets,
+                sets: store::risen(sets),
             }
         }
         Plan::Repeat(i) => Pushed {
-            answer: settle(heads, slots, sets.used, i),
-            sets,
+            answer: settle(heads, slots, sets.clock + 1, i),
+            sets: store::risen(sets),
         },
         Plan::Keep(k) => keep(sets, heads, slots, cells, bytes, k),
     }

@@ -1,22 +1,23 @@
 -- The test for 10 and what it tells; one law for each way out of the functions that make it.
 -- Assumes nothing.
 use mathlib.Core.Path.{_≡_, sym, ap, _∙_}
+use mathlib.Core.Logic.{_≢_}
 use mathlib.Core.List.{List}
 use mathlib.Core.Bool.{Bool, true, false, cond, _&&_}
 use Prim.Native.Nat.{ℕ, _+_, _*_, _/_, _≤_, _<_}
 use native.Mathlib.Nat.{mul-le-mul-right, mul-le-mul-left, le-trans, lt-of-le-of-lt, add-mul, one-mul}
 use native.Mathlib.Omega.{arith}
-use borrow.Author.Tests.{le-leb, lt-leb, leb-true}
+use borrow.Author.Tests.{le-leb, lt-leb, leb-true, eqb-false}
 use mir.Val.{Fits}
 use mir.Syntax.{w16, w64}
-use lib.Dec.{leb, lit<}
+use lib.Dec.{leb, eqb, lit<}
 use lib.ListN.{length}
-use Rattle.laws.proofs.Tests.{and-true, same-test}
+use Rattle.laws.proofs.Tests.{and-true, or-false, same-test}
 use Rattle.rows.specs.Rows.{rowsWhole}
 use Rattle.without_pid.specs.Pids.{withoutPid}
 use Rattle.without_pid.specs.declared.Looked.{Looked}
 use Rattle.store.specs.declared.Sets.{Sets}
-use Rattle.store.specs.Store.{Store, store, settingsFit, wholeOf, Whole}
+use Rattle.store.specs.Store.{Store, store, settingsFit, wholeOf, countersFull, Whole}
 
 -- ---- the settings
 
@@ -158,3 +159,15 @@ cell-fits s heads slots cells n c f h k =
     let l = f .cells-long in
     let z : (c + 1) * s .size ≡ c * s .size + s .size = mul-more c (s .size) in
     omega arith
+
+-- ---- 11: where no count is at its end, each can go up
+
+module _ (s : Sets) (b : Bool) (e : b ≡ countersFull s) (f : b ≡ false) where
+  apart : (eqb (s .evictions) 18446744073709551615 ≡ false) × (eqb (s .clock) 18446744073709551615 ≡ false)
+  apart = or-false (eqb (s .evictions) 18446744073709551615) (eqb (s .clock) 18446744073709551615) (sym e ∙ f)
+
+  pub evictions-go-on : s .evictions ≢ 18446744073709551615
+  evictions-go-on = eqb-false (s .evictions) 18446744073709551615 (apart .0)
+
+  pub clock-goes-on : s .clock ≢ 18446744073709551615
+  clock-goes-on = eqb-false (s .clock) 18446744073709551615 (apart .1)

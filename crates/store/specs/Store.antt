@@ -1,10 +1,10 @@
 -- A collector's settings and counts with the content of the three lent slices, and when they are whole (docs/RULES.md, "Layouts" and "Answers").
-use Prim.Native.Nat.{ℕ, _*_, _≤_}
+use Prim.Native.Nat.{ℕ, _+_, _*_, _≤_}
 use mathlib.Core.Path.{_≡_}
 use mathlib.Core.List.{List}
-use mathlib.Core.Bool.{Bool, true, _&&_}
+use mathlib.Core.Bool.{Bool, true, _&&_, _||_}
 use lib.ListN.{length}
-use lib.Dec.{leb}
+use lib.Dec.{leb, eqb}
 use Rattle.rows.specs.Rows.{rowsWhole}
 use Rattle.store.specs.declared.Sets.{Sets}
 
@@ -19,11 +19,19 @@ store sets heads slots cells = record { sets = sets; heads = heads; slots = slot
 
 -- a collector as it is asked for at opening: no rows, counts 0
 abbrev pub asked : ℕ → ℕ → ℕ → Sets
-asked limit size count = record { limit = limit; size = size; count = count; used = 0; evictions = 0 }
+asked limit size count = record { limit = limit; size = size; count = count; used = 0; evictions = 0; clock = 0 }
 
--- no rows; "not the eviction counts"
+-- no rows; "not the eviction counts", nor the clock
 abbrev pub emptySets : Sets → Sets
-emptySets s = record { limit = s .limit; size = s .size; count = s .count; used = 0; evictions = s .evictions }
+emptySets s = record { limit = s .limit; size = s .size; count = s .count; used = 0; evictions = s .evictions; clock = s .clock }
+
+-- one touch more
+abbrev pub risenSets : Sets → Sets
+risenSets s = record { limit = s .limit; size = s .size; count = s .count; used = s .used; evictions = s .evictions; clock = s .clock + 1 }
+
+-- 11: a count at its end, the evictions or the clock
+abbrev pub countersFull : Sets → Bool
+countersFull s = eqb (s .evictions) 18446744073709551615 || eqb (s .clock) 18446744073709551615
 
 -- 13: the settings are in range, and the lent slices are long enough for them
 abbrev pub settingsFit : Sets → ℕ → ℕ → ℕ → Bool

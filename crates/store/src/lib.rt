@@ -3,20 +3,44 @@ use without_pid::Looked;
 ghost use mathlib.Core.Path.{_≡_};
 ghost use mathlib.Core.Bool.{true};
 ghost use Rattle.without_pid.specs.Pids.{withoutPid};
-ghost use Rattle.store.specs.Store.{store, settingsFit, wholeOf};
+ghost use mathlib.Core.Logic.{_≢_};
+ghost use Rattle.store.specs.Store.{store, settingsFit, wholeOf, countersFull, risenSets};
 
-// Settings and counts. `limit` keys at most; `count` cells of `size` bytes; rows 0 to used - 1 are in use.
+// Settings and counts. `limit` keys at most; `count` cells of `size` bytes; rows 0 to used - 1 are in use. `clock` rises with each touch.
 pub struct Sets {
     pub limit: usize,
     pub size: usize,
     pub count: usize,
     pub used: usize,
     pub evictions: u64,
+    pub clock: u64,
 }
 
 impl Sets {
     // The key limit of a collector for which none is asked.
     pub const DEFAULT_LIMIT: usize = 256;
+}
+
+// Whether the evictions or the clock are at their end: if so, a push answers 11.
+pub fn counters_full(sets: Sets) -> bool
+    ensures { λ r. ⌜ r ≡ countersFull sets ⌝ }
+{
+    (sets.evictions == u64::MAX) | (sets.clock == u64::MAX)
+}
+
+// One touch more.
+pub fn risen(sets: Sets) -> Sets
+    requires { ⌜ sets .clock ≢ 18446744073709551615 ⌝ }
+    ensures { λ r. ⌜ r ≡ risenSets sets ⌝ }
+{
+    Sets {
+        limit: sets.limit,
+        size: sets.size,
+        count: sets.count,
+        used: sets.used,
+        evictions: sets.evictions,
+        clock: sets.clock + 1,
+    }
 }
 
 // Whether the settings are in range and the lent slices long enough for them.

@@ -10,10 +10,8 @@ use native.Mathlib.Omega.{arith}
 use borrow.Author.Tests.{eq-eqb, ne-eqb}
 use Rattle.rules_shared.specs.Touch.{Entry, under, retain}
 use Rattle.rows.specs.declared.Key.{Key}
-use Rattle.rows.specs.Rows.{keyAt}
-use Rattle.ages.specs.Order.{movedFrom}
-use Rattle.tick_rows.specs.Tick.{tickOf}
-use Rattle.ticks.specs.Order.{atTick, inOrder, rowsSeen, Ticked, Stands, Dropped}
+use Rattle.rows.specs.Rows.{keyAt, tickOf}
+use Rattle.ticks.specs.Order.{atTick, inOrder, rowsSeen, Ticked, Stands, movedFrom, Dropped}
 use Rattle.ticks.proofs.Ticks.{gap, listed-cong, gap-at, retain-with, retain-each, without, row-with, order-each}
 
 -- ---- over any ticks

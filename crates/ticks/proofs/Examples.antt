@@ -9,8 +9,7 @@ use Rattle.laws.specs.Lists.{firstFrom}
 use Rattle.rules_shared.specs.Touch.{under, oldestGone, room, leaves, count, retain, find, remove, others, evicts, untouched, aside, newest, touch, retained}
 use Rattle.rows.specs.declared.Key.{Key}
 use Rattle.rows.specs.declared.Entry.{Entry}
-use Rattle.rows.specs.Rows.{sameOrigin, sameKey, roomRenewed}
-use Rattle.tick_rows.specs.Tick.{tickOf, withTick, earlierOf, oldestOf, roomNew}
+use Rattle.rows.specs.Rows.{sameOrigin, sameKey, tickOf, touched, earlierOf, oldestOf, roomRenewed, roomNew}
 use Rattle.ticks.specs.Order.{listed, atTick, inOrder}
 use Rattle.ticks.specs.History.{opened, section, drops, actsAll, ruled, ruledAll, keysSeen}
 use Rattle.ticks.proofs.History.{same-order}
@@ -27,12 +26,12 @@ unfolding firstFrom listed atTick inOrder
 by-rising-tick = refl
 
 -- row 1 is touched, at 10: one word changes
-touched-last : inOrder (tickOf (withTick 1 10 three)) 3 10 (λ (i : ℕ). i) ≡ 0 ∷ 2 ∷ 1 ∷ []
-unfolding firstFrom listed atTick inOrder
+touched-last : inOrder (tickOf (touched 10 1 three)) 3 10 (λ (i : ℕ). i) ≡ 0 ∷ 2 ∷ 1 ∷ []
+unfolding firstFrom listed atTick inOrder touched
 touched-last = refl
 
 -- a new key at limit 3 takes row 1, the eighth to be removed; at limit 4 a further row
-removes-row-1 : (roomNew three 3 3 7 ≡ roomRenewed 3 8 1 0) × (roomNew three 4 3 7 ≡ roomRenewed 4 7 3 0)
+removes-row-1 : (roomNew three 3 3 7 ≡ roomRenewed 3 8 1) × (roomNew three 4 3 7 ≡ roomRenewed 4 7 3)
 unfolding roomNew oldestOf earlierOf
 removes-row-1 = (refl, refl)
 

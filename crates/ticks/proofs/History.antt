@@ -16,17 +16,13 @@ use Rattle.rules_shared.specs.Touch.{untouched, touch, emptied, retain, retaine
 use Rattle.rows.specs.declared.Key.{Key}
 use Rattle.rows.specs.declared.Entry.{Entry}
 use Rattle.rows.specs.declared.Room.{Room}
-use Rattle.rows.specs.Rows.{word, keyAt, sameKey, rowOf, roomIn, roomRenewed, keptHeads}
-use Rattle.rows.proofs.Words.{of-key, length-put, length-kept, kept-row, kept-known}
-use Rattle.ages.proofs.Touch.{same-key-true, same-key-refl, row-has-key, no-row-has-key}
-use Rattle.ages.proofs.Words.{key-same, kept-fresh-key}
-use Rattle.ages.specs.Order.{movedFrom}
-use Rattle.tick_rows.specs.Tick.{withTick, oldestOf, roomNew}
-use Rattle.ticks.specs.Order.{rowsSeen, Stands, Goes, known, added, evicted, Touched, Dropped}
+use Rattle.rows.specs.Rows.{word, keyAt, sameKey, rowOf, oldestOf, touched, roomIn, roomRenewed, roomNew, keptHeads}
+use Rattle.rows.proofs.Words.{of-key, length-touched, length-kept, kept-row, kept-known}
+use Rattle.ticks.specs.Order.{rowsSeen, Stands, Goes, known, added, evicted, Touched, movedFrom, Dropped}
 use Rattle.ticks.specs.History.{Heads, opened, roomFor, touchedIn, lastTo, without, Call, section, drops, clears, acts, actsAll, ruled, ruledAll, blank, keysSeen}
-use Rattle.ticks.proofs.Touch.{goes-known, goes-new, goes-row, stands-none, seen-none, touched-stands, touched-seen}
+use Rattle.ticks.proofs.Touch.{same-key-true, same-key-refl, row-has-key, no-row-has-key, goes-known, goes-new, goes-row, stands-none, seen-none, touched-stands, touched-seen}
 use Rattle.ticks.proofs.Drop.{moved-own, moved-other, moved-below, moved-not, dropped-stands, dropped-seen, retained-seen}
-use Rattle.ticks.proofs.Words.{ready-touched}
+use Rattle.ticks.proofs.Words.{key-same, ready-touched, kept-fresh-key}
 
 abbrev plain : Key → Key
 plain k = k
@@ -51,7 +47,7 @@ new-fresh : (heads : List ℕ) (limit used evictions : ℕ) → (roomNew heads l
 unfolding roomNew
 new-fresh heads limit used evictions = go (ltb used limit)
   where
-    go : (b : Bool) → (cond b (roomRenewed (used + 1) evictions used 0) (roomRenewed used (evictions + 1) (oldestOf heads used) 0)) .fresh ≡ true
+    go : (b : Bool) → (cond b (roomRenewed (used + 1) evictions used) (roomRenewed used (evictions + 1) (oldestOf heads used))) .fresh ≡ true
     go true = refl
     go false = refl
 
@@ -100,7 +96,7 @@ module _ (limit : ℕ) (h : Heads) (e : Entry) (some-room : 0 < limit) (w : Held
         omega arith
 
     -- the head is written, and the row is touched
-    kept-touched : Touched (h .words) (withTick (r .row) (h .clock + 1) (keptHeads r e (h .words))) (e .key) (r .row) (h .clock + 1) (r .used)
+    kept-touched : Touched (h .words) (touched (h .clock + 1) (r .row) (keptHeads r e (h .words))) (e .key) (r .row) (h .clock + 1) (r .used)
     kept-touched =
         let few = few-then in
         let long : limit * 12 ≤ length (h .words) = w .long in
@@ -112,20 +108,20 @@ module _ (limit : ℕ) (h : Heads) (e : Entry) (some-room : 0 < limit) (w : Held
     unfolding touchedIn
     held-then =
         let long : limit * 12 ≤ length (h .words) = w .long in
-        let same : length (withTick (r .row) (h .clock + 1) (keptHeads r e (h .words))) ≡ length (h .words)
-        = length-put (r .row) 9 (h .clock + 1) (keptHeads r e (h .words)) ∙ length-kept r e (h .words) in-heads in
+        let same : length (touched (h .clock + 1) (r .row) (keptHeads r e (h .words))) ≡ length (h .words)
+        = length-touched (h .clock + 1) (r .row) (keptHeads r e (h .words)) ∙ length-kept r e (h .words) in-heads in
         record {
           long = omega arith;
           few = few-then;
           stands = touched-stands plain plain sameKey same-key-true same-key-refl (h .words) limit (h .used) (h .clock) (h .clock + 1) (h .evictions) (e .key) (w .stands) (omega arith) refl
-              (withTick (r .row) (h .clock + 1) (keptHeads r e (h .words))) (k .goes) kept-touched;
+              (touched (h .clock + 1) (r .row) (keptHeads r e (h .words))) (k .goes) kept-touched;
         }
 
     pub seen-then : keysSeen (touchedIn h e r) ≡ touch sameKey limit (e .key) tt (keysSeen h)
     unfolding touchedIn touch
     seen-then =
         touched-seen plain plain sameKey same-key-true same-key-refl (h .words) limit (h .used) (h .clock) (h .clock + 1) (h .evictions) (e .key) (w .stands) (omega arith) refl blank
-        (withTick (r .row) (h .clock + 1) (keptHeads r e (h .words))) blank (k .goes) kept-touched (λ j l ne. refl)
+        (touched (h .clock + 1) (r .row) (keptHeads r e (h .words))) blank (k .goes) kept-touched (λ j l ne. refl)
 
 -- ---- the last row takes the place of one that leaves
 

@@ -3,5 +3,8 @@ pub mod Touch
 pub mod Words
 pub mod Taken
 pub mod Drop
+pub mod Slots
+pub mod Cells
+pub mod Origins
 pub mod History
 pub mod Examples

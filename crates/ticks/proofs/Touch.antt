@@ -2,7 +2,7 @@
 -- Assumes nothing.
 use mathlib.Core.Path.{_≡_, refl, sym, ap, _∙_}
 use mathlib.Core.Logic.{_≢_}
-use mathlib.Core.Bool.{Bool, true, false, cond}
+use mathlib.Core.Bool.{Bool, true, false, cond, true≢false}
 use mathlib.Core.Option.{none, some}
 use mathlib.Core.List.{List, [], _∷_, _++_}
 use Prim.Native.Nat.{ℕ, suc, _+_, _-_, _≤_, _<_}
@@ -10,19 +10,75 @@ use native.Mathlib.Numerals.{add-one}
 use native.Mathlib.Nat.{not-suc-le-zero}
 use native.Mathlib.Decide.{ℕ-discrete}
 use native.Mathlib.Omega.{arith}
-use borrow.Author.Tests.{eq-eqb, ne-eqb, ltb-true, ltb-false}
+use borrow.Author.Tests.{eq-eqb, ne-eqb, ltb-true, ltb-false, eqb-true}
 use lib.Dec.{eqb, ltb}
 use lib.ListN.{length}
+use Rattle.laws.proofs.Tests.{and-true}
+use Rattle.laws.proofs.Search.{first-passes, first-before}
 use Rattle.rules_shared.specs.Touch.{Rows, TouchOrder, Entry, under, find, someRow, aside, newest}
 use Rattle.rules_shared.proofs.All.{held-stays, new-below, new-at}
+use Rattle.rows.specs.declared.Origin.{Origin}
 use Rattle.rows.specs.declared.Key.{Key}
 use Rattle.rows.specs.declared.Room.{Room}
-use Rattle.rows.specs.Rows.{keyAt, rowOf, roomRenewed}
-use Rattle.ages.proofs.Touch.{row-has-key, no-row-has-key}
-use Rattle.tick_rows.specs.Tick.{tickOf, oldestOf, roomNew}
-use Rattle.tick_rows.proofs.Least.{oldest-least, oldest-below}
+use Rattle.rows.specs.Rows.{sameOrigin, keyAt, sameKey, rowOf, tickOf, oldestOf, roomRenewed, roomNew}
+use Rattle.rows.proofs.Least.{oldest-least, oldest-below}
 use Rattle.ticks.specs.Order.{inOrder, rowsSeen, orderSeen, Ticked, Stands, Goes, known, added, evicted, Touched}
 use Rattle.ticks.proofs.Ticks.{length-order, order-empty, order-later, ticked-none, ticked-later, ticked-touched, without, touched-order, added-order, known-found, new-found, oldest-gone, order-none, none-order}
+
+-- ---- the words of a key
+
+same-origin-true : (a b : Origin) → sameOrigin a b ≡ true → a ≡ b
+unfolding sameOrigin
+same-origin-true a b h =
+    let p = and-true _ _ h in
+    let e = eqb-true _ _ (p .0) in
+    let f = eqb-true _ _ (p .1) in
+    λ i. record { input = e i; pid = f i }
+
+same-origin-refl : (a : Origin) → sameOrigin a a ≡ true
+unfolding sameOrigin
+same-origin-refl a = rw (eq-eqb (a .input) (a .input) refl, eq-eqb (a .pid) (a .pid) refl)
+
+pub same-key-true : (a b : Key) → sameKey a b ≡ true → a ≡ b
+unfolding sameKey
+same-key-true a b h =
+    let p5 = and-true _ _ h in
+    let p4 = and-true _ _ (p5 .0) in
+    let p3 = and-true _ _ (p4 .0) in
+    let p2 = and-true _ _ (p3 .0) in
+    let p1 = and-true _ _ (p2 .0) in
+    let e0 = same-origin-true _ _ (p1 .0) in
+    let e1 = eqb-true _ _ (p1 .1) in
+    let e2 = eqb-true _ _ (p2 .1) in
+    let e3 = eqb-true _ _ (p3 .1) in
+    let e4 = eqb-true _ _ (p4 .1) in
+    let e5 = eqb-true _ _ (p5 .1) in
+    λ i. record { from = e0 i; «table_id» = e1 i; extension = e2 i; «current_next» = e3 i; «transport_stream_id» = e4 i; «original_network_id» = e5 i }
+
+pub same-key-refl : (a : Key) → sameKey a a ≡ true
+unfolding sameKey
+same-key-refl a =
+    rw (
+      same-origin-refl (a .from),
+      eq-eqb (a .«table_id») (a .«table_id») refl,
+      eq-eqb (a .extension) (a .extension) refl,
+      eq-eqb (a .«current_next») (a .«current_next») refl,
+      eq-eqb (a .«transport_stream_id») (a .«transport_stream_id») refl,
+      eq-eqb (a .«original_network_id») (a .«original_network_id») refl,
+    )
+
+-- ---- the row that `rowOf` finds
+
+module _ (heads : List ℕ) (key : Key) (used : ℕ) where
+  abbrev hasKey : ℕ → Bool
+  hasKey i = sameKey (keyAt heads i) key
+
+  pub row-has-key : rowOf heads key used < used → keyAt heads (rowOf heads key used) ≡ key
+  row-has-key h = same-key-true (keyAt heads (rowOf heads key used)) key (first-passes hasKey used 0 (omega arith))
+
+  pub no-row-has-key : used ≤ rowOf heads key used → (j : ℕ) → j < used → keyAt heads j ≢ key
+  no-row-has-key h j l e =
+      true≢false (sym (same-key-refl key) ∙ ap (λ (k : Key). sameKey k key) (sym e) ∙ first-before hasKey used 0 j (omega arith) (omega arith))
 
 -- ---- where a key goes, as the code finds it
 
@@ -36,7 +92,7 @@ unfolding roomNew
 goes-new heads limit used evictions key h l = go (ltb used limit) refl
   where
     room : Bool → Room
-    room b = cond b (roomRenewed (used + 1) evictions used 0) (roomRenewed used (evictions + 1) (oldestOf heads used) 0)
+    room b = cond b (roomRenewed (used + 1) evictions used) (roomRenewed used (evictions + 1) (oldestOf heads used))
 
     go : (b : Bool) → ltb used limit ≡ b → Goes heads limit used evictions key ((room b) .row) ((room b) .used) ((room b) .evictions)
     go true e = added (no-row-has-key heads key used h) (ltb-true used limit e)

@@ -1,5 +1,5 @@
--- Sections, drops and clearings one after another: the heads as `rows` and `tick_rows` leave them, and the touch order as the rules have it.
--- Left out: what a row holds, a known row that begins anew, and the end of the counts (11). What a drop leaves (`lastTo`) is no function's yet.
+-- Sections, drops and clearings one after another: the heads as `rows` leaves them, and the touch order as the rules have it.
+-- Left out: what a row holds, a known row that begins anew, and the end of the counts (11). What a drop leaves (`lastTo`) is `removedHeads` of the crate filter.
 -- Assumes nothing.
 use Prim.Native.Nat.{ℕ, _+_, _-_, _*_}
 use mathlib.Core.List.{List, [], _∷_}
@@ -11,8 +11,7 @@ use Rattle.rules_shared.specs.Touch.{TouchOrder, touch, emptied, retained}
 use Rattle.rows.specs.declared.Key.{Key}
 use Rattle.rows.specs.declared.Entry.{Entry}
 use Rattle.rows.specs.declared.Room.{Room}
-use Rattle.rows.specs.Rows.{sameKey, rowOf, roomIn, keptHeads}
-use Rattle.tick_rows.specs.Tick.{withTick, roomNew}
+use Rattle.rows.specs.Rows.{sameKey, rowOf, touched, roomIn, roomNew, keptHeads}
 use Rattle.ticks.specs.Order.{orderSeen}
 
 -- heads, how many rows are in use, the clock and the evictions
@@ -34,7 +33,7 @@ roomFor limit h key =
 
 -- the head of that row is written, the clock rises by one, and the row has its tick
 unfoldable pub touchedIn : Heads → Entry → Room → Heads
-touchedIn h e r = record { words = withTick (r .row) (h .clock + 1) (keptHeads r e (h .words)); used = r .used; clock = h .clock + 1; evictions = r .evictions }
+touchedIn h e r = record { words = touched (h .clock + 1) (r .row) (keptHeads r e (h .words)); used = r .used; clock = h .clock + 1; evictions = r .evictions }
 
 -- row i leaves: the last row in use takes its place, with its tick
 unfoldable pub lastTo : (used i : ℕ) → List ℕ → List ℕ

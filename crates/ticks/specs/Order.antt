@@ -11,9 +11,7 @@ use lib.Dec.{eqb, ltb}
 use Rattle.laws.specs.Lists.{firstFrom}
 use Rattle.rules_shared.specs.Touch.{Rows, TouchOrder, under}
 use Rattle.rows.specs.declared.Key.{Key}
-use Rattle.rows.specs.Rows.{keyAt}
-use Rattle.ages.specs.Order.{movedFrom}
-use Rattle.tick_rows.specs.Tick.{tickOf, oldestOf}
+use Rattle.rows.specs.Rows.{keyAt, tickOf, oldestOf}
 
 abbrev pub ahead : {A : Type 0} → Option A → List A → List A
 ahead none l = l
@@ -74,6 +72,10 @@ pub record Touched (heads heads′ : List ℕ) (key : Key) (i clock used′ : �
   pub others : (j : ℕ) → j < used′ → j ≢ i → keyAt heads′ j ≡ keyAt heads j
 
 -- ---- a row is dropped: the last row in use takes its place, with its tick
+
+-- the row that stands in row j's place once row i was dropped
+abbrev pub movedFrom : (used i j : ℕ) → ℕ
+movedFrom used i j = cond (eqb j i) (used - 1) j
 
 -- heads′ are heads with row i dropped
 pub record Dropped (heads heads′ : List ℕ) (i used : ℕ) : Type 0 where

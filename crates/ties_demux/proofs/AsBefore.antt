@@ -17,7 +17,7 @@ use Rattle.demux_packets.specs.declared.Plan.the-variants.{Malformed, Nothing, 
 use Rattle.demux_packets.specs.Plans.{planOf}
 use Rattle.demux_judge.specs.declared.Verdict.{Verdict}
 use Rattle.demux_judge.specs.declared.Verdict.the-variants.{Refused, Goes}
-use Rattle.demux_judge.specs.Verdicts.{wholeWith, patEvictions, verdictOf}
+use Rattle.demux_judge.specs.Verdicts.{wholeWith, patCount, verdictOf}
 use Rattle.demux_steady.specs.Steady.{wordsIn, tells, acts}
 use Rattle.demux_store.specs.Carried.{left, withStreams, readBy, plannedBy}
 use Rattle.demux_store.specs.Store.{Store, Left, judgedIn, fed}
@@ -60,7 +60,7 @@ module _ (s : Store) (input : ℕ) (packet : List ℕ) where
   unfolding fed judgedIn verdictOf
   as-before =
       go (wholeWith (s .gate .gate) (s .streams) (length (s .gate .keys)) (length (s .gate .changes)) (s .gate .watch) (length (s .pids)) (length (s .buffers)) (length (s .places)))
-      (nearEnd (s .gate .counters) (s .streams) (patEvictions (s .gate .gate .follow) (s .gate .watch .words))) (ltb input 16)
+      (nearEnd (s .gate .counters) (s .streams) (patCount (s .gate .gate .follow) (s .gate .watch .words))) (ltb input 16)
     where
       p : Plan
       p = planOf (s .gate .watch .words) (s .streams .count) (s .pids) packet
@@ -85,7 +85,7 @@ module _ (s : Store) (input : ℕ) (packet : List ℕ) where
   unfolding fed judgedIn verdictOf
   counts-by-answer =
       go (wholeWith (s .gate .gate) (s .streams) (length (s .gate .keys)) (length (s .gate .changes)) (s .gate .watch) (length (s .pids)) (length (s .buffers)) (length (s .places)))
-      (nearEnd (s .gate .counters) (s .streams) (patEvictions (s .gate .gate .follow) (s .gate .watch .words))) (ltb input 16)
+      (nearEnd (s .gate .counters) (s .streams) (patCount (s .gate .gate .follow) (s .gate .watch .words))) (ltb input 16)
     where
       p : Plan
       p = planOf (s .gate .watch .words) (s .streams .count) (s .pids) packet

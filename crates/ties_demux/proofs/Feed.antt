@@ -32,7 +32,7 @@ use Rattle.assemble.proofs.Laws.{ended-length}
 use Rattle.assemble.proofs.Ties.{same-count, few-sections, buffer-bytes, buffer-length, all-take, all-drop, all-append}
 use Rattle.counters.specs.Rules.{Sums}
 use Rattle.gate_state.specs.State.{Said, numberOf, byTables}
-use Rattle.pats.specs.Store.{Record, patsWhole}
+use Rattle.pats.specs.Store.{Record, patMost, patsWhole}
 use Rattle.gate_pats.specs.Store.{Kept, sectionsIn}
 use Rattle.streams.specs.declared.Streams.{Streams as Counted}
 use Rattle.streams.specs.Store.{bufferOf, wordsAt, withWords, isNamed, bufferAt, heldBuffer, isFresh, usedBuffer, pidsRead, buffersRead, placesRead, countRead, sectionsRead}
@@ -48,7 +48,7 @@ use Rattle.demux_packets.specs.declared.Plan.{Plan}
 use Rattle.demux_packets.specs.declared.Plan.the-variants as plan
 use Rattle.demux_packets.specs.Plans.{reading, noWords, bufferPlan, loadPlan, packetPlan, planOf}
 use Rattle.demux_judge.specs.declared.Verdict.the-variants.{Refused, Goes}
-use Rattle.demux_judge.specs.Verdicts.{patEvictions, verdictOf, Wholes}
+use Rattle.demux_judge.specs.Verdicts.{patCount, verdictOf, Wholes}
 use Rattle.demux_judge.proofs.Laws.{whole-again}
 use Rattle.answers.specs.declared.Refusal.the-variants.{NotWhole, CounterFull, BadInput}
 use Rattle.demux_steady.specs.Steady.{wordsIn, tells, acts, Steady}
@@ -279,7 +279,7 @@ module _ (c : Card) (i : ℕ) (packet : List ℕ) (st : AllStand c) (bytes : All
 
     -- ---- the payload is read
 
-    module _ (u : usedBuffer count (own .pids) p < count) (w : hasBit (wordsIn k) p ≡ true) (sp : Spares (g .counters) (own .streams) (patEvictions (g .gate .follow) (wordsIn k))) where
+    module _ (u : usedBuffer count (own .pids) p < count) (w : hasBit (wordsIn k) p ≡ true) (sp : Spares (g .counters) (own .streams) (patCount (g .gate .follow) (wordsIn k))) where
       abbrev b : ℕ
       b = usedBuffer count (own .pids) p
 
@@ -355,7 +355,7 @@ module _ (c : Card) (i : ℕ) (packet : List ℕ) (st : AllStand c) (bytes : All
         whole = gate-whole .gate;
         spare = sp .gate;
         pats = gate-whole .pats;
-        evictions = λ t. subst (λ (x : Bool). cond x (getD (wordsIn k) 385 0) 0 + 64 < 2 ^ 64) t (sp .sets);
+        evictions = λ t. subst (λ (x : Bool). cond x (patMost (wordsIn k)) 0 + 64 < 2 ^ 64) t (sp .sets);
       }
 
       held-before : (r : ℕ) → r < 8192 → heldBuffer count pids₁ r < count → hasBit (wordsIn k) r ≡ true
@@ -495,7 +495,7 @@ module _ (c : Card) (i : ℕ) (packet : List ℕ) (st : AllStand c) (bytes : All
   abbrev byPlan : Plan → Left
   byPlan x = plannedBy wordsIn tells acts s i packet x
 
-  module _ (sp : Spares (g .counters) (own .streams) (patEvictions (g .gate .follow) (wordsIn k))) where
+  module _ (sp : Spares (g .counters) (own .streams) (patCount (g .gate .follow) (wordsIn k))) where
     by-buffer : (l : Load) (q : IsLoad l packet) → hasBit (wordsIn k) (l .pid .0) ≡ true → SameCall (byPlan (bufferPlan count (own .pids) l)) (fedWhen l q true)
     unfolding bufferPlan plannedBy
     by-buffer l q w = go (ltb b count) refl
@@ -534,11 +534,11 @@ module _ (c : Card) (i : ℕ) (packet : List ℕ) (st : AllStand c) (bytes : All
       (go near (ltb i 16) refl)
     where
       near : Bool
-      near = nearEnd (g .counters) (own .streams) (patEvictions (g .gate .follow) (wordsIn k))
+      near = nearEnd (g .counters) (own .streams) (patCount (g .gate .follow) (wordsIn k))
 
       go : (a d : Bool) → near ≡ a
           → SameCall (judgedIn s i packet (cond a (Refused CounterFull) (cond d (Goes (planOf (wordsIn k) count (own .pids) packet)) (Refused BadInput))))
           (cond a (refused watchedOn tellsOn actsOn gateNear patsNear h 11) (cond d (byPacket (packetOf packet)) (refused watchedOn tellsOn actsOn gateNear patsNear h 37)))
       go true d e = refuses 11
-      go false true e = by-packet (spares (g .counters) (own .streams) (patEvictions (g .gate .follow) (wordsIn k)) e)
+      go false true e = by-packet (spares (g .counters) (own .streams) (patCount (g .gate .follow) (wordsIn k)) e)
       go false false e = refuses 37

@@ -23,7 +23,7 @@ use Rattle.streams.specs.declared.Streams.{Streams as Counted}
 use Rattle.ties_streams.specs.View.{lowestOf}
 use Rattle.pats.specs.Store.{Record}
 use Rattle.demux_state.specs.State.{anyNear, isNear, packetCounted, malformedCounted}
-use Rattle.demux_judge.specs.Verdicts.{patEvictions}
+use Rattle.demux_judge.specs.Verdicts.{patCount}
 use Rattle.demux_steady.proofs.Sections.{Rises}
 use Rattle.ties_demux.specs.Rules.{onCard, Held, Fed, freeIn, countsWith, payloadFed, onlyCounted, packetFed, refused, nearIn, fedBy}
 use Rattle.ties_demux.specs.Card.{Gates, Card, watchedOn, tellsOn, actsOn, gateNear, patsNear, Told, cardActs, shownBy, AllStand}

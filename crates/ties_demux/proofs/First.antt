@@ -21,7 +21,7 @@ use Rattle.streams.specs.declared.Streams.{Streams as Counted}
 use Rattle.gate_state.specs.declared.Follow.{Follow}
 use Rattle.pats.specs.Store.{Record}
 use Rattle.demux_state.specs.State.{anyNear, isNear}
-use Rattle.demux_judge.specs.Verdicts.{patEvictions}
+use Rattle.demux_judge.specs.Verdicts.{patCount}
 use Rattle.demux_steady.proofs.Sections.{Rises}
 use Rattle.demux_store.specs.Store.{Store}
 use Rattle.ties_demux.specs.Rules.{onCard, Held, refused, packetFed, nearIn, fedBy}
@@ -56,7 +56,7 @@ any-rises c d r =
     (near-rises (c .evictions) (d .evictions) (r .evictions))
 
 near-by : Counters → Counted → Follow → Record → Bool
-near-by c t f r = anyNear c || isNear (t .packets) || isNear (t .malformed) || isNear (patEvictions f (r .words))
+near-by c t f r = anyNear c || isNear (t .packets) || isNear (t .malformed) || isNear (patCount f (r .words))
 
 near-by-rises : (c d : Counters) (t : Counted) (f : Follow) (r : Record) → Rises c d → near-by c t f r ≡ true → near-by d t f r ≡ true
 unfolding near-by

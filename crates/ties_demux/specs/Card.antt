@@ -22,7 +22,7 @@ use Rattle.demux_state.specs.State as feeding
 use Rattle.demux_state.specs.State.{finishedOf, anyNear, isNear}
 use Rattle.demux_places.specs.declared.Outcome.{Outcome}
 use Rattle.demux_places.specs.Places.{placeAt, bytesAt, outcome}
-use Rattle.demux_judge.specs.Verdicts.{patEvictions, Wholes}
+use Rattle.demux_judge.specs.Verdicts.{patCount, Wholes}
 use Rattle.demux_steady.specs.Steady as steady
 use Rattle.demux_store.specs.Store.{Store, Left, storeOf, fed}
 use Rattle.ties_demux.specs.Rules.{Held, onCard}
@@ -68,7 +68,7 @@ abbrev pub gateNear : Gates → Bool
 gateNear g = anyNear (g .counters)
 
 abbrev pub patsNear : Gates → (input : ℕ) → Bool
-patsNear g i = isNear (patEvictions (g .gate .follow) ((g .watches i) .words))
+patsNear g i = isNear (patCount (g .gate .follow) ((g .watches i) .words))
 
 -- ---- a call
 

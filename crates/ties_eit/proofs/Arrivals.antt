@@ -25,7 +25,7 @@ use Rattle.eit_section.specs.declared.MaybeKind.the-variants as maybe
 use Rattle.eit_section.specs.declared.Reading.{Reading}
 use Rattle.eit_section.specs.declared.Reading.the-variants as reading
 use Rattle.rows.specs.declared.Origin.{Origin as Words}
-use Rattle.ages.specs.Origins.{originShown}
+use Rattle.ticks.specs.Origins.{originShown}
 use Rattle.arrivals.specs.Arrivals.{arrivalOf, kindNumber as numberRead}
 use Rattle.ties_eit.specs.View.{sectionOf}
 use Rattle.ties_eit.proofs.Keys.{bit-bit, bit-reads}

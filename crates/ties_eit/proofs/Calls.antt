@@ -4,7 +4,6 @@ use mathlib.Core.Path.{_≡_, refl, sym, ap, subst, _∙_}
 use mathlib.Core.Logic.{_≢_}
 use mathlib.Core.Bool.{Bool, true, false, cond, _&&_}
 use mathlib.Core.Option.{Option, none, some}
-use mathlib.Core.List.{List}
 use Prim.Native.Nat.{ℕ, zero, suc, _≤_, _<_}
 use native.Mathlib.Nat.{not-suc-le-zero}
 use native.Mathlib.Omega.{arith}
@@ -37,16 +36,13 @@ use Rattle.section.specs.declared.ids.MaybePid.the-variants as maybe
 use Rattle.section.specs.declared.ids.OriginMade.the-variants as made
 use Rattle.cells.specs.Cells.{allWhole}
 use Rattle.rows.specs.declared.Origin.{Origin as Words}
-use Rattle.rows.specs.declared.Key.{Key}
-use Rattle.rows.specs.Rows.{rowSlots, rowsWhole, ageOf}
-use Rattle.ages.specs.Order.{downFrom, inOrder, rowsSeen}
-use Rattle.ages.specs.Origins.{originShown}
-use Rattle.ages.specs.Slots.{cellsSeen}
-use Rattle.ages.proofs.Ages.{length-order}
-use Rattle.ages.proofs.Touch.{stands-none}
-use Rattle.ages.proofs.Origins.{shown-pid}
-use Rattle.ages.proofs.Slots.{held-whole, rows-whole}
-use Rattle.ages.proofs.Cells.{cells-length}
+use Rattle.rows.specs.Rows.{rowSlots, rowsWhole}
+use Rattle.ticks.specs.Origins.{originShown}
+use Rattle.ticks.specs.Slots.{cellsSeen}
+use Rattle.ticks.proofs.Touch.{length-seen, seen-none, stands-none}
+use Rattle.ticks.proofs.Origins.{shown-pid}
+use Rattle.ticks.proofs.Slots.{held-whole, rows-whole}
+use Rattle.ticks.proofs.Cells.{cells-length}
 use Rattle.store.specs.Store as sets
 use Rattle.arrivals.specs.Arrivals.{madeWords, eitFields, eitRead, eitJudged, eitArrival}
 use Rattle.store.proofs.Whole.{long}
@@ -83,12 +79,6 @@ use Rattle.ties_eit.proofs.Dropping.{drop-tied}
 use Rattle.ties_eit.proofs.Pids.{each-has-pid}
 use Rattle.ties_eit.proofs.Arrivals.{good-length, Read-as, not-eit, broken, good as read-good, read-as, not-kind, arrives, section-same}
 
--- ---- lists of rows
-
-seen-length : {K R : Type 0} (shown : Key → K) (heads : List ℕ) (used : ℕ) (row : ℕ → R) → length (rowsSeen shown heads used row) ≡ used
-unfolding rowsSeen
-seen-length shown heads used row = length-order (ageOf heads) used _
-
 -- ---- 10 and 11
 
 limit-is : (s : Store) → (seen s) .settings .limit ≡ s .eit .sets .limit
@@ -106,11 +96,11 @@ module _ (s : Store) (z : Reached s) where
 
   sets-length : length ((seen s) .eit .sets .rows) ≡ s .eit .sets .used
   unfolding seen
-  sets-length = seen-length keyShown (s .heads) (s .eit .sets .used) (rowSeen (s .heads) (s .slots))
+  sets-length = length-seen keyShown keyWords (s .heads) (s .eit .sets .used) (s .eit .sets .clock) (z .sets) (rowSeen (s .heads) (s .slots))
 
   schedules-length : length ((seen s) .eit .schedules .rows) ≡ s .eit .schedules
   unfolding seen
-  schedules-length = seen-length scheduleShown (s .schedule-heads) (s .eit .schedules) (scheduleSeen (s .schedule-heads) (s .units))
+  schedules-length = length-seen scheduleShown scheduleWords (s .schedule-heads) (s .eit .schedules) (s .eit .sets .clock) (z .schedules) (scheduleSeen (s .schedule-heads) (s .units))
 
   cells-count : length ((seen s) .cells) ≡ s .eit .sets .count
   unfolding seen
@@ -129,7 +119,7 @@ module _ (s : Store) (z : Reached s) where
   sets-whole : everyRow setTest ((seen s) .eit .sets .rows) ≡ rowsWhole (s .heads) (s .slots) (s .eit .sets .count) (s .eit .sets .size) (s .eit .sets .used)
   unfolding seen rowSeen
   sets-whole =
-      rows-whole keyShown (s .heads) (s .slots) (s .eit .sets .count) (s .eit .sets .size) (s .eit .sets .used) (z .sets .ages) setTest (rowSeen (s .heads) (s .slots)) (λ j.
+      rows-whole keyShown (s .heads) (s .slots) (s .eit .sets .count) (s .eit .sets .size) (s .eit .sets .used) (s .eit .sets .clock) (z .sets .ticks) setTest (rowSeen (s .heads) (s .slots)) (λ j.
       held-whole ((seen s) .settings) ((seen s) .cells) (rowSlots (s .heads) (s .slots) j)
       ∙ ap (λ (m : ℕ). allWhole m (s .eit .sets .size) (rowSlots (s .heads) (s .slots) j)) (cells-length (s .cells) (s .eit .sets .size) (s .eit .sets .count)))
 
@@ -137,7 +127,7 @@ module _ (s : Store) (z : Reached s) where
       ≡ schedulesWhole (s .schedule-heads) (s .units) (s .eit .sets .count) (s .eit .sets .size) (s .eit .schedules)
   unfolding seen
   schedules-whole-here =
-      schedules-whole ((seen s) .settings) ((seen s) .cells) (s .schedule-heads) (s .units) (s .eit .schedules) (z .schedules .ages)
+      schedules-whole ((seen s) .settings) ((seen s) .cells) (s .schedule-heads) (s .units) (s .eit .schedules) (s .eit .sets .clock) (z .schedules .ticks)
       ∙ ap (λ (m : ℕ). schedulesWhole (s .schedule-heads) (s .units) m (s .eit .sets .size) (s .eit .schedules)) (cells-length (s .cells) (s .eit .sets .size) (s .eit .sets .count))
 
   pub whole-seen : storeWhole (seen s) ≡ wholeOf s
@@ -163,25 +153,34 @@ module _ (s : Store) (z : Reached s) where
       same-test (leb 18446744073709551615 n) (eqb n 18446744073709551615) (λ e. let h = leb-true 18446744073709551615 n e in eq-eqb n 18446744073709551615 (omega arith))
       (λ e. let h = eqb-true n 18446744073709551615 e in le-leb 18446744073709551615 n (omega arith))
 
-  -- 11 looks at both eviction counts
+  -- 11 looks at both eviction counts and at the clock
   pub ended-seen : anyAtEnd (seen s) ≡ countersFull (s .eit)
   unfolding anyAtEnd seen
-  ended-seen = rw (ended-one (s .eit .sets .evictions) (z .counts), ended-one (s .eit .«schedule_evictions») (z .schedule-counts))
+  ended-seen = rw (ended-one (s .eit .sets .evictions) (z .counts), ended-one (s .eit .sets .clock) (z .ticks), ended-one (s .eit .«schedule_evictions») (z .schedule-counts))
 
   -- ---- a clear
 
   emptied-tied : Tied (after eit.done (store (emptyEit (s .eit)) (s .heads) (s .slots) (s .cells) (s .schedule-heads) (s .units))) (good (seen s) clear)
-  unfolding good shows onAnswer answerTold seen cleared emptied rowsSeen inOrder downFrom
+  unfolding good shows onAnswer answerTold seen cleared emptied
   emptied-tied = record {
     told = refl;
-    shown = refl;
+    shown = (
+        let p = seen-none keyShown keyWords sameSet sameSet-true set-self (s .heads) (s .eit .sets .clock) (rowSeen (s .heads) (s .slots)) in
+        let q = seen-none scheduleShown scheduleWords sameSchedule sameSchedule-true schedule-self (s .schedule-heads) (s .eit .sets .clock) (scheduleSeen (s .schedule-heads) (s .units)) in
+        λ t. record {
+          settings = (seen s) .settings;
+          eit = record { sets = record { rows = p t; evicted = s .eit .sets .evictions }; schedules = record { rows = q t; evicted = s .eit .«schedule_evictions» } };
+          cells = (seen s) .cells;
+          clock = s .eit .sets .clock;
+        });
     reached = record {
       fits = fits-schedules (s .eit) (length (s .heads)) (length (s .slots)) (length (s .cells)) (length (s .schedule-heads)) (length (s .units)) 0 (s .eit .«schedule_evictions») (z .fits) (omega arith);
       counts = z .counts;
+      ticks = z .ticks;
       schedule-counts = z .schedule-counts;
       heads-fit = λ i h. absurd (not-suc-le-zero h);
-      sets = stands-none keyShown keyWords sameSet sameSet-true set-self (s .heads);
-      schedules = stands-none scheduleShown scheduleWords sameSchedule sameSchedule-true schedule-self (s .schedule-heads);
+      sets = stands-none keyShown keyWords sameSet sameSet-true set-self (s .heads) (s .eit .sets .clock);
+      schedules = stands-none scheduleShown scheduleWords sameSchedule sameSchedule-true schedule-self (s .schedule-heads) (s .eit .sets .clock);
     };
   }
 
@@ -202,7 +201,7 @@ key-of a bytes kind e = rw e
 module _ (s : Store) (z : Reached s) where
   module _ (f : Whole s)
       (units-ok : schedulesWhole (s .schedule-heads) (s .units) (s .eit .sets .count) (s .eit .sets .size) (s .eit .schedules) ≡ true)
-      (more : s .eit .sets .evictions < 18446744073709551615) (more′ : s .eit .«schedule_evictions» < 18446744073709551615) (bytes : Bytes) where
+      (more : s .eit .sets .evictions < 18446744073709551615) (more′ : s .eit .«schedule_evictions» < 18446744073709551615) (runs : s .eit .sets .clock < 18446744073709551615) (bytes : Bytes) where
     -- 20, then limit 0
     good-tied : (a : Arrival) (kind : Kind) → Arrives a kind → 12 ≤ length bytes → Tied (toldStep (pushedWhole s bytes a)) (good (seen s) (offer (sectionFor a bytes)))
     unfolding pushedWhole planOf good offerIn admitIn pushIn shows onAnswer answerTold seen
@@ -215,7 +214,7 @@ module _ (s : Store) (z : Reached s) where
             → Tied (toldStep (carried s bytes (cond (eqb m 0) (plan.Leave answer.Nothing) (planPlaced s a (placeIn (setStore s) (a .entry) bytes))))) (pushIn m (seen s) (sectionFor a bytes) k)
         limited l zero q = record { told = refl; shown = refl; reached = z }
         limited l (suc m) q =
-            rw (ne-eqb (suc m) 0 (λ (t : suc m ≡ 0). absurd (omega arith))) (placed-tied s z f units-ok more more′ (omega arith) a kind arr bytes h12 l)
+            rw (ne-eqb (suc m) 0 (λ (t : suc m ≡ 0). absurd (omega arith))) (placed-tied s z f units-ok more more′ runs (omega arith) a kind arr bytes h12 l)
 
         fit : (b : Bool) → ltb (s .eit .sets .size) (length bytes) ≡ b
             → Tied (toldStep (carried s bytes (cond b (plan.Leave (answer.Refused refusal.TooLong)) (cond (eqb (s .eit .sets .limit) 0) (plan.Leave answer.Nothing) (planPlaced s a (placeIn (setStore s) (a .entry) bytes))))))
@@ -305,7 +304,7 @@ module _ (s : Store) (z : Reached s) where
           let c = z .counts in
           let c′ = z .schedule-counts in
           let d = can-count (s .eit) false (sym q) refl (omega arith) (omega arith) in
-          pid-tied (whole-store s p) (units-whole s p) (d .sets) (d .schedules) bytes o input pid
+          pid-tied (whole-store s p) (units-whole s p) (d .sets) (d .schedules) (let t = z .ticks in let n = d .runs in omega arith) bytes o input pid
 
   -- 10, then a drop's 41, 12, 37 and 7; a drop asks for no count
   dropped-tied : (f : Filter) → FilterFits f → Tied (droppedOf s f) (call (seen s) (drop (filterShown f)))

@@ -19,9 +19,9 @@ use Rattle.section.specs.declared.ids.Made.the-variants as made
 use Rattle.rows.specs.declared.Origin.{Origin as Words}
 use Rattle.rows.specs.declared.Key.{Key}
 use Rattle.rows.specs.Rows.{tableWord, keyAt, slotCount, slotsAt}
-use Rattle.ages.specs.Order.{movedFrom}
-use Rattle.ages.specs.Origins.{originShown}
-use Rattle.ages.proofs.Cells.{up-cong}
+use Rattle.ticks.specs.Order.{movedFrom}
+use Rattle.ticks.specs.Origins.{originShown}
+use Rattle.ticks.proofs.Cells.{up-cong}
 use Rattle.segments.specs.Segments.{wordOf}
 use Rattle.schedules.specs.Schedules.{tablesOf}
 use Rattle.filter.specs.declared.Of.the-variants as of
@@ -53,14 +53,14 @@ module _ (used i : ℕ) (heads ws : List ℕ) (h : i < used) (lh : used * 12 ≤
   -- a set
   pub moved-set : used * 288 ≤ length ws → (j : ℕ) → j < used - 1 → rowSeen (removedHeads used i heads) (removedWords of.Sets used i ws) j ≡ rowSeen heads ws (movedFrom used i j)
   moved-set lw j k =
-      row-as heads (removedHeads used i heads) ws (removedWords of.Sets used i ws) (movedFrom used i j) j (λ m a b. removed-word used i heads h lh j m (omega arith) (omega arith))
+      row-as heads (removedHeads used i heads) ws (removedWords of.Sets used i ws) (movedFrom used i j) j (λ m a b. removed-word used i heads h lh j m (omega arith))
       (removed-slots used i heads ws h lh lw j (omega arith)) (λ g q. removed-words of.Sets used i ws h lw j g (omega arith))
 
   pub moved-head : (j : ℕ) → HeadFits heads (movedFrom used i j) → HeadFits (removedHeads used i heads) j
   moved-head j f = record {
-    version = rw (removed-word used i heads h lh j 6 (omega arith) (omega arith)) (f .version);
-    last = rw (removed-word used i heads h lh j 7 (omega arith) (omega arith)) (f .last);
-    kind = rw (removed-word used i heads h lh j 1 (omega arith) (omega arith)) (f .kind);
+    version = rw (removed-word used i heads h lh j 6 (omega arith)) (f .version);
+    last = rw (removed-word used i heads h lh j 7 (omega arith)) (f .last);
+    kind = rw (removed-word used i heads h lh j 1 (omega arith)) (f .kind);
   }
 
   -- a schedule: its 16 units
@@ -90,7 +90,7 @@ module _ (used i : ℕ) (heads ws : List ℕ) (h : i < used) (lh : used * 12 ≤
 
     moved-tables : tablesOf (removedHeads used i heads) j ≡ tablesOf heads from
     unfolding tablesOf
-    moved-tables = rw (removed-word used i heads h lh j 7 (omega arith) (omega arith), removed-word used i heads h lh j 1 (omega arith) (omega arith))
+    moved-tables = rw (removed-word used i heads h lh j 7 (omega arith), removed-word used i heads h lh j 1 (omega arith))
 
     moved-place : (t : ℕ) → t < 16 → placeSeen (removedHeads used i heads) moved j t ≡ placeSeen heads ws from t
     unfolding placeSeen
@@ -99,7 +99,7 @@ module _ (used i : ℕ) (heads ws : List ℕ) (h : i < used) (lh : used * 12 ≤
     pub moved-schedule : scheduleSeen (removedHeads used i heads) moved j ≡ scheduleSeen heads ws from
     unfolding scheduleSeen
     moved-schedule =
-        let p = removed-word used i heads h lh j 7 (omega arith) (omega arith) in
+        let p = removed-word used i heads h lh j 7 (omega arith) in
         let q = up-cong (placeSeen (removedHeads used i heads) moved j) (placeSeen heads ws from) 16 0 (λ t a b. moved-place t (omega arith)) in
         λ t. record { lastTable = p t; copies = q t }
 
@@ -153,21 +153,21 @@ module _ (f : Filter) (fit : FilterFits f) (w : WantedOrigin) (from : (o : Words
     abbrev schedulesAfter : Rest
     schedulesAfter = droppedRows of.Schedules (fieldsOf w f) (s .eit .schedules) schedulesBefore
 
-    sets-stay : Stays keyShown keyWords of.Sets HeadFits rowSeen setStays setsBefore setsAfter
+    sets-stay : Stays keyShown keyWords of.Sets HeadFits rowSeen setStays (s .eit .sets .clock) setsBefore setsAfter
     sets-stay =
         let a = g .sets .used in
         let b = g .sets .heads-long in
         let c = g .sets .slots-long in
-        stays keyShown keyWords of.Sets (fieldsOf w f) HeadFits rowSeen setStays (λ used i heads h l j q. moved-head used i heads heads h l j q)
+        stays keyShown keyWords of.Sets (fieldsOf w f) HeadFits rowSeen setStays (s .eit .sets .clock) (λ used i heads h l j q. moved-head used i heads heads h l j q)
         (λ used i heads ws h l m j k. moved-set used i heads ws h l m j k) set-agrees (s .eit .sets .used) setsBefore
         (record { stands = z .sets; heads-long = omega arith; words-long = omega arith; fits = z .heads-fit }) (le-refl (s .eit .sets .used)) (λ j p q. absurd (omega arith))
 
-    schedules-stay : Stays scheduleShown scheduleWords of.Schedules Any scheduleSeen scheduleStays schedulesBefore schedulesAfter
+    schedules-stay : Stays scheduleShown scheduleWords of.Schedules Any scheduleSeen scheduleStays (s .eit .sets .clock) schedulesBefore schedulesAfter
     schedules-stay =
         let a = g .schedules in
         let b = g .schedule-heads-long in
         let c = g .units-long in
-        stays scheduleShown scheduleWords of.Schedules (fieldsOf w f) Any scheduleSeen scheduleStays (λ used i heads h l j q. tt)
+        stays scheduleShown scheduleWords of.Schedules (fieldsOf w f) Any scheduleSeen scheduleStays (s .eit .sets .clock) (λ used i heads h l j q. tt)
         (λ used i heads ws h l m j k. moved-schedule used i heads ws h l m j k) schedule-agrees (s .eit .schedules) schedulesBefore
         (record { stands = z .schedules; heads-long = omega arith; words-long = omega arith; fits = λ j k. tt }) (le-refl (s .eit .schedules)) (λ j p q. absurd (omega arith))
 
@@ -176,7 +176,7 @@ module _ (f : Filter) (fit : FilterFits f) (w : WantedOrigin) (from : (o : Words
         (setsAfter .heads) (setsAfter .words) (s .cells) (schedulesAfter .heads) (schedulesAfter .words)
 
     -- "sets and schedules that match go"
-    shown-after : seen after ≡ record { settings = (seen s) .settings; eit = dropped (filterShown f) ((seen s) .eit); cells = (seen s) .cells }
+    shown-after : seen after ≡ record { settings = (seen s) .settings; eit = dropped (filterShown f) ((seen s) .eit); cells = (seen s) .cells; clock = (seen s) .clock }
     unfolding seen dropped retained
     shown-after =
         let p = sets-stay .rows in
@@ -185,6 +185,7 @@ module _ (f : Filter) (fit : FilterFits f) (w : WantedOrigin) (from : (o : Words
           settings = (seen s) .settings;
           eit = record { sets = record { rows = p t; evicted = s .eit .sets .evictions }; schedules = record { rows = q t; evicted = s .eit .«schedule_evictions» } };
           cells = (seen s) .cells;
+          clock = (seen s) .clock;
         }
 
     reached-after : Reached after
@@ -193,6 +194,7 @@ module _ (f : Filter) (fit : FilterFits f) (w : WantedOrigin) (from : (o : Words
           (fits-schedules (s .eit) (length (s .heads)) (length (s .slots)) (length (s .cells)) (length (s .schedule-heads)) (length (s .units)) (schedulesAfter .used) (s .eit .«schedule_evictions») (z .fits)
           (let p = schedules-stay .fewer in let q = g .schedules in omega arith));
       counts = z .counts;
+      ticks = z .ticks;
       schedule-counts = z .schedule-counts;
       heads-fit = sets-stay .sound .fits;
       sets = sets-stay .sound .stands;

@@ -14,7 +14,7 @@ use lib.ListN.{length, getD, take, set, replicate, length-set, length-replicate}
 use lib.Seq.{getD-set-same, getD-set-other, ext-getD}
 use Rattle.laws.proofs.Tests.{and-true, and-none}
 use Rattle.laws.proofs.Lists.{getD-none}
-use Rattle.rules_shared.specs.Touch.{Rows, find, aside, newest, touch}
+use Rattle.rules_shared.specs.Touch.{Rows, TouchOrder, find, aside, newest, touch}
 use Rattle.rules_shared.specs.Cells.{Held, bytesOf}
 use Rattle.rules_eit.specs.Keys.{Kind, kindOf, kindNumber, ScheduleKey, SetKey, sameSchedule, sameSet}
 use Rattle.rules_eit.specs.Segments.{SetOf}
@@ -27,15 +27,15 @@ use Rattle.cells.specs.Cells.{allWhole}
 use Rattle.rows.specs.declared.Key.{Key}
 use Rattle.rows.specs.declared.Entry.{Entry}
 use Rattle.rows.specs.declared.Room.{Room}
-use Rattle.rows.specs.Rows.{tableWord, word, keyAt, rowOf, touched, keptHeads, roomIn, roomRenewed, roomNew, rowSlots, rowsWhole, oldestOf, ageOf, lastOf}
+use Rattle.rows.specs.Rows.{tableWord, word, keyAt, rowOf, touched, keptHeads, roomIn, roomRenewed, roomNew, rowSlots, rowsWhole, oldestOf, lastOf}
 use Rattle.rows.proofs.Words.{OfKey, of-key, length-kept, kept-row, kept-fresh, kept-known, length-touched, touched-not}
 use Rattle.rows.proofs.Whole.{rows-get}
-use Rattle.ages.specs.Order.{orderSeen, Goes, Touched}
-use Rattle.ages.specs.Slots.{upFrom}
-use Rattle.ages.proofs.Words.{key-same, ready-touched, kept-fresh-key}
-use Rattle.ages.proofs.Touch.{row-has-key, no-row-has-key, goes-known, goes-new, goes-row, finds-known, finds-none, touched-seen, touched-stands}
-use Rattle.ages.proofs.Slots.{held-whole}
-use Rattle.ages.proofs.Cells.{cells-length, length-up, up-get, up-cong}
+use Rattle.ticks.specs.Order.{orderSeen, Goes, Stands, Touched}
+use Rattle.ticks.specs.Slots.{upFrom}
+use Rattle.ticks.proofs.Words.{key-same, ready-touched, kept-fresh-key}
+use Rattle.ticks.proofs.Touch.{row-has-key, no-row-has-key, goes-known, goes-new, goes-row, seen-later, finds-known, finds-none, touched-seen, touched-stands}
+use Rattle.ticks.proofs.Slots.{held-whole}
+use Rattle.ticks.proofs.Cells.{cells-length, length-up, up-get, up-cong}
 use Rattle.segments.specs.Segments.{setComplete}
 use Rattle.units.specs.Units.{firstTable, isPresent, unitSlots, unitWhole, unitsWhole, withoutUnits, withSet, withTable, refilled, allPresent}
 use Rattle.schedules.specs.Schedules.{tablesOf, schedulesWhole, roomKnown, roomOf, scheduledHeads, tableCount, readyUnits, scheduledUnits, tablesThere}
@@ -64,15 +64,15 @@ pub record Tied (l : After) (t : Turn) : Type 0 where
   pub reached : Reached (l .store)
 
 -- no more rows than the limit, and at most one eviction more
-pub goes-room : {heads : List ℕ} {limit used evictions : ℕ} {key : Key} {i a used′ evictions′ : ℕ} → Goes heads limit used evictions key i a used′ evictions′ → used ≤ limit → used′ ≤ limit
-goes-room (Rattle.ages.specs.Order.known i h e) l = l
-goes-room (Rattle.ages.specs.Order.added f h) l = omega arith
-goes-room (Rattle.ages.specs.Order.evicted f p h) l = l
+pub goes-room : {heads : List ℕ} {limit used evictions : ℕ} {key : Key} {i used′ evictions′ : ℕ} → Goes heads limit used evictions key i used′ evictions′ → used ≤ limit → used′ ≤ limit
+goes-room (Rattle.ticks.specs.Order.known i h e) l = l
+goes-room (Rattle.ticks.specs.Order.added f h) l = omega arith
+goes-room (Rattle.ticks.specs.Order.evicted f p h) l = l
 
-pub goes-count : {heads : List ℕ} {limit used evictions : ℕ} {key : Key} {i a used′ evictions′ : ℕ} → Goes heads limit used evictions key i a used′ evictions′ → evictions′ ≤ evictions + 1
-goes-count (Rattle.ages.specs.Order.known i h e) = omega arith
-goes-count (Rattle.ages.specs.Order.added f h) = omega arith
-goes-count (Rattle.ages.specs.Order.evicted f p h) = omega arith
+pub goes-count : {heads : List ℕ} {limit used evictions : ℕ} {key : Key} {i used′ evictions′ : ℕ} → Goes heads limit used evictions key i used′ evictions′ → evictions′ ≤ evictions + 1
+goes-count (Rattle.ticks.specs.Order.known i h e) = omega arith
+goes-count (Rattle.ticks.specs.Order.added f h) = omega arith
+goes-count (Rattle.ticks.specs.Order.evicted f p h) = omega arith
 
 -- the settings fit whatever number of schedules within the limit is in use
 pub fits-schedules : (e : Eit) (h l c t u n v : ℕ) → settingsFit e h l c t u ≡ true → n ≤ e .sets .limit → settingsFit (withSchedules e n v) h l c t u ≡ true
@@ -81,7 +81,8 @@ fits-schedules e h l c t u n v q k =
     let b = and-true (leb (e .sets .limit * 12) t && leb (e .sets .limit * 4608) u) (leb (e .schedules) (e .sets .limit)) (a .1) in
     rw (a .0, b .0, le-leb n (e .sets .limit) k)
 
--- what is known of a set that goes into its schedule: it stands in row i of a store L, complete, and its section's last_table_id is no smaller than its table_id
+-- what is known of a set that goes into its schedule: it stands in row i of a store L, complete, and its section's last_table_id is no smaller than its table_id.
+-- The clock has risen from `was`, and no schedule was touched since
 pub record Entering (L : Store) (a : Arrival) (kind : Kind) (first i : ℕ) : Type 0 where
   pub in-kind : InKind kind first (a .entry .key .«table_id»)
   pub table : kindOf (a .entry .key .«table_id») ≡ some kind
@@ -99,6 +100,9 @@ pub record Entering (L : Store) (a : Arrival) (kind : Kind) (first i : ℕ) : Ty
   pub counts : L .eit .«schedule_evictions» < 18446744073709551615
   pub rows-ok : rowsWhole (L .heads) (L .slots) (L .eit .sets .count) (L .eit .sets .size) (L .eit .sets .used) ≡ true
   pub units-ok : schedulesWhole (L .schedule-heads) (L .units) (L .eit .sets .count) (L .eit .sets .size) (L .eit .schedules) ≡ true
+  pub was : ℕ
+  pub rise : was < L .eit .sets .clock
+  pub stood : Stands scheduleShown scheduleWords (L .schedule-heads) (L .eit .schedules) was
 
 -- the key of the schedule, as its head has it
 abbrev pub scheduleKeyOf : Arrival → Key
@@ -114,10 +118,8 @@ readyOf L a b = readyUnits (L .heads) (L .slots) (L .eit .sets .used) (scheduleE
 
 -- the room b is where the rules' schedule is, and `old` is what they begin with there; only the arriving table's own place is left open
 pub record Roomed (L : Store) (a : Arrival) (first : ℕ) (others : Rows SetKey (SetOf Held)) (b : ScheduleRoom) (old : ScheduleOf Held) : Type 0 where
-  pub age : ℕ
-  pub goes : Goes (L .schedule-heads) (L .eit .sets .limit) (L .eit .schedules) (L .eit .«schedule_evictions») (scheduleKeyOf a) (b .room .row) age (b .room .used) (b .room .evictions)
+  pub goes : Goes (L .schedule-heads) (L .eit .sets .limit) (L .eit .schedules) (L .eit .«schedule_evictions») (scheduleKeyOf a) (b .room .row) (b .room .used) (b .room .evictions)
   pub own : keyAt (keptHeads (b .room) (scheduleEntry a) (L .schedule-heads)) (b .room .row) ≡ scheduleKeyOf a
-  pub aged : ageOf (keptHeads (b .room) (scheduleEntry a) (L .schedule-heads)) (b .room .row) ≡ age
   pub last : lastOf (keptHeads (b .room) (scheduleEntry a) (L .schedule-heads)) (b .room .row) ≡ a .tables
   pub begun : begin others ((keyShown (a .entry .key)) .schedule) first (a .tables) (find sameSchedule ((keyShown (a .entry .key)) .schedule) ((seen L) .eit .schedules .rows)) ≡ old
   pub old-last : old .lastTable ≡ a .tables
@@ -132,7 +134,7 @@ pub new-fresh : (heads : List ℕ) (limit used evictions : ℕ) → (roomNew hea
 unfolding roomNew
 new-fresh heads limit used evictions = go (ltb used limit)
   where
-    go : (b : Bool) → (cond b (roomRenewed (used + 1) evictions used used) (roomRenewed used (evictions + 1) (oldestOf heads used) (ageOf heads (oldestOf heads used)))) .fresh ≡ true
+    go : (b : Bool) → (cond b (roomRenewed (used + 1) evictions used) (roomRenewed used (evictions + 1) (oldestOf heads used))) .fresh ≡ true
     go true = refl
     go false = refl
 
@@ -169,6 +171,9 @@ module _ (L : Store) (z : Reached L) (a : Arrival) (kind : Kind) (first i : ℕ)
 
   abbrev evictions : ℕ
   evictions = L .eit .«schedule_evictions»
+
+  abbrev clock : ℕ
+  clock = L .eit .sets .clock
 
   skey-shown : scheduleShown skey ≡ l
   skey-shown = rw (h .number) (schedule-of key kind (h .table))
@@ -214,11 +219,11 @@ module _ (L : Store) (z : Reached L) (a : Arrival) (kind : Kind) (first i : ℕ)
           → copied (find sameSet (keyShown key′) ((seen L) .eit .sets .rows)) ≡ cond (b && setComplete (L .heads) (L .slots) (rowFor j)) (some (copyOf (rowSeen (L .heads) (L .slots) (rowFor j)))) none
       go true q =
           let m = ltb-true (rowFor j) (L .eit .sets .used) q in
-          ap copied (finds-known keyShown keyWords sameSet sameSet-true set-self (L .heads) limit (L .eit .sets .used) (L .eit .sets .evictions) key′ (z .sets) (key-reads key′ (h .pid) (h .bit)) (rowSeen (L .heads) (L .slots))
+          ap copied (finds-known keyShown keyWords sameSet sameSet-true set-self (L .heads) limit (L .eit .sets .used) clock (suc clock) (L .eit .sets .evictions) key′ (z .sets) (omega arith) (key-reads key′ (h .pid) (h .bit)) (rowSeen (L .heads) (L .slots))
           (rowFor j) m (row-has-key (L .heads) key′ (L .eit .sets .used) m)) ∙ copied-some (rowFor j) m
       go false q =
           let m = ltb-false (rowFor j) (L .eit .sets .used) q in
-          ap copied (finds-none keyShown keyWords sameSet sameSet-true set-self (L .heads) limit (L .eit .sets .used) (L .eit .sets .evictions) key′ (z .sets) (key-reads key′ (h .pid) (h .bit)) (rowSeen (L .heads) (L .slots))
+          ap copied (finds-none keyShown keyWords sameSet sameSet-true set-self (L .heads) limit (L .eit .sets .used) clock (suc clock) (L .eit .sets .evictions) key′ (z .sets) (omega arith) (key-reads key′ (h .pid) (h .bit)) (rowSeen (L .heads) (L .slots))
           (no-row-has-key (L .heads) key′ (L .eit .sets .used) m)) ∙ copied-none
 
   -- the first table_id of the kind
@@ -268,13 +273,13 @@ module _ (L : Store) (z : Reached L) (a : Arrival) (kind : Kind) (first i : ℕ)
   unfolding seen
   found-known k =
       ap (λ (q : ScheduleKey). find sameSchedule q ((seen L) .eit .schedules .rows)) (sym skey-shown)
-      ∙ finds-known scheduleShown scheduleWords sameSchedule sameSchedule-true schedule-self schedule-heads limit held evictions skey (z .schedules) skey-proper (scheduleSeen schedule-heads (L .units)) there k (row-has-key schedule-heads skey held k)
+      ∙ finds-known scheduleShown scheduleWords sameSchedule sameSchedule-true schedule-self schedule-heads limit held clock (suc clock) evictions skey (z .schedules) (omega arith) skey-proper (scheduleSeen schedule-heads (L .units)) there k (row-has-key schedule-heads skey held k)
 
   found-none : held ≤ there → found ≡ none
   unfolding seen
   found-none k =
       ap (λ (q : ScheduleKey). find sameSchedule q ((seen L) .eit .schedules .rows)) (sym skey-shown)
-      ∙ finds-none scheduleShown scheduleWords sameSchedule sameSchedule-true schedule-self schedule-heads limit held evictions skey (z .schedules) skey-proper (scheduleSeen schedule-heads (L .units)) (no-row-has-key schedule-heads skey held k)
+      ∙ finds-none scheduleShown scheduleWords sameSchedule sameSchedule-true schedule-self schedule-heads limit held clock (suc clock) evictions skey (z .schedules) (omega arith) skey-proper (scheduleSeen schedule-heads (L .units)) (no-row-has-key schedule-heads skey held k)
 
   -- a schedule's tables, by its head
   tables-are : (schedule-heads′ : List ℕ) (k : ℕ) → lastOf schedule-heads′ k ≡ a .tables → tableWord schedule-heads′ k ≡ a .kind → tablesOf schedule-heads′ k ≡ countOf a
@@ -295,10 +300,8 @@ module _ (L : Store) (z : Reached L) (a : Arrival) (kind : Kind) (first i : ℕ)
       let n : tablesOf schedule-heads there ≡ countOf a = tables-are schedule-heads there e (ap (λ (q : Key). q .«table_id») (row-has-key schedule-heads skey held k)) in
       let few = places-few in
       record {
-        age = ageOf schedule-heads there;
         goes = goes-known schedule-heads limit held evictions skey k;
         own = key-same schedule-heads (keptHeads r entry schedule-heads) there (λ m q. kept-known r entry schedule-heads long refl m (of-key m q .no-mark) (of-key m q .below)) ∙ row-has-key schedule-heads skey held k;
-        aged = kept-known r entry schedule-heads long refl 9 (omega arith) (omega arith);
         last = kept-known r entry schedule-heads long refl 7 (omega arith) (omega arith) ∙ e;
         begun = rw (found-known k, eq-eqb (lastOf schedule-heads there) (a .tables) e);
         old-last = e;
@@ -315,9 +318,6 @@ module _ (L : Store) (z : Reached L) (a : Arrival) (kind : Kind) (first i : ℕ)
     fresh-own : keyAt (keptHeads r entry schedule-heads) (r .row) ≡ skey
     fresh-own = kept-fresh-key r entry schedule-heads long f
 
-    fresh-age : ageOf (keptHeads r entry schedule-heads) (r .row) ≡ r .age
-    fresh-age = kept-fresh r entry schedule-heads long f 9 (omega arith)
-
     fresh-last : lastOf (keptHeads r entry schedule-heads) (r .row) ≡ a .tables
     fresh-last = kept-fresh r entry schedule-heads long f 7 (omega arith)
 
@@ -328,21 +328,19 @@ module _ (L : Store) (z : Reached L) (a : Arrival) (kind : Kind) (first i : ℕ)
 
   -- "If last_table_id differs from an existing schedule's, that row is emptied first and refilled"
   other-room : there < held → lastOf schedule-heads there ≢ a .tables
-      → Roomed L a first others (record { room = roomRenewed held evictions there (ageOf schedule-heads there); refill = true }) (record { lastTable = a .tables; copies = refill others l (a .tables) first 16 })
+      → Roomed L a first others (record { room = roomRenewed held evictions there; refill = true }) (record { lastTable = a .tables; copies = refill others l (a .tables) first 16 })
   unfolding begin scheduleSeen readyUnits
   other-room k e =
       let t = h .schedule-heads-long in
       let f = h .few in
       let u = h .units-long in
-      let r : Room = roomRenewed held evictions there (ageOf schedule-heads there) in
+      let r : Room = roomRenewed held evictions there in
       let long : there * 12 + 12 ≤ length schedule-heads = omega arith in
       let low : first ≤ a .tables = let p = h .in-kind .from in let q = h .range in omega arith in
       let d = same in
       record {
-        age = ageOf schedule-heads there;
         goes = goes-known schedule-heads limit held evictions skey k;
         own = fresh-own r refl long;
-        aged = fresh-age r refl long;
         last = fresh-last r refl long;
         begun = rw (found-known k, ne-eqb (lastOf schedule-heads there) (a .tables) e);
         old-last = refl;
@@ -396,10 +394,8 @@ module _ (L : Store) (z : Reached L) (a : Arrival) (kind : Kind) (first i : ℕ)
       let f : r .fresh ≡ true = new-fresh schedule-heads limit held evictions in
       let long : r .row * 12 + 12 ≤ length schedule-heads = omega arith in
       record {
-        age = r .age;
         goes = g;
         own = fresh-own r f long;
-        aged = fresh-age r f long;
         last = fresh-last r f long;
         begun = rw (found-none k);
         old-last = refl;
@@ -420,7 +416,7 @@ module _ (L : Store) (z : Reached L) (a : Arrival) (kind : Kind) (first i : ℕ)
     where
       go : (b c : Bool) → ltb there held ≡ b → eqb (lastOf schedule-heads there) (a .tables) ≡ c
           → (old : ScheduleOf Held) × Roomed L a first others (cond b
-          (cond c (record { room = roomIn held evictions there; refill = false }) (record { room = roomRenewed held evictions there (ageOf schedule-heads there); refill = true }))
+          (cond c (record { room = roomIn held evictions there; refill = false }) (record { room = roomRenewed held evictions there; refill = true }))
           (record { room = roomNew schedule-heads limit held evictions; refill = false })) old
       go true true p q = (scheduleSeen schedule-heads (L .units) there, same-room (ltb-true there held p) (eqb-true (lastOf schedule-heads there) (a .tables) q))
       go true false p q = (record { lastTable = a .tables; copies = refill others l (a .tables) first 16 }, other-room (ltb-true there held p) (eqb-false (lastOf schedule-heads there) (a .tables) q))
@@ -439,7 +435,7 @@ module _ (L : Store) (z : Reached L) (a : Arrival) (kind : Kind) (first i : ℕ)
     units₁ = withSet (L .heads) (L .slots) i own-unit (readyOf L a b)
 
     abbrev schedule-heads₁ : List ℕ
-    schedule-heads₁ = touched (b .room .used) row (keptHeads (b .room) entry schedule-heads)
+    schedule-heads₁ = touched clock row (keptHeads (b .room) entry schedule-heads)
 
     abbrev after : Store
     after = store (withSchedules (L .eit) (b .room .used) (b .room .evictions)) (L .heads) (L .slots) (L .cells) schedule-heads₁ units₁
@@ -483,18 +479,18 @@ module _ (L : Store) (z : Reached L) (a : Arrival) (kind : Kind) (first i : ℕ)
     kept-length : length (keptHeads (b .room) entry schedule-heads) ≡ length schedule-heads
     kept-length = length-kept (b .room) entry schedule-heads schedule-heads-in
 
-    then-touched : Touched schedule-heads schedule-heads₁ skey row (w .age) (b .room .used)
+    then-touched : Touched schedule-heads schedule-heads₁ skey row clock (b .room .used)
     then-touched =
         let p = kept-length in
         let q = within in
         let r = h .schedule-heads-long in
-        ready-touched schedule-heads (keptHeads (b .room) entry schedule-heads) skey row (w .age) (b .room .used) (omega arith) row-in (w .own) (w .aged) (λ j m k ne c. kept-row (b .room) entry schedule-heads schedule-heads-in j m ne c)
+        ready-touched schedule-heads (keptHeads (b .room) entry schedule-heads) skey row clock (b .room .used) (omega arith) row-in (w .own) (λ j m k ne c. kept-row (b .room) entry schedule-heads schedule-heads-in j m ne c)
 
     key-after : keyAt schedule-heads₁ row ≡ skey
     key-after = then-touched .own
 
     last-is : lastOf schedule-heads₁ row ≡ a .tables
-    last-is = touched-not (b .room .used) row (keptHeads (b .room) entry schedule-heads) row 7 (omega arith) (omega arith) ∙ w .last
+    last-is = touched-not clock row (keptHeads (b .room) entry schedule-heads) row 7 (omega arith) (omega arith) ∙ w .last
 
     kind-is : tableWord schedule-heads₁ row ≡ a .kind
     kind-is = ap (λ (k : Key). k .«table_id») key-after
@@ -549,7 +545,7 @@ module _ (L : Store) (z : Reached L) (a : Arrival) (kind : Kind) (first i : ℕ)
 
     -- the other schedules are as they were
     other-word : (j m : ℕ) → j ≢ row → m < 12 → m ≢ 9 → word schedule-heads₁ j m ≡ word schedule-heads j m
-    other-word j m ne l n9 = touched-not (b .room .used) row (keptHeads (b .room) entry schedule-heads) j m n9 l ∙ kept-row (b .room) entry schedule-heads schedule-heads-in j m ne l
+    other-word j m ne l n9 = touched-not clock row (keptHeads (b .room) entry schedule-heads) j m n9 l ∙ kept-row (b .room) entry schedule-heads schedule-heads-in j m ne l
 
     other-tables : (j : ℕ) → j ≢ row → tablesOf schedule-heads₁ j ≡ tablesOf schedule-heads j
     unfolding tablesOf
@@ -576,29 +572,39 @@ module _ (L : Store) (z : Reached L) (a : Arrival) (kind : Kind) (first i : ℕ)
         let q = up-cong (placeSeen schedule-heads₁ units₁ j) (placeSeen schedule-heads (L .units) j) 16 0 (λ n c d. other-place j ne n (omega arith)) in
         λ t. record { lastTable = p t; copies = q t }
 
-    schedules-are : orderSeen scheduleShown schedule-heads₁ (b .room .used) (b .room .evictions) (scheduleSeen schedule-heads₁ units₁) ≡ touch sameSchedule limit l g ((seen L) .eit .schedules)
+    -- the schedules before their touch
+    stood-seen : (seen L) .eit .schedules ≡ orderSeen scheduleShown schedule-heads held (h .was) evictions (scheduleSeen schedule-heads (L .units))
+    unfolding seen
+    stood-seen =
+        let r = h .rise in
+        ap (λ (q : Rows ScheduleKey (ScheduleOf Held)). record { rows = q; evicted = evictions })
+        (seen-later scheduleShown scheduleWords sameSchedule sameSchedule-true schedule-self schedule-heads held (h .was) clock (omega arith) (h .stood) (scheduleSeen schedule-heads (L .units)))
+
+    schedules-are : orderSeen scheduleShown schedule-heads₁ (b .room .used) clock (b .room .evictions) (scheduleSeen schedule-heads₁ units₁) ≡ touch sameSchedule limit l g ((seen L) .eit .schedules)
     unfolding seen touch
     schedules-are =
-        touched-seen scheduleShown scheduleWords sameSchedule sameSchedule-true schedule-self schedule-heads limit held evictions skey (z .schedules) skey-proper (scheduleSeen schedule-heads (L .units)) schedule-heads₁ (scheduleSeen schedule-heads₁ units₁)
+        touched-seen scheduleShown scheduleWords sameSchedule sameSchedule-true schedule-self schedule-heads limit held (h .was) clock evictions skey (h .stood) (h .rise) skey-proper (scheduleSeen schedule-heads (L .units)) schedule-heads₁ (scheduleSeen schedule-heads₁ units₁)
         (w .goes) then-touched other-schedule
+        ∙ ap (λ (o : TouchOrder ScheduleKey (ScheduleOf Held)). newest (scheduleShown skey) (scheduleSeen schedule-heads₁ units₁ row) (aside sameSchedule limit (scheduleShown skey) o)) (sym stood-seen)
         ∙ ap (λ (q : ScheduleKey). newest q (scheduleSeen schedule-heads₁ units₁ row) (aside sameSchedule limit q ((seen L) .eit .schedules))) skey-shown
         ∙ ap (λ (q : ScheduleOf Held). newest l q (aside sameSchedule limit l ((seen L) .eit .schedules))) own-schedule
 
-    shown-after : seen after ≡ record { settings = (seen L) .settings; eit = scheduleTouched limit l g ((seen L) .eit); cells = (seen L) .cells }
+    shown-after : seen after ≡ record { settings = (seen L) .settings; eit = scheduleTouched limit l g ((seen L) .eit); cells = (seen L) .cells; clock = (seen L) .clock }
     unfolding seen scheduleTouched
     shown-after =
         let q = schedules-are in
-        λ t. record { settings = (seen L) .settings; eit = record { sets = (seen L) .eit .sets; schedules = q t }; cells = (seen L) .cells }
+        λ t. record { settings = (seen L) .settings; eit = record { sets = (seen L) .eit .sets; schedules = q t }; cells = (seen L) .cells; clock = (seen L) .clock }
 
     reached-after : Reached after
     reached-after = record {
-      fits = rw (length-touched (b .room .used) row (keptHeads (b .room) entry schedule-heads), kept-length, units-length)
+      fits = rw (length-touched clock row (keptHeads (b .room) entry schedule-heads), kept-length, units-length)
           (fits-schedules (L .eit) (length (L .heads)) (length (L .slots)) (length (L .cells)) (length schedule-heads) (length (L .units)) (b .room .used) (b .room .evictions) (z .fits) within);
       counts = z .counts;
+      ticks = z .ticks;
       schedule-counts = let p = goes-count (w .goes) in let q = h .counts in omega arith;
       heads-fit = z .heads-fit;
       sets = z .sets;
-      schedules = touched-stands scheduleShown scheduleWords sameSchedule sameSchedule-true schedule-self schedule-heads limit held evictions skey (z .schedules) skey-proper schedule-heads₁ (w .goes) then-touched;
+      schedules = touched-stands scheduleShown scheduleWords sameSchedule sameSchedule-true schedule-self schedule-heads limit held (h .was) clock evictions skey (h .stood) (h .rise) skey-proper schedule-heads₁ (w .goes) then-touched;
     }
 
     -- every table of the schedule is whole

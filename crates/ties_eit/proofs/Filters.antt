@@ -12,7 +12,7 @@ use Rattle.rules_eit.specs.Keys.{Kind, presentActual, presentOther, scheduleAct
 use Rattle.eit_section.specs.Eit.{within}
 use Rattle.rows.specs.declared.Origin.{Origin as Words}
 use Rattle.rows.specs.declared.Key.{Key}
-use Rattle.ages.specs.Origins.{originShown}
+use Rattle.ticks.specs.Origins.{originShown}
 use Rattle.arrivals.specs.Arrivals.{bitOf}
 use Rattle.eit_section.specs.declared.Kind.the-variants.{PresentFollowingActual, PresentFollowingOther, ScheduleActual, ScheduleOther}
 use Rattle.eit_section.specs.declared.MaybeKind.the-variants as maybe

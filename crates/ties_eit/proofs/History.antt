@@ -32,8 +32,7 @@ use Rattle.section.specs.declared.header.Collected.the-variants as collected
 use Rattle.eit_section.specs.declared.Reading.{Reading}
 use Rattle.eit_section.specs.declared.Reading.the-variants as reading
 use Rattle.section.specs.declared.ids.MaybePid.the-variants as maybe
-use Rattle.ages.specs.Order.{downFrom, inOrder, rowsSeen}
-use Rattle.ages.proofs.Touch.{stands-none}
+use Rattle.ticks.proofs.Touch.{seen-none, stands-none}
 use Rattle.rows.specs.Rows.{touched}
 use Rattle.schedules.specs.declared.ScheduleRoom.{ScheduleRoom}
 use Rattle.schedules.specs.Schedules.{roomOf, scheduledUnits, tablesThere}
@@ -47,7 +46,7 @@ use Rattle.eit_becomes.specs.declared.Becomes.{Becomes}
 use Rattle.eit_becomes.specs.declared.Becomes.the-variants as becomes
 use Rattle.eit_plan.specs.declared.Plan.{Plan}
 use Rattle.eit_plan.specs.declared.Plan.the-variants as plan
-use Rattle.eit_state.specs.State.{Store, store, rows, rowsOf, asked, settingsFit, wholeOf, Rows as EitRows, emptyEit}
+use Rattle.eit_state.specs.State.{Store, store, rows, rowsOf, risenRows, asked, settingsFit, wholeOf, Rows as EitRows, emptyEit}
 use Rattle.arrivals.specs.declared.EitArrival.{EitArrival}
 use Rattle.arrivals.specs.declared.EitArrival.the-variants as arrival
 use Rattle.rules_shared.specs.Refusals as refusals
@@ -60,7 +59,7 @@ use Rattle.eit.specs.Store as eit
 use Rattle.eit.specs.Store.{After, after, toldStep, answerOf, openedOf, clearedOf, carriedDrop, droppedOf, pushedAs, pushedOf}
 use Rattle.eit_admit.specs.Admitting.{dropOf, admitted}
 use Rattle.eit_pids.specs.Rows.{anyWithout}
-use Rattle.ties_eit.specs.View.{keyShown, scheduleShown, keyWords, scheduleWords, seen, settingsOf, sectionOf, readsEit, readsAs, readOn, readSection, reads, wantedAs, pidTest, filterShown, answerTold, tells, acts, Given, clears, drops, section, Fitting, Opened, Reached}
+use Rattle.ties_eit.specs.View.{keyShown, scheduleShown, keyWords, scheduleWords, rowSeen, scheduleSeen, seen, settingsOf, sectionOf, readsEit, readsAs, readOn, readSection, reads, wantedAs, pidTest, filterShown, answerTold, tells, acts, Given, clears, drops, section, Fitting, Opened, Reached}
 use Rattle.ties_eit.proofs.Keys.{set-self, schedule-self}
 use Rattle.ties_eit.proofs.Pids.{each-has-pid}
 use Rattle.ties_eit.proofs.Calls.{tied, room-there, whole-seen}
@@ -73,10 +72,11 @@ unfolding openedOf
 opened-reached s o = record {
   fits = go (settingsFit (s .eit) (length (s .heads)) (length (s .slots)) (length (s .cells)) (length (s .schedule-heads)) (length (s .units))) (o .opened);
   counts = let e = o .evictions in omega arith;
+  ticks = let e = o .clock in omega arith;
   schedule-counts = let e = o .schedule-evictions in omega arith;
   heads-fit = λ i h. let e = o .sets in absurd (omega arith);
-  sets = rw (o .sets) (stands-none keyShown keyWords sameSet sameSet-true set-self (s .heads));
-  schedules = rw (o .schedules) (stands-none scheduleShown scheduleWords sameSchedule sameSchedule-true schedule-self (s .schedule-heads));
+  sets = rw (o .sets) (stands-none keyShown keyWords sameSet sameSet-true set-self (s .heads) (s .eit .sets .clock));
+  schedules = rw (o .schedules) (stands-none scheduleShown scheduleWords sameSchedule sameSchedule-true schedule-self (s .schedule-heads) (s .eit .sets .clock));
 }
   where
     go : (b : Bool) → cond b eit.done (eit.refused refusal.TooLittle) ≡ eit.done → b ≡ true
@@ -88,12 +88,20 @@ pub opens : (limit size count : ℕ) (heads slots cells schedule-heads units : L
     → Opened (store (asked limit size count) heads slots cells schedule-heads units)
 unfolding openedOf
 opens limit size count heads slots cells schedule-heads units e =
-    record { opened = ap (λ (b : Bool). cond b eit.done (eit.refused refusal.TooLittle)) e; sets = refl; evictions = refl; schedules = refl; schedule-evictions = refl }
+    record { opened = ap (λ (b : Bool). cond b eit.done (eit.refused refusal.TooLittle)) e; sets = refl; evictions = refl; clock = refl; schedules = refl; schedule-evictions = refl }
 
 -- "no rows, counts 0"
 pub opened-seen : (s : Store) → Opened s → (seen s) .eit ≡ record { sets = untouched; schedules = untouched }
-unfolding seen untouched rowsSeen inOrder downFrom
-opened-seen s o = rw (o .sets, o .evictions, o .schedules, o .schedule-evictions)
+unfolding seen untouched
+opened-seen s o =
+    rw (
+      o .sets,
+      o .evictions,
+      o .schedules,
+      o .schedule-evictions,
+      seen-none keyShown keyWords sameSet sameSet-true set-self (s .heads) (s .eit .sets .clock) (rowSeen (s .heads) (s .slots)),
+      seen-none scheduleShown scheduleWords sameSchedule sameSchedule-true schedule-self (s .schedule-heads) (s .eit .sets .clock) (scheduleSeen (s .schedule-heads) (s .units)),
+    )
 
 -- ---- one call
 
@@ -153,7 +161,7 @@ settling-changes becomes.Enters r a i s = entering-changes r a i (roomOf (r .sch
 settled-changes : (r : EitRows) (a : Arrival) (i : ℕ) (s : Store) → asBefore (answerTold (answerOf ((settled r a i) .answer) s)) ≡ false
 unfolding settled
 settled-changes r a i s =
-    let heads : List ℕ = touched (r .eit .sets .used) i (r .heads) in
+    let heads : List ℕ = touched (r .eit .sets .clock) i (r .heads) in
     let b : Becomes = becomesOf heads (r .slots) a i in
     settling-changes b (rows (r .eit) (markedHeads (isMarked b) i heads) (r .slots) (r .schedule-heads) (r .units)) a i s
 
@@ -161,7 +169,7 @@ plan-keeps : (s : Store) (bytes : Bytes) (p : Plan) → asBefore (answerTold ((t
 unfolding asBefore refusals.asBefore answerTold keptAndSettled
 plan-keeps s bytes (plan.Leave a) h = refl
 plan-keeps s bytes (plan.Conflict i) h = absurd (true≢false (sym h))
-plan-keeps s bytes (plan.Repeat x) h = absurd (true≢false (sym h ∙ settled-changes (rowsOf s) (x .arrival) (x .row) _))
+plan-keeps s bytes (plan.Repeat x) h = absurd (true≢false (sym h ∙ settled-changes (risenRows (rowsOf s)) (x .arrival) (x .row) _))
 plan-keeps s bytes (plan.Keep k) h = absurd (true≢false (sym h ∙ settled-changes _ (k .arrival) (k .room .row) _))
 
 push-keeps : (s : Store) (bytes : Bytes) (v : EitArrival) → asBefore (answerTold ((pushedAs s bytes v) .told)) ≡ true → (pushedAs s bytes v) .store ≡ s

@@ -23,23 +23,23 @@ use Rattle.rules_shared.proofs.Cells.{held-whole}
 use Rattle.rules_eit.specs.Keys.{Kind, SetKey, sameSet}
 use Rattle.rules_eit.specs.Segments.{SetOf}
 use Rattle.rules_eit.specs.Rules.{Section, partOf, metRow, setAside, setNewest, judge}
-use Rattle.rules_eit.specs.Cells.{setTakes, scheduleTakes, taken, shows, rest, roomFor, carry}
+use Rattle.rules_eit.specs.Cells.{setTakes, scheduleTakes, taken, shows, rest, roomFor, carry, risen}
 use Rattle.rules_eit.proofs.Keys.{sameSet-true}
 use Rattle.cells.specs.Cells.{slotWord, allWhole, lowestFree}
 use Rattle.rows.specs.declared.Entry.{Entry}
 use Rattle.rows.specs.declared.Room.{Room}
-use Rattle.rows.specs.Rows.{keyAt, touched, keptHeads, goneRow, rowSlots, takenIn, rowsWhole, lastOf, ageOf}
+use Rattle.rows.specs.Rows.{keyAt, touched, keptHeads, goneRow, rowSlots, takenIn, rowsWhole, lastOf}
 use Rattle.rows.proofs.Words.{OfKey, of-key, length-kept, kept-row, kept-fresh, kept-known}
 use Rattle.rows.proofs.Whole.{rows-get, rows-all}
-use Rattle.ages.specs.Order.{Goes, Touched}
-use Rattle.ages.specs.Slots.{heldOf, heldSlots, cellsSeen}
-use Rattle.ages.specs.Origins.{originShown}
-use Rattle.ages.proofs.Words.{key-same, ready-touched, kept-fresh-key, kept-unmarked}
-use Rattle.ages.proofs.Slots.{held-new, held-set, held-none, lowest-is}
-use Rattle.ages.proofs.Slots.{held-whole as words-whole}
-use Rattle.ages.proofs.Cells.{cells-length, cells-written, written-length}
-use Rattle.ages.proofs.Touch.{goes-row, goes-out}
-use Rattle.ages.proofs.Taken.{taken-fresh, taken-known}
+use Rattle.ticks.specs.Order.{Goes, Touched}
+use Rattle.ticks.specs.Slots.{heldOf, heldSlots, cellsSeen}
+use Rattle.ticks.specs.Origins.{originShown}
+use Rattle.ticks.proofs.Words.{key-same, ready-touched, kept-fresh-key, kept-unmarked}
+use Rattle.ticks.proofs.Slots.{held-new, held-set, held-none, lowest-is}
+use Rattle.ticks.proofs.Slots.{held-whole as words-whole}
+use Rattle.ticks.proofs.Cells.{cells-length, cells-written, written-length}
+use Rattle.ticks.proofs.Touch.{goes-row, goes-out}
+use Rattle.ticks.proofs.Taken.{taken-fresh, taken-known}
 use Rattle.segments.specs.Segments.{keptSection}
 use Rattle.schedules.specs.Schedules.{schedulesWhole, takenInSchedules, takenAnywhere}
 use Rattle.arrivals.specs.declared.Arrival.{Arrival}
@@ -78,16 +78,16 @@ sectionFor a bytes = record {
 }
 
 -- where the section goes: a row that begins anew, or one that goes on; the last argument is the row that the rules' section meets
-pub data Meets (s : Store) (a : Arrival) (bytes : Bytes) (r : Room) (age : ℕ) : SetOf Held → Type 0 where
-  anew : r .fresh ≡ true → r .age ≡ age → Meets s a bytes r age (fresh (partOf (sectionFor a bytes)))
-  goesOn : r .fresh ≡ false → r .row < s .eit .sets .used → keyAt (s .heads) (r .row) ≡ a .entry .key → ageOf (s .heads) (r .row) ≡ age
-      → lastOf (s .heads) (r .row) ≡ a .entry .last → Meets s a bytes r age (rowSeen (s .heads) (s .slots) (r .row))
+pub data Meets (s : Store) (a : Arrival) (bytes : Bytes) (r : Room) : SetOf Held → Type 0 where
+  anew : r .fresh ≡ true → Meets s a bytes r (fresh (partOf (sectionFor a bytes)))
+  goesOn : r .fresh ≡ false → r .row < s .eit .sets .used → keyAt (s .heads) (r .row) ≡ a .entry .key
+      → lastOf (s .heads) (r .row) ≡ a .entry .last → Meets s a bytes r (rowSeen (s .heads) (s .slots) (r .row))
 
 module _ (s : Store) (z : Reached s) (f : Whole s)
     (units-ok : schedulesWhole (s .schedule-heads) (s .units) (s .eit .sets .count) (s .eit .sets .size) (s .eit .schedules) ≡ true)
-    (more : s .eit .sets .evictions < 18446744073709551615) (more′ : s .eit .«schedule_evictions» < 18446744073709551615) (pos : 0 < s .eit .sets .limit)
+    (more : s .eit .sets .evictions < 18446744073709551615) (more′ : s .eit .«schedule_evictions» < 18446744073709551615) (runs : s .eit .sets .clock < 18446744073709551615) (pos : 0 < s .eit .sets .limit)
     (a : Arrival) (kind : Kind) (arr : Arrives a kind) (bytes : Bytes) (h12 : 12 ≤ length bytes) (hs : length bytes ≤ s .eit .sets .size)
-    (r : Room) (age : ℕ) (g : Goes (s .heads) (s .eit .sets .limit) (s .eit .sets .used) (s .eit .sets .evictions) (a .entry .key) (r .row) age (r .used) (r .evictions)) where
+    (r : Room) (g : Goes (s .heads) (s .eit .sets .limit) (s .eit .sets .used) (s .eit .sets .evictions) (a .entry .key) (r .row) (r .used) (r .evictions)) where
   abbrev e : Entry
   e = a .entry
 
@@ -117,37 +117,37 @@ module _ (s : Store) (z : Reached s) (f : Whole s)
 
   -- ---- the head
 
+  -- the clock from then on
+  abbrev now : ℕ
+  now = s .eit .sets .clock + 1
+
   abbrev heads₁ : List ℕ
   heads₁ = keptHeads r e (s .heads)
 
-  own-key : {met : SetOf Held} → Meets s a bytes r age met → keyAt heads₁ (r .row) ≡ e .key
-  own-key (anew t u) = kept-fresh-key r e (s .heads) head-long t
-  own-key (goesOn t l q u v) = key-same (s .heads) heads₁ (r .row) (λ m c. kept-known r e (s .heads) head-long t m (of-key m c .no-mark) (of-key m c .below)) ∙ q
+  own-key : {met : SetOf Held} → Meets s a bytes r met → keyAt heads₁ (r .row) ≡ e .key
+  own-key (anew t) = kept-fresh-key r e (s .heads) head-long t
+  own-key (goesOn t l q v) = key-same (s .heads) heads₁ (r .row) (λ m c. kept-known r e (s .heads) head-long t m (of-key m c .no-mark) (of-key m c .below)) ∙ q
 
-  own-age : {met : SetOf Held} → Meets s a bytes r age met → ageOf heads₁ (r .row) ≡ age
-  own-age (anew t u) = kept-fresh r e (s .heads) head-long t 9 (omega arith) ∙ u
-  own-age (goesOn t l q u v) = kept-known r e (s .heads) head-long t 9 (omega arith) (omega arith) ∙ u
+  own-last : {met : SetOf Held} → Meets s a bytes r met → lastOf heads₁ (r .row) ≡ e .last
+  own-last (anew t) = kept-fresh r e (s .heads) head-long t 7 (omega arith)
+  own-last (goesOn t l q v) = kept-known r e (s .heads) head-long t 7 (omega arith) (omega arith) ∙ v
 
-  own-last : {met : SetOf Held} → Meets s a bytes r age met → lastOf heads₁ (r .row) ≡ e .last
-  own-last (anew t u) = kept-fresh r e (s .heads) head-long t 7 (omega arith)
-  own-last (goesOn t l q u v) = kept-known r e (s .heads) head-long t 7 (omega arith) (omega arith) ∙ v
-
-  own-fits : {met : SetOf Held} → Meets s a bytes r age met → HeadFits heads₁ (r .row)
-  own-fits (anew t u) =
+  own-fits : {met : SetOf Held} → Meets s a bytes r met → HeadFits heads₁ (r .row)
+  own-fits (anew t) =
       let v = kept-fresh r e (s .heads) head-long t 6 (omega arith) in
       let l = kept-fresh r e (s .heads) head-long t 7 (omega arith) in
       let c = kept-fresh r e (s .heads) head-long t 1 (omega arith) in
       record { version = rw v (arr .version); last = rw l last; kind = rw (c, arr .table) }
-  own-fits (goesOn t l q u v) =
+  own-fits (goesOn t l q v) =
       head-same (s .heads) heads₁ (r .row) (kept-known r e (s .heads) head-long t 1 (omega arith) (omega arith)) (kept-known r e (s .heads) head-long t 6 (omega arith) (omega arith))
       (kept-known r e (s .heads) head-long t 7 (omega arith) (omega arith)) (z .heads-fit (r .row) l)
 
   heads-still-long : r .used * 12 ≤ length heads₁
   heads-still-long = let p = within in let q = f .sets .heads-long in let c = length-kept r e (s .heads) head-long in omega arith
 
-  then-touched : {met : SetOf Held} → Meets s a bytes r age met → Touched (s .heads) (touched (r .used) (r .row) heads₁) (e .key) (r .row) age (r .used)
+  then-touched : {met : SetOf Held} → Meets s a bytes r met → Touched (s .heads) (touched now (r .row) heads₁) (e .key) (r .row) now (r .used)
   then-touched m =
-      ready-touched (s .heads) heads₁ (e .key) (r .row) age (r .used) heads-still-long (goes-row g) (own-key m) (own-age m)
+      ready-touched (s .heads) heads₁ (e .key) (r .row) now (r .used) heads-still-long (goes-row g) (own-key m)
       (λ j c l ne q. kept-row r e (s .heads) head-long j c ne q)
 
   -- ---- the cells that are named
@@ -162,20 +162,20 @@ module _ (s : Store) (z : Reached s) (f : Whole s)
   abbrev there : ℕ → Bool
   there = takenAnywhere (s .heads) (s .slots) (s .schedule-heads) (s .units) gone (s .eit .sets .used) (s .eit .schedules)
 
-  sets-taken : {met : SetOf Held} → Meets s a bytes r age met → (c : ℕ) → someRow (setTakes c) ((setNewest k met (rest (seen s) k)) .sets .rows) ≡ takenIn (s .heads) (s .slots) gone (s .eit .sets .used) c
+  sets-taken : {met : SetOf Held} → Meets s a bytes r met → (c : ℕ) → someRow (setTakes c) ((setNewest k met (rest (seen s) k)) .sets .rows) ≡ takenIn (s .heads) (s .slots) gone (s .eit .sets .used) c
   unfolding setNewest rest setAside seen
-  sets-taken (anew t u) c =
-      taken-fresh keyShown keyWords sameSet sameSet-true set-self (s .heads) (s .slots) (s .eit .sets .limit) (s .eit .sets .used) (s .eit .sets .evictions) (e .key) (z .sets) proper (rowSeen (s .heads) (s .slots))
-      (touched (r .used) (r .row) heads₁) r age g (then-touched (anew t u)) setTakes (row-takes (s .heads) (s .slots)) (fresh (partOf x)) none-taken t c
-  sets-taken (goesOn t l q u v) c =
-      taken-known keyShown keyWords sameSet sameSet-true set-self (s .heads) (s .slots) (s .eit .sets .limit) (s .eit .sets .used) (s .eit .sets .evictions) (e .key) (z .sets) proper (rowSeen (s .heads) (s .slots))
-      (touched (r .used) (r .row) heads₁) r age g (then-touched (goesOn t l q u v)) setTakes (row-takes (s .heads) (s .slots)) l t c
+  sets-taken (anew t) c =
+      taken-fresh keyShown keyWords sameSet sameSet-true set-self (s .heads) (s .slots) (s .eit .sets .limit) (s .eit .sets .used) (s .eit .sets .clock) now (s .eit .sets .evictions) (e .key) (z .sets) (omega arith) proper (rowSeen (s .heads) (s .slots))
+      (touched now (r .row) heads₁) r g (then-touched (anew t)) setTakes (row-takes (s .heads) (s .slots)) (fresh (partOf x)) none-taken t c
+  sets-taken (goesOn t l q v) c =
+      taken-known keyShown keyWords sameSet sameSet-true set-self (s .heads) (s .slots) (s .eit .sets .limit) (s .eit .sets .used) (s .eit .sets .clock) now (s .eit .sets .evictions) (e .key) (z .sets) (omega arith) proper (rowSeen (s .heads) (s .slots))
+      (touched now (r .row) heads₁) r g (then-touched (goesOn t l q v)) setTakes (row-takes (s .heads) (s .slots)) l t c
 
   schedules-named : (met : SetOf Held) (c : ℕ) → someRow (scheduleTakes c) ((setNewest k met (rest (seen s) k)) .schedules .rows) ≡ takenInSchedules (s .schedule-heads) (s .units) (s .eit .schedules) c
   unfolding setNewest rest setAside seen
-  schedules-named met c = schedules-taken (s .schedule-heads) (s .units) (s .eit .schedules) c (z .schedules .ages)
+  schedules-named met c = schedules-taken (s .schedule-heads) (s .units) (s .eit .schedules) (s .eit .sets .clock) c (z .schedules .ticks)
 
-  taken-same : {met : SetOf Held} → Meets s a bytes r age met → metRow x k ((seen s) .eit) ≡ met → (c : ℕ) → taken (roomFor (seen s) x k) c ≡ there c
+  taken-same : {met : SetOf Held} → Meets s a bytes r met → metRow x k ((seen s) .eit) ≡ met → (c : ℕ) → taken (roomFor (seen s) x k) c ≡ there c
   unfolding taken roomFor takenAnywhere
   taken-same {met} m q c = rw (q, sets-taken m c, schedules-named met c)
 
@@ -201,11 +201,11 @@ module _ (s : Store) (z : Reached s) (f : Whole s)
     word-shown = let p = f .sets .few in held-new (length bytes) c (omega arith) (omega arith)
 
     -- the row that is left
-    own-row : {met : SetOf Held} → Meets s a bytes r age met → rowSeen heads₁ slots₁ (r .row) ≡ keep (partOf x) (heldIn c bytes) met
+    own-row : {met : SetOf Held} → Meets s a bytes r met → rowSeen heads₁ slots₁ (r .row) ≡ keep (partOf x) (heldIn c bytes) met
     unfolding rowSeen keep fresh partOf
-    own-row (anew t u) =
+    own-row (anew t) =
         let v = kept-fresh r e (s .heads) head-long t 6 (omega arith) in
-        let l = own-last (anew t u) in
+        let l = own-last (anew t) in
         let m = kept-unmarked r e (s .heads) head-long in
         rw (
           v,
@@ -217,10 +217,10 @@ module _ (s : Store) (z : Reached s) (f : Whole s)
           held-none (suc (e .last)),
           lasts-fresh r e (a .segment) w (s .slots) slots-long number last (arr .segment) t,
         )
-    own-row (goesOn t h n u v) =
+    own-row (goesOn t h n v) =
         let p = kept-known r e (s .heads) head-long t 6 (omega arith) (omega arith) in
         let q = kept-known r e (s .heads) head-long t 7 (omega arith) (omega arith) in
-        let l = own-last (goesOn t h n u v) in
+        let l = own-last (goesOn t h n v) in
         let m = kept-unmarked r e (s .heads) head-long in
         rw (
           p,
@@ -248,32 +248,31 @@ module _ (s : Store) (z : Reached s) (f : Whole s)
         sym (words-ok (set ws (e .number) w)) ∙ ap (everyHeld ok) (held-set ws (e .number) w ∙ ap (set (heldSlots ws) (e .number)) word-shown)
         ∙ every-set ok (heldSlots ws) (e .number) (heldIn c bytes) held-ok h
 
-    own-whole : {met : SetOf Held} → Meets s a bytes r age met → allWhole (s .eit .sets .count) (s .eit .sets .size) (rowSlots heads₁ slots₁ (r .row)) ≡ true
-    own-whole (anew t u) =
-        rw (after-fresh r e (a .segment) w (s .slots) slots-long number last heads₁ t (own-last (anew t u)))
+    own-whole : {met : SetOf Held} → Meets s a bytes r met → allWhole (s .eit .sets .count) (s .eit .sets .size) (rowSlots heads₁ slots₁ (r .row)) ≡ true
+    own-whole (anew t) =
+        rw (after-fresh r e (a .segment) w (s .slots) slots-long number last heads₁ t (own-last (anew t)))
         (set-ok (replicate (suc (e .last)) 0) (rw (held-none (suc (e .last))) (every-free ok (suc (e .last)))))
-    own-whole (goesOn t h n u v) =
-        rw (after-own r e (a .segment) w (s .slots) slots-long number last (s .heads) heads₁ t v (own-last (goesOn t h n u v)))
+    own-whole (goesOn t h n v) =
+        rw (after-own r e (a .segment) w (s .slots) slots-long number last (s .heads) heads₁ t v (own-last (goesOn t h n v)))
         (set-ok (rowSlots (s .heads) (s .slots) (r .row)) (words-ok (rowSlots (s .heads) (s .slots) (r .row)) ∙ rows-get (s .heads) (s .slots) (s .eit .sets .count) (s .eit .sets .size) (s .eit .sets .used) (r .row) (f .sets .rows) h))
 
     other-row : (j : ℕ) → j ≢ r .row → rowSlots heads₁ slots₁ j ≡ rowSlots (s .heads) (s .slots) j
     other-row j ne = after-other r e (a .segment) w (s .slots) slots-long number last (s .heads) heads₁ j ne (kept-row r e (s .heads) head-long j 7 ne (omega arith))
 
-    all-whole : {met : SetOf Held} → Meets s a bytes r age met → rowsWhole heads₁ slots₁ (s .eit .sets .count) (s .eit .sets .size) (r .used) ≡ true
+    all-whole : {met : SetOf Held} → Meets s a bytes r met → rowsWhole heads₁ slots₁ (s .eit .sets .count) (s .eit .sets .size) (r .used) ≡ true
     all-whole m = rows-all heads₁ slots₁ (s .eit .sets .count) (s .eit .sets .size) (r .used) (λ j l. go j l (ℕ-discrete j (r .row)))
       where
         go : (j : ℕ) → j < r .used → Dec (j ≡ r .row) → allWhole (s .eit .sets .count) (s .eit .sets .size) (rowSlots heads₁ slots₁ j) ≡ true
         go j l (yes q) = rw q (own-whole m)
         go j l (no ne) = rw (other-row j ne) (rows-get (s .heads) (s .slots) (s .eit .sets .count) (s .eit .sets .size) (s .eit .sets .used) j (f .sets .rows) (goes-out g j l ne))
 
-    ready : {met : SetOf Held} → Meets s a bytes r age met → Ready s (r .used) (r .evictions) heads₁ slots₁ cells₁ (e .key) (r .row) age
+    ready : {met : SetOf Held} → Meets s a bytes r met → Ready s (r .used) (r .evictions) heads₁ slots₁ cells₁ (e .key) (r .row)
     ready m = record {
       fits = rw (length-kept r e (s .heads) head-long, after-length r e (a .segment) w (s .slots) slots-long number last, written-length (s .cells) (s .eit .sets .size) (s .eit .sets .count) c bytes hc (f .sets .cells-long) hs) (z .fits);
       counts = let q = goes-count g in omega arith;
       long = heads-still-long;
       slots-long = let p = within in let q = f .sets .slots-long in let l = after-length r e (a .segment) w (s .slots) slots-long number last in omega arith;
       own = own-key m;
-      aged = own-age m;
       head-fits = own-fits m;
       others = λ j n l ne q. kept-row r e (s .heads) head-long j n ne q;
       slots = λ j l ne. other-row j ne;
@@ -281,16 +280,16 @@ module _ (s : Store) (z : Reached s) (f : Whole s)
       rows-ok = all-whole m;
     }
 
-    kept-tied : {met : SetOf Held} → Meets s a bytes r age met → metRow x k ((seen s) .eit) ≡ met
-        → Tied (toldStep (carried s bytes (plan.Keep keeping))) (shows (seen s) (write cells c bytes) (judge (s .eit .sets .limit) (rest (seen s) k) k (a .tables) (keep (partOf x) (heldIn c bytes) (metRow x k ((seen s) .eit)))))
+    kept-tied : {met : SetOf Held} → Meets s a bytes r met → metRow x k ((seen s) .eit) ≡ met
+        → Tied (toldStep (carried s bytes (plan.Keep keeping))) (shows (risen (seen s)) (write cells c bytes) (judge (s .eit .sets .limit) (rest (seen s) k) k (a .tables) (keep (partOf x) (heldIn c bytes) (metRow x k ((seen s) .eit)))))
     unfolding keptAndSettled
     kept-tied m q =
         rw (q, ← own-row m, ← cells-written (s .cells) (s .eit .sets .size) (s .eit .sets .count) c bytes hc (f .sets .cells-long) hs)
-        (settle-tied s z f units-ok more′ pos a kind arr (r .used) (r .evictions) heads₁ slots₁ cells₁ (r .row) age g (ready m))
+        (settle-tied s z f units-ok more′ runs pos a kind arr (r .used) (r .evictions) heads₁ slots₁ cells₁ (r .row) g (ready m))
 
   -- ---- the section is kept, or every cell is named
 
-  pub keep-tied : {met : SetOf Held} → Meets s a bytes r age met → metRow x k ((seen s) .eit) ≡ met
+  pub keep-tied : {met : SetOf Held} → Meets s a bytes r met → metRow x k ((seen s) .eit) ≡ met
       → Tied (toldStep (carried s bytes (planPlaced s a (place.Goes r)))) (carry (seen s) x k (placeNew (lowest (taken (roomFor (seen s) x k)) (length ((seen s) .cells)) 0)))
   unfolding seen carry placeNew answerTold
   keep-tied m q =

@@ -15,9 +15,9 @@ use Rattle.rows.specs.declared.Entry.{Entry}
 use Rattle.rows.specs.declared.Room.{Room}
 use Rattle.rows.specs.Rows.{slotsAt, slotCount, rowSlots, emptied, keptSlots, lastOf}
 use Rattle.rows.proofs.Words.{length-kept-slots, length-emptied, emptied-in, emptied-out}
-use Rattle.ages.specs.Slots.{upFrom}
-use Rattle.ages.proofs.Slots.{part-alike, other-slots, own-slots, fresh-slots}
-use Rattle.ages.proofs.Cells.{up-set}
+use Rattle.ticks.specs.Slots.{upFrom}
+use Rattle.ticks.proofs.Slots.{part-alike, other-slots, own-slots, fresh-slots}
+use Rattle.ticks.proofs.Cells.{up-set}
 use Rattle.segments.specs.Segments.{wordOf, keptSection}
 use Rattle.ties_eit.specs.View.{lastNoted}
 

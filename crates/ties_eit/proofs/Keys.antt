@@ -12,7 +12,7 @@ use Rattle.laws.proofs.Facts.{eq-passes}
 use Rattle.rules_shared.proofs.Same.{sameOrigin-refl}
 use Rattle.rules_eit.specs.Keys.{Kind, presentActual, presentOther, scheduleActual, scheduleOther, between, kindOf, firstOf, kindNumber, sameKind, ScheduleKey, SetKey, sameSchedule, sameSet}
 use Rattle.rows.specs.declared.Key.{Key}
-use Rattle.ages.proofs.Origins.{origin-reads}
+use Rattle.ticks.proofs.Origins.{origin-reads}
 use Rattle.arrivals.specs.Arrivals.{bitOf}
 use Rattle.units.specs.Units.{firstTable, withTable}
 use Rattle.ties_eit.specs.View.{kindBy, keyShown, scheduleShown, keyWords, scheduleWords}

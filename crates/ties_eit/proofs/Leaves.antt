@@ -1,7 +1,7 @@
 -- What a conflict leaves, which cells are free, and when a cell's bytes change.
 -- Assumes nothing.
 use mathlib.Core.Path.{_≡_, refl, sym, ap, subst, _∙_}
-use mathlib.Core.Logic.{_≢_, _⊎_}
+use mathlib.Core.Logic.{_≢_, _⊎_, inl, inr}
 use mathlib.Core.Bool.{Bool, true, false, _||_}
 use mathlib.Core.List.{List}
 use Prim.Native.Nat.{ℕ, _+_, _*_, _≤_, _<_}
@@ -18,10 +18,10 @@ use Rattle.rules_eit.specs.Cells.{Store as Shown, setTakes, scheduleTakes, take
 use Rattle.rules_eit.proofs.Exact.{Conflicting, conflict-touches}
 use Rattle.rules_eit.proofs.Free.{KeptIn, cells-change}
 use Rattle.cells.specs.Cells.{names, someNames}
-use Rattle.rows.specs.Rows.{word, touched, slotsAt, slotCount, rowSlots, lastOf, ageOf}
+use Rattle.rows.specs.Rows.{word, touched, slotsAt, slotCount, rowSlots, lastOf, tickOf}
 use Rattle.rows.proofs.Words.{slot-at, length-slots, touched-not}
-use Rattle.ages.specs.Order.{rowsSeen}
-use Rattle.ages.proofs.Ages.{order-none, none-order}
+use Rattle.ticks.specs.Order.{rowsSeen}
+use Rattle.ticks.proofs.Ticks.{order-none, none-order}
 use Rattle.section.specs.declared.ids.MaybePid.{MaybePid}
 use Rattle.units.specs.Units.{isPresent, unitSlots}
 use Rattle.schedules.specs.Schedules.{tablesOf, roomOf, scheduledUnits, tablesThere}
@@ -31,7 +31,7 @@ use Rattle.eit_becomes.specs.declared.Becomes.{Becomes}
 use Rattle.eit_becomes.specs.declared.Becomes.the-variants as becomes
 use Rattle.eit_plan.specs.declared.Plan.{Plan}
 use Rattle.eit_plan.specs.declared.Plan.the-variants as plan
-use Rattle.eit_state.specs.State.{Store, Rows, rows, rowsOf}
+use Rattle.eit_state.specs.State.{Store, Rows, rows, rowsOf, risenEit, risenRows}
 use Rattle.arrivals.specs.declared.EitArrival.{EitArrival}
 use Rattle.arrivals.specs.declared.EitArrival.the-variants as arrival
 use Rattle.eit_plan.specs.Plan.{planOf}
@@ -59,9 +59,10 @@ module _ (s : Store) (z : Reached s) (i : Given) (o : Fitting i) where
   cells-change-seen =
       subst (λ (q : Shown). (q .cells ≡ (seen s) .cells) ⊎ ((x : Section) × (k : SetKey) × (reads i ≡ offer x) × (c : ℕ) × KeptIn (seen s) x k c q)) (sym (acts-seen s z i o)) (cells-change (seen s) (reads i))
 
--- no setting, no count, no slot, no cell, no word of a schedule and no word of a head but the ages changes, whatever the memory holds
-pub record AgesAlone (s after : Store) : Type 0 where
-  pub eit : after .eit ≡ s .eit
+-- no setting, no eviction count, no slot, no cell, no word of a schedule and no word of a head but the ticks changes, and the clock is as before or one more,
+-- whatever the memory holds
+pub record TicksAlone (s after : Store) : Type 0 where
+  pub eit : (after .eit ≡ s .eit) ⊎ (after .eit ≡ risenEit (s .eit))
   pub heads : (j m : ℕ) → m ≢ 9 → m < 12 → word (after .heads) j m ≡ word (s .heads) j m
   pub slots : after .slots ≡ s .slots
   pub cells : after .cells ≡ s .cells
@@ -89,26 +90,26 @@ settling-tells becomes.Enters r a i s q =
 settled-tells : (r : Rows) (a : Arrival) (i : ℕ) (s : Store) → numberOf (answerTold (answerOf ((settled r a i) .answer) s)) ≢ 22
 unfolding settled
 settled-tells r a i s =
-    let heads : List ℕ = touched (r .eit .sets .used) i (r .heads) in
+    let heads : List ℕ = touched (r .eit .sets .clock) i (r .heads) in
     let b : Becomes = becomesOf heads (r .slots) a i in
     settling-tells b (rows (r .eit) (markedHeads (isMarked b) i heads) (r .slots) (r .schedule-heads) (r .units)) a i s
 
-plan-ages : (s : Store) (bytes : Bytes) (p : Plan) → numberOf (answerTold ((toldStep (carried s bytes p)) .told)) ≡ 22 → AgesAlone s ((carried s bytes p) .store)
+plan-ticks : (s : Store) (bytes : Bytes) (p : Plan) → numberOf (answerTold ((toldStep (carried s bytes p)) .told)) ≡ 22 → TicksAlone s ((carried s bytes p) .store)
 unfolding keptAndSettled
-plan-ages s bytes (plan.Leave a) h = record { eit = refl; heads = λ j m n l. refl; slots = refl; cells = refl; schedule-heads = refl; units = refl }
-plan-ages s bytes (plan.Conflict i) h =
-    record { eit = refl; heads = λ j m n l. touched-not (s .eit .sets .used) i (s .heads) j m n l; slots = refl; cells = refl; schedule-heads = refl; units = refl }
-plan-ages s bytes (plan.Repeat x) h = absurd (settled-tells (rowsOf s) (x .arrival) (x .row) _ h)
-plan-ages s bytes (plan.Keep k) h = absurd (settled-tells _ (k .arrival) (k .room .row) _ h)
+plan-ticks s bytes (plan.Leave a) h = record { eit = inl refl; heads = λ j m n l. refl; slots = refl; cells = refl; schedule-heads = refl; units = refl }
+plan-ticks s bytes (plan.Conflict i) h =
+    record { eit = inr refl; heads = λ j m n l. touched-not (s .eit .sets .clock + 1) i (s .heads) j m n l; slots = refl; cells = refl; schedule-heads = refl; units = refl }
+plan-ticks s bytes (plan.Repeat x) h = absurd (settled-tells (risenRows (rowsOf s)) (x .arrival) (x .row) _ h)
+plan-ticks s bytes (plan.Keep k) h = absurd (settled-tells _ (k .arrival) (k .room .row) _ h)
 
-push-ages : (s : Store) (bytes : Bytes) (v : EitArrival) → numberOf (answerTold ((pushedAs s bytes v) .told)) ≡ 22 → AgesAlone s ((pushedAs s bytes v) .store)
+push-ticks : (s : Store) (bytes : Bytes) (v : EitArrival) → numberOf (answerTold ((pushedAs s bytes v) .told)) ≡ 22 → TicksAlone s ((pushedAs s bytes v) .store)
 unfolding pushedWhole
-push-ages s bytes (arrival.Refused r) h = record { eit = refl; heads = λ j m n l. refl; slots = refl; cells = refl; schedule-heads = refl; units = refl }
-push-ages s bytes (arrival.Arrived a) h = plan-ages s bytes (planOf s bytes a) h
+push-ticks s bytes (arrival.Refused r) h = record { eit = inl refl; heads = λ j m n l. refl; slots = refl; cells = refl; schedule-heads = refl; units = refl }
+push-ticks s bytes (arrival.Arrived a) h = plan-ticks s bytes (planOf s bytes a) h
 
-pub conflict-memory : (s : Store) (input : ℕ) (pid : MaybePid) (bytes : Bytes) → tells s (section input pid bytes) ≡ (refused refusal.Conflict) → AgesAlone s (acts s (section input pid bytes))
+pub conflict-memory : (s : Store) (input : ℕ) (pid : MaybePid) (bytes : Bytes) → tells s (section input pid bytes) ≡ (refused refusal.Conflict) → TicksAlone s (acts s (section input pid bytes))
 unfolding tells acts pushedOf numberOf
-conflict-memory s input pid bytes h = push-ages s bytes (admitted s input pid bytes) (ap numberOf h)
+conflict-memory s input pid bytes h = push-ticks s bytes (admitted s input pid bytes) (ap numberOf h)
 
 -- ---- "A cell is free exactly when no slot or schedule copy of a row in use names it"
 
@@ -129,23 +130,23 @@ module _ (s : Store) (z : Reached s) (long : s .eit .sets .used * 288 ≤ length
 
       slots : NoSlotNames
       slots j n l m =
-          let r = sym (row-takes (s .heads) (s .slots) c j) ∙ none-order (setTakes c) (ageOf (s .heads)) (s .eit .sets .used) (z .sets .ages) _ j (p .0) l in
+          let r = sym (row-takes (s .heads) (s .slots) c j) ∙ none-order (tickOf (s .heads)) (s .eit .sets .used) (s .eit .sets .clock) (z .sets .ticks) _ (setTakes c) j (p .0) l in
           subst (λ (w : ℕ). names c w ≡ false) (slot-at (s .heads) (s .slots) j n m)
           (any-not (names c) (rowSlots (s .heads) (s .slots) j) 0 n r (let d = length-slots (s .heads) (s .slots) j (omega arith) in omega arith))
 
       tables : NoTableNames
-      tables = named-units (s .schedule-heads) (s .units) (s .eit .schedules) c (sym (schedules-taken (s .schedule-heads) (s .units) (s .eit .schedules) c (z .schedules .ages)) ∙ p .1)
+      tables = named-units (s .schedule-heads) (s .units) (s .eit .schedules) c (sym (schedules-taken (s .schedule-heads) (s .units) (s .eit .schedules) (s .eit .sets .clock) c (z .schedules .ticks)) ∙ p .1)
 
   pub named-nowhere-free : NoSlotNames → NoTableNames → taken ((seen s) .eit) c ≡ false
   unfolding taken seen rowsSeen
-  named-nowhere-free f g = both sets-free (schedules-taken (s .schedule-heads) (s .units) (s .eit .schedules) c (z .schedules .ages) ∙ units-named (s .schedule-heads) (s .units) (s .eit .schedules) c g)
+  named-nowhere-free f g = both sets-free (schedules-taken (s .schedule-heads) (s .units) (s .eit .schedules) (s .eit .sets .clock) c (z .schedules .ticks) ∙ units-named (s .schedule-heads) (s .units) (s .eit .schedules) c g)
     where
       both : {a b : Bool} → a ≡ false → b ≡ false → (a || b) ≡ false
       both p q = rw p q
 
       sets-free : someRow (setTakes c) ((seen s) .eit .sets .rows) ≡ false
       sets-free =
-          order-none (setTakes c) (ageOf (s .heads)) (s .eit .sets .used) (z .sets .ages) _ (λ j l. row-takes (s .heads) (s .slots) c j
+          order-none (tickOf (s .heads)) (s .eit .sets .used) (s .eit .sets .clock) (z .sets .ticks) _ (setTakes c) (λ j l. row-takes (s .heads) (s .slots) c j
           ∙ none-any (names c) (rowSlots (s .heads) (s .slots) j) 0 (λ n m.
           let d = length-slots (s .heads) (s .slots) j (omega arith) in
           let q : n < slotCount (lastOf (s .heads) j) = omega arith in

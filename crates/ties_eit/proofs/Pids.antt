@@ -5,8 +5,8 @@ use mathlib.Core.Bool.{false}
 use Prim.Native.Nat.{ℕ, _<_}
 use Rattle.rows.specs.declared.Key.{Key}
 use Rattle.rows.specs.Rows.{keyAt}
-use Rattle.ages.specs.Origins.{originShown, originWords}
-use Rattle.ages.proofs.Origins.{reads-pid}
+use Rattle.ticks.specs.Origins.{originShown, originWords}
+use Rattle.ticks.proofs.Origins.{reads-pid}
 use Rattle.eit_state.specs.State.{Store}
 use Rattle.eit_pids.specs.Rows.{anyWithout}
 use Rattle.eit_pids.proofs.Heads.{each-with}

@@ -24,14 +24,14 @@ use Rattle.rules_eit.proofs.Keys.{sameSet-true}
 use Rattle.cells.specs.Cells.{keptLength, slotWhole, allWhole, kept}
 use Rattle.rows.specs.declared.Entry.{Entry}
 use Rattle.rows.specs.declared.Room.{Room}
-use Rattle.rows.specs.Rows.{rowOf, roomIn, roomRenewed, roomNew, slotsAt, slotCount, rowSlots, ageOf, lastOf, versionOf}
+use Rattle.rows.specs.Rows.{rowOf, roomIn, roomRenewed, roomNew, slotsAt, slotCount, rowSlots, lastOf, versionOf}
 use Rattle.rows.proofs.Words.{slot-at, length-slots}
 use Rattle.rows.proofs.Whole.{rows-get}
-use Rattle.ages.specs.Order.{Goes}
-use Rattle.ages.specs.Slots.{heldOf}
-use Rattle.ages.proofs.Touch.{row-has-key, no-row-has-key, goes-known, goes-new, finds-known, finds-none}
-use Rattle.ages.proofs.Slots.{held-filled, held-empty, held-get}
-use Rattle.ages.proofs.Cells.{bytes-kept, same-bytes}
+use Rattle.ticks.specs.Order.{Goes}
+use Rattle.ticks.specs.Slots.{heldOf}
+use Rattle.ticks.proofs.Touch.{row-has-key, no-row-has-key, goes-known, goes-new, finds-known, finds-none}
+use Rattle.ticks.proofs.Slots.{held-filled, held-empty, held-get}
+use Rattle.ticks.proofs.Cells.{bytes-kept, same-bytes}
 use Rattle.placing.proofs.Fits.{slot-bounds, same-last}
 use Rattle.placing.specs.Places.{placeSlot, placeKnown}
 use Rattle.placing.specs.Places.{placeOf as placeIn}
@@ -50,7 +50,7 @@ use Rattle.ties_eit.proofs.Keep.{sectionFor, anew, goesOn, keep-tied}
 
 module _ (s : Store) (z : Reached s) (f : Whole s)
     (units-ok : schedulesWhole (s .schedule-heads) (s .units) (s .eit .sets .count) (s .eit .sets .size) (s .eit .schedules) ≡ true)
-    (more : s .eit .sets .evictions < 18446744073709551615) (more′ : s .eit .«schedule_evictions» < 18446744073709551615) (pos : 0 < s .eit .sets .limit)
+    (more : s .eit .sets .evictions < 18446744073709551615) (more′ : s .eit .«schedule_evictions» < 18446744073709551615) (runs : s .eit .sets .clock < 18446744073709551615) (pos : 0 < s .eit .sets .limit)
     (a : Arrival) (kind : Kind) (arr : Arrives a kind) (bytes : Bytes) (h12 : 12 ≤ length bytes) (hs : length bytes ≤ s .eit .sets .size) where
   abbrev e : Entry
   e = a .entry
@@ -76,7 +76,7 @@ module _ (s : Store) (z : Reached s) (f : Whole s)
   met-new : s .eit .sets .used ≤ there → metRow x k ((seen s) .eit) ≡ fresh (partOf x)
   unfolding metRow start seen
   met-new h =
-      rw (finds-none keyShown keyWords sameSet sameSet-true set-self (s .heads) (s .eit .sets .limit) (s .eit .sets .used) (s .eit .sets .evictions) (e .key) (z .sets) proper (rowSeen (s .heads) (s .slots))
+      rw (finds-none keyShown keyWords sameSet sameSet-true set-self (s .heads) (s .eit .sets .limit) (s .eit .sets .used) (s .eit .sets .clock) (suc (s .eit .sets .clock)) (s .eit .sets .evictions) (e .key) (z .sets) (omega arith) proper (rowSeen (s .heads) (s .slots))
       (no-row-has-key (s .heads) (e .key) (s .eit .sets .used) h))
 
   fresh-slot : (r : SetOf Held) → r ≡ fresh (partOf x) → slotOf (partOf x) r ≡ none
@@ -88,15 +88,15 @@ module _ (s : Store) (z : Reached s) (f : Whole s)
   new-tied h =
       let r : Room = roomNew (s .heads) (s .eit .sets .limit) (s .eit .sets .used) (s .eit .sets .evictions) in
       rw (place-empty (fresh-slot _ (met-new h)))
-      (keep-tied s z f units-ok more more′ pos a kind arr bytes h12 hs r (r .age) (goes-new (s .heads) (s .eit .sets .limit) (s .eit .sets .used) (s .eit .sets .evictions) (e .key) h pos)
-      (anew (new-fresh (s .heads) (s .eit .sets .limit) (s .eit .sets .used) (s .eit .sets .evictions)) refl) (met-new h))
+      (keep-tied s z f units-ok more more′ runs pos a kind arr bytes h12 hs r (goes-new (s .heads) (s .eit .sets .limit) (s .eit .sets .used) (s .eit .sets .evictions) (e .key) h pos)
+      (anew (new-fresh (s .heads) (s .eit .sets .limit) (s .eit .sets .used) (s .eit .sets .evictions))) (met-new h))
 
   -- the key is known
   module _ (h : there < s .eit .sets .used) where
     abbrev row : SetOf Held
     row = rowSeen (s .heads) (s .slots) there
 
-    goes : Goes (s .heads) (s .eit .sets .limit) (s .eit .sets .used) (s .eit .sets .evictions) (e .key) there (ageOf (s .heads) there) (s .eit .sets .used) (s .eit .sets .evictions)
+    goes : Goes (s .heads) (s .eit .sets .limit) (s .eit .sets .used) (s .eit .sets .evictions) (e .key) there (s .eit .sets .used) (s .eit .sets .evictions)
     goes = goes-known (s .heads) (s .eit .sets .limit) (s .eit .sets .used) (s .eit .sets .evictions) (e .key) h
 
     fits-as : fits (partOf x) row ≡ (eqb (versionOf (s .heads) there) (e .version) && eqb (lastOf (s .heads) there) (e .last))
@@ -107,7 +107,7 @@ module _ (s : Store) (z : Reached s) (f : Whole s)
     unfolding metRow start seen
     met-known b q =
         rw (
-          finds-known keyShown keyWords sameSet sameSet-true set-self (s .heads) (s .eit .sets .limit) (s .eit .sets .used) (s .eit .sets .evictions) (e .key) (z .sets) proper (rowSeen (s .heads) (s .slots)) there h
+          finds-known keyShown keyWords sameSet sameSet-true set-self (s .heads) (s .eit .sets .limit) (s .eit .sets .used) (s .eit .sets .clock) (suc (s .eit .sets .clock)) (s .eit .sets .evictions) (e .key) (z .sets) (omega arith) proper (rowSeen (s .heads) (s .slots)) there h
               (row-has-key (s .heads) (e .key) (s .eit .sets .used) h),
           fits-as,
           q,
@@ -115,10 +115,10 @@ module _ (s : Store) (z : Reached s) (f : Whole s)
 
     -- "A differing version or last number empties the row"
     renewed-tied : metRow x k ((seen s) .eit) ≡ fresh (partOf x)
-        → Tied (toldStep (carried s bytes (planPlaced s a (place.Goes (roomRenewed (s .eit .sets .used) (s .eit .sets .evictions) there (ageOf (s .heads) there)))))) (carry (seen s) x k (placeOf (seen s) x k))
+        → Tied (toldStep (carried s bytes (planPlaced s a (place.Goes (roomRenewed (s .eit .sets .used) (s .eit .sets .evictions) there))))) (carry (seen s) x k (placeOf (seen s) x k))
     renewed-tied m =
         rw (place-empty (fresh-slot _ m))
-        (keep-tied s z f units-ok more more′ pos a kind arr bytes h12 hs (roomRenewed (s .eit .sets .used) (s .eit .sets .evictions) there (ageOf (s .heads) there)) (ageOf (s .heads) there) goes (anew refl refl) m)
+        (keep-tied s z f units-ok more more′ runs pos a kind arr bytes h12 hs (roomRenewed (s .eit .sets .used) (s .eit .sets .evictions) there) goes (anew refl) m)
 
     -- the row goes on
     module _ (last : lastOf (s .heads) there ≡ e .last) (m : metRow x k ((seen s) .eit) ≡ row) where
@@ -144,14 +144,13 @@ module _ (s : Store) (z : Reached s) (f : Whole s)
           (every-get (slotWhole (s .eit .sets .count) (s .eit .sets .size)) (rowSlots (s .heads) (s .slots) there) 0 (e .number) row-ok (let d = length-slots (s .heads) (s .slots) there slots-there in let i = in-row in omega arith))
 
       -- the store itself, with the row as it is
-      itself : Ready s (s .eit .sets .used) (s .eit .sets .evictions) (s .heads) (s .slots) (s .cells) (e .key) there (ageOf (s .heads) there)
+      itself : Ready s (s .eit .sets .used) (s .eit .sets .evictions) (s .heads) (s .slots) (s .cells) (e .key) there
       itself = record {
         fits = z .fits;
         counts = z .counts;
         long = let p = f .sets .heads-long in let q = f .sets .used in omega arith;
         slots-long = let p = f .sets .slots-long in let q = f .sets .used in omega arith;
         own = row-has-key (s .heads) (e .key) (s .eit .sets .used) h;
-        aged = refl;
         head-fits = z .heads-fit there h;
         others = λ j n l ne q. refl;
         slots = λ j l ne. refl;
@@ -170,9 +169,9 @@ module _ (s : Store) (z : Reached s) (f : Whole s)
         where
           go : (b : Bool) → Tied (toldStep (carried s bytes (planPlaced s a (cond b (place.Repeat there) (place.Conflict there))))) (carry (seen s) x k (placeHeld b))
           go true =
-              rw m (settle-tied s z f units-ok more′ pos a kind arr (s .eit .sets .used) (s .eit .sets .evictions) (s .heads) (s .slots) (s .cells) there (ageOf (s .heads) there) goes itself)
+              rw m (settle-tied s z f units-ok more′ runs pos a kind arr (s .eit .sets .used) (s .eit .sets .evictions) (s .heads) (s .slots) (s .cells) there goes itself)
           go false =
-              rw m (conflict-tied s z f units-ok more′ pos a kind arr (s .eit .sets .used) (s .eit .sets .evictions) (s .heads) (s .slots) (s .cells) there (ageOf (s .heads) there) goes itself)
+              rw m (conflict-tied s z f units-ok more′ runs pos a kind arr (s .eit .sets .used) (s .eit .sets .evictions) (s .heads) (s .slots) (s .cells) there goes itself)
 
       slot-tied : Tied (toldStep (carried s bytes (planPlaced s a (placeSlot (setStore s) bytes there w)))) (carry (seen s) x k (placeOf (seen s) x k))
       unfolding placeSlot
@@ -183,8 +182,8 @@ module _ (s : Store) (z : Reached s) (f : Whole s)
               (carry (seen s) x k (placeOf (seen s) x k))
           go true q =
               rw (place-empty (slot-is ∙ held-empty w (eqb-true (keptLength w) 0 q)))
-              (keep-tied s z f units-ok more more′ pos a kind arr bytes h12 hs (roomIn (s .eit .sets .used) (s .eit .sets .evictions) there) (ageOf (s .heads) there) goes
-              (goesOn refl h (row-has-key (s .heads) (e .key) (s .eit .sets .used) h) refl last) m)
+              (keep-tied s z f units-ok more more′ runs pos a kind arr bytes h12 hs (roomIn (s .eit .sets .used) (s .eit .sets .evictions) there) goes
+              (goesOn refl h (row-has-key (s .heads) (e .key) (s .eit .sets .used) h) last) m)
           go false q = held-tied (eqb-false (keptLength w) 0 q)
 
     known-tied : Tied (toldStep (carried s bytes (planPlaced s a (placeKnown (setStore s) e bytes there)))) (carry (seen s) x k (placeOf (seen s) x k))
@@ -193,7 +192,7 @@ module _ (s : Store) (z : Reached s) (f : Whole s)
       where
         go : (b : Bool) → (eqb (versionOf (s .heads) there) (e .version) && eqb (lastOf (s .heads) there) (e .last)) ≡ b
             → Tied (toldStep (carried s bytes (planPlaced s a (cond b (placeSlot (setStore s) bytes there (getD (s .slots) (slotsAt there + e .number) 0))
-            (place.Goes (roomRenewed (s .eit .sets .used) (s .eit .sets .evictions) there (ageOf (s .heads) there))))))) (carry (seen s) x k (placeOf (seen s) x k))
+            (place.Goes (roomRenewed (s .eit .sets .used) (s .eit .sets .evictions) there)))))) (carry (seen s) x k (placeOf (seen s) x k))
         go true q = slot-tied (same-last (versionOf (s .heads) there) (lastOf (s .heads) there) (e .version) (e .last) q) (met-known true q)
         go false q = renewed-tied (met-known false q)
 

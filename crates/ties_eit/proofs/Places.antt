@@ -21,12 +21,12 @@ use Rattle.rules_eit.specs.Schedules.{CopyOf, ScheduleOf, tableOf, whole, whole
 use Rattle.rules_eit.specs.Cells.{copyTakes, scheduleTakes, onWhole}
 use Rattle.cells.specs.Cells.{allWhole, someNames}
 use Rattle.rows.specs.declared.Entry.{Entry}
-use Rattle.rows.specs.Rows.{tableWord, lastOf, ageOf}
-use Rattle.ages.specs.Order.{rowsSeen, Ages}
-use Rattle.ages.specs.Slots.{heldSlots, upFrom, cellsSeen}
-use Rattle.ages.proofs.Ages.{order-every, every-order, order-none, none-order}
-use Rattle.ages.proofs.Slots.{held-whole, held-names}
-use Rattle.ages.proofs.Cells.{length-up, up-get}
+use Rattle.rows.specs.Rows.{tableWord, lastOf, tickOf}
+use Rattle.ticks.specs.Order.{rowsSeen, Ticked}
+use Rattle.ticks.specs.Slots.{heldSlots, upFrom, cellsSeen}
+use Rattle.ticks.proofs.Ticks.{order-every, every-order, order-none, none-order}
+use Rattle.ticks.proofs.Slots.{held-whole, held-names}
+use Rattle.ticks.proofs.Cells.{length-up, up-get}
 use Rattle.segments.specs.Segments.{wordOf}
 use Rattle.units.specs.Units.{firstTable, isPresent, unitSlots, unitWhole, unitsWhole, takenInUnits, allPresent}
 use Rattle.schedules.specs.Schedules.{tablesOf, schedulesWhole, takenInSchedules, tablesThere}
@@ -164,16 +164,16 @@ module _ (o : Settings) (cells : Cells) where
       go (no h) = rw (place-past schedule-heads units k j (omega arith))
 
   -- the rules' test of every schedule is the code's test of every table that a schedule in use may have
-  pub schedules-whole : (schedule-heads units : List ℕ) (used : ℕ) → Ages (ageOf schedule-heads) used
-      → everyRow (λ (g : ScheduleOf Held). everyHeld copyWhole (g .copies)) (rowsSeen scheduleShown schedule-heads used (scheduleSeen schedule-heads units)) ≡ schedulesWhole schedule-heads units (length cells) (o .cellSize) used
+  pub schedules-whole : (schedule-heads units : List ℕ) (used clock : ℕ) → Ticked (tickOf schedule-heads) used clock
+      → everyRow (λ (g : ScheduleOf Held). everyHeld copyWhole (g .copies)) (rowsSeen scheduleShown schedule-heads used clock (scheduleSeen schedule-heads units)) ≡ schedulesWhole schedule-heads units (length cells) (o .cellSize) used
   unfolding rowsSeen scheduleSeen
-  schedules-whole schedule-heads units used w =
+  schedules-whole schedule-heads units used clock w =
       same-test _ (schedulesWhole schedule-heads units (length cells) (o .cellSize) used)
       (λ t. schedules-all schedule-heads units (length cells) (o .cellSize) used (λ k h. units-all units (length cells) (o .cellSize) (k * 16) (tablesOf schedule-heads k) (λ j m.
       let few = tables-few schedule-heads k in
       sym (copy-whole units (k * 16 + j)) ∙ ap (heldPasses copyWhole) (sym (place-in schedule-heads units k j m))
-      ∙ places-every copyWhole (placeSeen schedule-heads units k) 16 0 (every-order (λ (g : ScheduleOf Held). everyHeld copyWhole (g .copies)) (ageOf schedule-heads) used w _ k t h) j (omega arith) (omega arith))))
-      (λ t. order-every (λ (g : ScheduleOf Held). everyHeld copyWhole (g .copies)) (ageOf schedule-heads) used w _ (λ k h.
+      ∙ places-every copyWhole (placeSeen schedule-heads units k) 16 0 (every-order (tickOf schedule-heads) used clock w _ (λ (g : ScheduleOf Held). everyHeld copyWhole (g .copies)) k t h) j (omega arith) (omega arith))))
+      (λ t. order-every (tickOf schedule-heads) used clock w _ (λ (g : ScheduleOf Held). everyHeld copyWhole (g .copies)) (λ k h.
       every-places copyWhole (placeSeen schedule-heads units k) 16 0 (λ j a b. place-whole schedule-heads units k (schedules-get schedule-heads units (length cells) (o .cellSize) used k t h) j)))
 
 -- ---- the cells that schedules name
@@ -238,16 +238,16 @@ same-fails true false f g = g refl
 same-fails true true f g = refl
 
 -- "no slot or schedule copy of a row in use names it"
-pub schedules-taken : (schedule-heads units : List ℕ) (used c : ℕ) → Ages (ageOf schedule-heads) used
-    → someRow (scheduleTakes c) (rowsSeen scheduleShown schedule-heads used (scheduleSeen schedule-heads units)) ≡ takenInSchedules schedule-heads units used c
+pub schedules-taken : (schedule-heads units : List ℕ) (used clock c : ℕ) → Ticked (tickOf schedule-heads) used clock
+    → someRow (scheduleTakes c) (rowsSeen scheduleShown schedule-heads used clock (scheduleSeen schedule-heads units)) ≡ takenInSchedules schedule-heads units used c
 unfolding rowsSeen scheduleSeen scheduleTakes
-schedules-taken schedule-heads units used c w =
+schedules-taken schedule-heads units used clock c w =
     same-fails _ (takenInSchedules schedule-heads units used c)
     (λ t. named-all units c schedule-heads used (λ k h. taken-all units c (k * 16) (tablesOf schedule-heads k) (λ j m.
     let few = tables-few schedule-heads k in
     sym (unit-names units c (k * 16 + j)) ∙ ap (heldNames (copyTakes c)) (sym (place-in schedule-heads units k j m))
-    ∙ places-none (copyTakes c) (placeSeen schedule-heads units k) 16 0 (none-order (scheduleTakes c) (ageOf schedule-heads) used w _ k t h) j (omega arith) (omega arith))))
-    (λ t. order-none (scheduleTakes c) (ageOf schedule-heads) used w _ (λ k h.
+    ∙ places-none (copyTakes c) (placeSeen schedule-heads units k) 16 0 (none-order (tickOf schedule-heads) used clock w _ (scheduleTakes c) k t h) j (omega arith) (omega arith))))
+    (λ t. order-none (tickOf schedule-heads) used clock w _ (scheduleTakes c) (λ k h.
     none-places (copyTakes c) (placeSeen schedule-heads units k) 16 0 (λ j a b. place-free units c schedule-heads k (named-get units c schedule-heads used k t h) j)))
 
 -- table by table

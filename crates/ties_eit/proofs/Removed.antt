@@ -1,12 +1,11 @@
--- What stands where once a row has left: the row that stands in row j's place is the one that `movedFrom` names, with its key, its words
--- and, but for those older than the row that left, its age.
+-- What stands where once a row has left: the row that stands in row j's place is the one that `movedFrom` names, with its head and its words.
 -- Assumes nothing.
-use mathlib.Core.Path.{_≡_, refl, sym, ap, _∙_}
+use mathlib.Core.Path.{_≡_, sym, ap, _∙_}
 use mathlib.Core.Logic.{_≢_}
 use mathlib.Core.List.{List}
 use mathlib.Core.Bool.{Bool, true, false, cond}
-use Prim.Native.Nat.{ℕ, zero, suc, _+_, _-_, _*_, _≤_, _<_}
-use native.Mathlib.Nat.{not-suc-le-zero, suc-mul, mul-le-mul-right}
+use Prim.Native.Nat.{ℕ, suc, _+_, _-_, _*_, _≤_, _<_}
+use native.Mathlib.Nat.{suc-mul, mul-le-mul-right}
 use native.Mathlib.Decide.{ℕ-discrete, decLt}
 use native.Mathlib.Omega.{arith}
 use borrow.Author.Tests.{eq-eqb, ne-eqb}
@@ -14,12 +13,11 @@ use lib.Dec.{eqb}
 use lib.ListN.{length, getD, take, drop, length-drop}
 use lib.Seq.{getD-take, getD-drop, length-take-le, length-paste, ext-getD}
 use Rattle.laws.proofs.Lists.{paste-past, paste-before, paste-in}
-use Rattle.rows.specs.Rows.{word, keyAt, slotCount, rowSlots, ageOf, lastOf, withAge, younger}
-use Rattle.rows.proofs.Words.{put-same, put-row, put-not, length-put}
-use Rattle.ages.specs.Order.{movedFrom, Dropped}
+use Rattle.rows.specs.Rows.{word, keyAt, slotCount, rowSlots, lastOf}
+use Rattle.ticks.specs.Order.{movedFrom, Dropped}
 use Rattle.filter.specs.declared.Of.{Of}
 use Rattle.filter.specs.declared.Of.the-variants as of
-use Rattle.filter.specs.Drops.{widthOf, movedTo, youngered, removedHeads, removedWords}
+use Rattle.filter.specs.Drops.{widthOf, movedTo, removedHeads, removedWords}
 use Rattle.filter.proofs.Laws.{part, part-long}
 
 -- ---- rows of w words: the last row in use is moved to row i
@@ -95,72 +93,33 @@ module _ (w used i : ℕ) (xs : List ℕ) (hi : i < used) (l : used * w ≤ leng
       getD-take n (drop (j * w + k) shifted) x 0 g ∙ getD-drop (j * w + k) shifted x 0 ∙ ap (λ (z : ℕ). getD shifted z 0) u ∙ shifted-row j (k + x) (omega arith)
       ∙ ap (λ (z : ℕ). getD xs z 0) v ∙ sym (getD-take n (drop (movedFrom used i j * w + k) xs) x 0 g ∙ getD-drop (movedFrom used i j * w + k) xs x 0))
 
--- ---- ages
-
-pub length-youngered : (a n : ℕ) (h : List ℕ) → length (youngered a n h) ≡ length h
-unfolding youngered
-length-youngered a zero h = refl
-length-youngered a (suc n) h = length-youngered a n (withAge n (younger a (ageOf h n)) h) ∙ length-put n 9 (younger a (ageOf h n)) h
-
-youngered-not : (a n : ℕ) (h : List ℕ) (j m : ℕ) → m ≢ 9 → m < 12 → word (youngered a n h) j m ≡ word h j m
-unfolding youngered
-youngered-not a zero h j m ne l = refl
-youngered-not a (suc n) h j m ne l = youngered-not a n (withAge n (younger a (ageOf h n)) h) j m ne l ∙ put-not h n 9 (younger a (ageOf h n)) j m ne (omega arith) l
-
-youngered-past : (a n : ℕ) (h : List ℕ) (j : ℕ) → n ≤ j → ageOf (youngered a n h) j ≡ ageOf h j
-unfolding youngered
-youngered-past a zero h j l = refl
-youngered-past a (suc n) h j l =
-    youngered-past a n (withAge n (younger a (ageOf h n)) h) j (omega arith) ∙ put-row h n 9 (younger a (ageOf h n)) j 9 (omega arith) (omega arith) (omega arith)
-
-youngered-age : (a n : ℕ) (h : List ℕ) (j : ℕ) → n * 12 ≤ length h → j < n → ageOf (youngered a n h) j ≡ younger a (ageOf h j)
-unfolding youngered
-youngered-age a zero h j l k = absurd (not-suc-le-zero k)
-youngered-age a (suc n) h j l k =
-    let v : ℕ = younger a (ageOf h n) in
-    let e : length (withAge n v h) ≡ length h = length-put n 9 v h in
-    go (ℕ-discrete j n) (λ q. youngered-age a n (withAge n v h) j (omega arith) q)
-  where
-    go : Dec (j ≡ n) → (j < n → ageOf (youngered a n (withAge n (younger a (ageOf h n)) h)) j ≡ younger a (ageOf (withAge n (younger a (ageOf h n)) h) j))
-        → ageOf (youngered a n (withAge n (younger a (ageOf h n)) h)) j ≡ younger a (ageOf h j)
-    go (yes q) ih =
-        let v : ℕ = younger a (ageOf h n) in
-        youngered-past a n (withAge n v h) j (omega arith) ∙ ap (λ (z : ℕ). ageOf (withAge n v h) z) q ∙ put-same h n 9 v (omega arith) ∙ ap (λ (z : ℕ). younger a (ageOf h z)) (sym q)
-    go (no d) ih = ih (omega arith) ∙ ap (younger a) (put-row h n 9 (younger a (ageOf h n)) j 9 d (omega arith) (omega arith))
-
 -- ---- heads
 
 module _ (used i : ℕ) (h : List ℕ) (hi : i < used) (l : used * 12 ≤ length h) where
   pub length-removed-heads : length (removedHeads used i h) ≡ length h
   unfolding removedHeads
-  length-removed-heads = length-youngered (ageOf h i) (used - 1) (movedTo (i * 12) ((used - 1) * 12) 12 h) ∙ length-shifted 12 used i h hi l
+  length-removed-heads = length-shifted 12 used i h hi l
 
-  -- each word of a head but its age
-  pub removed-word : (j k : ℕ) → k ≢ 9 → k < 12 → word (removedHeads used i h) j k ≡ word h (movedFrom used i j) k
+  -- each word of a head
+  pub removed-word : (j k : ℕ) → k < 12 → word (removedHeads used i h) j k ≡ word h (movedFrom used i j) k
   unfolding removedHeads
-  removed-word j k ne hk = youngered-not (ageOf h i) (used - 1) (movedTo (i * 12) ((used - 1) * 12) 12 h) j k ne hk ∙ shifted-row 12 used i h hi l j k hk
-
-  pub removed-age : (j : ℕ) → j < used - 1 → ageOf (removedHeads used i h) j ≡ younger (ageOf h i) (ageOf h (movedFrom used i j))
-  unfolding removedHeads
-  removed-age j hj =
-      let e = length-shifted 12 used i h hi l in
-      youngered-age (ageOf h i) (used - 1) (movedTo (i * 12) ((used - 1) * 12) 12 h) j (omega arith) hj ∙ ap (younger (ageOf h i)) (shifted-row 12 used i h hi l j 9 (omega arith))
+  removed-word = shifted-row 12 used i h hi l
 
   pub removed-key : (j : ℕ) → keyAt (removedHeads used i h) j ≡ keyAt h (movedFrom used i j)
   removed-key j =
       rw (
-        removed-word j 0 (omega arith) (omega arith),
-        removed-word j 1 (omega arith) (omega arith),
-        removed-word j 2 (omega arith) (omega arith),
-        removed-word j 3 (omega arith) (omega arith),
-        removed-word j 4 (omega arith) (omega arith),
-        removed-word j 5 (omega arith) (omega arith),
-        removed-word j 10 (omega arith) (omega arith),
+        removed-word j 0 (omega arith),
+        removed-word j 1 (omega arith),
+        removed-word j 2 (omega arith),
+        removed-word j 3 (omega arith),
+        removed-word j 4 (omega arith),
+        removed-word j 5 (omega arith),
+        removed-word j 10 (omega arith),
       )
 
   -- row i is dropped, as the order of the rows has it
   pub removed-dropped : Dropped h (removedHeads used i h) i used
-  removed-dropped = record { keys = λ j hj. removed-key j; ages = removed-age }
+  removed-dropped = record { keys = λ j hj. removed-key j; ticks = λ j hj. removed-word j 9 (omega arith) }
 
 -- ---- words
 
@@ -184,5 +143,5 @@ pub removed-slots : (used i : ℕ) (h ws : List ℕ) → i < used → used * 12 
     → rowSlots (removedHeads used i h) (removedWords of.Sets used i ws) j ≡ rowSlots h ws (movedFrom used i j)
 unfolding rowSlots
 removed-slots used i h ws hi lh lw j hj =
-    ap (λ (x : ℕ). take (slotCount x) (drop (j * 288 + 32) (removedWords of.Sets used i ws))) (removed-word used i h hi lh j 7 (omega arith) (omega arith))
+    ap (λ (x : ℕ). take (slotCount x) (drop (j * 288 + 32) (removedWords of.Sets used i ws))) (removed-word used i h hi lh j 7 (omega arith))
     ∙ removed-part of.Sets used i ws hi lw j 32 (slotCount (lastOf h (movedFrom used i j))) hj (omega arith)

@@ -24,9 +24,9 @@ use Rattle.cells.specs.Cells.{filled, slotWhole, allFilled, allWhole, kept, som
 use Rattle.eit_section.specs.Segment.{segmentEnd}
 use Rattle.rows.specs.Rows.{word, rowSlots, slotsAt, slotCount, lastOf, markOf, versionOf}
 use Rattle.rows.proofs.Words.{length-slots}
-use Rattle.ages.specs.Slots.{heldOf, heldSlots, cellsSeen, upFrom}
-use Rattle.ages.proofs.Slots.{place, held-get, slots-same, held-names}
-use Rattle.ages.proofs.Cells.{bytes-kept, up-get, up-cong}
+use Rattle.ticks.specs.Slots.{heldOf, heldSlots, cellsSeen, upFrom}
+use Rattle.ticks.proofs.Slots.{place, held-get, slots-same, held-names}
+use Rattle.ticks.proofs.Cells.{bytes-kept, up-get, up-cong}
 use Rattle.placing.proofs.Fits.{slot-bounds}
 use Rattle.segments.specs.Segments.{wordOf, filledTo, segmentComplete, segmentsComplete, setComplete}
 use Rattle.readers.specs.Next.{filledSlots}

@@ -5,9 +5,10 @@ use mathlib.Core.Logic.{_≢_}
 use mathlib.Core.Bool.{Bool, true, false, cond, not, _&&_}
 use mathlib.Core.Option.{Option, some}
 use mathlib.Core.List.{List, [], _∷_, _++_, map}
-use Prim.Native.Nat.{ℕ, _-_, _*_, _≤_, _<_}
+use Prim.Native.Nat.{ℕ, suc, _+_, _-_, _*_, _≤_, _<_}
 use native.Mathlib.Decide.{ℕ-discrete}
 use native.Mathlib.Omega.{arith}
+use native.Mathlib.Numerals.{add-one}
 use borrow.Author.Tests.{lt-ltb, le-ltb, lt-leb, le-leb, ltb-true, ltb-false}
 use lib.Dec.{eqb, ltb, leb}
 use lib.ListN.{length}
@@ -19,33 +20,34 @@ use Rattle.rules_eit.specs.Segments.{SetOf, complete}
 use Rattle.rules_eit.specs.Schedules.{CopyOf, ScheduleOf, copyOf, whole, begin, enter, allTables}
 use Rattle.answers.specs.declared.Refusal.the-variants as refusal
 use Rattle.rules_eit.specs.Rules.{EitOf, handout, gives, setAside, setNewest, scheduleTouched, told, ranged, ready, judged, judge, refused}
-use Rattle.rules_eit.specs.Cells.{Store as Shown, Turn, onWhole, onAnswer, shows, rest}
-use Rattle.rules_eit.proofs.Keys.{sameSet-true}
+use Rattle.rules_eit.specs.Cells.{Store as Shown, Turn, onWhole, onAnswer, shows, rest, risen}
+use Rattle.rules_eit.proofs.Keys.{sameSet-true, sameSchedule-true}
 use Rattle.cells.specs.Cells.{allWhole, kept}
 use Rattle.rows.specs.declared.Key.{Key}
-use Rattle.rows.specs.Rows.{tableWord, word, keyAt, touched, rowSlots, rowsWhole, lastOf, markOf, versionOf, withMark, ageOf}
+use Rattle.rows.specs.Rows.{tableWord, word, keyAt, touched, rowSlots, rowsWhole, lastOf, markOf, versionOf, withMark}
 use Rattle.rows.proofs.Words.{OfKey, of-key, put-same, put-not, put-row, length-put, length-touched, touched-not}
 use Rattle.rows.proofs.Whole.{rows-get, rows-all}
-use Rattle.ages.specs.Order.{orderSeen, Goes, Touched}
-use Rattle.ages.specs.Slots.{cellsSeen}
-use Rattle.ages.proofs.Words.{ready-touched, put-touched, key-same}
-use Rattle.ages.proofs.Slots.{slots-same}
-use Rattle.ages.proofs.Touch.{goes-row, goes-in, goes-out, touched-seen, touched-stands}
+use Rattle.ticks.specs.Order.{orderSeen, Goes, Touched}
+use Rattle.ticks.specs.Slots.{cellsSeen}
+use Rattle.ticks.proofs.Words.{ready-touched, put-touched, key-same}
+use Rattle.ticks.proofs.Slots.{slots-same}
+use Rattle.ticks.proofs.Touch.{goes-row, goes-in, goes-out, stands-later, seen-later, touched-seen, touched-stands}
 use Rattle.arrivals.specs.Arrivals.{Numbered}
 use Rattle.segments.specs.Segments.{wordOf, setComplete}
 use Rattle.schedules.specs.Schedules.{schedulesWhole}
 use Rattle.arrivals.specs.declared.Arrival.{Arrival}
+use Rattle.eit_state.specs.declared.Eit.{Eit}
 use Rattle.eit_becomes.specs.declared.Becomes.{Becomes}
 use Rattle.eit_becomes.specs.declared.Becomes.the-variants as becomes
-use Rattle.eit_state.specs.State.{Store, store, rows, rowsOf, Whole, settingsFit, withSets}
+use Rattle.eit_state.specs.State.{Store, store, rows, rowsOf, Whole, settingsFit, withSets, risenEit}
 use Rattle.eit_becomes.specs.Becoming.{becomesOf, isMarked}
 use Rattle.eit_settle.specs.Settle.{markedHeads, settledAs, settled}
 use Rattle.eit_enter.specs.Entering.{entered}
 use Rattle.eit.specs.Store as eit
 use Rattle.readers.specs.Next.{filledSlots}
 use Rattle.eit.specs.Store.{After, after, a-set, setOut}
-use Rattle.ties_eit.specs.View.{theKind, keyShown, keyWords, rowSeen, seen, answerTold, HeadFits, Reached}
-use Rattle.ties_eit.proofs.Keys.{set-self, HasPid, Bit, key-reads, Kinds, present, scheduled, kinds, InKind}
+use Rattle.ties_eit.specs.View.{theKind, keyShown, scheduleShown, keyWords, scheduleWords, rowSeen, scheduleSeen, seen, answerTold, HeadFits, Reached}
+use Rattle.ties_eit.proofs.Keys.{set-self, schedule-self, HasPid, Bit, key-reads, Kinds, present, scheduled, kinds, InKind}
 use Rattle.ties_eit.proofs.Rows.{row-same, row-marked, complete-is, sections-kept}
 use Rattle.ties_eit.proofs.Entered.{Tied, afterSettled, Entering, enter-tied}
 
@@ -72,14 +74,13 @@ find-newest k k′ r t e = find-before k k′ r e (t .rows)
 pub head-same : (heads heads′ : List ℕ) (j : ℕ) → tableWord heads′ j ≡ tableWord heads j → versionOf heads′ j ≡ versionOf heads j → lastOf heads′ j ≡ lastOf heads j → HeadFits heads j → HeadFits heads′ j
 head-same heads heads′ j a b c f = record { version = rw b (f .version); last = rw c (f .last); kind = rw a (f .kind) }
 
--- heads, slots and cells with row i made ready for the key, of age `age`; no other row in use differs
-pub record Ready (s : Store) (used₁ evictions₁ : ℕ) (heads₁ slots₁ cells₁ : List ℕ) (key : Key) (i age : ℕ) : Type 0 where
+-- heads, slots and cells with row i made ready for the key; no other row in use differs
+pub record Ready (s : Store) (used₁ evictions₁ : ℕ) (heads₁ slots₁ cells₁ : List ℕ) (key : Key) (i : ℕ) : Type 0 where
   pub fits : settingsFit (withSets (s .eit) used₁ evictions₁) (length heads₁) (length slots₁) (length cells₁) (length (s .schedule-heads)) (length (s .units)) ≡ true
   pub counts : evictions₁ ≤ 18446744073709551615
   pub long : used₁ * 12 ≤ length heads₁
   pub slots-long : used₁ * 288 ≤ length slots₁
   pub own : keyAt heads₁ i ≡ key
-  pub aged : ageOf heads₁ i ≡ age
   pub head-fits : HeadFits heads₁ i
   pub others : (j m : ℕ) → j < used₁ → j ≢ i → m < 12 → word heads₁ j m ≡ word (s .heads) j m
   pub slots : (j : ℕ) → j < used₁ → j ≢ i → rowSlots heads₁ slots₁ j ≡ rowSlots (s .heads) (s .slots) j
@@ -87,25 +88,32 @@ pub record Ready (s : Store) (used₁ evictions₁ : ℕ) (heads₁ slots₁ cel
   pub rows-ok : rowsWhole heads₁ slots₁ (s .eit .sets .count) (s .eit .sets .size) used₁ ≡ true
 
 module _ (s : Store) (z : Reached s) (f : Whole s)
-    (units-ok : schedulesWhole (s .schedule-heads) (s .units) (s .eit .sets .count) (s .eit .sets .size) (s .eit .schedules) ≡ true) (more : s .eit .«schedule_evictions» < 18446744073709551615) (pos : 0 < s .eit .sets .limit)
-    (a : Arrival) (kind : Kind) (arr : Arrives a kind) (used₁ evictions₁ : ℕ) (heads₁ slots₁ cells₁ : List ℕ) (i age : ℕ)
-    (g : Goes (s .heads) (s .eit .sets .limit) (s .eit .sets .used) (s .eit .sets .evictions) (a .entry .key) i age used₁ evictions₁)
-    (r : Ready s used₁ evictions₁ heads₁ slots₁ cells₁ (a .entry .key) i age) where
+    (units-ok : schedulesWhole (s .schedule-heads) (s .units) (s .eit .sets .count) (s .eit .sets .size) (s .eit .schedules) ≡ true) (more : s .eit .«schedule_evictions» < 18446744073709551615) (runs : s .eit .sets .clock < 18446744073709551615) (pos : 0 < s .eit .sets .limit)
+    (a : Arrival) (kind : Kind) (arr : Arrives a kind) (used₁ evictions₁ : ℕ) (heads₁ slots₁ cells₁ : List ℕ) (i : ℕ)
+    (g : Goes (s .heads) (s .eit .sets .limit) (s .eit .sets .used) (s .eit .sets .evictions) (a .entry .key) i used₁ evictions₁)
+    (r : Ready s used₁ evictions₁ heads₁ slots₁ cells₁ (a .entry .key) i) where
   abbrev key : Key
   key = a .entry .key
 
   abbrev k : SetKey
   k = keyShown key
 
+  -- the clock from then on
+  abbrev now : ℕ
+  now = s .eit .sets .clock + 1
+
   abbrev newer : List ℕ
-  newer = touched used₁ i heads₁
+  newer = touched now i heads₁
+
+  abbrev eit₁ : Eit
+  eit₁ = risenEit (withSets (s .eit) used₁ evictions₁)
 
   -- the heads that are left, with the mark set or not
   abbrev leftHeads : Bool → List ℕ
   leftHeads b = cond b (withMark i 1 newer) newer
 
   abbrev leftStore : Bool → Store
-  leftStore b = store (withSets (s .eit) used₁ evictions₁) (leftHeads b) slots₁ cells₁ (s .schedule-heads) (s .units)
+  leftStore b = store eit₁ (leftHeads b) slots₁ cells₁ (s .schedule-heads) (s .units)
 
   abbrev rowThere : SetOf Held
   rowThere = rowSeen heads₁ slots₁ i
@@ -123,27 +131,30 @@ module _ (s : Store) (z : Reached s) (f : Whole s)
   proper : keyWords (keyShown key) ≡ key
   proper = key-reads key (arr .pid) (arr .bit)
 
+  rise : s .eit .sets .clock < now
+  rise = omega arith
+
   hi : i < used₁
   hi = goes-row g
 
   left-length : (b : Bool) → length (leftHeads b) ≡ length heads₁
-  left-length true = length-put i 8 1 newer ∙ length-touched used₁ i heads₁
-  left-length false = length-touched used₁ i heads₁
+  left-length true = length-put i 8 1 newer ∙ length-touched now i heads₁
+  left-length false = length-touched now i heads₁
 
-  -- all but ages and the row's mark stays
+  -- all but ticks and the row's mark stays
   left-words : (b : Bool) (j m : ℕ) → m < 12 → m ≢ 8 → m ≢ 9 → word (leftHeads b) j m ≡ word heads₁ j m
-  left-words true j m l n8 n9 = put-not newer i 8 1 j m n8 (omega arith) l ∙ touched-not used₁ i heads₁ j m n9 l
-  left-words false j m l n8 n9 = touched-not used₁ i heads₁ j m n9 l
+  left-words true j m l n8 n9 = put-not newer i 8 1 j m n8 (omega arith) l ∙ touched-not now i heads₁ j m n9 l
+  left-words false j m l n8 n9 = touched-not now i heads₁ j m n9 l
 
   left-other : (b : Bool) (j m : ℕ) → j ≢ i → m < 12 → m ≢ 9 → word (leftHeads b) j m ≡ word heads₁ j m
-  left-other true j m ne l n9 = put-row newer i 8 1 j m ne (omega arith) l ∙ touched-not used₁ i heads₁ j m n9 l
-  left-other false j m ne l n9 = touched-not used₁ i heads₁ j m n9 l
+  left-other true j m ne l n9 = put-row newer i 8 1 j m ne (omega arith) l ∙ touched-not now i heads₁ j m n9 l
+  left-other false j m ne l n9 = touched-not now i heads₁ j m n9 l
 
-  newer-touched : Touched (s .heads) newer key i age used₁
-  newer-touched = ready-touched (s .heads) heads₁ key i age used₁ (r .long) hi (r .own) (r .aged) (r .others)
+  newer-touched : Touched (s .heads) newer key i now used₁
+  newer-touched = ready-touched (s .heads) heads₁ key i now used₁ (r .long) hi (r .own) (r .others)
 
-  left-touched : (b : Bool) → Touched (s .heads) (leftHeads b) key i age used₁
-  left-touched true = put-touched (s .heads) newer key i age used₁ i 8 1 newer-touched (λ m q. of-key m q .no-mark) (omega arith) (omega arith)
+  left-touched : (b : Bool) → Touched (s .heads) (leftHeads b) key i now used₁
+  left-touched true = put-touched (s .heads) newer key i now used₁ i 8 1 newer-touched (λ m q. of-key m q .no-mark) (omega arith) (omega arith)
   left-touched false = newer-touched
 
   left-row : (b : Bool) (j : ℕ) → j < s .eit .sets .used → j ≢ i → j < used₁ → rowSeen (leftHeads b) slots₁ j ≡ rowSeen (s .heads) (s .slots) j
@@ -153,27 +164,39 @@ module _ (s : Store) (z : Reached s) (f : Whole s)
 
   own-row : (b : Bool) → rowSeen (leftHeads b) slots₁ i ≡ rowLeft b
   own-row true =
-      let e = length-touched used₁ i heads₁ in
+      let e = length-touched now i heads₁ in
       let l = r .long in
       let h = hi in
       row-marked heads₁ (leftHeads true) slots₁ i (left-words true i 6 (omega arith) (omega arith) (omega arith)) (left-words true i 7 (omega arith) (omega arith) (omega arith))
       (put-same newer i 8 1 (omega arith))
   own-row false =
-      row-same heads₁ newer slots₁ slots₁ i (λ m p q. touched-not used₁ i heads₁ i m (omega arith) (omega arith))
-      (slots-same heads₁ newer slots₁ i (touched-not used₁ i heads₁ i 7 (omega arith) (omega arith))) (λ n q. refl)
+      row-same heads₁ newer slots₁ slots₁ i (λ m p q. touched-not now i heads₁ i m (omega arith) (omega arith))
+      (slots-same heads₁ newer slots₁ i (touched-not now i heads₁ i 7 (omega arith) (omega arith))) (λ n q. refl)
 
-  left-sets : (b : Bool) → orderSeen keyShown (leftHeads b) used₁ evictions₁ (rowSeen (leftHeads b) slots₁) ≡ newest k (rowLeft b) (beside .sets)
+  left-sets : (b : Bool) → orderSeen keyShown (leftHeads b) used₁ now evictions₁ (rowSeen (leftHeads b) slots₁) ≡ newest k (rowLeft b) (beside .sets)
   unfolding seen rest setAside
   left-sets b =
-      touched-seen keyShown keyWords sameSet sameSet-true set-self (s .heads) (s .eit .sets .limit) (s .eit .sets .used) (s .eit .sets .evictions) key (z .sets) proper (rowSeen (s .heads) (s .slots))
+      touched-seen keyShown keyWords sameSet sameSet-true set-self (s .heads) (s .eit .sets .limit) (s .eit .sets .used) (s .eit .sets .clock) now (s .eit .sets .evictions) key (z .sets) rise proper (rowSeen (s .heads) (s .slots))
       (leftHeads b) (rowSeen (leftHeads b) slots₁) g (left-touched b) (λ j l ne. let m = goes-in g in left-row b j l ne (omega arith))
       ∙ ap (λ (q : SetOf Held). newest k q (beside .sets)) (own-row b)
 
-  left-shown : (b : Bool) → seen (leftStore b) ≡ record { settings = (seen s) .settings; eit = setNewest k (rowLeft b) beside; cells = cellsThere }
+  -- no schedule is touched
+  left-schedules : (seen (leftStore true)) .eit .schedules ≡ (seen s) .eit .schedules
+  unfolding seen
+  left-schedules =
+      ap (λ (q : Rows ScheduleKey (ScheduleOf Held)). record { rows = q; evicted = s .eit .«schedule_evictions» })
+      (seen-later scheduleShown scheduleWords sameSchedule sameSchedule-true schedule-self (s .schedule-heads) (s .eit .schedules) (s .eit .sets .clock) now (omega arith) (z .schedules) (scheduleSeen (s .schedule-heads) (s .units)))
+
+  abbrev leftShown : Bool → Shown
+  leftShown b = record { settings = (seen s) .settings; eit = setNewest k (rowLeft b) beside; cells = cellsThere; clock = suc ((seen s) .clock) }
+
+  left-shown : (b : Bool) → seen (leftStore b) ≡ leftShown b
   unfolding seen rest setAside setNewest
   left-shown b =
       let q = left-sets b in
-      λ t. record { settings = (seen s) .settings; eit = record { sets = q t; schedules = (seen s) .eit .schedules }; cells = cellsThere }
+      let p = left-schedules in
+      let n = add-one (s .eit .sets .clock) in
+      λ t. record { settings = (seen s) .settings; eit = record { sets = q t; schedules = p t }; cells = cellsThere; clock = n t }
 
   left-fits : (b : Bool) (j : ℕ) → j < used₁ → HeadFits (leftHeads b) j
   left-fits b j l =
@@ -189,10 +212,12 @@ module _ (s : Store) (z : Reached s) (f : Whole s)
   left-reached b = record {
     fits = rw (left-length b) (r .fits);
     counts = r .counts;
+    ticks = omega arith;
     schedule-counts = z .schedule-counts;
     heads-fit = left-fits b;
-    sets = touched-stands keyShown keyWords sameSet sameSet-true set-self (s .heads) (s .eit .sets .limit) (s .eit .sets .used) (s .eit .sets .evictions) key (z .sets) proper (leftHeads b) g (left-touched b);
-    schedules = z .schedules;
+    sets = touched-stands keyShown keyWords sameSet sameSet-true set-self (s .heads) (s .eit .sets .limit) (s .eit .sets .used) (s .eit .sets .clock) now (s .eit .sets .evictions) key (z .sets) rise proper (leftHeads b) g (left-touched b);
+    schedules =
+        stands-later scheduleShown scheduleWords sameSchedule sameSchedule-true schedule-self (s .schedule-heads) (s .eit .schedules) (s .eit .sets .clock) now (omega arith) (z .schedules);
   }
 
   -- ---- a present/following set goes out
@@ -204,7 +229,7 @@ module _ (s : Store) (z : Reached s) (f : Whole s)
   unfolding answerTold setOut onAnswer onWhole whole copyOf rowSeen
   set-out =
       let e : (m : ℕ) → m < 8 → word (leftHeads true) i m ≡ word heads₁ i m = λ m l. left-words true i m (omega arith) (omega arith) (omega arith) in
-      let q : keyAt (leftHeads true) i ≡ key = key-same heads₁ (leftHeads true) i (λ m o. left-words true i m (of-key m o .below) (of-key m o .no-mark) (of-key m o .no-age)) ∙ r .own in
+      let q : keyAt (leftHeads true) i ≡ key = key-same heads₁ (leftHeads true) i (λ m o. left-words true i m (of-key m o .below) (of-key m o .no-mark) (of-key m o .no-tick)) ∙ r .own in
       let v = e 6 (omega arith) in
       let l = e 7 (omega arith) in
       let c = ap (λ (ws : List ℕ). map (kept cells₁ (s .eit .sets .size)) (filledSlots ws)) (slots-same heads₁ (leftHeads true) slots₁ i l)
@@ -224,12 +249,12 @@ module _ (s : Store) (z : Reached s) (f : Whole s)
       rows-all (leftHeads true) slots₁ (s .eit .sets .count) (s .eit .sets .size) used₁ (λ j q.
       rw (slots-same heads₁ (leftHeads true) slots₁ j (left-words true j 7 (omega arith) (omega arith) (omega arith))) (row-ok j q))
 
-  -- what the rules make of it, over what the sets are then and the copy that goes in
-  abbrev turnOf : (first : ℕ) → EitOf Held → CopyOf Held → Turn
-  turnOf first e c =
-      shows (seen s) cellsThere
-      (let q : ScheduleOf Held = enter (table - first) c (begin (beside .sets .rows) l first (a .tables) (find sameSchedule l (beside .schedules .rows))) in
-      gives (told l first q (allTables first q)) (scheduleTouched (s .eit .sets .limit) l q e))
+  -- what the rules make of it, over what is shown then and the copy that goes in
+  abbrev turnOf : (first : ℕ) → Shown → CopyOf Held → Turn
+  turnOf first t c =
+      shows t (t .cells)
+      (let q : ScheduleOf Held = enter (table - first) c (begin (beside .sets .rows) l first (a .tables) (find sameSchedule l (t .eit .schedules .rows))) in
+      gives (told l first q (allTables first q)) (scheduleTouched (s .eit .sets .limit) l q (t .eit)))
 
   module _ (first : ℕ) (in-kind : InKind kind first table) (range : table ≤ a .tables) where
     entering : Entering (leftStore true) a kind first i
@@ -250,6 +275,9 @@ module _ (s : Store) (z : Reached s) (f : Whole s)
       counts = more;
       rows-ok = left-rows;
       units-ok = units-ok;
+      was = s .eit .sets .clock;
+      rise = rise;
+      stood = z .schedules;
     }
 
     others-found : (q : SetKey) → sameSet q k ≡ false → find sameSet q (beside .sets .rows) ≡ find sameSet q ((seen (leftStore true)) .eit .sets .rows)
@@ -258,7 +286,7 @@ module _ (s : Store) (z : Reached s) (f : Whole s)
         sym (ap (λ (o : TouchOrder SetKey (SetOf Held)). find sameSet q (o .rows)) (ap (λ (t : Shown). t .eit .sets) (left-shown true)) ∙ find-newest q k (marked rowThere) (beside .sets) e)
 
     entering-tied : Tied (afterSettled (entered (rowsOf (leftStore true)) a i) cells₁)
-        (turnOf first ((seen (leftStore true)) .eit) (copyOf (rowSeen (leftHeads true) slots₁ i)))
+        (turnOf first (seen (leftStore true)) (copyOf (rowSeen (leftHeads true) slots₁ i)))
     unfolding seen shows rest setAside
     entering-tied = enter-tied (leftStore true) (left-reached true) a kind first i entering (beside .sets .rows) others-found
 
@@ -267,9 +295,9 @@ module _ (s : Store) (z : Reached s) (f : Whole s)
     copy-marked = ap copyOf (own-row true)
 
     enters-tied : Tied (afterSettled (entered (rowsOf (leftStore true)) a i) cells₁)
-        (turnOf first (setNewest k (marked rowThere) beside) (copyOf rowThere))
+        (turnOf first (leftShown true) (copyOf rowThere))
     enters-tied =
-        let p : (seen (leftStore true)) .eit ≡ setNewest k (marked rowThere) beside = ap (λ (t : Shown). t .eit) (left-shown true) in
+        let p = left-shown true in
         let q = copy-marked in
         subst (Tied (afterSettled (entered (rowsOf (leftStore true)) a i) cells₁)) (λ t. turnOf first (p t) (q t)) entering-tied
 
@@ -282,22 +310,22 @@ module _ (s : Store) (z : Reached s) (f : Whole s)
   complete-there : setComplete newer slots₁ i ≡ complete rowThere
   unfolding setComplete
   complete-there =
-      rw (touched-not used₁ i heads₁ i 7 (omega arith) (omega arith))
+      rw (touched-not now i heads₁ i 7 (omega arith) (omega arith))
       (sym (complete-is heads₁ slots₁ i (let p = hi in let q = r .slots-long in omega arith) (r .head-fits .last)))
 
   abbrev settledBy : Becomes → After
-  settledBy b = afterSettled (settledAs b (rows (withSets (s .eit) used₁ evictions₁) (markedHeads (isMarked b) i newer) slots₁ (s .schedule-heads) (s .units)) a i) cells₁
+  settledBy b = afterSettled (settledAs b (rows eit₁ (markedHeads (isMarked b) i newer) slots₁ (s .schedule-heads) (s .units)) a i) cells₁
 
   -- a complete set that is not marked
   ready-tied : Tied (settledBy (cond (ltb (a .kind) 2) becomes.GoesOut (cond (ltb (a .tables) table) becomes.OutOfRange becomes.Enters)))
-      (shows (seen s) cellsThere (ready (s .eit .sets .limit) beside k (a .tables) rowThere (firstOf (l .kind))))
-  unfolding ready ranged shows keyShown answerTold onAnswer
+      (shows (risen (seen s)) cellsThere (ready (s .eit .sets .limit) beside k (a .tables) rowThere (firstOf (l .kind))))
+  unfolding ready ranged shows keyShown answerTold onAnswer rest setNewest
   ready-tied =
       subst (λ (q : Kind). Tied (settledBy (cond (ltb (a .kind) 2) becomes.GoesOut (cond (ltb (a .tables) table) becomes.OutOfRange becomes.Enters)))
-      (shows (seen s) cellsThere (ready (s .eit .sets .limit) beside k (a .tables) rowThere (firstOf q)))) (sym kind-is) (go (kinds table kind (arr .table)))
+      (shows (risen (seen s)) cellsThere (ready (s .eit .sets .limit) beside k (a .tables) rowThere (firstOf q)))) (sym kind-is) (go (kinds table kind (arr .table)))
     where
       fits : (first : ℕ) → InKind kind first table → (b : Bool) → ltb (a .tables) table ≡ b
-          → Tied (settledBy (cond b becomes.OutOfRange becomes.Enters)) (shows (seen s) cellsThere (ranged (s .eit .sets .limit) beside k rowThere first (leb table (a .tables))
+          → Tied (settledBy (cond b becomes.OutOfRange becomes.Enters)) (shows (risen (seen s)) cellsThere (ranged (s .eit .sets .limit) beside k rowThere first (leb table (a .tables))
           (enter (table - first) (copyOf rowThere) (begin (beside .sets .rows) l first (a .tables) (find sameSchedule l (beside .schedules .rows))))))
       fits first in-kind true q =
           rw (lt-leb table (a .tables) (ltb-true (a .tables) table q)) (record { told = refl; shown = left-shown false; reached = left-reached false })
@@ -306,7 +334,7 @@ module _ (s : Store) (z : Reached s) (f : Whole s)
           rw (le-leb table (a .tables) m) (enters-tied first in-kind m)
 
       go : Kinds table kind → Tied (settledBy (cond (ltb (a .kind) 2) becomes.GoesOut (cond (ltb (a .tables) table) becomes.OutOfRange becomes.Enters)))
-          (shows (seen s) cellsThere (ready (s .eit .sets .limit) beside k (a .tables) rowThere (firstOf kind)))
+          (shows (risen (seen s)) cellsThere (ready (s .eit .sets .limit) beside k (a .tables) rowThere (firstOf kind)))
       go (present e lt) =
           let n = arr .number in
           rw (e, lt-ltb (a .kind) 2 (omega arith)) (record { told = set-out; shown = left-shown true; reached = left-reached true })
@@ -315,18 +343,18 @@ module _ (s : Store) (z : Reached s) (f : Whole s)
           let m = in-kind .number in
           rw (in-kind .first-of, le-ltb (a .kind) 2 (omega arith)) (fits first in-kind (ltb (a .tables) table) refl)
 
-  pub settle-tied : Tied (afterSettled (settled (rows (withSets (s .eit) used₁ evictions₁) heads₁ slots₁ (s .schedule-heads) (s .units)) a i) cells₁)
-      (shows (seen s) cellsThere (judge (s .eit .sets .limit) beside k (a .tables) rowThere))
+  pub settle-tied : Tied (afterSettled (settled (rows eit₁ heads₁ slots₁ (s .schedule-heads) (s .units)) a i) cells₁)
+      (shows (risen (seen s)) cellsThere (judge (s .eit .sets .limit) beside k (a .tables) rowThere))
   unfolding settled becomesOf judge judged shows answerTold onAnswer rowSeen
-  settle-tied = rw (touched-not used₁ i heads₁ i 8 (omega arith) (omega arith), complete-there) (go (eqb (markOf heads₁ i) 0) (complete rowThere))
+  settle-tied = rw (touched-not now i heads₁ i 8 (omega arith) (omega arith), complete-there) (go (eqb (markOf heads₁ i) 0) (complete rowThere))
     where
       go : (m c : Bool) → Tied (settledBy (cond (m && c) (cond (ltb (a .kind) 2) becomes.GoesOut (cond (ltb (a .tables) table) becomes.OutOfRange becomes.Enters)) becomes.Stays))
-          (shows (seen s) cellsThere (judged (s .eit .sets .limit) beside k (a .tables) rowThere (not m) c))
+          (shows (risen (seen s)) cellsThere (judged (s .eit .sets .limit) beside k (a .tables) rowThere (not m) c))
       go true true = ready-tied
       go true false = record { told = refl; shown = left-shown false; reached = left-reached false }
       go false c = record { told = refl; shown = left-shown false; reached = left-reached false }
 
-  pub conflict-tied : Tied (after (eit.refused refusal.Conflict) (store (withSets (s .eit) used₁ evictions₁) newer slots₁ cells₁ (s .schedule-heads) (s .units)))
-      (shows (seen s) cellsThere (gives (refused refusal.Conflict) (setNewest k rowThere beside)))
+  pub conflict-tied : Tied (after (eit.refused refusal.Conflict) (store eit₁ newer slots₁ cells₁ (s .schedule-heads) (s .units)))
+      (shows (risen (seen s)) cellsThere (gives (refused refusal.Conflict) (setNewest k rowThere beside)))
   unfolding shows answerTold onAnswer
   conflict-tied = record { told = refl; shown = left-shown false; reached = left-reached false }

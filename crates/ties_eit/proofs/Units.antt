@@ -19,7 +19,7 @@ use Rattle.rules_eit.specs.Schedules.{CopyOf, copyOf}
 use Rattle.rows.specs.declared.Key.{Key}
 use Rattle.rows.specs.Rows.{rowOf, rowSlots, slotsAt, slotCount, lastOf, versionOf}
 use Rattle.rows.proofs.Words.{length-slots}
-use Rattle.ages.proofs.Slots.{part-alike, part-pasted}
+use Rattle.ticks.proofs.Slots.{part-alike, part-pasted}
 use Rattle.segments.specs.Segments.{wordOf, withWord, setComplete}
 use Rattle.units.specs.Units.{unitSlots, withoutUnits, withWords, withSet, firstTable, withTable, withComplete, withTableSet, refilled}
 use Rattle.ties_eit.specs.View.{rowSeen, copySeen, HeadFits}

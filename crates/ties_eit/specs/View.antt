@@ -28,9 +28,9 @@ use Rattle.section.specs.declared.ids.MaybePid.{MaybePid}
 use Rattle.section.specs.declared.ids.MaybePid.the-variants as maybe
 use Rattle.rows.specs.declared.Key.{Key}
 use Rattle.rows.specs.Rows.{tableWord, rowSlots, lastOf, markOf, versionOf}
-use Rattle.ages.specs.Order.{orderSeen, Stands}
-use Rattle.ages.specs.Slots.{heldSlots, upFrom, cellsSeen}
-use Rattle.ages.specs.Origins.{originShown, originWords}
+use Rattle.ticks.specs.Order.{orderSeen, Stands}
+use Rattle.ticks.specs.Slots.{heldSlots, upFrom, cellsSeen}
+use Rattle.ticks.specs.Origins.{originShown, originWords}
 use Rattle.arrivals.specs.Arrivals.{bitOf}
 use Rattle.segments.specs.Segments.{wordOf}
 use Rattle.units.specs.Units.{isPresent, unitSlots, firstTable}
@@ -126,10 +126,11 @@ unfoldable pub seen : Store → Shown
 seen s = record {
   settings = settingsOf s;
   eit = record {
-    sets = orderSeen keyShown (s .heads) (s .eit .sets .used) (s .eit .sets .evictions) (rowSeen (s .heads) (s .slots));
-    schedules = orderSeen scheduleShown (s .schedule-heads) (s .eit .schedules) (s .eit .«schedule_evictions») (scheduleSeen (s .schedule-heads) (s .units));
+    sets = orderSeen keyShown (s .heads) (s .eit .sets .used) (s .eit .sets .clock) (s .eit .sets .evictions) (rowSeen (s .heads) (s .slots));
+    schedules = orderSeen scheduleShown (s .schedule-heads) (s .eit .schedules) (s .eit .sets .clock) (s .eit .«schedule_evictions») (scheduleSeen (s .schedule-heads) (s .units));
   };
   cells = cellsSeen (s .cells) (s .eit .sets .size) (s .eit .sets .count);
+  clock = s .eit .sets .clock;
 }
 
 -- ---- calls and answers
@@ -259,6 +260,7 @@ pub record Opened (s : Store) : Type 0 where
   pub opened : (openedOf s) .told ≡ eit.done
   pub sets : s .eit .sets .used ≡ 0
   pub evictions : s .eit .sets .evictions ≡ 0
+  pub clock : s .eit .sets .clock ≡ 0
   pub schedules : s .eit .schedules ≡ 0
   pub schedule-evictions : s .eit .«schedule_evictions» ≡ 0
 
@@ -268,11 +270,12 @@ pub record HeadFits (heads : List ℕ) (i : ℕ) : Type 0 where
   pub last : lastOf heads i < 256
   pub kind : kindOf (tableWord heads i) ≡ some (theKind (kindOf (tableWord heads i)))
 
--- settings that opening takes, eviction counts that fit their 64 bits, heads that fit, and ages that are touch orders of keys, none of which stands twice
+-- settings that opening takes, counts that fit their 64 bits, heads that fit, and ticks that are touch orders of keys, none of which stands twice
 pub record Reached (s : Store) : Type 0 where
   pub fits : settingsFit (s .eit) (length (s .heads)) (length (s .slots)) (length (s .cells)) (length (s .schedule-heads)) (length (s .units)) ≡ true
   pub counts : s .eit .sets .evictions ≤ 18446744073709551615
+  pub ticks : s .eit .sets .clock ≤ 18446744073709551615
   pub schedule-counts : s .eit .«schedule_evictions» ≤ 18446744073709551615
   pub heads-fit : (i : ℕ) → i < s .eit .sets .used → HeadFits (s .heads) i
-  pub sets : Stands keyShown keyWords (s .heads) (s .eit .sets .used)
-  pub schedules : Stands scheduleShown scheduleWords (s .schedule-heads) (s .eit .schedules)
+  pub sets : Stands keyShown keyWords (s .heads) (s .eit .sets .used) (s .eit .sets .clock)
+  pub schedules : Stands scheduleShown scheduleWords (s .schedule-heads) (s .eit .schedules) (s .eit .sets .clock)

@@ -40,8 +40,8 @@ use Rattle.rules_sets.specs.Rules.{opened}
 use Rattle.ties_pats.specs.View.{shown}
 use Rattle.gate_pats.specs.Store.{Kept, soundBy}
 use Rattle.gate_pats.specs.View.{keptTells, keptActs}
-use Rattle.ties_gate_pats.specs.Rules.{Holding, ToldWith, atEnd, behind, toldWith, tellsWith, actsWith}
-use Rattle.ties_gate_pats.specs.View.{patsOf, holding}
+use Rattle.ties_gate_pats.specs.Rules.{Holding, ToldWith, atEnd, behind, toldWith, tellsWith, actsWith, begun}
+use Rattle.ties_gate_pats.specs.View.{patsOf, holding, patsIn}
 use Rattle.ties_gate_pats.proofs.Order.{OpenedWith, end-shown, follows-with, same-answers}
 
 -- ---- the gate's rule
@@ -202,7 +202,7 @@ module _ (s : Kept) (o : Offer) (k : OpenedWith s) (b : Bytes (o .section)) wher
       go (inl q) = inl q
       go (inr q) =
           let t = and-true (byTables (s .gate .follow)) (atEnd (patsOf s)) q in
-          inr (t .0, sym (end-shown (s .watch)) ∙ subst (λ (x : Bool). atEnd (cond x ((shown (s .watch)) .sets) opened) ≡ true) (t .0) (t .1))
+          inr (t .0, sym (end-shown (s .watch)) ∙ subst (λ (x : Bool). atEnd (cond x (patsIn (s .watch)) begun) ≡ true) (t .0) (t .1))
 
 pub never-10 : (s : Kept) (os : List Offer) → OpenedWith s → OfBytes os → Never (plain 10) (answers keptTells keptActs s os)
 never-10 s os k b =

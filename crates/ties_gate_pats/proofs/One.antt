@@ -28,6 +28,7 @@ use Rattle.ties_pats.specs.Rules.{programsOfSet, patSettings, readPat, entersOn
 use Rattle.watched.specs.Rules.{Watch, followedBy}
 use Rattle.gate.specs.Rules.{Offer, Manner, Held, Told, failedIn, rowFrom, watchAfter, admitted, carriedIn, told, OfBytes}
 use Rattle.ties_gate.proofs.Watching.{Watches, follow-watches}
+use Rattle.ties_pats.proofs.Obey.{clock-one}
 use Rattle.ties_gate_pats.specs.Rules.{Holding, ToldWith, emptyHolding, atEnd, watchWith, enteredWith, entersFrom, behind, toldWith, tellsWith, actsWith}
 use Rattle.answers.specs.declared.Refusal.the-variants.{CounterFull, BadPid, BadInput}
 use Rattle.answers.specs.Answers.{refusalNo}
@@ -283,7 +284,7 @@ module _ (capacity : ℕ) (p : ℕ → Bool) (input stream : ℕ) where
     one-held : (n : ℕ → Bool) (rows : List Row) (v : ℕ) (b : Bytes) → ((q : ℕ) → n q ≡ setN b q) → Only k v rows → Meets (one key v b) n rows
 
   -- no eviction is counted
-  counts : (s : Sets) (n : ℕ → Bool) (rows : List Row) → Meets s n rows → atEnd s ≡ false
+  counts : (s : Sets) (n : ℕ → Bool) (rows : List Row) → Meets s n rows → s .evicted ≡ 0
   counts s n rows (none-yet n′ rows′ h) = refl
   counts s n rows (one-held n′ rows′ v b f o) = refl
 
@@ -399,27 +400,30 @@ module _ (capacity : ℕ) (repeating : Bool) (rule : ℕ) (p : ℕ → Bool) (in
   manner follow = record { capacity = capacity; repeats = repeating; follow = follow; rule = rule }
 
   -- what both told, and what is held then
-  record Next (x : ToldWith) (y : Told) : Type 0 where
+  record Next (c : ℕ) (x : ToldWith) (y : Told) : Type 0 where
     n : ℕ → Bool
     answer : x .answer ≡ y .answer
     held : x .holding .held ≡ y .held
     watch : Watches (x .holding .held .watch) p n
-    row : Meets capacity p input stream (x .holding .pats) n (x .holding .held .rows)
+    row : Meets capacity p input stream (x .holding .pats .sets) n (x .holding .held .rows)
+    clock : x .holding .pats .clock ≤ c + 1
 
   module _
-      (h : Holding) (o : Offer) (n : ℕ → Bool) (i : Watches (h .held .watch) p n) (q : Meets capacity p input stream (h .pats) n (h .held .rows)) (b : Bytesᵇ (o .section))
+      (h : Holding) (o : Offer) (n : ℕ → Bool) (i : Watches (h .held .watch) p n) (q : Meets capacity p input stream (h .pats .sets) n (h .held .rows)) (runs : h .pats .clock < 18446744073709551615) (b : Bytesᵇ (o .section))
       (one-each :
       soundBy (tellsWith Tables (manner false) h o) ≡ true → tableId (o .section) ≡ 0 →
-      InOne input stream o × (tells patSettings (h .pats) (readPat (o .input) (o .section)) ≢ conflict))
+      InOne input stream o × (tells patSettings (h .pats .sets) (readPat (o .input) (o .section)) ≢ conflict))
     where
       abbrev verdict : Verdict
       verdict = cond (anyFull (h .held .counters)) (Refused CounterFull) (readOf rule (o .input) (o .pid) (o .section))
 
       -- the PAT store can count
+      can-count : atEnd (h .pats) ≡ false
+      can-count = rw (counts capacity p input stream (h .pats .sets) n (h .held .rows) q, ne-eqb (h .pats .clock) 18446744073709551615 (λ (e : h .pats .clock ≡ 18446744073709551615). omega arith)) refl
+
       is-behind : toldWith Tables (manner false) h o ≡ behind Tables h o (told (manner false) (h .held) o)
       unfolding toldWith
-      is-behind =
-          ap (λ (t : Bool). cond t (record { answer = plain 11; holding = h }) (behind Tables h o (told (manner false) (h .held) o))) (counts capacity p input stream (h .pats) n (h .held .rows) q)
+      is-behind = ap (λ (t : Bool). cond t (record { answer = plain 11; holding = h }) (behind Tables h o (told (manner false) (h .held) o))) can-count
 
       -- what the gate of sections told, and whether the section entered
       abbrev then : Bool → Told → ToldWith
@@ -453,14 +457,15 @@ module _ (capacity : ℕ) (repeating : Bool) (rule : ℕ) (p : ℕ → Bool) (in
             ∙ sound-12 (changes || repeating)
 
         -- a section of another table
-        other : tableId (o .section) ≢ 0 → Next (then false (by false)) (by true)
+        other : tableId (o .section) ≢ 0 → Next (h .pats .clock) (then false (by false)) (by true)
         unfolding admitted
         other d = record {
           n = n;
           answer = refl;
           held = λ j. record { rows = offeredTo capacity x (h .held .rows); counters = (by false) .held .counters; watch = (quiet ∙ sym unread) j };
           watch = subst (λ (y : Watch). Watches y p n) (sym quiet) i;
-          row = meets-other capacity p input stream (h .pats) n (h .held .rows) q x apart;
+          row = meets-other capacity p input stream (h .pats .sets) n (h .held .rows) q x apart;
+          clock = omega arith;
         }
           where
             no-pat : readable (o .section) ≡ false
@@ -517,27 +522,27 @@ module _ (capacity : ℕ) (repeating : Bool) (rule : ℕ) (p : ℕ → Bool) (in
               (λ j. offer (single (record { from = record { input = g .on j; pid = 0 }; tableId = d j; extension = g .extension j; currentNext = whole-pat .1 j }) (v j) (o .section)))
 
           abbrev pushed : Step
-          pushed = push 1 (h .pats) (single (setKey input stream) (x .version) (o .section))
+          pushed = push 1 (h .pats .sets) (single (setKey input stream) (x .version) (o .section))
 
-          tells-is : tells patSettings (h .pats) (readPat (o .input) (o .section)) ≡ pushed .answer
+          tells-is : tells patSettings (h .pats .sets) (readPat (o .input) (o .section)) ≡ pushed .answer
           unfolding tells step admit
           tells-is =
-              ap (tells patSettings (h .pats)) read
-              ∙ ap (λ (c : Bool). (admit 1 (h .pats) (single (setKey input stream) (x .version) (o .section)) c) .answer) (le-leb (length (o .section)) 1024 (whole-pat .2))
+              ap (tells patSettings (h .pats .sets)) read
+              ∙ ap (λ (c : Bool). (admit 1 (h .pats .sets) (single (setKey input stream) (x .version) (o .section)) c) .answer) (le-leb (length (o .section)) 1024 (whole-pat .2))
 
-          acts-is : acts patSettings (h .pats) (readPat (o .input) (o .section)) ≡ pushed .sets
+          acts-is : acts patSettings (h .pats .sets) (readPat (o .input) (o .section)) ≡ pushed .sets
           unfolding acts step admit
           acts-is =
-              ap (acts patSettings (h .pats)) read
-              ∙ ap (λ (c : Bool). (admit 1 (h .pats) (single (setKey input stream) (x .version) (o .section)) c) .sets) (le-leb (length (o .section)) 1024 (whole-pat .2))
+              ap (acts patSettings (h .pats .sets)) read
+              ∙ ap (λ (c : Bool). (admit 1 (h .pats .sets) (single (setKey input stream) (x .version) (o .section)) c) .sets) (le-leb (length (o .section)) 1024 (whole-pat .2))
 
           out : Out capacity p input stream w (h .held .rows) x (o .section) (pushed .answer) (pushed .sets)
-          out = pat-out capacity p input stream w x (o .section) here (whole-pat .0) (h .pats) n (h .held .rows) q i (λ c. one-each sound-here d .1 (tells-is ∙ c))
+          out = pat-out capacity p input stream w x (o .section) here (whole-pat .0) (h .pats .sets) n (h .held .rows) q i (λ c. one-each sound-here d .1 (tells-is ∙ c))
 
-          told-watch : watchWith (tells patSettings (h .pats) (readPat (o .input) (o .section))) (watchAfter (changes && false) w (o .section)) ≡ watchWith (pushed .answer) w
+          told-watch : watchWith (tells patSettings (h .pats .sets) (readPat (o .input) (o .section))) (watchAfter (changes && false) w (o .section)) ≡ watchWith (pushed .answer) w
           told-watch = λ j. watchWith (tells-is j) (quiet j)
 
-          pat : Next (then true (by false)) (by true)
+          pat : Next (h .pats .clock) (then true (by false)) (by true)
           unfolding admitted
           pat = record {
             n = out .n;
@@ -545,13 +550,14 @@ module _ (capacity : ℕ) (repeating : Bool) (rule : ℕ) (p : ℕ → Bool) (in
             held = λ j. record { rows = offeredTo capacity x (h .held .rows); counters = (by false) .held .counters; watch = (told-watch ∙ out .same) j };
             watch = subst (λ (y : Watch). Watches y p (out .n)) (sym told-watch) (out .watch);
             row = subst (λ (s : Sets). Meets capacity p input stream s (out .n) (offeredTo capacity x (h .held .rows))) (sym acts-is) (out .row);
+            clock = clock-one (tells patSettings (h .pats .sets) (readPat (o .input) (o .section))) (h .pats .clock);
           }
 
           enters-here : entersOn (o .pid) (o .section) ≡ true
           enters-here = rw (g .pid, g .pat)
 
         -- whether it entered
-        arrived : Next (behind Tables h o (by false)) (by true)
+        arrived : Next (h .pats .clock) (behind Tables h o (by false)) (by true)
         unfolding admitted enters
         arrived = go (eqb (tableId (o .section)) 0) refl
           where
@@ -566,64 +572,66 @@ module _ (capacity : ℕ) (repeating : Bool) (rule : ℕ) (p : ℕ → Bool) (in
                 go true false f = refl
                 go false t f = refl
 
-            go : (t : Bool) → eqb (tableId (o .section)) 0 ≡ t → Next (behind Tables h o (by false)) (by true)
+            go : (t : Bool) → eqb (tableId (o .section)) 0 ≡ t → Next (h .pats .clock) (behind Tables h o (by false)) (by true)
             go true f =
                 let d = eqb-true (tableId (o .section)) 0 f in
-                subst (λ (c : Bool). Next (then c (by false)) (by true)) (sym (sounds true (enters-here d))) (pat d)
+                subst (λ (c : Bool). Next (h .pats .clock) (then c (by false)) (by true)) (sym (sounds true (enters-here d))) (pat d)
             go false f =
                 let d = eqb-false (tableId (o .section)) 0 f in
-                subst (λ (c : Bool). Next (then c (by false)) (by true)) (sym (sounds false (no-pat d))) (other d)
+                subst (λ (c : Bool). Next (h .pats .clock) (then c (by false)) (by true)) (sym (sounds false (no-pat d))) (other d)
 
-      stays : (t : Told) → soundBy (t .answer) ≡ false → t .held .watch ≡ h .held .watch → t .held .rows ≡ h .held .rows → Next (behind Tables h o t) t
+      stays : (t : Told) → soundBy (t .answer) ≡ false → t .held .watch ≡ h .held .watch → t .held .rows ≡ h .held .rows → Next (h .pats .clock) (behind Tables h o t) t
       stays t s w r =
-          subst (λ (c : Bool). Next (then (c && entersOn (o .pid) (o .section)) t) t) (sym s)
+          subst (λ (c : Bool). Next (h .pats .clock) (then (c && entersOn (o .pid) (o .section)) t) t) (sym s)
           (record {
             n = n;
             answer = refl;
             held = refl;
             watch = subst (λ (y : Watch). Watches y p n) (sym w) i;
-            row = subst (λ (y : List Row). Meets capacity p input stream (h .pats) n y) (sym r) q;
+            row = subst (λ (y : List Row). Meets capacity p input stream (h .pats .sets) n y) (sym r) q;
+            clock = omega arith;
           })
 
-      step-by : (v : Verdict) → verdict ≡ v → Next (behind Tables h o (carriedIn (manner false) (h .held) (o .section) v)) (carriedIn (manner true) (h .held) (o .section) v)
+      step-by : (v : Verdict) → verdict ≡ v → Next (h .pats .clock) (behind Tables h o (carriedIn (manner false) (h .held) (o .section) v)) (carriedIn (manner true) (h .held) (o .section) v)
       unfolding carriedIn
       step-by (Refused r) e = stays (record { answer = plain (refusalNo r); held = h .held }) (sym (sound-said (answer.Refused r))) refl refl
       step-by (Failed (TooShort m)) e = stays (failedIn (h .held) (TooShort m)) refl refl refl
       step-by (Failed (Mismatch s t)) e = stays (failedIn (h .held) (Mismatch s t)) refl refl refl
       step-by (Arrived a) e = arrived a e
 
-      one-step : Next (toldWith Tables (manner false) h o) (told (manner true) (h .held) o)
+      one-step : Next (h .pats .clock) (toldWith Tables (manner false) h o) (told (manner true) (h .held) o)
       unfolding told
-      one-step = subst (λ (t : ToldWith). Next t (told (manner true) (h .held) o)) (sym is-behind) (step-by verdict refl)
+      one-step = subst (λ (t : ToldWith). Next (h .pats .clock) t (told (manner true) (h .held) o)) (sym is-behind) (step-by verdict refl)
 
   -- every history
   all :
-      (os : List Offer) (h h′ : Holding) (n : ℕ → Bool) → OfBytes os → h .held ≡ h′ .held → Watches (h .held .watch) p n → Meets capacity p input stream (h .pats) n (h .held .rows) →
-      AllInOne input stream (manner false) h os →
+      (os : List Offer) (h h′ : Holding) (n : ℕ → Bool) → OfBytes os → h .held ≡ h′ .held → Watches (h .held .watch) p n → Meets capacity p input stream (h .pats .sets) n (h .held .rows) →
+      h .pats .clock + length os ≤ 18446744073709551615 → AllInOne input stream (manner false) h os →
       (answers (tellsWith Tables (manner false)) (actsWith Tables (manner false)) h os ≡ answers (tellsWith Sections (manner true)) (actsWith Sections (manner true)) h′ os)
       × ((storeAfter (actsWith Tables (manner false)) h os) .held ≡ (storeAfter (actsWith Sections (manner true)) h′ os) .held)
   unfolding answers storeAfter tellsWith actsWith toldWith
-  all [] h h′ n b e i q f = (refl, e)
-  all (o ∷ os) h h′ n b e i q f =
-      let s = one-step h o n i q (b .0) (f .0) in
+  all [] h h′ n b e i q c f = (refl, e)
+  all (o ∷ os) h h′ n b e i q c f =
+      let s = one-step h o n i q (omega arith) (b .0) (f .0) in
+      let k = s .clock in
       let a : (toldWith Tables (manner false) h o) .answer ≡ (told (manner true) (h′ .held) o) .answer = s .answer ∙ ap (λ (y : Held). (told (manner true) y o) .answer) e in
       let d : (toldWith Tables (manner false) h o) .holding .held ≡ (told (manner true) (h′ .held) o) .held = s .held ∙ ap (λ (y : Held). (told (manner true) y o) .held) e in
-      let ih = all os (actsWith Tables (manner false) h o) (actsWith Sections (manner true) h′ o) (s .n) (b .1) d (s .watch) (s .row) (f .1) in
+      let ih = all os (actsWith Tables (manner false) h o) (actsWith Sections (manner true) h′ o) (s .n) (b .1) d (s .watch) (s .row) (omega arith) (f .1) in
       ((λ j. a j ∷ ih .0 j), ih .1)
 
--- THE THEOREM: from the empty gate and the empty PAT store, the answers and, after each offer, the gate's rows, counters and watch
+-- THE THEOREM: from the empty gate and the empty PAT store, for up to 2^64 - 1 offers, the answers and, after each offer, the gate's rows, counters and watch
 pub one-section :
-    (capacity : ℕ) (repeating : Bool) (rule : ℕ) (protected : ℕ → Bool) (input stream : ℕ) (os : List Offer) → OfBytes os →
+    (capacity : ℕ) (repeating : Bool) (rule : ℕ) (protected : ℕ → Bool) (input stream : ℕ) (os : List Offer) → OfBytes os → length os ≤ 18446744073709551615 →
     AllInOne input stream (mannerBy capacity repeating rule Tables) (emptyHolding protected) os →
     (answers (tellsWith Tables (mannerBy capacity repeating rule Tables)) (actsWith Tables (mannerBy capacity repeating rule Tables)) (emptyHolding protected) os
     ≡ answers (tellsWith Sections (mannerBy capacity repeating rule Sections)) (actsWith Sections (mannerBy capacity repeating rule Sections)) (emptyHolding protected) os)
     × ((storeAfter (actsWith Tables (mannerBy capacity repeating rule Tables)) (emptyHolding protected) os) .held
     ≡ (storeAfter (actsWith Sections (mannerBy capacity repeating rule Sections)) (emptyHolding protected) os) .held)
 unfolding untouched
-one-section capacity repeating rule protected input stream os b f =
+one-section capacity repeating rule protected input stream os b l f =
     all capacity repeating rule protected input stream os (emptyHolding protected) (emptyHolding protected) noPid b refl
     (record { watched = λ q. sym (or-false (protected q)); protected = λ q. refl; followed = λ q. refl })
-    (none-yet noPid [] refl) f
+    (none-yet noPid [] refl) (omega arith) f
 
 -- the same settings in another manner of following
 abbrev pub inFollow : Follow → Settings → Settings
@@ -647,18 +655,18 @@ openedIn st extra m = leftOpen (begunIn st extra m) (m .keys) (m .changes) (m .s
 module _
     (st : Settings) (extra : List ℕ) (m m′ : Memory)
     (h : (begunIn (inFollow Tables st) extra m) .answer ≡ 7) (h′ : (begunIn (inFollow Sections st) extra m′) .answer ≡ 7)
-    (input stream : ℕ) (os : List Offer) (b : OfBytes os)
+    (input stream : ℕ) (os : List Offer) (b : OfBytes os) (l : length os ≤ 18446744073709551615)
     (f : AllInOne input stream (mannerFor (inFollow Tables st)) (emptyHolding (isProtected (st .«well_known») extra)) os)
   where
     pub one-section-answers : answers keptTells keptActs (openedIn (inFollow Tables st) extra m) os ≡ answers keptTells keptActs (openedIn (inFollow Sections st) extra m′) os
     one-section-answers =
         answers-from-open (inFollow Tables st) extra (m .keys) (m .changes) (m .slots) (m .cells) (m .words) h os b
-        ∙ one-section (st .capacity) (st .repeats) (st .«change_rule») (isProtected (st .«well_known») extra) input stream os b f .0
+        ∙ one-section (st .capacity) (st .repeats) (st .«change_rule») (isProtected (st .«well_known») extra) input stream os b l f .0
         ∙ sym (answers-from-open (inFollow Sections st) extra (m′ .keys) (m′ .changes) (m′ .slots) (m′ .cells) (m′ .words) h′ os b)
 
     pub one-section-watch :
         watchIn ((storeAfter keptActs (openedIn (inFollow Tables st) extra m) os) .watch .words) ≡ watchIn ((storeAfter keptActs (openedIn (inFollow Sections st) extra m′) os) .watch .words)
     one-section-watch =
         ap (λ (x : Holding). x .held .watch) (view-from-open (inFollow Tables st) extra (m .keys) (m .changes) (m .slots) (m .cells) (m .words) h os b)
-        ∙ ap (λ (x : Held). x .watch) (one-section (st .capacity) (st .repeats) (st .«change_rule») (isProtected (st .«well_known») extra) input stream os b f .1)
+        ∙ ap (λ (x : Held). x .watch) (one-section (st .capacity) (st .repeats) (st .«change_rule») (isProtected (st .«well_known») extra) input stream os b l f .1)
         ∙ sym (ap (λ (x : Holding). x .held .watch) (view-from-open (inFollow Sections st) extra (m′ .keys) (m′ .changes) (m′ .slots) (m′ .cells) (m′ .words) h′ os b))

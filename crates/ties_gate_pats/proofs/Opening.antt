@@ -16,7 +16,6 @@ use Rattle.watched.specs.Store.{allPids, filled}
 use Rattle.watched.specs.Store as watched
 use Rattle.watched.specs.View.{watchIn, InStep}
 use Rattle.watched.proofs.Meaning.{length-filled, opened-in-step}
-use Rattle.rules_sets.specs.Rules as rules
 use Rattle.gate_state.specs.State.{byTables, emptyGate}
 use Rattle.gate_state.specs.declared.Follow.{Follow}
 use Rattle.gate_state.specs.declared.Follow.the-variants.{Off, Sections, Tables}
@@ -28,7 +27,7 @@ use Rattle.gate.specs.View.{mannerOf, heldBy, Opened}
 use Rattle.ties_gate.specs.Watching.{isProtected, emptyHeld}
 use Rattle.ties_gate.proofs.Opening as lower
 use Rattle.ties_gate.proofs.Opening.{watch-empty}
-use Rattle.pats.specs.Store.{Record, recordOf, roomFor, begunWords}
+use Rattle.pats.specs.Store.{Record, recordOf, roomFor, begunWords, patClock}
 use Rattle.pats.proofs.Laws.{length-begun, begun-sets}
 use Rattle.ties_pats.specs.View as pats
 use Rattle.ties_pats.specs.View.{shown}
@@ -36,8 +35,8 @@ use Rattle.ties_pats.proofs.Obey.{Stands, same-watch}
 use Rattle.ties_pats.proofs.History.{begun-opened, begun-in-step, opened-shown, opened-stands}
 use Rattle.gate_pats.specs.Store.{roomWith, wordsWith, refusedWith, begunWith, openedWith, openingWith, recordOpened, Kept, keptOf}
 use Rattle.gate_pats.specs.View.{keptTells, keptActs}
-use Rattle.ties_gate_pats.specs.Rules.{emptyHolding, tellsWith, actsWith}
-use Rattle.ties_gate_pats.specs.View.{holding}
+use Rattle.ties_gate_pats.specs.Rules.{emptyHolding, tellsWith, actsWith, begun}
+use Rattle.ties_gate_pats.specs.View.{holding, patsIn}
 use Rattle.ties_gate_pats.proofs.Order.{Any, OpenedWith, same-answers, same-view}
 
 -- ---- the record
@@ -84,10 +83,14 @@ module _
     record-stands Sections h t = let z : _≡_ {A = ℕ} 0 1 = cc in absurd (omega arith)
     record-stands Tables h t = opened-stands (begunRecord Tables) (is-opened h) Any
 
-    pub record-pats : (f : Follow) → roomWith f (length words) (length slots) (length cells) ≡ true → cond (byTables f) ((shown (begunRecord f)) .sets) rules.opened ≡ rules.opened
+    pub record-pats : (f : Follow) → roomWith f (length words) (length slots) (length cells) ≡ true → cond (byTables f) (patsIn (begunRecord f)) begun ≡ begun
     record-pats Off h = refl
     record-pats Sections h = refl
-    record-pats Tables h = opened-shown (begunRecord Tables) (is-opened h)
+    record-pats Tables h =
+        let o = is-opened h in
+        let s = opened-shown (begunRecord Tables) o in
+        let c : patClock (begunRecord Tables .words) ≡ 0 = rw (o .used) refl in
+        λ i. record { sets = s i; clock = c i }
 
 -- ---- a gate and its record
 
@@ -272,7 +275,7 @@ module _
           holding (keptOf (s .gate) (s .counters) (s .keys) (s .changes) (recordOf (recordOpened st extra (length slots) (length cells) words .words) slots cells))
           ≡ record {
             held = record { rows = (holding s) .held .rows; counters = s .counters; watch = (emptyHeld (isProtected (st .«well_known») extra)) .watch };
-            pats = rules.opened;
+            pats = begun;
           }
       further-empty = ap (λ (ws : List ℕ). holding (lent ws)) (seven-of .left) ∙ (λ i. record {
         held = record {
@@ -283,7 +286,7 @@ module _
         pats = none-in i;
       })
         where
-          none-in : cond (byTables (s .gate .follow)) ((shown (recordOf filled-words slots cells)) .sets) rules.opened ≡ rules.opened
+          none-in : cond (byTables (s .gate .follow)) (patsIn (recordOf filled-words slots cells)) begun ≡ begun
           none-in = rw same (record-pats (st .«well_known») extra words slots cells (seven-of .pids) (seven-of .long) (st .follow) (seven-of .room))
 
     pub further-in-step : InStep (recordOpened st extra (length slots) (length cells) words .words)

@@ -26,14 +26,14 @@ use Rattle.ties_pats.specs.Rules.{Pats, entered, readPat, patSettings, entersOn
 use Rattle.pats.proofs.Laws.{is-whole}
 use Rattle.ties_sets.specs.View.{seen}
 use Rattle.ties_pats.specs.View.{shown}
-use Rattle.ties_pats.proofs.Obey.{Stands, stands-then, obeys-rules, only-whole, watch-then, same-watch}
+use Rattle.ties_pats.proofs.Obey.{Stands, stands-then, obeys-rules, only-whole, watch-then, same-watch, clock-then}
 use Rattle.gate_pats.specs.Store.{stateOf, Kept, sectionsIn, Offering, soundBy, recordAfter, takenWith, offeredBy, offeredWith}
 use Rattle.gate_pats.specs.View.{keptTells, keptActs}
 use Rattle.gate_pats.specs.declared.inner.State.the-variants.{Ready}
 use Rattle.gate_pats.proofs.Laws.{words-kept, follow-kept}
 use Rattle.gate_pats.proofs.Manner.{beside, old-manner, ready-taken}
-use Rattle.ties_gate_pats.specs.Rules.{ToldWith, atEnd, watchWith, enteredWith, entersFrom, behind, toldWith, tellsWith, actsWith}
-use Rattle.ties_gate_pats.specs.View.{patsOf, holding, shownWith}
+use Rattle.ties_gate_pats.specs.Rules.{ToldWith, atEnd, watchWith, enteredWith, entersFrom, behind, toldWith, tellsWith, actsWith, begun}
+use Rattle.ties_gate_pats.specs.View.{patsOf, holding, shownWith, patsIn}
 
 -- nothing is asked of the sections but that they are bytes
 abbrev pub Any : List ℕ → Type 0
@@ -51,8 +51,8 @@ pub record FollowsWith (s : Kept) (l : Offering) (t : ToldWith) : Type 0 where
   pub follow : l .left .gate .follow ≡ s .gate .follow
   pub manner : mannerOf (l .left .gate) ≡ mannerOf (s .gate)
 
--- the count of the PAT store is the one in the record
-pub end-shown : (r : Record) → atEnd ((shown r) .sets) ≡ patsFull (r .words)
+-- the counts of the PAT store are those in the record
+pub end-shown : (r : Record) → atEnd (patsIn r) ≡ patsFull (r .words)
 unfolding patsFull view onSets onOrder seen
 end-shown r = refl
 
@@ -130,7 +130,7 @@ module _
       answer = lo .answer;
       holding = record {
         held = record { rows = heldBy (lo .store) .rows; counters = lo .store .counters; watch = watchIn (r .words) };
-        pats = cond (byTables (lo .store .gate .follow)) ((shown r) .sets) opened;
+        pats = cond (byTables (lo .store .gate .follow)) (patsIn r) begun;
       };
     }
 
@@ -159,7 +159,8 @@ module _
         let w = entered-watch (s .watch) st f (o .input) (o .section) b e in
         let p : (shown (enteredIn (s .watch) (o .input) (o .section))) .sets ≡ setsAct patSettings ((shown (s .watch)) .sets) (readPat (o .input) (o .section)) =
         ap (λ (x : Pats). x .sets) (obeys-rules Any (s .watch) st f (o .input) (o .section) b tt) ∙ (rw e) in
-        rw (lo-follow, h, w, p, lo-words)
+        let c = clock-then Any (s .watch) st f (o .input) (o .section) b e in
+        rw (lo-follow, h, w, p, c, lo-words)
     enters-in false e = rw (not-entered (s .watch) (o .input) (o .section) e) stays-out
 
     split-up : (sound zero : Bool) → with-record (cond (sound && zero) (enteredIn (s .watch) (o .input) (o .section)) (s .watch)) ≡ goal sound zero (enters (o .section))

@@ -116,12 +116,12 @@ module _ (m : Manner) (p : ℕ → Bool) (h : Holding) (n : ℕ → Bool) (o : O
   one-with Tables e = go (atEnd (h .pats))
     where
       inner : (c : Bool) → Watches ((cond c (enteredWith (record { held = (told m (h .held) o) .held; pats = h .pats }) o) (record { held = (told m (h .held) o) .held; pats = h .pats })) .held .watch) p
-          (cond c (nAfter (setsTell patSettings (h .pats) (readPat (o .input) (o .section))) n) n)
-      inner true = told-watches p ((told m (h .held) o) .held .watch) n (off e) (setsTell patSettings (h .pats) (readPat (o .input) (o .section)))
+          (cond c (nAfter (setsTell patSettings (h .pats .sets) (readPat (o .input) (o .section))) n) n)
+      inner true = told-watches p ((told m (h .held) o) .held .watch) n (off e) (setsTell patSettings (h .pats .sets) (readPat (o .input) (o .section)))
       inner false = off e
 
       go : (b : Bool) → Watches ((cond b (record { answer = plain 11; holding = h }) (behind Tables h o (told m (h .held) o))) .holding .held .watch) p
-          (cond (entersFrom Tables ((cond b (record { answer = plain 11; holding = h }) (behind Tables h o (told m (h .held) o))) .answer) o) (nAfter (setsTell patSettings (h .pats) (readPat (o .input) (o .section))) n) n)
+          (cond (entersFrom Tables ((cond b (record { answer = plain 11; holding = h }) (behind Tables h o (told m (h .held) o))) .answer) o) (nAfter (setsTell patSettings (h .pats .sets) (readPat (o .input) (o .section))) n) n)
       go true = w
       go false = inner (soundBy ((told m (h .held) o) .answer) && entersOn (o .pid) (o .section))
 

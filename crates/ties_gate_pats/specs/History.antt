@@ -37,7 +37,7 @@ sentBy (o ∷ os) (a ∷ as′) = cond (soundBy a && eqb (o .pid) 0) (sent o ∷
 unfoldable pub nThen : Follow → Manner → Holding → Offer → (ℕ → Bool) → ℕ → Bool
 nThen f m h o n =
     cond (byTables f)
-    (cond (entersFrom f (tellsWith f m h o) o) (nAfter (tells patSettings (h .pats) (readPat (o .input) (o .section))) n) n)
+    (cond (entersFrom f (tellsWith f m h o) o) (nAfter (tells patSettings (h .pats .sets) (readPat (o .input) (o .section))) n) n)
     (cond (isFollowed m (h .held) o) (setN (o .section)) n)
 
 -- N after a history of offers; n before it
@@ -72,5 +72,5 @@ pub record InOne (input stream : ℕ) (o : Offer) : Type 0 where
 abbrev pub AllInOne : (input stream : ℕ) → Manner → Holding → List Offer → Type 0
 AllInOne input stream m h [] = Unit {0}
 AllInOne input stream m h (o ∷ os) =
-    (soundBy (tellsWith Tables m h o) ≡ true → tableId (o .section) ≡ 0 → InOne input stream o × (tells patSettings (h .pats) (readPat (o .input) (o .section)) ≢ conflict))
+    (soundBy (tellsWith Tables m h o) ≡ true → tableId (o .section) ≡ 0 → InOne input stream o × (tells patSettings (h .pats .sets) (readPat (o .input) (o .section)) ≢ conflict))
     × AllInOne input stream m (actsWith Tables m h o) os

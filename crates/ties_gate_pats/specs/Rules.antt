@@ -1,7 +1,7 @@
 -- The gate with a watch record (docs/RULES.md, "Gate" and "Watched PIDs"), no memory: the gate's own rules, and behind them, where complete PATs are
 -- followed, the PAT store, a set collector of one key by its rules.
-use Prim.Native.Nat.{ℕ}
-use mathlib.Core.Bool.{Bool, cond, _&&_}
+use Prim.Native.Nat.{ℕ, max}
+use mathlib.Core.Bool.{Bool, cond, _&&_, _||_}
 use lib.Dec.{eqb}
 use Rattle.watched.specs.Rules.{Watch, followedBy}
 use Rattle.rules_sets.specs.Rules.{Sets, Answer, cleared, nothing, handout, refused, opened}
@@ -10,25 +10,45 @@ use Rattle.gate.specs.Rules.{Offer, Manner, Held, Told, told}
 use Rattle.gate_state.specs.State.{Said, plain, byTables}
 use Rattle.gate_state.specs.declared.Follow.{Follow}
 use Rattle.ties_gate.specs.Watching.{emptyHeld}
-use Rattle.ties_pats.specs.Rules.{programsOfSet, readPat, patSettings, entersOn}
+use Rattle.ties_pats.specs.Rules.{programsOfSet, readPat, patSettings, entersOn, clockAfter}
 use Rattle.gate_pats.specs.Store.{soundBy}
+
+-- the PAT store: what it holds, and how often its key was touched
+pub record PatStore : Type 0 where
+  pub sets : Sets
+  pub clock : ℕ
+
+-- no row, no eviction, no touch
+abbrev pub begun : PatStore
+begun = record { sets = opened; clock = 0 }
 
 -- what the gate holds, and the PAT store of its record
 pub record Holding : Type 0 where
   pub held : Held
-  pub pats : Sets
+  pub pats : PatStore
 
--- as opening leaves them: an empty gate that watches the protected PIDs, and a PAT store with no row and no eviction
+-- as opening leaves them: an empty gate that watches the protected PIDs, and a PAT store that has begun
 abbrev pub emptyHolding : (ℕ → Bool) → Holding
-emptyHolding protected = record { held = emptyHeld protected; pats = opened }
+emptyHolding protected = record { held = emptyHeld protected; pats = begun }
 
 pub record ToldWith : Type 0 where
   pub answer : Said
   pub holding : Holding
 
--- the PAT store has counted evictions to the end
-abbrev pub atEnd : Sets → Bool
-atEnd s = eqb (s .evicted) 18446744073709551615
+-- the PAT store has counted evictions or touches to the end
+abbrev pub atEnd : PatStore → Bool
+atEnd p = eqb (p .sets .evicted) 18446744073709551615 || eqb (p .clock) 18446744073709551615
+
+-- the larger of the two counts
+abbrev pub most : PatStore → ℕ
+most p = max (p .sets .evicted) (p .clock)
+
+-- a section that it takes
+abbrev pub patsAfter : PatStore → Offer → PatStore
+patsAfter p o = record {
+  sets = setsAct patSettings (p .sets) (readPat (o .input) (o .section));
+  clock = clockAfter (setsTell patSettings (p .sets) (readPat (o .input) (o .section))) (p .clock);
+}
 
 -- only a complete PAT, one that the set rules hand out, replaces N
 abbrev pub watchWith : Answer → Watch → Watch
@@ -41,8 +61,8 @@ watchWith (refused r) w = w
 abbrev pub enteredWith : Holding → Offer → Holding
 enteredWith h o =
     record {
-      held = record { rows = h .held .rows; counters = h .held .counters; watch = watchWith (setsTell patSettings (h .pats) (readPat (o .input) (o .section))) (h .held .watch) };
-      pats = setsAct patSettings (h .pats) (readPat (o .input) (o .section));
+      held = record { rows = h .held .rows; counters = h .held .counters; watch = watchWith (setsTell patSettings (h .pats .sets) (readPat (o .input) (o .section))) (h .held .watch) };
+      pats = patsAfter (h .pats) o;
     }
 
 -- where complete PATs are followed, a sound section of PID 0 that is a current PAT enters, emitted or suppressed

@@ -25,12 +25,12 @@ use Rattle.cells.specs.Cells.{keptLength, lowestFree, kept}
 use Rattle.rows.specs.declared.Origin.{Origin}
 use Rattle.rows.specs.declared.Entry.{Entry}
 use Rattle.rows.specs.declared.Room.{Room}
-use Rattle.rows.specs.Rows.{word, keyAt, versionOf, lastOf, ageOf, rowOf, roomIn, roomRenewed, roomNew, oldestOf, goneRow, takenIn, keptHeads, slotsAt, touched, withMark}
+use Rattle.rows.specs.Rows.{word, keyAt, versionOf, lastOf, rowOf, roomIn, roomRenewed, roomNew, oldestOf, goneRow, takenIn, keptHeads, slotsAt, touched, withMark}
 use Rattle.rows.proofs.Words.{of-key, put-not, touched-not, kept-fresh, kept-known}
-use Rattle.ages.proofs.Words.{key-same, kept-fresh-key}
-use Rattle.ages.proofs.Touch.{row-has-key}
+use Rattle.ticks.proofs.Words.{key-same, kept-fresh-key}
+use Rattle.ticks.proofs.Touch.{row-has-key}
 use Rattle.without_pid.specs.Pids.{withoutPid}
-use Rattle.store.specs.Store.{Store, store, wholeOf, WholeStore}
+use Rattle.store.specs.Store.{Store, store, risenSets, wholeOf, countersFull, WholeStore}
 use Rattle.store.proofs.Whole.{whole-means}
 use Rattle.placing.specs.Places.{placeSlot, placeKnown, placeOf, RoomOk, PlaceOk}
 use Rattle.placing.specs.declared.Place.{Place}
@@ -65,19 +65,19 @@ is-set v w q = cc
 
 module _ (s : Store) (i : ℕ) (e : Entry) (o : Ours (s .heads) i e) where
   abbrev newer : List ℕ
-  newer = touched (s .sets .used) i (s .heads)
+  newer = touched (s .sets .clock + 1) i (s .heads)
 
   abbrev marked : List ℕ
   marked = withMark i 1 newer
 
   -- the touch and the mark leave all other words
   same-word : (m : ℕ) → m < 12 → (m ≡ 8 → ⊥) → (m ≡ 9 → ⊥) → word marked i m ≡ word (s .heads) i m
-  same-word m l n8 n9 = put-not newer i 8 1 i m n8 (omega arith) l ∙ touched-not (s .sets .used) i (s .heads) i m n9 l
+  same-word m l n8 n9 = put-not newer i 8 1 i m n8 (omega arith) l ∙ touched-not (s .sets .clock + 1) i (s .heads) i m n9 l
 
-  out-set : OurSet (setIn (store (s .sets) marked (s .slots) (s .cells)) i) e
+  out-set : OurSet (setIn (store (risenSets (s .sets)) marked (s .slots) (s .cells)) i) e
   unfolding setIn
   out-set = record {
-    key = key-same (s .heads) marked i (λ m q. same-word m (of-key m q .below) (of-key m q .no-mark) (of-key m q .no-age)) ∙ o .key;
+    key = key-same (s .heads) marked i (λ m q. same-word m (of-key m q .below) (of-key m q .no-mark) (of-key m q .no-tick)) ∙ o .key;
     version = same-word 6 (omega arith) (omega arith) (omega arith) ∙ o .version;
     last = same-word 7 (omega arith) (omega arith) (omega arith) ∙ o .last;
   }
@@ -86,8 +86,8 @@ module _ (s : Store) (i : ℕ) (e : Entry) (o : Ours (s .heads) i e) where
   unfolding settled settledAnswer settledHeads
   settled-ours w q = go (goesOut newer (s .slots) i) q
     where
-      go : (b : Bool) → answerOf (cond b (push-answer.Set i) push-answer.Nothing) (store (s .sets) (cond b marked newer) (s .slots) (s .cells)) ≡ handed w → OurSet w e
-      go true q = rw (← is-set (setIn (store (s .sets) marked (s .slots) (s .cells)) i) w q) out-set
+      go : (b : Bool) → answerOf (cond b (push-answer.Set i) push-answer.Nothing) (store (risenSets (s .sets)) (cond b marked newer) (s .slots) (s .cells)) ≡ handed w → OurSet w e
+      go true q = rw (← is-set (setIn (store (risenSets (s .sets)) marked (s .slots) (s .cells)) i) w q) out-set
       go false q = let z : _≡_ {A = ℕ} 0 1 = cc in absurd (omega arith)
 
 -- ---- the row that a section comes to
@@ -136,12 +136,12 @@ module _ (s : Store) (f : WholeStore s) (e : Entry) (bytes : List ℕ) where
   known-place h = go (eqb (versionOf (s .heads) there) (e .version) && eqb (lastOf (s .heads) there) (e .last)) refl
     where
       go : (b : Bool) → (eqb (versionOf (s .heads) there) (e .version) && eqb (lastOf (s .heads) there) (e .last)) ≡ b
-          → PlaceOurs (cond b (placeSlot s bytes there (getD (s .slots) (slotsAt there + e .number) 0)) (place.Goes (roomRenewed (s .sets .used) (s .sets .evictions) there (ageOf (s .heads) there))))
+          → PlaceOurs (cond b (placeSlot s bytes there (getD (s .slots) (slotsAt there + e .number) 0)) (place.Goes (roomRenewed (s .sets .used) (s .sets .evictions) there)))
       go true q =
           let t = and-true (eqb (versionOf (s .heads) there) (e .version)) (eqb (lastOf (s .heads) there) (e .last)) q in
           slot-ours (getD (s .slots) (slotsAt there + e .number) 0)
           (record { key = row-has-key (s .heads) (e .key) (s .sets .used) h; version = eqb-true _ _ (t .0); last = eqb-true _ _ (t .1) })
-      go false q = anew-ours (roomRenewed (s .sets .used) (s .sets .evictions) there (ageOf (s .heads) there)) refl
+      go false q = anew-ours (roomRenewed (s .sets .used) (s .sets .evictions) there) refl
 
   new-place : PlaceOurs (place.Goes (roomNew (s .heads) (s .sets .limit) (s .sets .used) (s .sets .evictions)))
   unfolding roomNew
@@ -150,9 +150,9 @@ module _ (s : Store) (f : WholeStore s) (e : Entry) (bytes : List ℕ) where
       o : ℕ
       o = oldestOf (s .heads) (s .sets .used)
 
-      go : (b : Bool) → PlaceOurs (place.Goes (cond b (roomRenewed (s .sets .used + 1) (s .sets .evictions) (s .sets .used) (s .sets .used)) (roomRenewed (s .sets .used) (s .sets .evictions + 1) (oldestOf (s .heads) (s .sets .used)) (ageOf (s .heads) (oldestOf (s .heads) (s .sets .used))))))
-      go true = anew-ours (roomRenewed (s .sets .used + 1) (s .sets .evictions) (s .sets .used) (s .sets .used)) refl
-      go false = anew-ours (roomRenewed (s .sets .used) (s .sets .evictions + 1) (oldestOf (s .heads) (s .sets .used)) (ageOf (s .heads) (oldestOf (s .heads) (s .sets .used)))) refl
+      go : (b : Bool) → PlaceOurs (place.Goes (cond b (roomRenewed (s .sets .used + 1) (s .sets .evictions) (s .sets .used)) (roomRenewed (s .sets .used) (s .sets .evictions + 1) (oldestOf (s .heads) (s .sets .used)))))
+      go true = anew-ours (roomRenewed (s .sets .used + 1) (s .sets .evictions) (s .sets .used)) refl
+      go false = anew-ours (roomRenewed (s .sets .used) (s .sets .evictions + 1) (oldestOf (s .heads) (s .sets .used))) refl
 
   place-ours : PlaceOurs (placeOf s e bytes)
   unfolding placeOf
@@ -245,7 +245,7 @@ module _ (bytes : List ℕ) (w : Handed) where
 -- THE THEOREM: every store, input, PID and section
 pub goes-out-as-given : (s : Store) (input : ℕ) (pid : MaybePid) (bytes : List ℕ) (w : Handed) → (pushedOf s input pid bytes) .told ≡ handed w → AsGiven input pid bytes w
 unfolding pushedOf admitted
-goes-out-as-given s input pid bytes w h = go (wholeOf s) (eqb (s .sets .evictions) 18446744073709551615) (withoutPid (s .heads) (s .sets .used)) refl h
+goes-out-as-given s input pid bytes w h = go (wholeOf s) (countersFull (s .sets)) (withoutPid (s .heads) (s .sets .used)) refl h
   where
     go : (b c n : Bool) → wholeOf s ≡ b
         → (pushedAs s bytes (cond b (cond c (arrival.Refused CounterFull) (cond n (arrival.Refused NoPid) (setArrival input pid bytes))) (arrival.Refused NotWhole))) .told ≡ handed w

@@ -14,7 +14,7 @@ use Rattle.answers.specs.declared.Refusal.{Refusal}
 use Rattle.answers.proofs.Laws.{refused-from-10}
 use Rattle.section.specs.declared.ids.MaybePid.the-variants as maybe
 use Rattle.without_pid.specs.Pids.{withoutPid}
-use Rattle.store.specs.Store.{Store, store, wholeOf}
+use Rattle.store.specs.Store.{Store, store, countersFull, wholeOf}
 use Rattle.store.specs.declared.Sets.{Sets}
 use Rattle.sets_settle.specs.Settle.{Told, done, nothing, handed, refused, toldNo, SetsAfter, after}
 use Rattle.sets.specs.Store.{pushedOf}
@@ -88,7 +88,7 @@ module _ (w row : List ℕ) (gs : List Given) (m : ℕ) where
       rw e
 
 each-calls :
-    (n : ℕ) (w heads slots cells row : List ℕ) → length w ≡ 5 → (gs : List Given) → AllSaid gs →
+    (n : ℕ) (w heads slots cells row : List ℕ) → length w ≡ 6 → (gs : List Given) → AllSaid gs →
     pushedAllAs w row (pushedEach n (store (setsOf w) heads slots cells) gs) ≡ eachCalled n (setsLeft 4 w heads slots cells row) gs
 unfolding pushedEach eachCalled setsPushed
 each-calls n w heads slots cells row h [] b = rw (sets-same w h)
@@ -102,7 +102,7 @@ each-calls n w heads slots cells row h (g ∷ gs) b =
 
 -- ---- the call
 
-module _ (words heads slots cells list row : List ℕ) (h : length words ≡ 5) (g : Given) (gs : List Given) (e : sectionsIn list ≡ sections (g ∷ gs)) (b : AllSaid (g ∷ gs)) where
+module _ (words heads slots cells list row : List ℕ) (h : length words ≡ 6) (g : Given) (gs : List Given) (e : sectionsIn list ≡ sections (g ∷ gs)) (b : AllSaid (g ∷ gs)) where
   abbrev here : Store
   here = store (setsOf words) heads slots cells
 
@@ -118,6 +118,6 @@ module _ (words heads slots cells list row : List ℕ) (h : length words ≡ 5) 
       rw e (f ∙ ap (λ (x : AllLeft). x .left) (each-calls 0 words heads slots cells row h (g ∷ gs) b))
 
   -- over one that passes 10, 11 and 41 all of it
-  pub all-calls-taken : wholeOf here ≡ true → eqb (here .sets .evictions) 18446744073709551615 ≡ false → withoutPid heads (here .sets .used) ≡ false → setsPushedAll words heads slots cells list row ≡ called
+  pub all-calls-taken : wholeOf here ≡ true → countersFull (here .sets) ≡ false → withoutPid heads (here .sets .used) ≡ false → setsPushedAll words heads slots cells list row ≡ called
   unfolding setsPushedAll pushedAll pushedSections
   all-calls-taken p q r = rw (e, p, q, r) (each-calls 0 words heads slots cells row h (g ∷ gs) b)

@@ -19,7 +19,7 @@ use Rattle.arrivals.specs.declared.EitArrival.{EitArrival}
 use Rattle.arrivals.specs.declared.EitArrival.the-variants as arrival
 use Rattle.rows.specs.Rows.{touched, keptHeads}
 use Rattle.eit_pids.specs.Rows.{anyWithout}
-use Rattle.eit_state.specs.State.{Store, store, rows, rowsOf, asked, emptyEit, settingsFit, wholeOf}
+use Rattle.eit_state.specs.State.{Store, store, rows, rowsOf, risenRows, asked, emptyEit, settingsFit, wholeOf}
 use Rattle.eit_state.specs.State.{Rows as EitRows}
 use Rattle.eit_state.specs.declared.Eit.{Eit}
 use Rattle.eit_plan.specs.Plan.{planOf}
@@ -54,7 +54,7 @@ use Rattle.ties_host.proofs.Runs as runs
 -- the settings of one, the counts of the other
 abbrev pub counted : Eit → Eit → Eit
 counted e t = record {
-  sets = record { limit = e .sets .limit; size = e .sets .size; count = e .sets .count; used = t .sets .used; evictions = t .sets .evictions };
+  sets = record { limit = e .sets .limit; size = e .sets .size; count = e .sets .count; used = t .sets .used; evictions = t .sets .evictions; clock = t .sets .clock };
   schedules = t .schedules;
   «schedule_evictions» = t .«schedule_evictions»;
 }
@@ -72,7 +72,7 @@ settled-as-counts becomes.Enters r a i = entered-counts r a i
 settled-counts : (r : EitRows) (a : Arrival) (i : ℕ) → (settled r a i) .rows .eit ≡ counted (r .eit) ((settled r a i) .rows .eit)
 unfolding settled
 settled-counts r a i =
-    let heads : List ℕ = touched (r .eit .sets .used) i (r .heads) in
+    let heads : List ℕ = touched (r .eit .sets .clock) i (r .heads) in
     let b : Becomes = becomesOf heads (r .slots) a i in
     settled-as-counts b (rows (r .eit) (markedHeads (isMarked b) i heads) (r .slots) (r .schedule-heads) (r .units)) a i
 
@@ -80,7 +80,7 @@ carried-counts : (s : Store) (bytes : List ℕ) (p : Plan) → (carried s bytes 
 unfolding keptAndSettled
 carried-counts s bytes (plan.Leave a) = refl
 carried-counts s bytes (plan.Conflict i) = refl
-carried-counts s bytes (plan.Repeat x) = settled-counts (rowsOf s) (x .arrival) (x .row)
+carried-counts s bytes (plan.Repeat x) = settled-counts (risenRows (rowsOf s)) (x .arrival) (x .row)
 carried-counts s bytes (plan.Keep k) = settled-counts _ (k .arrival) (k .room .row)
 
 arrived-counts : (s : Store) (bytes : List ℕ) (a : EitArrival) → (pushedAs s bytes a) .store .eit ≡ counted (s .eit) ((pushedAs s bytes a) .store .eit)
@@ -165,7 +165,7 @@ opened-by l o =
         → number (cond b eit.done (eit.refused refusal.TooLittle)) ≡ 7
         → l .words ≡ cond (eqb (number (cond b eit.done (eit.refused refusal.TooLittle))) 7) (wordsOf s) (o .before)
         → ties.Opened (storeIn l)
-    go true e h w = record { opened = rw (w, e); sets = rw w; evictions = rw w; schedules = rw w; schedule-evictions = rw w }
+    go true e h w = record { opened = rw (w, e); sets = rw w; evictions = rw w; clock = rw w; schedules = rw w; schedule-evictions = rw w }
     go false e h w = absurd (omega arith)
 
 -- the answers are those of the rules with cells

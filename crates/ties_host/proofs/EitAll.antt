@@ -71,7 +71,7 @@ module _ (w row : List ℕ) (gs : List Given) (m : ℕ) where
       rw e
 
 each-calls :
-    (n : ℕ) (w heads slots cells tops units row : List ℕ) → length w ≡ 7 → (gs : List Given) → AllSaid gs →
+    (n : ℕ) (w heads slots cells tops units row : List ℕ) → length w ≡ 8 → (gs : List Given) → AllSaid gs →
     pushedAllAs w row (pushedEach n (store (eitOf w) heads slots cells tops units) gs) ≡ eachCalled n (eitLeft 4 w heads slots cells tops units row) gs
 unfolding pushedEach eachCalled eitPushed
 each-calls n w heads slots cells tops units row h [] b = rw (eit-same w h)
@@ -85,7 +85,7 @@ each-calls n w heads slots cells tops units row h (g ∷ gs) b =
 
 -- ---- the call
 
-module _ (words heads slots cells tops units list row : List ℕ) (h : length words ≡ 7) (g : Given) (gs : List Given) (e : sectionsIn list ≡ sections (g ∷ gs)) (b : AllSaid (g ∷ gs)) where
+module _ (words heads slots cells tops units list row : List ℕ) (h : length words ≡ 8) (g : Given) (gs : List Given) (e : sectionsIn list ≡ sections (g ∷ gs)) (b : AllSaid (g ∷ gs)) where
   abbrev here : Store
   here = store (eitOf words) heads slots cells tops units
 

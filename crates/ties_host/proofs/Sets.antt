@@ -41,7 +41,7 @@ use Rattle.ties_host.proofs.Runs as runs
 
 -- the settings of one, the counts of the other
 abbrev pub counted : Sets → Sets → Sets
-counted s t = record { limit = s .limit; size = s .size; count = s .count; used = t .used; evictions = t .evictions }
+counted s t = record { limit = s .limit; size = s .size; count = s .count; used = t .used; evictions = t .evictions; clock = t .clock }
 
 carried-counts : (s : Store) (bytes : List ℕ) (p : Plan) → (carried s bytes p) .store .sets ≡ counted (s .sets) ((carried s bytes p) .store .sets)
 unfolding settled keptIn
@@ -119,7 +119,7 @@ opened-by l o = go (settingsFit (asked (o .limit) (o .size) (o .count)) (length 
         → toldNo (cond b done (refused TooLittle)) ≡ 7
         → l .words ≡ cond (eqb (toldNo (cond b done (refused TooLittle))) 7) (wordsOf s) (o .before)
         → ties.Opened (storeIn l)
-    go true e h w = record { opened = record { opened = rw (w, e); none = rw w }; evictions = rw w }
+    go true e h w = record { opened = record { opened = rw (w, e); none = rw w }; evictions = rw w; clock = rw w }
     go false e h w = absurd (omega arith)
 
 -- the answers are those of the rules with cells; so without 11 and 21 those of the rules

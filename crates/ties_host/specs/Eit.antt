@@ -11,7 +11,7 @@ use Rattle.host_words.specs.Pids.{maybePid}
 use Rattle.host_eit_words.specs.Words.{eitOf, filterOf}
 use Rattle.host_eit.specs.Calls.{eitOpened, eitPushed, eitCleared, eitDropped}
 
--- what the host keeps from call to call: the collector's seven words, the five slices that it lends, and the word of the row that goes out
+-- what the host keeps from call to call: the collector's eight words, the five slices that it lends, and the word of the row that goes out
 pub record Lent : Type 0 where
   pub words : List ℕ
   pub heads : List ℕ

@@ -12,7 +12,7 @@ use Rattle.host_words.specs.Pids.{maybePid}
 use Rattle.host_sets_words.specs.Words.{setsOf}
 use Rattle.host_sets.specs.Calls.{setsOpened, setsPushed, setsCleared}
 
--- what the host keeps from call to call: the collector's five words, the three slices that it lends, and the word of the row that goes out
+-- what the host keeps from call to call: the collector's six words, the three slices that it lends, and the word of the row that goes out
 pub record Lent : Type 0 where
   pub words : List ℕ
   pub heads : List ℕ

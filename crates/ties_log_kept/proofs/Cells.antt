@@ -69,4 +69,4 @@ entries-joined o (g ∷ gs) k = ap (λ (l : List Bytes). (entryOf o k g) .record
 -- from opening on: as many cells are enough
 pub cells-do-not-matter : (o : Settings) (C D : Cells) → length C ≡ length D → (gs : List Given) → entriesFrom o (openedOver o C) gs ≡ entriesFrom o (openedOver o D) gs
 unfolding view onSets onOrder seenAs untouched
-cells-do-not-matter o C D n gs = same-entries o gs (openedOver o C) (openedOver o D) (record { rows = refl; sets = record { settings = refl; sets = refl; count = n; shown = refl } })
+cells-do-not-matter o C D n gs = same-entries o gs (openedOver o C) (openedOver o D) (record { rows = refl; sets = record { settings = refl; sets = refl; count = n; clock = refl; shown = refl } })

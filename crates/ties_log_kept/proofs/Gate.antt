@@ -9,8 +9,8 @@ use lib.ListN.{length, replicate, length-replicate}
 use Rattle.laws.specs.Runs.{answers}
 use Rattle.rules_shared.specs.Cells.{Cells}
 use Rattle.counters.specs.Counters.{zeroes}
-use Rattle.ages.specs.Slots.{cellsSeen}
-use Rattle.ages.proofs.Cells.{cells-length}
+use Rattle.ticks.specs.Slots.{cellsSeen}
+use Rattle.ticks.proofs.Cells.{cells-length}
 use Rattle.store.specs.Store.{Store, store, asked}
 use Rattle.sets_settle.specs.Settle.{done}
 use Rattle.sets.specs.Store.{openedOf}
@@ -73,7 +73,7 @@ module _ (o : Settings) (heads slots cells : List ℕ) (h : (openedOf (store (as
   unfolding seen
   shown-opened =
       let e = sets.opened-seen collector opened-collector in
-      λ i. record { rows = []; sets = record { settings = record { limit = o .limit; cellSize = o .size }; sets = e i; cells = cellsThere } }
+      λ i. record { rows = []; sets = record { settings = record { limit = o .limit; cellSize = o .size }; sets = e i; cells = cellsThere; clock = 0 } }
 
   -- what its cells held before matters to no record
   pub opened-records : (gs : List Given) → recordsFrom o (record { rows = []; sets = seen collector }) gs ≡ recordsOf o gs

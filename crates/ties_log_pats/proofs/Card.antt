@@ -27,8 +27,8 @@ use Rattle.gate.specs.View as view
 use Rattle.gate_pats.specs.Store.{Kept, Offering, keptOf, offeredWith}
 use Rattle.gate_pats.specs.View.{keptTells, keptActs}
 use Rattle.ties_pats.specs.View.{shown}
-use Rattle.ties_gate_pats.specs.Rules.{Holding, ToldWith, toldWith}
-use Rattle.ties_gate_pats.specs.View.{patsOf, holding}
+use Rattle.ties_gate_pats.specs.Rules.{Holding, ToldWith, toldWith, begun, most}
+use Rattle.ties_gate_pats.specs.View.{patsOf, holding, patsIn}
 use Rattle.ties_gate_pats.proofs.Order.{FollowsWith, follows-with}
 use Rattle.ties_inputs.specs.Records.{Records, keptOn, recordsTell, recordsAct}
 use Rattle.ties_inputs.proofs.Records.{OpenedAll, all-opened}
@@ -53,7 +53,7 @@ pub record Stands (o : Settings) (follow : Bool) (f : Follow) (n : ℕ) (c : Rec
   pub follows : c .gate .follow ≡ f
   pub manner : view.mannerOf (c .gate) ≡ mannerOf o follow
   pub counts : CanCount n (c .counters)
-  pub pats : (i : ℕ) → (patsOf (keptOn i c)) .evicted + n ≤ 18446744073709551615
+  pub pats : (i : ℕ) → most (patsOf (keptOn i c)) + n ≤ 18446744073709551615
 
 module _ (o : Settings) (follow : Bool) (f : Follow) (n : ℕ) (c : Records) (g : Given) (t : Takable g) (k : Stands o follow f (suc n) c) where
   abbrev s : Kept
@@ -98,10 +98,10 @@ module _ (o : Settings) (follow : Bool) (f : Follow) (n : ℕ) (c : Records) (g 
 
   -- of the record that was lent, and of the others
   pats-next : (j : ℕ) (b : Bool)
-      → (patsOf (keptOf (l .left .gate) (l .left .counters) (l .left .keys) (l .left .changes) (cond b (l .left .watch) (c .watches j)))) .evicted + n ≤ 18446744073709551615
-  pats-next j true = subst (λ (x : Holding). x .pats .evicted + n ≤ 18446744073709551615) (sym holding-as) (good .1 .pats)
+      → most (patsOf (keptOf (l .left .gate) (l .left .counters) (l .left .keys) (l .left .changes) (cond b (l .left .watch) (c .watches j)))) + n ≤ 18446744073709551615
+  pats-next j true = subst (λ (x : Holding). most (x .pats) + n ≤ 18446744073709551615) (sym holding-as) (good .1 .pats)
   pats-next j false =
-      subst (λ (x : Follow). (cond (byTables x) ((shown (c .watches j)) .sets) opened) .evicted + n ≤ 18446744073709551615) (sym (fw .follow))
+      subst (λ (x : Follow). most (cond (byTables x) (patsIn (c .watches j)) begun) + n ≤ 18446744073709551615) (sym (fw .follow))
       (later _ (k .pats j))
 
   stands : Stands o follow f n (recordsAct c (offerOf g))
@@ -115,7 +115,7 @@ module _ (o : Settings) (follow : Bool) (f : Follow) (n : ℕ) (c : Records) (g 
   }
 
 -- THE THEOREM: from an opened gate with opened records, one for each input
-module _ (st : GateSettings) (c : Records) (a : OpenedAll c) (e : c .gate ≡ emptyGate st) (z : c .counters ≡ zeroes) (p : (i : ℕ) → (patsOf (keptOn i c)) .evicted ≡ 0)
+module _ (st : GateSettings) (c : Records) (a : OpenedAll c) (e : c .gate ≡ emptyGate st) (z : c .counters ≡ zeroes) (p : (i : ℕ) → most (patsOf (keptOn i c)) ≡ 0)
     (limit size count : ℕ) (heads slots cells : List ℕ) (k : (openedOf (store (asked limit size count) heads slots cells)) .told ≡ done)
   where
     abbrev o : Settings

@@ -26,7 +26,9 @@ use Rattle.gate_pats.specs.View.{keptTells, keptActs}
 use Rattle.gate_pats_indexed.specs.Store as indexed
 use Rattle.ties_gate.specs.Watching.{isProtected}
 use Rattle.ties_pats.specs.Rules.{patSettings, readPat}
-use Rattle.ties_gate_pats.specs.Rules.{Holding, emptyHolding, atEnd, enteredWith, entersFrom, ToldWith, toldWith, tellsWith, actsWith}
+use Rattle.ties_pats.proofs.Obey.{clock-one}
+use Rattle.rules_sets.specs.Rules.{tells}
+use Rattle.ties_gate_pats.specs.Rules.{Holding, emptyHolding, atEnd, enteredWith, entersFrom, ToldWith, toldWith, tellsWith, actsWith, most}
 use Rattle.ties_gate_pats.specs.View.{keptTellsBy, keptActsBy}
 use Rattle.ties_gate_pats.proofs.Opening as opening
 use Rattle.ties_gate_pats.proofs.Indexed as by-index
@@ -46,7 +48,7 @@ use Rattle.ties_log_pats.proofs.Evicted.{acts-one}
 -- n more offers can be counted, by the PAT store too
 pub record Counts (n : ℕ) (x : Holding) : Type 0 where
   pub gate : CanCount n (x .held .counters)
-  pub pats : x .pats .evicted + n ≤ 18446744073709551615
+  pub pats : most (x .pats) + n ≤ 18446744073709551615
 
 and-false : (a b : Bool) → b ≡ false → (a && b) ≡ false
 and-false true b e = e
@@ -60,7 +62,13 @@ module _ (o : Settings) (follow : Bool) (f : Follow) (n : ℕ) (x : Holding) (g 
   behind b = cond b (enteredWith (record { held = t .held; pats = x .pats }) (offerOf g)) (record { held = t .held; pats = x .pats })
 
   can : (byTables f && atEnd (x .pats)) ≡ false
-  can = and-false (byTables f) (atEnd (x .pats)) (ne-eqb (x .pats .evicted) 18446744073709551615 (λ e. let h = k .pats in omega arith))
+  can =
+      let h = k .pats in
+      and-false (byTables f) (atEnd (x .pats))
+      (rw (
+        ne-eqb (x .pats .sets .evicted) 18446744073709551615 (λ (e : x .pats .sets .evicted ≡ 18446744073709551615). omega arith),
+        ne-eqb (x .pats .clock) 18446744073709551615 (λ (e : x .pats .clock ≡ 18446744073709551615). omega arith),
+      ) refl)
 
   -- the PAT store changes no row and no counter of the gate
   behind-rows : (b : Bool) → (behind b) .held .rows ≡ t .held .rows
@@ -70,7 +78,8 @@ module _ (o : Settings) (follow : Bool) (f : Follow) (n : ℕ) (x : Holding) (g 
   behind-counts : (b : Bool) → Counts n (behind b)
   behind-counts true =
       let h = k .pats in
-      let e = acts-one (x .pats) patSettings (readPat (g .input) (g .section)) in
+      let e = acts-one (x .pats .sets) patSettings (readPat (g .input) (g .section)) in
+      let c = clock-one (tells patSettings (x .pats .sets) (readPat (g .input) (g .section))) (x .pats .clock) in
       record { gate = told-counts n (mannerOf o follow) (x .held) (k .gate) (offerOf g); pats = omega arith }
   behind-counts false = let h = k .pats in record { gate = told-counts n (mannerOf o follow) (x .held) (k .gate) (offerOf g); pats = omega arith }
 

@@ -17,7 +17,7 @@ use Rattle.gate_state.specs.declared.Gate.{Gate}
 use Rattle.gate_state.specs.declared.Settings.{Settings as GateSettings}
 use Rattle.pats.specs.Store.{Record}
 use Rattle.gate_pats.specs.Store.{Kept, keptOf, openedWith}
-use Rattle.ties_gate_pats.specs.Rules.{Holding}
+use Rattle.ties_gate_pats.specs.Rules.{Holding, most}
 use Rattle.ties_gate_pats.specs.View.{patsOf}
 use Rattle.ties_gate_pats.proofs.Order.{OpenedWith}
 use Rattle.ties_gate_pats.proofs.Opening.{leftOpen, opening-opens, opened-empty, opening-in-step, opening-gate, further-opens, further-empty, further-in-step}
@@ -55,10 +55,10 @@ module _ (st : GateSettings) (extra keys changes slots cells words : List ℕ) (
   steps r with-gate = opening-in-step st extra keys changes slots cells words h
   steps r (alone e s c w k) = further-in-step st e s c w k
 
-  none : (r : Record) → OpenRecord st (start .watch) r → (patsOf (lent r)) .evicted ≡ 0
+  none : (r : Record) → OpenRecord st (start .watch) r → most (patsOf (lent r)) ≡ 0
   unfolding untouched
-  none r with-gate = ap (λ (x : Holding). x .pats .evicted) (opened-empty st extra keys changes slots cells words h)
-  none r (alone e s c w k) = ap (λ (x : Holding). x .pats .evicted) (further-empty st e s c w k start opens same)
+  none r with-gate = ap (λ (x : Holding). most (x .pats)) (opened-empty st extra keys changes slots cells words h)
+  none r (alone e s c w k) = ap (λ (x : Holding). most (x .pats)) (further-empty st e s c w k start opens same)
 
   -- THE THEOREM: opened for all its inputs, with any PIDs watched and in each manner of following, and an opened collector
   module _ (watches : ℕ → Record) (begun : (i : ℕ) → OpenRecord st (start .watch) (watches i))

@@ -3,7 +3,7 @@
 use mathlib.Core.Path.{_≡_, refl, sym, ap, subst, _∙_}
 use mathlib.Core.Bool.{Bool, true, false, cond, not, _&&_}
 use mathlib.Core.List.{List, []}
-use Prim.Native.Nat.{ℕ, suc, _+_, _*_, _^_, _≤_, _<_}
+use Prim.Native.Nat.{ℕ, suc, _*_, _^_, _≤_, _<_}
 use native.Mathlib.Omega.{arith}
 use borrow.Author.Tests.{lt-ltb, ltb-true, ltb-false, le-leb}
 use lib.Dec.{ltb, leb}
@@ -14,7 +14,7 @@ use Rattle.section.specs.Judged.{ruleKnown, ruleOf, judgedOf}
 use Rattle.section.specs.declared.header.Judged.{Judged}
 use Rattle.section.specs.declared.header.Judged.the-variants.{Short, Mismatch, Sound}
 use Rattle.ring.specs.Store.{roomOf}
-use Rattle.ages.proofs.Cells.{cells-length}
+use Rattle.ticks.proofs.Cells.{cells-length}
 use Rattle.store.specs.Store.{asked, settingsFit}
 use Rattle.rules_sets.specs.Cells.{Store as Shown}
 use Rattle.rules_sets.proofs.Cells.{settings-stay}
@@ -26,8 +26,8 @@ use Rattle.log_state.specs.declared.Settings.{Settings as Asked}
 use Rattle.log_run.specs.Store.{ruled, taking}
 use Rattle.ties_log_run.specs.Run.{takes, keptIn, settingsAt, Opens, Reached}
 use Rattle.ties_log_run.proofs.Counted.{cells-stay}
-use Rattle.ties_log_run.proofs.Step.{follows}
-use Rattle.ties_log_run.proofs.Run.{opened-reached}
+use Rattle.ties_log_run.proofs.Step.{CanTake, counts-none, follows}
+use Rattle.ties_log_run.proofs.Run.{opened-reached, opened-takes}
 
 -- ---- by the rules
 
@@ -57,7 +57,7 @@ module _ (o : Settings) (k : Kept) (g : Given) where
 -- a run that was opened with these settings, to which n sections may still come
 pub record Usable (a : Asked) (n : ℕ) (s : Lent) : Type 0 where
   pub reached : Reached s
-  pub more : s .run .sets .evictions + n < 18446744073709551616
+  pub more : CanTake n s
   pub capacity : s .run .ring .capacity ≡ a .capacity
   pub rule : s .run .rule ≡ a .rule
   pub limit : s .run .sets .limit ≡ a .limit
@@ -67,15 +67,12 @@ pub record Usable (a : Asked) (n : ℕ) (s : Lent) : Type 0 where
 
 pub usable-opened : (a : Asked) (keys changes heads slots cells : List ℕ) → Opens a keys changes heads slots cells → (n : ℕ) → n < 2 ^ 64 → Usable a n (lent (runOf a) keys changes heads slots cells)
 usable-opened a keys changes heads slots cells h n l =
-    record { reached = opened-reached a keys changes heads slots cells h; more = omega arith; capacity = refl; rule = refl; limit = refl; size = refl; count = refl; taken = (opened-reached a keys changes heads slots cells h) .taken }
+    record { reached = opened-reached a keys changes heads slots cells h; more = opened-takes a keys changes heads slots cells h n l; capacity = refl; rule = refl; limit = refl; size = refl; count = refl; taken = (opened-reached a keys changes heads slots cells h) .taken }
 
 pub usable-fewer : (a : Asked) (n : ℕ) (s : Lent) → Usable a n s → Usable a 0 s
-usable-fewer a n s u = let h = u .more in record { reached = u .reached; more = omega arith; capacity = u .capacity; rule = u .rule; limit = u .limit; size = u .size; count = u .count; taken = u .taken }
+usable-fewer a n s u = let h = u .more .evictions in let k = u .more .clock in record { reached = u .reached; more = record { evictions = omega arith; clock = omega arith }; capacity = u .capacity; rule = u .rule; limit = u .limit; size = u .size; count = u .count; taken = u .taken }
 
 module _ (a : Asked) (n : ℕ) (s : Lent) (u : Usable a (suc n) s) (g : Given) (b : OfBytes (g .section)) where
-  more-one : s .run .sets .evictions < 18446744073709551615
-  more-one = let h = u .more in omega arith
-
   abbrev after : Lent
   after = (takes s g) .left
 
@@ -83,19 +80,17 @@ module _ (a : Asked) (n : ℕ) (s : Lent) (u : Usable a (suc n) s) (g : Given) (
   unfolding taking rulingOf rulingBy ruled
   long-usable h =
       rw (lt-ltb 4098 (length (g .section)) h)
-      (let m = u .more in record { reached = u .reached; more = omega arith; capacity = u .capacity; rule = u .rule; limit = u .limit; size = u .size; count = u .count; taken = u .taken })
+      (record { reached = u .reached; more = counts-none 0 0 0 n s (u .reached) g b (u .more); capacity = u .capacity; rule = u .rule; limit = u .limit; size = u .size; count = u .count; taken = u .taken })
 
   short-usable : length (g .section) ≤ 4098 → Usable a n ((takes s g) .left)
   unfolding seen
   short-usable h =
-      let f = follows 0 0 0 s (u .reached) g b more-one h in
+      let f = follows 0 0 0 n s (u .reached) g b (u .more) h in
       let e = entry-sized (settingsAt 0 0 0 (s .run)) (keptIn s) g in
       let k : seen (setsIn after) ≡ (entryOf (settingsAt 0 0 0 (s .run)) (keptIn s) g) .kept .sets = ap (λ (x : Kept). x .sets) (f .kept) in
-      let m = u .more in
-      let c = f .counted in
       record {
         reached = f .reached;
-        more = omega arith;
+        more = f .counted;
         capacity = ap (λ (x : Settings). x .capacity) (f .settings) ∙ u .capacity;
         rule = ap (λ (x : Settings). x .rule) (f .settings) ∙ u .rule;
         limit = ap (λ (x : Shown). x .settings .limit) k ∙ ap (λ x. x .limit) (e .settings) ∙ u .limit;

@@ -1,4 +1,4 @@
--- A call on the set collector counts at most one eviction, and leaves its settings and its number of cells.
+-- A call on the set collector counts at most one eviction and at most one touch, and leaves its settings and its number of cells.
 -- Assumes nothing.
 use mathlib.Core.Path.{_≡_, refl}
 use mathlib.Core.Bool.{Bool, true, false}
@@ -51,6 +51,23 @@ module _ (s : Store) where
   pub counts-one : (i : Call) → (callActs s i) .sets .evicted ≤ suc now
   unfolding callActs
   counts-one i = outcome-one (outcome s i)
+
+  outcome-risen : {i : Call} {t : Turn} → Outcome s i t → t .store .clock ≤ suc (s .clock)
+  unfolding shows
+  outcome-risen (broken i e) = omega arith
+  outcome-risen (stopped i e h) = omega arith
+  outcome-risen (clears e) = omega arith
+  outcome-risen (refuses n e) = omega arith
+  outcome-risen (long x e l) = omega arith
+  outcome-risen (keyless x e l q) = omega arith
+  outcome-risen (lacks x a e t) = omega arith
+  outcome-risen (keeps x a e c l) = omega arith
+  outcome-risen (ignores x a h e q) = omega arith
+  outcome-risen (conflicts x a h e q) = omega arith
+
+  pub rises-one : (i : Call) → (callActs s i) .clock ≤ suc (s .clock)
+  unfolding callActs
+  rises-one i = outcome-risen (outcome s i)
 
   outcome-cells : {i : Call} {t : Turn} → Outcome s i t → length (t .store .cells) ≡ length (s .cells)
   unfolding shows

@@ -6,7 +6,7 @@ use mathlib.Core.Logic.{_≢_}
 use mathlib.Core.Bool.{Bool, true, false, not, _&&_, cond}
 use mathlib.Core.Option.{some, Option·some-injective}
 use mathlib.Core.List.{List, [], _∷_, _++_}
-use Prim.Native.Nat.{ℕ, zero, suc, _+_, _^_, _≤_, _<_}
+use Prim.Native.Nat.{ℕ, zero, suc, _+_, _^_, _<_}
 use native.Mathlib.Omega.{arith}
 use borrow.Author.Tests.{lt-ltb, ltb-true, ltb-false, leb-true, eqb-false, not-true}
 use lib.Dec.{ltb, leb}
@@ -18,8 +18,8 @@ use Rattle.section.specs.Judged.{ruleKnown}
 use Rattle.rules_shared.specs.Cells.{Cells}
 use Rattle.ring.specs.Store.{roomOf}
 use Rattle.ring.proofs.Order as ring
-use Rattle.ages.specs.Slots.{cellsSeen}
-use Rattle.ages.proofs.Cells.{cells-length}
+use Rattle.ticks.specs.Slots.{cellsSeen}
+use Rattle.ticks.proofs.Cells.{cells-length}
 use Rattle.store.specs.Store.{asked, settingsFit}
 use Rattle.sets.specs.Store.{openedOf}
 use Rattle.sets.proofs.Stays as stays
@@ -43,57 +43,56 @@ use Rattle.ties_log_run.specs.Run.{takes, takesNo, leaves, gives, entrie
 use Rattle.rules_log_run.specs.Entries.{rulesGive, rulesLeave, entriesFrom, joined}
 use Rattle.rules_log_run.specs.Lists.{AllTakable, AllOfBytes}
 use Rattle.ties_log_kept.proofs.Cells.{cells-do-not-matter, entries-joined}
-use Rattle.ties_log_run.proofs.Step.{Follows, follows}
+use Rattle.ties_log_run.proofs.Step.{CanTake, Follows, counts-none, follows}
 
 -- ---- every section
 
-record Goes (s : Lent) (t : Taking) : Type 0 where
+-- n more sections can come then
+record Goes (n : ℕ) (t : Taking) : Type 0 where
   reached : Reached (t .left)
-  counted : t .left .run .sets .evictions ≤ suc (s .run .sets .evictions)
+  counted : CanTake n (t .left)
   not-10 : takeNo (t .answer) ≢ 10
   not-11 : takeNo (t .answer) ≢ 11
 
-module _ (s : Lent) (r : Reached s) (g : Given) (b : OfBytes (g .section)) (more : s .run .sets .evictions < 18446744073709551615) where
+module _ (n : ℕ) (s : Lent) (r : Reached s) (g : Given) (b : OfBytes (g .section)) (more : CanTake (suc n) s) where
   -- over 4,098 bytes: 42, and all as before
-  long-goes : 4098 < length (g .section) → Goes s (takes s g)
+  long-goes : 4098 < length (g .section) → Goes n (takes s g)
   unfolding taking rulingOf rulingBy ruled
-  long-goes h = rw (lt-ltb 4098 (length (g .section)) h) (record { reached = r; counted = omega arith; not-10 = eqb-false 42 10 refl; not-11 = eqb-false 42 11 refl })
+  long-goes h = rw (lt-ltb 4098 (length (g .section)) h) (record { reached = r; counted = counts-none 0 0 0 n s r g b more; not-10 = eqb-false 42 10 refl; not-11 = eqb-false 42 11 refl })
 
-  goes : Goes s (takes s g)
+  goes : Goes n (takes s g)
   goes = go (ltb 4098 (length (g .section))) refl
     where
-      short : Follows 0 0 0 s (takes s g) (entryOf (settingsAt 0 0 0 (s .run)) (keptIn s) g) → Goes s (takes s g)
+      short : Follows 0 0 0 n s (takes s g) (entryOf (settingsAt 0 0 0 (s .run)) (keptIn s) g) → Goes n (takes s g)
       short f = record { reached = f .reached; counted = f .counted; not-10 = f .not-10; not-11 = f .not-11 }
 
-      go : (t : Bool) → ltb 4098 (length (g .section)) ≡ t → Goes s (takes s g)
+      go : (t : Bool) → ltb 4098 (length (g .section)) ≡ t → Goes n (takes s g)
       go true e = long-goes (ltb-true 4098 (length (g .section)) e)
-      go false e = short (follows 0 0 0 s r g b more (ltb-false 4098 (length (g .section)) e))
+      go false e = short (follows 0 0 0 n s r g b more (ltb-false 4098 (length (g .section)) e))
 
 -- a number that no section is answered with
-never : (a : ℕ) → ((s : Lent) (t : Taking) → Goes s t → takeNo (t .answer) ≢ a) → (gs : List Given) → AllOfBytes gs → (s : Lent) → Reached s
-    → s .run .sets .evictions + length gs < 2 ^ 64 → Never a (answers takesNo leaves s gs)
+never : (a : ℕ) → ((n : ℕ) (t : Taking) → Goes n t → takeNo (t .answer) ≢ a) → (gs : List Given) → AllOfBytes gs → (s : Lent) → Reached s
+    → CanTake (length gs) s → Never a (answers takesNo leaves s gs)
 unfolding answers takesNo leaves
 never a f [] b s r h t e = none≢some refl e
-never a f (g ∷ gs) b s r h zero e = f s (takes s g) (goes s r g (b .0) (omega arith)) (Option·some-injective (takesNo s g) a e)
+never a f (g ∷ gs) b s r h zero e = f (length gs) (takes s g) (goes (length gs) s r g (b .0) h) (Option·some-injective (takesNo s g) a e)
 never a f (g ∷ gs) b s r h (suc t) e =
-    let k = goes s r g (b .0) (omega arith) in
-    let c = k .counted in
-    never a f gs (b .1) (leaves s g) (k .reached) (omega arith) t e
+    let k = goes (length gs) s r g (b .0) h in
+    never a f gs (b .1) (leaves s g) (k .reached) (k .counted) t e
 
 -- ---- the entries of the rules
 
-entries-follow : (l z c : ℕ) (gs : List Given) → AllTakable gs → (s : Lent) → Reached s → s .run .sets .evictions + length gs < 2 ^ 64
+entries-follow : (l z c : ℕ) (gs : List Given) → AllTakable gs → (s : Lent) → Reached s → CanTake (length gs) s
     → entriesBy s gs ≡ entriesFrom (settingsAt l z c (s .run)) (keptIn s) gs
 unfolding answers gives leaves rulesGive rulesLeave
 entries-follow l z c [] b s r h = refl
 entries-follow l z c (g ∷ gs) b s r h =
-    let f = follows l z c s r g (b .0 .of-bytes) (omega arith) (b .0 .short) in
-    let n = f .counted in
+    let f = follows l z c (length gs) s r g (b .0 .of-bytes) h (b .0 .short) in
     let e = f .records in
     let t : Lent = (takes s g) .left in
     let o = f .settings in
     let k = f .kept in
-    let q = entries-follow l z c gs (b .1) t (f .reached) (omega arith) ∙ (λ i. entriesFrom (o i) (k i) gs) in
+    let q = entries-follow l z c gs (b .1) t (f .reached) (f .counted) ∙ (λ i. entriesFrom (o i) (k i) gs) in
     λ i. e i ∷ q i
 
 -- ---- the bytes of what `take` gives
@@ -148,7 +147,7 @@ module _ (a : Asked) (keys changes heads slots cells : List ℕ) (h : Opens a ke
 
   opened-sets : OpenedSets (setsIn start)
   unfolding openedOf
-  opened-sets = record { opened = record { opened = rw fits refl; none = refl }; evictions = refl }
+  opened-sets = record { opened = record { opened = rw fits refl; none = refl }; evictions = refl; clock = refl }
 
   pub opened-reached : Reached start
   opened-reached = record {
@@ -159,6 +158,9 @@ module _ (a : Asked) (keys changes heads slots cells : List ℕ) (h : Opens a ke
     whole = stays.opened-whole (setsIn start) (opened-sets .opened);
   }
 
+  pub opened-takes : (n : ℕ) → n < 2 ^ 64 → CanTake n start
+  opened-takes n l = record { evictions = omega arith; clock = omega arith }
+
   abbrev cellsThere : Cells
   cellsThere = cellsSeen cells (a .size) (a .count)
 
@@ -166,18 +168,18 @@ module _ (a : Asked) (keys changes heads slots cells : List ℕ) (h : Opens a ke
   unfolding seen
   kept-opened =
       let e = sets.opened-seen (setsIn start) opened-sets in
-      λ i. record { rows = []; sets = record { settings = record { limit = a .limit; cellSize = a .size }; sets = e i; cells = cellsThere } }
+      λ i. record { rows = []; sets = record { settings = record { limit = a .limit; cellSize = a .size }; sets = e i; cells = cellsThere; clock = 0 } }
 
   -- THE THEOREM: 10 and 11 do not occur
   pub run-never-refuses : (gs : List Given) → AllOfBytes gs → length gs < 2 ^ 64 → Never 10 (answers takesNo leaves start gs) × Never 11 (answers takesNo leaves start gs)
   run-never-refuses gs b n =
-      (never 10 (λ s t k. k .not-10) gs b start opened-reached (omega arith), never 11 (λ s t k. k .not-11) gs b start opened-reached (omega arith))
+      (never 10 (λ m t k. k .not-10) gs b start opened-reached (opened-takes (length gs) n), never 11 (λ m t k. k .not-11) gs b start opened-reached (opened-takes (length gs) n))
 
   -- THE THEOREM: its entries are those of the rules
   module _ (gs : List Given) (b : AllTakable gs) (n : length gs < 2 ^ 64) where
     pub run-follows : entriesBy start gs ≡ entriesFrom (settingsOf a) (opened (settingsOf a)) gs
     run-follows =
-        entries-follow (a .limit) (a .size) (a .count) gs b start opened-reached (omega arith)
+        entries-follow (a .limit) (a .size) (a .count) gs b start opened-reached (opened-takes (length gs) n)
         ∙ ap (λ (k : Kept). entriesFrom (settingsOf a) k gs) kept-opened
         ∙ cells-do-not-matter (settingsOf a) cellsThere (replicate (a .count) []) (cells-length cells (a .size) (a .count) ∙ sym (length-replicate {A = Bytes} (a .count) [])) gs
 

@@ -19,27 +19,27 @@ use Rattle.rules_shared.proofs.Views.{aside-on, newest-on}
 use Rattle.rules_shared.proofs.Row.{slot-on}
 use Rattle.rules_shared.proofs.Cells.{kept-shown, LowestFree, Placed, laid, lacking, alike, unlike, placed}
 use Rattle.rules_sets.specs.Rules.{sameKey, SetOf, SetsOf, Section, partOf, Call, clear, refuse, offer, conflict, StepOf, gives, metRow, judge}
-use Rattle.rules_sets.specs.Cells.{Store, onSets, onAnswer, view, takes, taken, storeWhole, ended, shows, rest, roomFor, placeOf, carry, pushIn, admitIn, good, guarded, call, callTells, callActs}
+use Rattle.rules_sets.specs.Cells.{Store, onSets, onAnswer, view, takes, taken, storeWhole, ended, shows, rest, roomFor, placeOf, carry, pushIn, admitIn, good, guarded, call, callTells, callActs, risen}
 use Rattle.ties_memory.specs.Alike.{at, openedOver, Alike, Same}
 use Rattle.rules_sets.proofs.Views.{met-on, onStep, judge-on, free-cell-unseen, free-parts}
 
-module _ (o : Settings) (r : SetsOf Held) (C D : Cells) (n : length C ≡ length D) (v : onSets (bytesOf C) r ≡ onSets (bytesOf D) r) where
+module _ (o : Settings) (r : SetsOf Held) (C D : Cells) (now : ℕ) (n : length C ≡ length D) (v : onSets (bytesOf C) r ≡ onSets (bytesOf D) r) where
   abbrev s : Store
-  s = at o r C
+  s = at o r C now
 
   abbrev t : Store
-  t = at o r D
+  t = at o r D now
 
   itself : Alike s t
   unfolding view
-  itself = record { settings = refl; sets = refl; count = n; shown = v }
+  itself = record { settings = refl; sets = refl; count = n; clock = refl; shown = v }
 
-  -- a step on the rows, shown over cells c and d
-  steps : (c d : Cells) → length c ≡ length d → (p : StepOf Held) → onStep (bytesOf c) p ≡ onStep (bytesOf d) p → Same (shows s c p) (shows t d p)
+  -- a step on the rows, shown over cells c and d; the clock is k then
+  steps : (k : ℕ) (c d : Cells) → length c ≡ length d → (p : StepOf Held) → onStep (bytesOf c) p ≡ onStep (bytesOf d) p → Same (shows (at o r C k) c p) (shows (at o r D k) d p)
   unfolding shows view
-  steps c d m p e = record {
+  steps k c d m p e = record {
     answer = ap (λ (q : StepOf Bytes). q .answer) e;
-    stores = record { settings = refl; sets = refl; count = m; shown = ap (λ (q : StepOf Bytes). q .sets) e };
+    stores = record { settings = refl; sets = refl; count = m; clock = refl; shown = ap (λ (q : StepOf Bytes). q .sets) e };
   }
 
   whole-same : storeWhole s ≡ storeWhole t
@@ -94,18 +94,18 @@ module _ (o : Settings) (r : SetsOf Held) (C D : Cells) (n : length C ≡ length
         let q : onRow (bytesOf C′) k ≡ onRow (bytesOf D′) k =
         sym (kept-shown C c (x .bytes) (partOf x) (metRow x r) (z .1) (f .inside)) ∙ ap (keep (partOf x) (x .bytes)) row-same
         ∙ kept-shown D c (x .bytes) (partOf x) (metRow x r) (z .1) (omega (arith, f .inside, n)) in
-        steps C′ D′ (length-set C c _ ∙ n ∙ sym (length-set D c _)) (judge (rest s x) (x .key) k) (judge-same C′ D′ k p q)
+        steps (suc now) C′ D′ (length-set C c _ ∙ n ∙ sym (length-set D c _)) (judge (rest s x) (x .key) k) (judge-same C′ D′ k p q)
 
-    still-same : (w : SetOf Held) → onRow (bytesOf C) w ≡ onRow (bytesOf D) w → Same (shows s C (judge (rest s x) (x .key) w)) (shows t D (judge (rest t x) (x .key) w))
+    still-same : (w : SetOf Held) → onRow (bytesOf C) w ≡ onRow (bytesOf D) w → Same (shows (risen s) C (judge (rest s x) (x .key) w)) (shows (risen t) D (judge (rest t x) (x .key) w))
     unfolding rest
-    still-same w q = steps C D n (judge (rest s x) (x .key) w) (judge-same C D w rest-same q)
+    still-same w q = steps (suc now) C D n (judge (rest s x) (x .key) w) (judge-same C D w rest-same q)
 
     conflict-same : Same (carry s x conflicting) (carry t x conflicting)
     unfolding carry roomFor rest onAnswer onSets
     conflict-same =
         let e : onSets (bytesOf C) (newest (x .key) (metRow x r) (rest s x)) ≡ onSets (bytesOf D) (newest (x .key) (metRow x r) (rest s x)) =
         sym (newest-on (onRow (bytesOf C)) (x .key) (metRow x r) (rest s x)) ∙ (λ i. newest (x .key) (row-same i) (rest-same i)) ∙ newest-on (onRow (bytesOf D)) (x .key) (metRow x r) (rest s x) in
-        steps C D n (gives conflict (newest (x .key) (metRow x r) (rest s x))) (ap (gives conflict) e)
+        steps (suc now) C D n (gives conflict (newest (x .key) (metRow x r) (rest s x))) (ap (gives conflict) e)
 
     carry-same : Same (carry s x (placeOf s x)) (carry t x (placeOf t x))
     unfolding carry placeOf place
@@ -129,7 +129,7 @@ module _ (o : Settings) (r : SetsOf Held) (C D : Cells) (n : length C ≡ length
 
   good-same : (i : Call) → Same (good s i) (good t i)
   unfolding good shows onAnswer view onSets onOrder emptied seenAs
-  good-same clear = record { answer = refl; stores = record { settings = refl; sets = refl; count = n; shown = refl } }
+  good-same clear = record { answer = refl; stores = record { settings = refl; sets = refl; count = n; clock = refl; shown = refl } }
   good-same (refuse k) = record { answer = refl; stores = itself }
   good-same (offer x) = admitted-same x (leb (length (x .bytes)) (o .cellSize))
 
@@ -151,14 +151,14 @@ module _ (o : Settings) (r : SetsOf Held) (C D : Cells) (n : length C ≡ length
 
 -- any two stores that are alike
 module _ (s t : Store) (a : Alike s t) where
-  moved : t ≡ at (s .settings) (s .sets) (t .cells)
-  moved = λ i. record { settings = sym (a .settings) i; sets = sym (a .sets) i; cells = t .cells }
+  moved : t ≡ at (s .settings) (s .sets) (t .cells) (s .clock)
+  moved = λ i. record { settings = sym (a .settings) i; sets = sym (a .sets) i; cells = t .cells; clock = sym (a .clock) i }
 
   one : (i : Call) → Same (call s i) (call t i)
   unfolding view
   one i =
       subst (λ (q : Store). Same (call s i) (call q i)) (sym moved)
-      (call-same (s .settings) (s .sets) (s .cells) (t .cells) (a .count) (a .shown ∙ ap (onSets (bytesOf (t .cells))) (sym (a .sets))) i)
+      (call-same (s .settings) (s .sets) (s .cells) (t .cells) (s .clock) (a .count) (a .shown ∙ ap (onSets (bytesOf (t .cells))) (sym (a .sets))) i)
 
   pub answers-alike : (i : Call) → callTells s i ≡ callTells t i
   unfolding callTells
@@ -181,4 +181,4 @@ same-answers (i ∷ is) s t a =
 pub cells-do-not-matter : (o : Settings) (C D : Cells) → length C ≡ length D → (calls : List Call)
     → answers callTells callActs (openedOver o C) calls ≡ answers callTells callActs (openedOver o D) calls
 unfolding view onSets onOrder seenAs untouched
-cells-do-not-matter o C D n calls = same-answers calls (openedOver o C) (openedOver o D) (record { settings = refl; sets = refl; count = n; shown = refl })
+cells-do-not-matter o C D n calls = same-answers calls (openedOver o C) (openedOver o D) (record { settings = refl; sets = refl; count = n; clock = refl; shown = refl })

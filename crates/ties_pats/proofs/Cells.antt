@@ -12,7 +12,7 @@ use lib.ListN.{length, getD}
 use Rattle.laws.specs.Lists.{any, sameList}
 use Rattle.answers.specs.declared.Refusal.the-variants.{TooLong, NoCell}
 use Rattle.cells.specs.Cells.{keptLength, cellNumber, filled, names, someNames, kept}
-use Rattle.rows.specs.Rows.{rowOf, roomIn, roomRenewed, roomNew, goneRow, slotsAt, slotCount, rowSlots, takenIn, oldestOf, ageOf, lastOf, versionOf}
+use Rattle.rows.specs.Rows.{rowOf, roomIn, roomRenewed, roomNew, goneRow, slotsAt, slotCount, rowSlots, takenIn, oldestOf, lastOf, versionOf}
 use Rattle.rows.proofs.Words.{slot-at, length-slots}
 use Rattle.rows.specs.declared.Entry.{Entry}
 use Rattle.rows.specs.declared.Room.{Room}
@@ -187,8 +187,8 @@ module _ (s : Store) (f : WholeStore s) (one : s .sets .limit ≡ 1) where
     w = getD (s .slots) (slotsAt there + e .number) 0
 
     new-fresh : (b : Bool)
-        → (cond b (roomRenewed (s .sets .used + 1) (s .sets .evictions) (s .sets .used) (s .sets .used))
-        (roomRenewed (s .sets .used) (s .sets .evictions + 1) (oldestOf (s .heads) (s .sets .used)) (ageOf (s .heads) (oldestOf (s .heads) (s .sets .used))))) .fresh ≡ true
+        → (cond b (roomRenewed (s .sets .used + 1) (s .sets .evictions) (s .sets .used))
+        (roomRenewed (s .sets .used) (s .sets .evictions + 1) (oldestOf (s .heads) (s .sets .used)))) .fresh ≡ true
     new-fresh true = refl
     new-fresh false = refl
 
@@ -223,7 +223,7 @@ module _ (s : Store) (f : WholeStore s) (one : s .sets .limit ≡ 1) where
     known-gets h r z = go (eqb (versionOf (s .heads) there) (e .version) && eqb (lastOf (s .heads) there) (e .last)) refl
       where
         go : (b : Bool) → (eqb (versionOf (s .heads) there) (e .version) && eqb (lastOf (s .heads) there) (e .last)) ≡ b
-            → cond b (placeSlot s bytes there w) (Goes (roomRenewed (s .sets .used) (s .sets .evictions) there (ageOf (s .heads) there))) ≡ Goes r → Gets r
+            → cond b (placeSlot s bytes there w) (Goes (roomRenewed (s .sets .used) (s .sets .evictions) there)) ≡ Goes r → Gets r
         go true p q = inr (slot-gets h (same-last (versionOf (s .heads) there) (lastOf (s .heads) there) (e .version) (e .last) p) r q)
         go false p q = let d : true ≡ r .fresh = cc in inl (sym d, z)
 

@@ -1,16 +1,16 @@
 -- Every history of enterings from an opened record: the PAT store is what the rules of the set collector say at limit 1, N changes only by a complete PAT,
 -- a conflict changes no set of PIDs, and the watched PIDs are the protected ones and those of N.
 -- Assumes nothing.
-use borrow.Author.Tests.{ne-eqb, eq-eqb, le-leb, leb-true, le-ltb, lt-ltb}
+use borrow.Author.Tests.{eq-eqb, le-leb, leb-true, le-ltb, lt-ltb}
 use mathlib.Core.Path.{_≡_, refl, sym, ap, subst, _∙_}
 use mathlib.Core.Logic.{_≢_, _⊎_, inl, inr}
 use mathlib.Core.Bool.{Bool, true, false, cond, not, _&&_}
 use mathlib.Core.Option.{Option, none, some}
 use mathlib.Core.List.{List, [], _∷_}
-use Prim.Native.Nat.{ℕ, zero, suc, _+_, _≤_, _<_}
+use Prim.Native.Nat.{ℕ, _+_, _≤_, _<_}
 use native.Mathlib.Omega.{arith}
 use lib.Dec.{eqb, ltb, leb}
-use lib.ListN.{length, getD, take}
+use lib.ListN.{length, take}
 use Rattle.laws.specs.Bits.{hasBit}
 use Rattle.laws.specs.Runs.{storeAfter}
 use Rattle.laws.proofs.Tests.{and-true}
@@ -23,10 +23,10 @@ use Rattle.pat.specs.Pat.{readable}
 use Rattle.watched.specs.Store.{allPids, filled, followedOf}
 use Rattle.watched.specs.View.{InStep}
 use Rattle.watched.proofs.Meaning.{opened-in-step}
-use Rattle.rules_shared.specs.Touch.{untouched, emptied, count, aside, newest, onOrder, seenAs, evicts}
+use Rattle.rules_shared.specs.Touch.{untouched, count, aside, onOrder, seenAs}
 use Rattle.rules_shared.specs.Row.{put}
-use Rattle.rules_shared.specs.Cells.{bytesOf, Settings}
-use Rattle.rules_sets.specs.Rules.{Key, sameKey, SetRow, Sets, Section, partOf, Call, clear, refuse, offer, Whole, Answer, nothing, handout, refused, conflict, full, metRow, judged, judge, finish, push, admit, step, tells, acts, opened}
+use Rattle.rules_shared.specs.Cells.{bytesOf}
+use Rattle.rules_sets.specs.Rules.{Key, sameKey, SetRow, Sets, Section, partOf, Call, offer, Whole, Answer, nothing, handout, refused, conflict, full, metRow, judged, judge, finish, push, admit, step, tells, opened}
 use Rattle.rules_sets.specs.Cells.{view, onSets}
 use Rattle.store.specs.Store.{settingsFit, wholeOf, WholeStore}
 use Rattle.store.proofs.Whole.{means-whole}
@@ -34,9 +34,10 @@ use Rattle.sets.specs.Store.{openedOf}
 use Rattle.ties_sets.specs.View as ties
 use Rattle.ties_sets.specs.View.{seen, readsAs, readSection}
 use Rattle.ties_sets.proofs.History.{opened-reached, opened-seen}
-use Rattle.pats.specs.Store.{Record, recordOf, patStore, patsWhole, patsFull, begunWords, enters, enteredIn}
-use Rattle.ties_pats.specs.Rules.{Pats, patSettings, readPat, programsOfSet, nAfter, entered}
-use Rattle.pats.proofs.Laws.{is-whole, no-row, length-begun, begun-used, begun-evictions, begun-sets}
+use Rattle.pats.specs.Store.{Record, recordOf, patMost, patStore, patsWhole, patsFull, begunWords, enters, enteredIn}
+use Rattle.ties_pats.specs.Rules.{Pats, patSettings, readPat, programsOfSet, entered}
+use Rattle.pats.proofs.Laws.{is-whole, ready, no-row, length-begun, begun-used, begun-evictions, begun-sets}
+use Rattle.pats.proofs.Counts.{entered-few, not-full}
 use Rattle.ties_pats.specs.View.{shown, Opened, Sent, entering, taking, tellsOf, OfBytes, NeverFull, CompletePat}
 use Rattle.ties_pats.proofs.Kept.{handed-complete, reads-say}
 use Rattle.ties_pats.proofs.Obey.{Stands, same-step, tells-rules, stands-then, obeys-rules, only-whole, in-step-then}
@@ -60,7 +61,7 @@ module _ (r : Record) (o : Opened r) where
 
   is-opened : ties.Opened (patStore r)
   unfolding openedOf
-  is-opened = record { opened = record { opened = rw fits; none = o .used }; evictions = o .evictions }
+  is-opened = record { opened = record { opened = rw fits; none = o .used }; evictions = o .evictions; clock = rw (o .used) refl }
 
   -- no row, no eviction
   pub opened-shown : (shown r) .sets ≡ opened
@@ -121,75 +122,16 @@ module _ (Came : List ℕ → Type 0) where
       obeys-after xs (b .1) (c .1) (entering r x) (entering-stands r x (b .0) (c .0) st) (n .1)
       ∙ ap (λ (p : Pats). storeAfter taking p xs) (entering-obeys r x (b .0) (c .0) st (n .0))
 
--- ---- the count of evictions goes up by one at most
-
-count-one : (b : Bool) → count b ≤ 1
-unfolding count
-count-one true = omega arith
-count-one false = omega arith
-
-module _ (s : Sets) where
-  judge-count : (k : Key) (r : SetRow) → ((judge s k r) .sets) .evicted ≡ s .evicted
-  unfolding judge judged newest
-  judge-count k r = go (r .mark) (full (r .slots))
-    where
-      go : (b c : Bool) → ((judged s k r b c) .sets) .evicted ≡ s .evicted
-      go true c = refl
-      go false false = refl
-      go false true = refl
-
-  finish-count : (k : Key) (met : SetRow) (o : Option SetRow) → ((finish s k met o) .sets) .evicted ≡ s .evicted
-  unfolding finish newest
-  finish-count k met none = refl
-  finish-count k met (some r) = judge-count k r
-
-push-count : (limit : ℕ) (s : Sets) (x : Section) → ((push limit s x) .sets) .evicted ≤ s .evicted + 1
-unfolding push aside
-push-count zero s x = omega arith
-push-count (suc n) s x =
-    let a = count-one (evicts sameKey (suc n) (x .key) (s .rows)) in
-    rw (finish-count (aside sameKey (suc n) (x .key) s) (x .key) (metRow x s) (put (partOf x) (x .bytes) (metRow x s))) (omega arith)
-
-acts-count : (o : Settings) (s : Sets) (c : Call) → (acts o s c) .evicted ≤ s .evicted + 1
-unfolding acts step admit emptied
-acts-count o s clear = omega arith
-acts-count o s (refuse r) = omega arith
-acts-count o s (offer x) = go (leb (length (x .bytes)) (o .cellSize))
-  where
-    go : (b : Bool) → ((admit (o .limit) s x b) .sets) .evicted ≤ s .evicted + 1
-    go false = omega arith
-    go true = push-count (o .limit) s x
-
-entered-count : (p : Pats) (input : ℕ) (section : List ℕ) → (entered p input section) .sets .evicted ≤ p .sets .evicted + 1
-unfolding entered
-entered-count p input section = go (enters section)
-  where
-    go : (b : Bool) → (cond b (record { sets = acts patSettings (p .sets) (readPat input section); n = nAfter (tells patSettings (p .sets) (readPat input section)) (p .n) }) p) .sets .evicted ≤ p .sets .evicted + 1
-    go true = acts-count patSettings (p .sets) (readPat input section)
-    go false = omega arith
-
--- word 385 is that count
-shown-count : (r : Record) → (shown r) .sets .evicted ≡ getD (r .words) 385 0
-unfolding view onSets onOrder seen
-shown-count r = refl
+-- ---- neither the count of evictions nor the clock goes up by more than one
 
 -- so 11 does not come before 2^64 - 1 sections have entered
-pub never-full : (Came : List ℕ → Type 0) (xs : List Sent) → OfBytes xs → AllCame Came xs → (r : Record) → Stands Came r → getD (r .words) 385 0 + length xs ≤ 18446744073709551615 → NeverFull r xs
-unfolding patsFull taking
+pub never-full : (Came : List ℕ → Type 0) (xs : List Sent) → OfBytes xs → AllCame Came xs → (r : Record) → Stands Came r → patMost (r .words) + length xs ≤ 18446744073709551615 → NeverFull r xs
+unfolding entering
 never-full Came [] b c r st h = tt
 never-full Came (x ∷ xs) b c r st h =
-    let f : patsFull (r .words) ≡ false = ne-eqb (getD (r .words) 385 0) 18446744073709551615 (omega arith) in
-    let u : shown (entering r x) ≡ taking (shown r) x = entering-obeys Came r x (b .0) (c .0) st f in
-    (f, never-full Came xs (b .1) (c .1) (entering r x) (entering-stands Came r x (b .0) (c .0) st) (grown r x u h))
-  where
-    grown : (r : Record) (x : Sent) → shown (entering r x) ≡ taking (shown r) x → getD (r .words) 385 0 + suc (length xs) ≤ 18446744073709551615
-        → getD ((entering r x) .words) 385 0 + length xs ≤ 18446744073709551615
-    grown r x u h =
-        let a = shown-count r in
-        let b = shown-count (entering r x) in
-        let d : (shown (entering r x)) .sets .evicted ≡ (taking (shown r) x) .sets .evicted = ap (λ (p : Pats). p .sets .evicted) u in
-        let e : (taking (shown r) x) .sets .evicted ≤ (shown r) .sets .evicted + 1 = entered-count (shown r) (x .input) (x .section) in
-        omega arith
+    let f : patsFull (r .words) ≡ false = not-full (r .words) (omega arith) in
+    let g = entered-few r (ready r (is-whole r (st .words) (st .whole)) f) (x .input) (x .section) (b .0 7) .most in
+    (f, never-full Came xs (b .1) (c .1) (entering r x) (entering-stands Came r x (b .0) (c .0) st) (rw f (omega (arith, g, h))))
 
 -- ---- what the PAT store answers
 
@@ -256,7 +198,7 @@ module _ (r : Record) (o : Opened r) where
       → (shown (storeAfter entering r xs) ≡ storeAfter taking (record { sets = opened; n = (shown r) .n }) xs) × (patsWhole (storeAfter entering r xs) ≡ true) × NeverFull r xs
   pats-obey xs b h =
       let st = opened-stands r o (In xs) in
-      let z = o .evictions in
+      let z : patMost (r .words) ≡ 0 = rw (o .evictions, o .used) refl in
       let n = never-full (In xs) xs b (all-in xs) r st (omega arith) in
       let a = stands-after (In xs) xs b (all-in xs) r st in
       let e = opened-shown r o in (

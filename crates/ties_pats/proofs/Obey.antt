@@ -6,14 +6,15 @@ use mathlib.Core.Path.{_≡_, refl, sym, ap, subst, _∙_}
 use mathlib.Core.Logic.{_≢_, _⊎_, inl, inr}
 use mathlib.Core.Bool.{Bool, true, false, cond, not, _||_, true≢false, or-false}
 use mathlib.Core.List.{List, [], _∷_}
-use Prim.Native.Nat.{ℕ, suc, _≤_, _<_}
+use Prim.Native.Nat.{ℕ, suc, _+_, _≤_, _<_}
 use native.Mathlib.Omega.{arith}
-use lib.Dec.{ltb}
+use lib.Dec.{eqb, ltb}
 use lib.ListN.{length, getD, take}
 use Rattle.laws.specs.Bits.{hasBit}
 use Rattle.laws.proofs.Bits.{has-none}
 use Rattle.laws.proofs.Tests.{and-true}
-use Rattle.answers.specs.declared.Refusal.the-variants.{NoCell}
+use Rattle.answers.specs.declared.Refusal.the-variants.{NoCell, TooLong}
+use Rattle.answers.specs.Answers.{refusalNo}
 use Rattle.section.specs.Facts.{Bytes}
 use Rattle.section.specs.declared.ids.MaybePid.the-variants as maybe
 use Rattle.pat.specs.Pat.{readable, setN, withPrograms}
@@ -26,18 +27,22 @@ use Rattle.cells.specs.Cells.{lowestFree}
 use Rattle.rows.specs.Rows.{goneRow, takenIn, touched}
 use Rattle.rows.specs.declared.Entry.{Entry}
 use Rattle.rows.specs.declared.Room.{Room}
-use Rattle.store.specs.Store.{Store, store, WholeStore}
+use Rattle.store.specs.Store.{Store, store, risenSets, WholeStore}
 use Rattle.store.proofs.Whole.{means-whole}
 use Rattle.arrivals.specs.Arrivals.{setArrival, SetTaken}
 use Rattle.arrivals.specs.declared.SetArrival.{SetArrival}
 use Rattle.arrivals.specs.declared.SetArrival.the-variants as arrival
 use Rattle.arrivals.proofs.Facts.{set-taken}
 use Rattle.rules_shared.specs.Refusals as refusals
-use Rattle.rules_sets.specs.Rules.{Whole, Answer, nothing, handout, refused, barred}
+use Rattle.rules_sets.specs.Rules.{Whole, Answer, cleared, nothing, handout, refused, barred}
 use Rattle.rules_sets.specs.Rules.{tells as rulesTell, acts as rulesAct}
 use Rattle.rules_sets.specs.Cells.{view}
 use Rattle.rules_sets.proofs.History.{Lived, step-lived}
-use Rattle.sets_plan.specs.Plan.{planKeep, planOf}
+use Rattle.placing.specs.Places.{placeOf}
+use Rattle.placing.specs.declared.Place.{Place}
+use Rattle.placing.specs.declared.Place.the-variants as place
+use Rattle.sets_plan.specs.Plan.{planKeep, planPlaced, planOf}
+use Rattle.sets_plan.specs.declared.Plan.{Plan}
 use Rattle.sets_plan.specs.declared.Plan.the-variants as plan
 use Rattle.sets_plan.proofs.Every.{plan-by}
 use Rattle.sets_settle.specs.Settle as settle
@@ -50,8 +55,8 @@ use Rattle.sets.proofs.Arrived.{set-refused-by}
 use Rattle.ties_sets.specs.View as ties
 use Rattle.ties_sets.specs.View.{seen, settingsOf, answerTold, reads}
 use Rattle.ties_sets.proofs.History.{obeys, acts-reached}
-use Rattle.pats.specs.Store.{Record, patStore, patsFull, enters, withAll, programsOf, withStore, watchAfter, enteredAs, enteredIn, PatsReady, Arrives}
-use Rattle.ties_pats.specs.Rules.{Pats, programsOfSet, nAfter, readPat, patSettings, entered}
+use Rattle.pats.specs.Store.{Record, patClock, patStore, patsFull, enters, withAll, programsOf, withStore, watchAfter, enteredAs, enteredIn, PatsReady, Arrives}
+use Rattle.ties_pats.specs.Rules.{Pats, programsOfSet, nAfter, clockAfter, readPat, patSettings, entered}
 use Rattle.without_pid.specs.Pids.{withoutPid}
 use Rattle.pats.proofs.Store.{pushed-as}
 use Rattle.pats.proofs.Laws.{ready, is-whole, same-followed, same-watched, same-protected, length-programs-of, long-with, with-sets, then-store, entered-whole, entered-lengths, whole-store}
@@ -92,13 +97,56 @@ has-n Came w c q =
     has-all (w .sections) noPids q refl (λ j h. let a = c .all in let p = c .each j (omega arith) in (p .bytes, and-true (readable (getD (w .sections) j [])) _ (and-true _ _ (p .pat) .0) .0))
     ∙ rw (has-none 128 q) (or-false (programsOfSet (w .sections) q))
 
+-- ---- the clock rises with what is told
+
+pub clock-one : (a : Answer) (c : ℕ) → clockAfter a c ≤ c + 1
+clock-one cleared c = omega arith
+clock-one nothing c = omega arith
+clock-one (handout w) c = omega arith
+clock-one (refused r) c = go (eqb (refusalNo r) 22)
+  where
+    go : (b : Bool) → cond b (c + 1) c ≤ c + 1
+    go true = omega arith
+    go false = omega arith
+
+settled-ticks : (s : Store) (i : ℕ) → (settled s i) .store .sets .clock ≡ clockAfter (answerTold ((settled s i) .told)) (s .sets .clock)
+unfolding settled settledAnswer answerTold
+settled-ticks s i = go (goesOut (touched (s .sets .clock + 1) i (s .heads)) (s .slots) i)
+  where
+    go : (b : Bool) → s .sets .clock + 1 ≡ clockAfter (answerTold (answerOf (cond b (Set i) Nothing)
+        (store (risenSets (s .sets)) (settledHeads (s .sets .clock + 1) (s .heads) (s .slots) i) (s .slots) (s .cells)))) (s .sets .clock)
+    go true = refl
+    go false = refl
+
+abbrev Ticks : Store → List ℕ → Plan → Type 0
+Ticks s bytes p = (carried s bytes p) .store .sets .clock ≡ clockAfter (answerTold ((carried s bytes p) .told)) (s .sets .clock)
+
+planned-ticks : (s : Store) (e : Entry) (bytes : List ℕ) → s .sets .limit ≢ 0 → Ticks s bytes (planOf s e bytes)
+unfolding answerTold planOf planKeep keptIn
+planned-ticks s e bytes l = rw (ne-eqb (s .sets .limit) 0 l) (go (ltb (s .sets .size) (length bytes)))
+  where
+    kept : (r : Room) (c : ℕ) (b : Bool) → Ticks s bytes (cond b (plan.Keep (record { entry = e; room = r; cell = c })) (plan.Refuse NoCell))
+    kept r c true = settled-ticks (keptIn s bytes (record { entry = e; room = r; cell = c })) (r .row)
+    kept r c false = refl
+
+    placed : (p : Place) → Ticks s bytes (planPlaced s e p)
+    placed (place.Conflict i) = refl
+    placed (place.Repeat i) = settled-ticks s i
+    placed (place.Goes r) =
+        let c : ℕ = lowestFree (takenIn (s .heads) (s .slots) (goneRow r (s .sets .used)) (s .sets .used)) (s .sets .count) in
+        kept r c (ltb c (s .sets .count))
+
+    go : (a : Bool) → Ticks s bytes (cond a (plan.Refuse TooLong) (planPlaced s e (placeOf s e bytes)))
+    go true = refl
+    go false = placed (placeOf s e bytes)
+
 -- ---- 10, 11 and 21 do not come
 
 settled-free : (s : Store) (i : ℕ) → barred (answerTold ((settled s i) .told)) ≡ false
 unfolding settled settledAnswer answerTold barred
-settled-free s i = go (goesOut (touched (s .sets .used) i (s .heads)) (s .slots) i)
+settled-free s i = go (goesOut (touched (s .sets .clock + 1) i (s .heads)) (s .slots) i)
   where
-    go : (b : Bool) → barred (answerTold (answerOf (cond b (Set i) Nothing) (store (s .sets) (settledHeads (s .sets .used) (s .heads) (s .slots) i) (s .slots) (s .cells)))) ≡ false
+    go : (b : Bool) → barred (answerTold (answerOf (cond b (Set i) Nothing) (store (risenSets (s .sets)) (settledHeads (s .sets .clock + 1) (s .heads) (s .slots) i) (s .slots) (s .cells)))) ≡ false
     go true = refl
     go false = refl
 
@@ -136,7 +184,7 @@ module _ (r : Record) (o : PatsReady r) (np : withoutPid (patStore r .heads) (pa
 
   free : barred (answerTold (turn .told)) ≡ false
   unfolding pushedOf admitted answerTold barred refusals.barred wholePushed
-  free = rw (means-whole (patStore r) (o .ready .whole), ne-eqb (patStore r .sets .evictions) 18446744073709551615 (o .ready .counts), np) (go (setArrival input (maybe.Some 0) section) refl)
+  free = rw (means-whole (patStore r) (o .ready .whole), ne-eqb (patStore r .sets .evictions) 18446744073709551615 (o .ready .counts), ne-eqb (patStore r .sets .clock) 18446744073709551615 (o .ready .runs), np) (go (setArrival input (maybe.Some 0) section) refl)
     where
       go : (a : SetArrival) → setArrival input (maybe.Some 0) section ≡ a → barred (answerTold ((pushedAs (patStore r) section a) .told)) ≡ false
       go (arrival.Refused x) q = set-refused-by section (λ x. refusals.barred x ≡ false) refl refl refl refl refl refl refl input (maybe.Some 0) x q
@@ -144,10 +192,21 @@ module _ (r : Record) (o : PatsReady r) (np : withoutPid (patStore r .heads) (pa
           let t : SetTaken section (arrival.Arrived e) = subst (SetTaken section) q (set-taken section (b 7) input (maybe.Some 0)) in
           planned-free (patStore r) e section (never-21 (patStore r) (o .ready .whole) refl e (t .numbered) section refl)
 
+  rises : (turn .store .sets .clock) ≡ clockAfter (answerTold (turn .told)) (patStore r .sets .clock)
+  unfolding pushedOf admitted answerTold wholePushed
+  rises =
+      rw (means-whole (patStore r) (o .ready .whole), ne-eqb (patStore r .sets .evictions) 18446744073709551615 (o .ready .counts), ne-eqb (patStore r .sets .clock) 18446744073709551615 (o .ready .runs), np)
+      (go (setArrival input (maybe.Some 0) section) refl)
+    where
+      go : (a : SetArrival) → setArrival input (maybe.Some 0) section ≡ a
+          → (pushedAs (patStore r) section a) .store .sets .clock ≡ clockAfter (answerTold ((pushedAs (patStore r) section a) .told)) (patStore r .sets .clock)
+      go (arrival.Refused x) q = rw (set-refused-by section (λ x. eqb (refusalNo x) 22 ≡ false) refl refl refl refl refl refl refl input (maybe.Some 0) x q) refl
+      go (arrival.Arrived e) q = planned-ticks (patStore r) e section (omega arith)
+
   -- 10, 11 and 41 have been asked
   read-as : (a : SetArrival) → setArrival input (maybe.Some 0) section ≡ a → turn ≡ pushedAs (patStore r) section a
   unfolding pushedOf admitted
-  read-as a q = rw (means-whole (patStore r) (o .ready .whole), ne-eqb (patStore r .sets .evictions) 18446744073709551615 (o .ready .counts), np, q)
+  read-as a q = rw (means-whole (patStore r) (o .ready .whole), ne-eqb (patStore r .sets .evictions) 18446744073709551615 (o .ready .counts), ne-eqb (patStore r .sets .clock) 18446744073709551615 (o .ready .runs), np, q)
 
   did : enters section ≡ true → Did r then turn
   unfolding enteredIn
@@ -244,6 +303,12 @@ module _ (Came : List ℕ → Type 0) (r : Record) (st : Stands Came r) (more : 
   pub tells-rules : tellsOf r (record { input = input; section = section }) ≡ rulesTell patSettings (before .sets) (readPat input section)
   unfolding ties.tells
   tells-rules = by-rules .0
+
+  -- the PAT store's clock by the rules
+  pub clock-then : enters section ≡ true → patClock ((enteredIn r input section) .words) ≡ clockAfter (rulesTell patSettings (before .sets) (readPat input section)) (patClock (r .words))
+  clock-then h =
+      ap (λ (s : Store). s .sets .clock) (did r o np input section b h .left) ∙ rises r o np input section b
+      ∙ ap (λ (a : Answer). clockAfter a (patClock (r .words))) (by-rules .0)
 
   module _ (h : enters section ≡ true) (c : Came section) where
     d : Did r (enteredIn r input section) (turn r o np input section b)

@@ -1,10 +1,11 @@
 -- PATs in several sections, without memory (docs/RULES.md, "Watched PIDs" and "Collectors"; ISO/IEC 13818-1, 2.4.4.3): the sections of a PAT are
 -- collected as a set, and only a complete one replaces N.
-use Prim.Native.Nat.{ℕ}
+use Prim.Native.Nat.{ℕ, _+_}
 use mathlib.Core.List.{List, [], _∷_}
 use mathlib.Core.Bool.{Bool, false, cond, _&&_, _||_}
 use lib.Dec.{eqb}
 use Rattle.section.specs.declared.ids.MaybePid.the-variants as maybe
+use Rattle.answers.specs.Answers.{refusalNo}
 use Rattle.pat.specs.Pat.{setN}
 use Rattle.rules_shared.specs.Cells.{Settings}
 use Rattle.rules_sets.specs.Rules.{Sets, Call, Answer, cleared, nothing, handout, refused, tells, acts}
@@ -35,6 +36,13 @@ nAfter cleared n = n
 nAfter nothing n = n
 nAfter (handout pat) n = programsOfSet (pat .sections)
 nAfter (refused r) n = n
+
+-- how often the key was touched, after that answer: a section that is kept or there already touches it, and so does one in conflict (22)
+abbrev pub clockAfter : Answer → ℕ → ℕ
+clockAfter cleared c = c
+clockAfter nothing c = c + 1
+clockAfter (handout pat) c = c + 1
+clockAfter (refused r) c = cond (eqb (refusalNo r) 22) (c + 1) c
 
 -- the section as the set collector reads it, on PID 0
 abbrev pub readPat : (input : ℕ) → List ℕ → Call

@@ -13,9 +13,9 @@ use Rattle.answers.specs.declared.Refusal.the-variants as refusal
 use Rattle.rows.specs.declared.Key.{Key}
 use Rattle.rows.specs.declared.Entry.{Entry}
 use Rattle.rows.specs.declared.Room.{Room}
-use Rattle.rows.specs.Rows.{tableWord, rowOf, touched, roomIn, roomRenewed, roomNew, keptHeads, ageOf, lastOf}
+use Rattle.rows.specs.Rows.{tableWord, rowOf, touched, roomIn, roomRenewed, roomNew, keptHeads, lastOf}
 use Rattle.rows.proofs.Words.{touched-not, kept-fresh, kept-known}
-use Rattle.ages.proofs.Touch.{row-has-key}
+use Rattle.ticks.proofs.Touch.{row-has-key}
 use Rattle.arrivals.specs.declared.Arrival.{Arrival}
 use Rattle.placing.specs.Places.{placeOf, PlaceOk}
 use Rattle.placing.specs.declared.Place.{Place}
@@ -28,7 +28,7 @@ use Rattle.schedules.proofs.Laws.{room-may}
 use Rattle.ties_eit.proofs.Entered.{new-fresh}
 use Rattle.eit_state.specs.declared.PushAnswer.{PushAnswer}
 use Rattle.eit_state.specs.declared.PushAnswer.the-variants as answer
-use Rattle.eit_state.specs.State.{Store, Rows, rows, rowsOf, setStore, Whole}
+use Rattle.eit_state.specs.State.{Store, Rows, rows, rowsOf, risenRows, setStore, Whole}
 use Rattle.eit_plan.specs.declared.Plan.{Plan}
 use Rattle.eit_plan.specs.declared.Plan.the-variants as plan
 use Rattle.eit_plan.specs.Plan.{freeCell, planPlaced, planOf}
@@ -75,22 +75,22 @@ module _ (heads : List ℕ) (limit held evictions : ℕ) (e : Entry) (few : held
       found : Bool → Bool → ScheduleRoom
       found b c =
           cond b
-          (cond c (record { room = roomIn held evictions there; refill = false }) (record { room = roomRenewed held evictions there (ageOf heads there); refill = true }))
+          (cond c (record { room = roomIn held evictions there; refill = false }) (record { room = roomRenewed held evictions there; refill = true }))
           (record { room = roomNew heads limit held evictions; refill = false })
 
       go : (b c : Bool) → ltb there held ≡ b → eqb (lastOf heads there) (e .last) ≡ c → RoomFits limit (found b c) → Head ((found b c) .room)
       go true true p q f = known-head (ltb-true there held p) (eqb-true (lastOf heads there) (e .last) q)
-      go true false p q f = fresh-head (roomRenewed held evictions there (ageOf heads there)) refl (row-in (record { room = roomRenewed held evictions there (ageOf heads there); refill = true }) f)
+      go true false p q f = fresh-head (roomRenewed held evictions there) refl (row-in (record { room = roomRenewed held evictions there; refill = true }) f)
       go false c p q f = fresh-head (roomNew heads limit held evictions) (new-fresh heads limit held evictions) (row-in (record { room = roomNew heads limit held evictions; refill = false }) f)
 
   -- so its tables are those of the entry
-  tables-are : (r : ScheduleRoom) → r ≡ roomOf heads limit held evictions e → tablesOf (scheduledHeads (r .room) e heads) (r .room .row) ≡ tableCount (e .key .«table_id») (e .last)
+  tables-are : (clock : ℕ) (r : ScheduleRoom) → r ≡ roomOf heads limit held evictions e → tablesOf (scheduledHeads clock (r .room) e heads) (r .room .row) ≡ tableCount (e .key .«table_id») (e .last)
   unfolding tablesOf scheduledHeads
-  tables-are r q =
+  tables-are clock r q =
       let h : Head (r .room) = rw q head-is in
       rw (
-        touched-not (r .room .used) (r .room .row) (keptHeads (r .room) e heads) (r .room .row) 1 (omega arith) (omega arith),
-        touched-not (r .room .used) (r .room .row) (keptHeads (r .room) e heads) (r .room .row) 7 (omega arith) (omega arith),
+        touched-not clock (r .room .row) (keptHeads (r .room) e heads) (r .room .row) 1 (omega arith) (omega arith),
+        touched-not clock (r .room .row) (keptHeads (r .room) e heads) (r .room .row) 7 (omega arith) (omega arith),
         h .0,
         h .1,
       ) refl
@@ -115,17 +115,17 @@ module _ (r : Rows) (a : Arrival) (i : ℕ) (row : i < r .eit .sets .used) (used
       go : (b : Bool) → tablesThere units (there .room .row) e ≡ b → ToldRow (enteredAnswer b (there .room .row)) ((enteredIn r a i there) .rows)
       go true q =
           let f = room-may (r .schedule-heads) (r .eit .sets .limit) (r .eit .schedules) (r .eit .«schedule_evictions») e there (omega (arith, row, used)) few refl in
-          let n = tables-are (r .schedule-heads) (r .eit .sets .limit) (r .eit .schedules) (r .eit .«schedule_evictions») e few (omega (arith, row, used)) long there refl in
+          let n = tables-are (r .schedule-heads) (r .eit .sets .limit) (r .eit .schedules) (r .eit .«schedule_evictions») e few (omega (arith, row, used)) long (r .eit .sets .clock) there refl in
           (f .row, ap (allPresent units (there .room .row * 16)) n ∙ and-true (ltb (e .last - firstTable (e .key .«table_id»)) 16) (allPresent units (there .room .row * 16) (tableCount (e .key .«table_id») (e .last))) q .1)
       go false q = tt
 
 settled-told : (r : Rows) (a : Arrival) (i : ℕ) → i < r .eit .sets .used → r .eit .sets .used ≤ r .eit .sets .limit → r .eit .schedules ≤ r .eit .sets .limit
     → r .eit .sets .limit * 12 ≤ length (r .schedule-heads) → ToldRow ((settled r a i) .answer) ((settled r a i) .rows)
 unfolding settled
-settled-told r a i row used few long = go (becomesOf (touched (r .eit .sets .used) i (r .heads)) (r .slots) a i)
+settled-told r a i row used few long = go (becomesOf (touched (r .eit .sets .clock) i (r .heads)) (r .slots) a i)
   where
     left : Becomes → Rows
-    left b = rows (r .eit) (markedHeads (isMarked b) i (touched (r .eit .sets .used) i (r .heads))) (r .slots) (r .schedule-heads) (r .units)
+    left b = rows (r .eit) (markedHeads (isMarked b) i (touched (r .eit .sets .clock) i (r .heads))) (r .slots) (r .schedule-heads) (r .units)
 
     go : (b : Becomes) → ToldRow ((settledAs b (left b) a i) .answer) ((settledAs b (left b) a i) .rows)
     go becomes.Stays = tt
@@ -144,7 +144,7 @@ told-row s w bytes a = go (ltb (s .eit .sets .size) (length bytes)) (eqb (s .eit
 
     placed : (p : Place) → PlaceOk (setStore s) p → Fine (planPlaced s a p)
     placed (place.Conflict i) o = tt
-    placed (place.Repeat i) o = settled-told (rowsOf s) a i o (w .sets .used) (w .schedules) (w .schedule-heads-long)
+    placed (place.Repeat i) o = settled-told (risenRows (rowsOf s)) a i o (w .sets .used) (w .schedules) (w .schedule-heads-long)
     placed (place.Goes r) o = cell (ltb (freeCell (rowsOf s) (place.Goes r)) (s .eit .sets .count))
       where
         cell : (b : Bool) → Fine (cond b (plan.Keep (record { arrival = a; room = r; cell = freeCell (rowsOf s) (place.Goes r) })) (plan.Leave (answer.Refused refusal.NoCell)))

@@ -1,6 +1,6 @@
 -- The set collector: what a host reads out of a row in use is what its filled slots keep; after an answer 5 these are the sections that were handed out.
 -- Assumes nothing.
-use Prim.Native.Nat.{ℕ, _<_}
+use Prim.Native.Nat.{ℕ, _+_, _<_}
 use native.Mathlib.Omega.{arith}
 use mathlib.Core.Path.{_≡_, refl, sym, ap, _∙_, subst}
 use mathlib.Core.List.{List, map}
@@ -16,9 +16,9 @@ use Rattle.cells.specs.Cells.{allFilled, kept}
 use Rattle.rows.specs.Rows.{touched, rowSlots, markOf, withMark}
 use Rattle.rows.proofs.Words.{put-not}
 use Rattle.rows.proofs.Whole.{rows-get}
-use Rattle.ages.proofs.Slots.{slots-same}
+use Rattle.ticks.proofs.Slots.{slots-same}
 use Rattle.without_pid.specs.Pids.{withoutPid}
-use Rattle.store.specs.Store.{Store, store, wholeOf, WholeStore}
+use Rattle.store.specs.Store.{Store, store, risenSets, countersFull, wholeOf, WholeStore}
 use Rattle.store.proofs.Whole.{means-whole}
 use Rattle.arrivals.specs.Arrivals.{setArrival}
 use Rattle.arrivals.specs.declared.SetArrival.{SetArrival}
@@ -83,21 +83,21 @@ not-handed t h z e = let y : _≡_ {A = ℕ} 0 1 = sym z ∙ ap no-number e in o
 
 settled-out : (s : Store) (i : ℕ) (h : Handed) → i < s .sets .used → (settled s i) .told ≡ handed h → HandedOut h ((settled s i) .store)
 unfolding settled settledAnswer settledHeads goesOut setIn no-number
-settled-out s i h l e = go (goesOut (touched (s .sets .used) i (s .heads)) (s .slots) i) refl e
+settled-out s i h l e = go (goesOut (touched (s .sets .clock + 1) i (s .heads)) (s .slots) i) refl e
   where
     g : List ℕ
-    g = touched (s .sets .used) i (s .heads)
+    g = touched (s .sets .clock + 1) i (s .heads)
 
-    go : (b : Bool) → goesOut (touched (s .sets .used) i (s .heads)) (s .slots) i ≡ b
-        → (answered (cond b (push-answer.Set i) push-answer.Nothing) (store (s .sets) (cond b (withMark i 1 (touched (s .sets .used) i (s .heads))) (touched (s .sets .used) i (s .heads))) (s .slots) (s .cells))) .told ≡ handed h
-        → HandedOut h (store (s .sets) (cond b (withMark i 1 (touched (s .sets .used) i (s .heads))) (touched (s .sets .used) i (s .heads))) (s .slots) (s .cells))
+    go : (b : Bool) → goesOut (touched (s .sets .clock + 1) i (s .heads)) (s .slots) i ≡ b
+        → (answered (cond b (push-answer.Set i) push-answer.Nothing) (store (risenSets (s .sets)) (cond b (withMark i 1 (touched (s .sets .clock + 1) i (s .heads))) (touched (s .sets .clock + 1) i (s .heads))) (s .slots) (s .cells))) .told ≡ handed h
+        → HandedOut h (store (risenSets (s .sets)) (cond b (withMark i 1 (touched (s .sets .clock + 1) i (s .heads))) (touched (s .sets .clock + 1) i (s .heads))) (s .slots) (s .cells))
     go true f q =
-        let t : Store = store (s .sets) (withMark i 1 (touched (s .sets .used) i (s .heads))) (s .slots) (s .cells) in
+        let t : Store = store (risenSets (s .sets)) (withMark i 1 (touched (s .sets .clock + 1) i (s .heads))) (s .slots) (s .cells) in
         let p : setIn t i ≡ h = ap (λ (x : Told). handedIn x h) q in
         let r : i ≡ h .row = ap (λ (x : Handed). x .row) p in
-        let c = slots-same (touched (s .sets .used) i (s .heads)) (withMark i 1 (touched (s .sets .used) i (s .heads))) (s .slots) i
-        (put-not (touched (s .sets .used) i (s .heads)) i 8 1 i 7 (λ z. absurd (omega (arith, z))) (omega arith) (omega arith)) in
-        let full : allFilled (rowSlots (t .heads) (t .slots) i) ≡ true = ap allFilled c ∙ and-true (eqb (markOf (touched (s .sets .used) i (s .heads)) i) 0) (allFilled (rowSlots (touched (s .sets .used) i (s .heads)) (s .slots) i)) f .1 in
+        let c = slots-same (touched (s .sets .clock + 1) i (s .heads)) (withMark i 1 (touched (s .sets .clock + 1) i (s .heads))) (s .slots) i
+        (put-not (touched (s .sets .clock + 1) i (s .heads)) i 8 1 i 7 (λ z. absurd (omega (arith, z))) (omega arith) (omega arith)) in
+        let full : allFilled (rowSlots (t .heads) (t .slots) i) ≡ true = ap allFilled c ∙ and-true (eqb (markOf (touched (s .sets .clock + 1) i (s .heads)) i) 0) (allFilled (rowSlots (touched (s .sets .clock + 1) i (s .heads)) (s .slots) i)) f .1 in
         record {
           set = sym p ∙ ap (setIn t) r;
           used = subst (λ (k : ℕ). k < s .sets .used) r l;
@@ -119,7 +119,7 @@ pushed-out s input pid bytes h b e = go (admitted s input pid bytes) (admitted-o
   where
     go : (a : SetArrival) → AdmittedOk s bytes a → (pushedAs s bytes a) .told ≡ handed h → HandedOut h ((pushedAs s bytes a) .store)
     go (arrival.Refused r) o e = absurd (not-handed (refused r) h refl e)
-    go (arrival.Arrived x) o e = carried-out s bytes (planOf s x bytes) h (plan-ok s (o .0 .whole) x bytes (o .1)) e
+    go (arrival.Arrived x) o e = carried-out s bytes (planOf s x bytes) h (plan-ok s (o .0) x bytes (o .1)) e
 
 -- a push that hands a set out met PIDs alone, and leaves PIDs alone
 out-pids : (s : Store) (input : ℕ) (pid : MaybePid) (bytes : List ℕ) (h : Handed) → getD bytes 7 0 < 256 → (pushedOf s input pid bytes) .told ≡ handed h
@@ -127,7 +127,7 @@ out-pids : (s : Store) (input : ℕ) (pid : MaybePid) (bytes : List ℕ) (h : Ha
 unfolding pushedOf admitted no-number
 out-pids s input pid bytes h b e =
     none-without ((pushedOf s input pid bytes) .store)
-    (push-pids s input pid bytes b (has-pids s (go (wholeOf s) (eqb (s .sets .evictions) 18446744073709551615) (withoutPid (s .heads) (s .sets .used)) refl e)))
+    (push-pids s input pid bytes b (has-pids s (go (wholeOf s) (countersFull (s .sets)) (withoutPid (s .heads) (s .sets .used)) refl e)))
   where
     go : (w t n : Bool) → withoutPid (s .heads) (s .sets .used) ≡ n
         → (pushedAs s bytes (cond w (cond t (arrival.Refused CounterFull) (cond n (arrival.Refused NoPid) (setArrival input pid bytes))) (arrival.Refused NotWhole))) .told ≡ handed h

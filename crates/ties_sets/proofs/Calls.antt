@@ -1,8 +1,8 @@
 -- One call: what the store of the set collector tells and shows then is what the rules with cells tell and leave, for every store that a history reaches.
 -- Assumes nothing.
-use mathlib.Core.Path.{_≡_, refl, ap, subst, _∙_}
+use mathlib.Core.Path.{_≡_, refl, sym, ap, subst, _∙_}
 use mathlib.Core.Logic.{_≢_}
-use mathlib.Core.Bool.{Bool, true, false, cond, not, _&&_}
+use mathlib.Core.Bool.{Bool, true, false, cond, not, _&&_, _||_}
 use mathlib.Core.Option.{Option, none, some}
 use mathlib.Core.List.{List}
 use Prim.Native.Nat.{ℕ, zero, suc, _+_, _*_, _≤_, _<_}
@@ -35,24 +35,23 @@ use Rattle.cells.specs.Cells.{keptLength, filled, slotWhole, allWhole, kept}
 use Rattle.rows.specs.declared.Origin.{Origin as Words}
 use Rattle.rows.specs.declared.Entry.{Entry}
 use Rattle.rows.specs.declared.Room.{Room}
-use Rattle.rows.specs.Rows.{keyAt, rowOf, roomIn, roomRenewed, roomNew, slotsAt, slotCount, rowSlots, oldestOf, ageOf, lastOf, versionOf}
+use Rattle.rows.specs.Rows.{keyAt, rowOf, roomIn, roomRenewed, roomNew, slotsAt, slotCount, rowSlots, oldestOf, lastOf, versionOf}
 use Rattle.rows.specs.declared.Key.{Key}
-use Rattle.ages.specs.Order.{downFrom, inOrder, rowsSeen, Goes, known}
-use Rattle.ages.specs.Origins.{plainShown}
-use Rattle.ages.specs.Slots.{heldOf, cellsSeen}
-use Rattle.ages.proofs.Ages.{length-order}
-use Rattle.ages.proofs.Touch.{row-has-key, no-row-has-key, goes-known, goes-new, stands-none, finds-known, finds-none}
+use Rattle.ticks.specs.Order.{rowsSeen, Goes, known}
+use Rattle.ticks.specs.Origins.{plainShown}
+use Rattle.ticks.specs.Slots.{heldOf, cellsSeen}
+use Rattle.ticks.proofs.Touch.{row-has-key, no-row-has-key, goes-known, goes-new, stands-none, seen-none, length-seen, finds-known, finds-none}
 use Rattle.without_pid.specs.Pids.{withoutPid}
-use Rattle.ages.proofs.Slots.{place, held-filled, held-empty, held-get, held-whole, rows-whole}
+use Rattle.ticks.proofs.Slots.{place, held-filled, held-empty, held-get, held-whole, rows-whole}
 use Rattle.rows.proofs.Words.{slot-at, length-slots}
 use Rattle.rows.proofs.Whole.{rows-get}
-use Rattle.ages.proofs.Cells.{cells-length, bytes-kept, same-bytes}
+use Rattle.ticks.proofs.Cells.{cells-length, bytes-kept, same-bytes}
 use Rattle.answers.specs.declared.Refusal.the-variants as refusal
 use Rattle.arrivals.specs.Arrivals.{Numbered, Taken, madeWords, setKey, entryOf, setRead, setJudged, setArrival}
 use Rattle.arrivals.specs.declared.SetArrival.the-variants as arrival
 use Rattle.sets.proofs.Arrived.{entry-taken}
-use Rattle.store.specs.Store.{Store, store, wholeOf, Whole, emptySets}
-use Rattle.store.proofs.Whole.{whole-means, long}
+use Rattle.store.specs.Store.{Store, store, wholeOf, countersFull, Whole, emptySets}
+use Rattle.store.proofs.Whole.{whole-means, long, evictions-go-on, clock-goes-on}
 use Rattle.placing.specs.Places.{placeSlot, placeKnown}
 use Rattle.placing.specs.Places.{placeOf as rowPlace}
 use Rattle.placing.specs.declared.Place.the-variants.{Conflict, Repeat, Goes as RoomIn}
@@ -70,10 +69,6 @@ use Rattle.ties_sets.proofs.Keep.{sectionFor, anew, goesOn, keep-tied}
 
 -- ---- lists of rows
 
-seen-length : {R : Type 0} (shown : Key → SetKey) (heads : List ℕ) (used : ℕ) (row : ℕ → R) → length (rowsSeen shown heads used row) ≡ used
-unfolding rowsSeen
-seen-length shown heads used row = length-order (ageOf heads) used _
-
 row-whole : (s : Store) (j : ℕ) → everyHeld (heldWhole ((seen s) .settings) ((seen s) .cells)) ((rowSeen (s .heads) (s .slots) j) .slots) ≡ allWhole (s .sets .count) (s .sets .size) (rowSlots (s .heads) (s .slots) j)
 unfolding rowSeen seen
 row-whole s j =
@@ -84,7 +79,7 @@ new-fresh : (heads : List ℕ) (limit used evictions : ℕ) → (roomNew heads l
 unfolding roomNew
 new-fresh heads limit used evictions = go (ltb used limit)
   where
-    go : (b : Bool) → (cond b (roomRenewed (used + 1) evictions used used) (roomRenewed used (evictions + 1) (oldestOf heads used) (ageOf heads (oldestOf heads used)))) .fresh ≡ true
+    go : (b : Bool) → (cond b (roomRenewed (used + 1) evictions used) (roomRenewed used (evictions + 1) (oldestOf heads used))) .fresh ≡ true
     go true = refl
     go false = refl
 
@@ -97,38 +92,41 @@ whole-seen s z =
     let n : length (cellsSeen (s .cells) (s .sets .size) (s .sets .count)) ≡ s .sets .count = cells-length (s .cells) (s .sets .size) (s .sets .count) in
     rw (z .fits, n, le-leb 12 (s .sets .size) (l .size-low), le-leb (s .sets .size) 4096 (l .size-high), le-leb (s .sets .count) 65535 (l .few), rows-length)
     (ap (λ (b : Bool). leb (s .sets .used) (s .sets .limit) && b)
-    (rows-whole keyShown (s .heads) (s .slots) (s .sets .count) (s .sets .size) (s .sets .used) (z .stands .ages) test (rowSeen (s .heads) (s .slots)) each))
+    (rows-whole keyShown (s .heads) (s .slots) (s .sets .count) (s .sets .size) (s .sets .used) (s .sets .clock) (z .stands .ticks) test (rowSeen (s .heads) (s .slots)) each))
   where
     test : SetOf Held → Bool
     test r = everyHeld (heldWhole ((seen s) .settings) ((seen s) .cells)) (r .slots)
 
-    rows-length : length (rowsSeen keyShown (s .heads) (s .sets .used) (rowSeen (s .heads) (s .slots))) ≡ s .sets .used
-    rows-length = seen-length keyShown (s .heads) (s .sets .used) (rowSeen (s .heads) (s .slots))
+    rows-length : length (rowsSeen keyShown (s .heads) (s .sets .used) (s .sets .clock) (rowSeen (s .heads) (s .slots))) ≡ s .sets .used
+    rows-length = length-seen keyShown keyWords (s .heads) (s .sets .used) (s .sets .clock) (z .stands) (rowSeen (s .heads) (s .slots))
 
     each : (j : ℕ) → test (rowSeen (s .heads) (s .slots) j) ≡ allWhole (s .sets .count) (s .sets .size) (rowSlots (s .heads) (s .slots) j)
     each j = row-whole s j
 
-pub ended-seen : (s : Store) → Standing s → atEnd (s .sets .evictions) ≡ eqb (s .sets .evictions) 18446744073709551615
+at-end : (n : ℕ) → n ≤ 18446744073709551615 → atEnd n ≡ eqb n 18446744073709551615
 unfolding atEnd
-ended-seen s z =
-    same-test (leb 18446744073709551615 (s .sets .evictions)) (eqb (s .sets .evictions) 18446744073709551615)
-    (λ e. let h = leb-true 18446744073709551615 (s .sets .evictions) e in let c = z .counts in eq-eqb (s .sets .evictions) 18446744073709551615 (omega arith))
-    (λ e. let h = eqb-true (s .sets .evictions) 18446744073709551615 e in le-leb 18446744073709551615 (s .sets .evictions) (omega arith))
+at-end n c =
+    same-test (leb 18446744073709551615 n) (eqb n 18446744073709551615)
+    (λ e. let h = leb-true 18446744073709551615 n e in eq-eqb n 18446744073709551615 (omega arith))
+    (λ e. let h = eqb-true n 18446744073709551615 e in le-leb 18446744073709551615 n (omega arith))
+
+pub ended-seen : (s : Store) → Standing s → (atEnd (s .sets .evictions) || atEnd (s .sets .clock)) ≡ countersFull (s .sets)
+ended-seen s z = rw (at-end (s .sets .evictions) (z .counts), at-end (s .sets .clock) (z .ticks))
 
 -- ---- 41
 
 pub standing : (s : Store) → Reached s → Standing s
-standing s z = record { fits = z .fits; counts = z .counts; stands = z .stands }
+standing s z = record { fits = z .fits; counts = z .counts; ticks = z .ticks; stands = z .stands }
 
 -- ---- a clear
 
 emptied-tied : (s : Store) → Standing s
     → Tied (after done (store (emptySets (s .sets)) (s .heads) (s .slots) (s .cells))) (good (seen s) clear)
-unfolding good shows onAnswer answerTold seen emptied rowsSeen inOrder downFrom
+unfolding good shows onAnswer answerTold seen emptied
 emptied-tied s z = record {
   told = refl;
-  shown = refl;
-  reached = record { fits = z .fits; counts = z .counts; stands = stands-none keyShown keyWords sameKey sameKey-true same-self (s .heads) };
+  shown = rw (seen-none keyShown keyWords sameKey sameKey-true same-self (s .heads) (s .sets .clock) (rowSeen (s .heads) (s .slots)));
+  reached = record { fits = z .fits; counts = z .counts; ticks = z .ticks; stands = stands-none keyShown keyWords sameKey sameKey-true same-self (s .heads) (s .sets .clock) };
 }
 
 pub clear-tied : (s : Store) → Reached s → Tied (clearedOf s) (call (seen s) clear)
@@ -142,7 +140,7 @@ clear-tied s z = rw (whole-seen s (standing s z), z .pids) (go (wholeOf s))
 
 -- ---- a section that 20 and limit 0 let in
 
-module _ (s : Store) (z : Standing s) (f : Whole (s .sets) (s .heads) (s .slots) (s .cells)) (more : s .sets .evictions < 18446744073709551615) (pos : 0 < s .sets .limit)
+module _ (s : Store) (z : Standing s) (f : Whole (s .sets) (s .heads) (s .slots) (s .cells)) (more : s .sets .evictions < 18446744073709551615) (runs : s .sets .clock < 18446744073709551615) (pos : 0 < s .sets .limit)
     (e : Entry) (n : Numbered e) (proper : keyWords (keyShown (e .key)) ≡ e .key) (bytes : Bytes) (h12 : 12 ≤ length bytes) (hs : length bytes ≤ s .sets .size) where
   abbrev x : Section
   x = sectionFor e bytes
@@ -159,7 +157,7 @@ module _ (s : Store) (z : Standing s) (f : Whole (s .sets) (s .heads) (s .slots)
   met-new : s .sets .used ≤ there → metRow x ((seen s) .sets) ≡ fresh (partOf x)
   unfolding metRow start seen
   met-new h =
-      rw (finds-none keyShown keyWords sameKey sameKey-true same-self (s .heads) (s .sets .limit) (s .sets .used) (s .sets .evictions) (e .key) (z .stands) proper (rowSeen (s .heads) (s .slots))
+      rw (finds-none keyShown keyWords sameKey sameKey-true same-self (s .heads) (s .sets .limit) (s .sets .used) (s .sets .clock) (s .sets .clock + 1) (s .sets .evictions) (e .key) (z .stands) (omega arith) proper (rowSeen (s .heads) (s .slots))
       (no-row-has-key (s .heads) (e .key) (s .sets .used) h))
 
   fresh-slot : (r : SetOf Held) → r ≡ fresh (partOf x) → slotOf (partOf x) r ≡ none
@@ -171,15 +169,15 @@ module _ (s : Store) (z : Standing s) (f : Whole (s .sets) (s .heads) (s .slots)
   new-tied h =
       let r : Room = roomNew (s .heads) (s .sets .limit) (s .sets .used) (s .sets .evictions) in
       rw (place-empty (fresh-slot _ (met-new h)))
-      (keep-tied s z f more e n proper bytes h12 hs r (r .age) (goes-new (s .heads) (s .sets .limit) (s .sets .used) (s .sets .evictions) (e .key) h pos)
-      (anew (new-fresh (s .heads) (s .sets .limit) (s .sets .used) (s .sets .evictions)) refl) (met-new h))
+      (keep-tied s z f more runs e n proper bytes h12 hs r (goes-new (s .heads) (s .sets .limit) (s .sets .used) (s .sets .evictions) (e .key) h pos)
+      (anew (new-fresh (s .heads) (s .sets .limit) (s .sets .used) (s .sets .evictions))) (met-new h))
 
   -- the key is known
   module _ (h : there < s .sets .used) where
     abbrev row : SetOf Held
     row = rowSeen (s .heads) (s .slots) there
 
-    goes : Goes (s .heads) (s .sets .limit) (s .sets .used) (s .sets .evictions) (e .key) there (ageOf (s .heads) there) (s .sets .used) (s .sets .evictions)
+    goes : Goes (s .heads) (s .sets .limit) (s .sets .used) (s .sets .evictions) (e .key) there (s .sets .used) (s .sets .evictions)
     goes = goes-known (s .heads) (s .sets .limit) (s .sets .used) (s .sets .evictions) (e .key) h
 
     fits-as : fits (partOf x) row ≡ (eqb (versionOf (s .heads) there) (e .version) && eqb (lastOf (s .heads) there) (e .last))
@@ -190,7 +188,7 @@ module _ (s : Store) (z : Standing s) (f : Whole (s .sets) (s .heads) (s .slots)
     unfolding metRow start seen
     met-known b q =
         rw (
-          finds-known keyShown keyWords sameKey sameKey-true same-self (s .heads) (s .sets .limit) (s .sets .used) (s .sets .evictions) (e .key) (z .stands) proper (rowSeen (s .heads) (s .slots)) there h
+          finds-known keyShown keyWords sameKey sameKey-true same-self (s .heads) (s .sets .limit) (s .sets .used) (s .sets .clock) (s .sets .clock + 1) (s .sets .evictions) (e .key) (z .stands) (omega arith) proper (rowSeen (s .heads) (s .slots)) there h
               (row-has-key (s .heads) (e .key) (s .sets .used) h),
           fits-as,
           q,
@@ -198,10 +196,10 @@ module _ (s : Store) (z : Standing s) (f : Whole (s .sets) (s .heads) (s .slots)
 
     -- "A differing version or last number empties the row"
     renewed-tied : metRow x ((seen s) .sets) ≡ fresh (partOf x)
-        → Tied (carried s bytes (planKeep s e (roomRenewed (s .sets .used) (s .sets .evictions) there (ageOf (s .heads) there)))) (carry (seen s) x (placeOf (seen s) x))
+        → Tied (carried s bytes (planKeep s e (roomRenewed (s .sets .used) (s .sets .evictions) there))) (carry (seen s) x (placeOf (seen s) x))
     renewed-tied m =
         rw (place-empty (fresh-slot _ m))
-        (keep-tied s z f more e n proper bytes h12 hs (roomRenewed (s .sets .used) (s .sets .evictions) there (ageOf (s .heads) there)) (ageOf (s .heads) there) goes (anew refl refl) m)
+        (keep-tied s z f more runs e n proper bytes h12 hs (roomRenewed (s .sets .used) (s .sets .evictions) there) goes (anew refl) m)
 
     -- the row goes on
     module _ (last : lastOf (s .heads) there ≡ e .last) (m : metRow x ((seen s) .sets) ≡ row) where
@@ -226,13 +224,14 @@ module _ (s : Store) (z : Standing s) (f : Whole (s .sets) (s .heads) (s .slots)
           subst (λ (v : ℕ). slotWhole (s .sets .count) (s .sets .size) v ≡ true) (slot-at (s .heads) (s .slots) there (e .number) in-row)
           (every-get (slotWhole (s .sets .count) (s .sets .size)) (rowSlots (s .heads) (s .slots) there) 0 (e .number) row-ok (let d = length-slots (s .heads) (s .slots) there slots-there in let i = in-row in omega arith))
 
-      itself : Ready s s (e .key) there (ageOf (s .heads) there)
+      itself : Ready s s (e .key) there
       itself = record {
         fits = z .fits;
         counts = z .counts;
         long = let a = f .heads-long in let b = f .used in omega arith;
         own = row-has-key (s .heads) (e .key) (s .sets .used) h;
-        age = refl;
+        clock = refl;
+        runs = runs;
         others = λ j k l ne q. refl;
         slots = λ j l ne. refl;
         row-whole = row-ok;
@@ -247,8 +246,8 @@ module _ (s : Store) (z : Standing s) (f : Whole (s .sets) (s .heads) (s .slots)
           (go (sameList (kept (s .cells) (s .sets .size) w) bytes))
         where
           go : (b : Bool) → Tied (carried s bytes (planPlaced s e (cond b (Repeat there) (Conflict there)))) (carry (seen s) x (placeHeld b))
-          go true = rw m (settle-tied s s (e .key) there (ageOf (s .heads) there) z proper goes itself refl refl)
-          go false = rw m (conflict-tied s s (e .key) there (ageOf (s .heads) there) z proper goes itself refl refl)
+          go true = rw m (settle-tied s s (e .key) there z proper goes itself refl refl)
+          go false = rw m (conflict-tied s s (e .key) there z proper goes itself refl refl)
 
       slot-tied : Tied (carried s bytes (planPlaced s e (placeSlot s bytes there w))) (carry (seen s) x (placeOf (seen s) x))
       unfolding placeSlot
@@ -259,8 +258,8 @@ module _ (s : Store) (z : Standing s) (f : Whole (s .sets) (s .heads) (s .slots)
               (carry (seen s) x (placeOf (seen s) x))
           go true q =
               rw (place-empty (slot-is ∙ held-empty w (eqb-true (keptLength w) 0 q)))
-              (keep-tied s z f more e n proper bytes h12 hs (roomIn (s .sets .used) (s .sets .evictions) there) (ageOf (s .heads) there) goes
-              (goesOn refl h (row-has-key (s .heads) (e .key) (s .sets .used) h) refl last) m)
+              (keep-tied s z f more runs e n proper bytes h12 hs (roomIn (s .sets .used) (s .sets .evictions) there) goes
+              (goesOn refl h (row-has-key (s .heads) (e .key) (s .sets .used) h) last) m)
           go false q = held-tied (eqb-false (keptLength w) 0 q)
 
     known-tied : Tied (carried s bytes (planPlaced s e (placeKnown s e bytes there))) (carry (seen s) x (placeOf (seen s) x))
@@ -269,7 +268,7 @@ module _ (s : Store) (z : Standing s) (f : Whole (s .sets) (s .heads) (s .slots)
       where
         go : (b : Bool) → (eqb (versionOf (s .heads) there) (e .version) && eqb (lastOf (s .heads) there) (e .last)) ≡ b
             → Tied (carried s bytes (planPlaced s e (cond b (placeSlot s bytes there (getD (s .slots) (slotsAt there + e .number) 0))
-            (RoomIn (roomRenewed (s .sets .used) (s .sets .evictions) there (ageOf (s .heads) there)))))) (carry (seen s) x (placeOf (seen s) x))
+            (RoomIn (roomRenewed (s .sets .used) (s .sets .evictions) there))))) (carry (seen s) x (placeOf (seen s) x))
         go true q = slot-tied (same-last (versionOf (s .heads) there) (lastOf (s .heads) there) (e .version) (e .last) q) (met-known true q)
         go false q = renewed-tied (met-known false q)
 
@@ -285,7 +284,7 @@ module _ (s : Store) (z : Standing s) (f : Whole (s .sets) (s .heads) (s .slots)
 -- ---- a section, in the order of the numbers
 
 module _ (s : Store) (z : Standing s) where
-  module _ (f : Whole (s .sets) (s .heads) (s .slots) (s .cells)) (more : s .sets .evictions < 18446744073709551615) (bytes : Bytes) where
+  module _ (f : Whole (s .sets) (s .heads) (s .slots) (s .cells)) (more : s .sets .evictions < 18446744073709551615) (runs : s .sets .clock < 18446744073709551615) (bytes : Bytes) where
     -- 20, then limit 0
     pub plan-tied : (e : Entry) → Taken bytes e → keyWords (keyShown (e .key)) ≡ e .key → Tied (carried s bytes (planOf s e bytes)) (good (seen s) (offer (sectionFor e bytes)))
     unfolding planOf good admitIn pushIn shows onAnswer answerTold seen
@@ -294,7 +293,7 @@ module _ (s : Store) (z : Standing s) where
         limited : length bytes ≤ s .sets .size → (m : ℕ) → s .sets .limit ≡ m
             → Tied (carried s bytes (cond (eqb m 0) plan.Silent (planPlaced s e (rowPlace s e bytes)))) (pushIn m (seen s) (sectionFor e bytes))
         limited l zero q = record { told = refl; shown = refl; reached = z }
-        limited l (suc m) q = rw (ne-eqb (suc m) 0 (λ (t : suc m ≡ 0). absurd (omega arith))) (good-tied s z f more (omega arith) e (t .numbered) proper bytes (t .long) l)
+        limited l (suc m) q = rw (ne-eqb (suc m) 0 (λ (t : suc m ≡ 0). absurd (omega arith))) (good-tied s z f more runs (omega arith) e (t .numbered) proper bytes (t .long) l)
 
         fit : (b : Bool) → ltb (s .sets .size) (length bytes) ≡ b
             → Tied (carried s bytes (cond b (plan.Refuse refusal.TooLong) (cond (eqb (s .sets .limit) 0) plan.Silent (planPlaced s e (rowPlace s e bytes)))))
@@ -328,7 +327,7 @@ module _ (s : Store) (z : Standing s) where
         go false c q = record { told = refl; shown = refl; reached = z }
 
   -- 11 comes before what the section is read as
-  ended-as : (bytes : Bytes) (from : Origin) (c : Collected) → ended (seen s) (readsAs from bytes c) ≡ atEnd (s .sets .evictions)
+  ended-as : (bytes : Bytes) (from : Origin) (c : Collected) → ended (seen s) (readsAs from bytes c) ≡ (atEnd (s .sets .evictions) || atEnd (s .sets .clock))
   unfolding ended readsAs seen
   ended-as bytes from Malformed = refl
   ended-as bytes from ShortForm = refl
@@ -336,20 +335,20 @@ module _ (s : Store) (z : Standing s) where
   ended-as bytes from BadCrc = refl
   ended-as bytes from (Good h) = refl
 
-  ended-on : (bytes : Bytes) (from : Origin) → ended (seen s) (readOn from bytes) ≡ atEnd (s .sets .evictions)
+  ended-on : (bytes : Bytes) (from : Origin) → ended (seen s) (readOn from bytes) ≡ (atEnd (s .sets .evictions) || atEnd (s .sets .clock))
   unfolding ended seen
   ended-on bytes from = go (ltb (from .input) 16)
     where
-      go : (b : Bool) → ended (seen s) (cond b (readsAs from bytes (collectedOf bytes)) (refuse refusal.BadInput)) ≡ atEnd (s .sets .evictions)
+      go : (b : Bool) → ended (seen s) (cond b (readsAs from bytes (collectedOf bytes)) (refuse refusal.BadInput)) ≡ (atEnd (s .sets .evictions) || atEnd (s .sets .clock))
       go true = ended-as bytes from (collectedOf bytes)
       go false = refl
 
-  ended-read : (input : ℕ) (pid : MaybePid) (bytes : Bytes) → ended (seen s) (readSection input pid bytes) ≡ atEnd (s .sets .evictions)
+  ended-read : (input : ℕ) (pid : MaybePid) (bytes : Bytes) → ended (seen s) (readSection input pid bytes) ≡ (atEnd (s .sets .evictions) || atEnd (s .sets .clock))
   unfolding readSection ended seen
   ended-read input maybe.None bytes = refl
   ended-read input (maybe.Some v) bytes = go (ltb v 8192)
     where
-      go : (b : Bool) → ended (seen s) (cond b (readOn (record { input = input; pid = v }) bytes) (refuse refusal.BadPid)) ≡ atEnd (s .sets .evictions)
+      go : (b : Bool) → ended (seen s) (cond b (readOn (record { input = input; pid = v }) bytes) (refuse refusal.BadPid)) ≡ (atEnd (s .sets .evictions) || atEnd (s .sets .clock))
       go true = ended-on bytes (record { input = input; pid = v })
       go false = refl
 
@@ -361,16 +360,18 @@ module _ (s : Store) (z : Reached s) where
   push-tied : (input : ℕ) (pid : MaybePid) (bytes : Bytes) → AllBytes bytes → Tied (pushedOf s input pid bytes) (call (seen s) (readSection input pid bytes))
   unfolding pushedOf admitted call guarded answerTold
   push-tied input pid bytes o =
-      rw (whole-seen s y, ended-read s y input pid bytes, ended-seen s y, z .pids) (go (wholeOf s) (eqb (s .sets .evictions) 18446744073709551615) refl refl)
+      rw (whole-seen s y, ended-read s y input pid bytes, ended-seen s y, z .pids) (go (wholeOf s) (countersFull (s .sets)) refl refl)
     where
-      go : (w t : Bool) → wholeOf s ≡ w → eqb (s .sets .evictions) 18446744073709551615 ≡ t
+      go : (w t : Bool) → wholeOf s ≡ w → countersFull (s .sets) ≡ t
           → Tied (pushedAs s bytes (cond w (cond t (arrival.Refused refusal.CounterFull) (setArrival input pid bytes)) (arrival.Refused refusal.NotWhole))) (guarded w t (seen s) (readSection input pid bytes))
       go false t p q = record { told = refl; shown = refl; reached = y }
       go true true p q = record { told = refl; shown = refl; reached = y }
       go true false p q =
-          let d : s .sets .evictions ≢ 18446744073709551615 = eqb-false (s .sets .evictions) 18446744073709551615 q in
+          let d = evictions-go-on (s .sets) false (sym q) refl in
+          let e = clock-goes-on (s .sets) false (sym q) refl in
           let c = z .counts in
-          pid-tied s y (whole-means s p) (omega arith) bytes o input pid
+          let k = z .ticks in
+          pid-tied s y (whole-means s p) (omega arith) (omega arith) bytes o input pid
 
   -- every call
   pub tied : (i : Given) → OfBytes i → Tied (called s i) (call (seen s) (reads i))

@@ -26,9 +26,8 @@ use Rattle.section.specs.Judged.{collectedOf}
 use Rattle.section.specs.declared.header.Collected.{Collected}
 use Rattle.section.specs.declared.header.Collected.the-variants.{Malformed, ShortForm, BadNumber, BadCrc, Good}
 use Rattle.section.specs.declared.ids.MaybePid.the-variants as maybe
-use Rattle.ages.specs.Order.{downFrom, inOrder, rowsSeen}
-use Rattle.ages.proofs.Touch.{stands-none}
-use Rattle.ages.proofs.Cells.{cells-length}
+use Rattle.ticks.proofs.Touch.{stands-none, seen-none}
+use Rattle.ticks.proofs.Cells.{cells-length}
 use Rattle.rules_sets.proofs.Keys.{sameKey-true}
 use Rattle.answers.specs.declared.Refusal.{Refusal}
 use Rattle.answers.specs.declared.Refusal.the-variants.{NotWhole, TooLittle, BadPid, Conflict, BadInput, NoPid}
@@ -42,7 +41,7 @@ use Rattle.sets_settle.specs.Settle.{Told, done, nothing, handed, refused, afte
 use Rattle.sets.specs.Store.{openedOf, clearedOf, pushedOf}
 use Rattle.sets.proofs.Refusals.{refusal-keeps}
 use Rattle.sets.specs.History.{Call as Given, empty as clears, offer as section, Bytes as OfBytes}
-use Rattle.ties_sets.specs.View.{keyShown, keyWords, seen, settingsOf, readsAs, readOn, readSection, reads, answerTold, tells, acts, Opened, Reached}
+use Rattle.ties_sets.specs.View.{keyShown, keyWords, rowSeen, seen, settingsOf, readsAs, readOn, readSection, reads, answerTold, tells, acts, Opened, Reached}
 use Rattle.ties_sets.proofs.Rows.{same-self}
 use Rattle.ties_sets.proofs.Calls.{tied}
 
@@ -53,7 +52,8 @@ unfolding openedOf
 opened-reached s o = record {
   fits = go (settingsFit (s .sets) (length (s .heads)) (length (s .slots)) (length (s .cells))) (o .opened .opened);
   counts = let e = o .evictions in omega arith;
-  stands = rw (o .opened .none) (stands-none keyShown keyWords sameKey sameKey-true same-self (s .heads));
+  ticks = let e = o .clock in omega arith;
+  stands = rw (o .opened .none) (stands-none keyShown keyWords sameKey sameKey-true same-self (s .heads) (s .sets .clock));
   pids = none-without s (λ i h z. let e = o .opened .none in absurd (omega (arith, e, h)));
 }
   where
@@ -64,12 +64,13 @@ opened-reached s o = record {
 -- what `open` leaves where it answers 7 is such a store, whatever the lent memory holds
 pub opening-opens : (limit size count : ℕ) (heads slots cells : List ℕ) → (openedOf (store (asked limit size count) heads slots cells)) .told ≡ done
     → Opened (store (asked limit size count) heads slots cells)
-opening-opens limit size count heads slots cells e = record { opened = record { opened = e; none = refl }; evictions = refl }
+opening-opens limit size count heads slots cells e = record { opened = record { opened = e; none = refl }; evictions = refl; clock = refl }
 
 -- "no rows, counts 0"
 pub opened-seen : (s : Store) → Opened s → (seen s) .sets ≡ untouched
-unfolding seen untouched rowsSeen inOrder downFrom
-opened-seen s o = rw (o .opened .none, o .evictions)
+unfolding seen untouched
+opened-seen s o =
+    rw (o .opened .none, o .evictions, seen-none keyShown keyWords sameKey sameKey-true same-self (s .heads) (s .sets .clock) (rowSeen (s .heads) (s .slots)))
 
 -- ---- a call as it can come
 
@@ -112,7 +113,7 @@ module _ (s : Store) (z : Reached s) (i : Given) (o : OfBytes i) where
 
   pub acts-reached : Reached (acts s i)
   unfolding acts
-  acts-reached = let t = tied s z i o .reached in record { fits = t .fits; counts = t .counts; stands = t .stands; pids = none-without (acts s i) (pids-stay i o) }
+  acts-reached = let t = tied s z i o .reached in record { fits = t .fits; counts = t .counts; ticks = t .ticks; stands = t .stands; pids = none-without (acts s i) (pids-stay i o) }
     where
       pids-stay : (i : Given) → OfBytes i → HasPids (acts s i)
       pids-stay clears b = clear-pids s (has-pids s (z .pids))

@@ -12,9 +12,9 @@ use Rattle.rules_sets.specs.Rules.{Section, offer, conflict}
 use Rattle.rules_sets.specs.Cells.{Store as Shown, takes, taken}
 use Rattle.rules_sets.proofs.Exact.{Conflicting, conflict-touches, KeptIn, cells-change}
 use Rattle.cells.specs.Cells.{names}
-use Rattle.rows.specs.Rows.{slotsAt, slotCount, rowSlots, lastOf, ageOf}
-use Rattle.ages.specs.Order.{rowsSeen}
-use Rattle.ages.proofs.Ages.{order-none, none-order}
+use Rattle.rows.specs.Rows.{slotsAt, slotCount, rowSlots, lastOf, tickOf}
+use Rattle.ticks.specs.Order.{rowsSeen}
+use Rattle.ticks.proofs.Ticks.{order-none, none-order}
 use Rattle.rows.proofs.Words.{slot-at, length-slots}
 use Rattle.section.specs.declared.ids.MaybePid.{MaybePid}
 use Rattle.answers.specs.declared.Refusal.the-variants.{Conflict}
@@ -39,7 +39,7 @@ module _ (s : Store) (z : Reached s) (i : Given) (o : OfBytes i) where
   pub cells-change-seen : ((seen (acts s i)) .cells ≡ (seen s) .cells) ⊎ ((x : Section) × (reads i ≡ offer x) × (c : ℕ) × KeptIn (seen s) x c (seen (acts s i)))
   cells-change-seen = subst (λ (q : Shown). (q .cells ≡ (seen s) .cells) ⊎ ((x : Section) × (reads i ≡ offer x) × (c : ℕ) × KeptIn (seen s) x c q)) (sym (acts-seen s z i o)) (cells-change (seen s) (reads i))
 
--- no settings, no count, no slot, no cell and no word of a head but the ages changes, whatever the memory holds
+-- no settings, no count but the clock, no slot, no cell and no word of a head but the ticks changes, whatever the memory holds
 conflict-told : (t : Told) → answerTold t ≡ conflict → t ≡ refused Conflict
 unfolding answerTold
 conflict-told done e = let z : _≡_ {A = ℕ} 0 1 = cc in absurd (omega arith)
@@ -60,14 +60,14 @@ module _ (s : Store) (z : Standing s) (long : s .sets .used * 288 ≤ length (s 
   pub free-named-nowhere : taken ((seen s) .sets) c ≡ false → NoSlotNames
   unfolding taken seen rowsSeen
   free-named-nowhere h j k l m =
-      let r = sym (row-takes (s .heads) (s .slots) c j) ∙ none-order (takes c) (ageOf (s .heads)) (s .sets .used) (z .stands .ages) _ j h l in
+      let r = sym (row-takes (s .heads) (s .slots) c j) ∙ none-order (tickOf (s .heads)) (s .sets .used) (s .sets .clock) (z .stands .ticks) _ (takes c) j h l in
       subst (λ (w : ℕ). names c w ≡ false) (slot-at (s .heads) (s .slots) j k m)
       (any-not (names c) (rowSlots (s .heads) (s .slots) j) 0 k r (let d = length-slots (s .heads) (s .slots) j (omega arith) in omega arith))
 
   pub named-nowhere-free : NoSlotNames → taken ((seen s) .sets) c ≡ false
   unfolding taken seen rowsSeen
   named-nowhere-free f =
-      order-none (takes c) (ageOf (s .heads)) (s .sets .used) (z .stands .ages) _ (λ j l. row-takes (s .heads) (s .slots) c j
+      order-none (tickOf (s .heads)) (s .sets .used) (s .sets .clock) (z .stands .ticks) _ (takes c) (λ j l. row-takes (s .heads) (s .slots) c j
       ∙ none-any (names c) (rowSlots (s .heads) (s .slots) j) 0 (λ k m.
       let d = length-slots (s .heads) (s .slots) j (omega arith) in
       let q : k < slotCount (lastOf (s .heads) j) = omega arith in

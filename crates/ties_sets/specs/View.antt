@@ -18,9 +18,9 @@ use Rattle.section.specs.declared.ids.MaybePid.{MaybePid}
 use Rattle.section.specs.declared.ids.MaybePid.the-variants as maybe
 use Rattle.rows.specs.declared.Key.{Key}
 use Rattle.rows.specs.Rows.{rowSlots, lastOf, markOf, versionOf}
-use Rattle.ages.specs.Order.{orderSeen, Stands}
-use Rattle.ages.specs.Slots.{heldSlots, cellsSeen}
-use Rattle.ages.specs.Origins.{plainShown, originWords}
+use Rattle.ticks.specs.Order.{orderSeen, Stands}
+use Rattle.ticks.specs.Slots.{heldSlots, cellsSeen}
+use Rattle.ticks.specs.Origins.{plainShown, originWords}
 use Rattle.sets.specs.History.{Call as Given, offer as section, empty as clears, called, OpenedStore}
 use Rattle.arrivals.specs.Arrivals.{bitOf}
 use Rattle.without_pid.specs.Pids.{withoutPid}
@@ -63,8 +63,9 @@ settingsOf s = record { limit = s .sets .limit; cellSize = s .sets .size }
 unfoldable pub seen : Store → Shown
 seen s = record {
   settings = settingsOf s;
-  sets = orderSeen keyShown (s .heads) (s .sets .used) (s .sets .evictions) (rowSeen (s .heads) (s .slots));
+  sets = orderSeen keyShown (s .heads) (s .sets .used) (s .sets .clock) (s .sets .evictions) (rowSeen (s .heads) (s .slots));
   cells = cellsSeen (s .cells) (s .sets .size) (s .sets .count);
+  clock = s .sets .clock;
 }
 
 -- ---- calls and answers
@@ -110,21 +111,24 @@ tells s i = answerTold ((called s i) .told)
 unfoldable pub acts : Store → Given → Store
 acts s i = (called s i) .store
 
--- as `open` leaves a store where it answers 7: no rows, count 0, nothing asked of what the lent memory holds
+-- as `open` leaves a store where it answers 7: no rows, counts 0, nothing asked of what the lent memory holds
 pub record Opened (s : Store) : Type 0 where
   pub opened : OpenedStore s
   pub evictions : s .sets .evictions ≡ 0
+  pub clock : s .sets .clock ≡ 0
 
--- what every store that comes from opening has, whatever its sections came with: settings that opening takes, an eviction count that fits its 64 bits, and
--- ages that are a touch order of keys, none of which stands twice
+-- what every store that comes from opening has, whatever its sections came with: settings that opening takes, counts that fit their 64 bits, and
+-- ticks that are a touch order of keys, none of which stands twice
 pub record Standing (s : Store) : Type 0 where
   pub fits : settingsFit (s .sets) (length (s .heads)) (length (s .slots)) (length (s .cells)) ≡ true
   pub counts : s .sets .evictions ≤ 18446744073709551615
-  pub stands : Stands keyShown keyWords (s .heads) (s .sets .used)
+  pub ticks : s .sets .clock ≤ 18446744073709551615
+  pub stands : Stands keyShown keyWords (s .heads) (s .sets .used) (s .sets .clock)
 
 -- .. and, where it was made by calls, rows with PIDs alone
 pub record Reached (s : Store) : Type 0 where
   pub fits : settingsFit (s .sets) (length (s .heads)) (length (s .slots)) (length (s .cells)) ≡ true
   pub counts : s .sets .evictions ≤ 18446744073709551615
-  pub stands : Stands keyShown keyWords (s .heads) (s .sets .used)
+  pub ticks : s .sets .clock ≤ 18446744073709551615
+  pub stands : Stands keyShown keyWords (s .heads) (s .sets .used) (s .sets .clock)
   pub pids : withoutPid (s .heads) (s .sets .used) ≡ false

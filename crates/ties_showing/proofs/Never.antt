@@ -39,17 +39,17 @@ use Rattle.eit_section.specs.declared.MaybeKind.the-variants as maybe
 use Rattle.eit_section.specs.declared.Reading.{Reading}
 use Rattle.eit_section.specs.declared.Reading.the-variants as reading
 use Rattle.cells.specs.Cells.{keptLength, cellNumber, filled, kept, slotWhole, allWhole}
-use Rattle.rows.specs.Rows.{keyAt, rowSlots, ageOf}
+use Rattle.rows.specs.Rows.{keyAt, rowSlots, tickOf}
 use Rattle.rows.proofs.Whole.{rows-get}
 use Rattle.placing.proofs.Fits.{slot-bounds}
 use Rattle.segments.specs.Segments.{wordOf}
 use Rattle.units.specs.Units.{isPresent, unitSlots}
 use Rattle.schedules.specs.Schedules.{tablesOf}
-use Rattle.ages.specs.Order.{rowsSeen}
-use Rattle.ages.specs.Slots.{heldOf, heldSlots, upFrom, cellsSeen}
-use Rattle.ages.proofs.Ages.{every-order}
-use Rattle.ages.proofs.Slots.{place, held-filled}
-use Rattle.ages.proofs.Cells.{up-get, bytes-kept}
+use Rattle.ticks.specs.Order.{rowsSeen}
+use Rattle.ticks.specs.Slots.{heldOf, heldSlots, upFrom, cellsSeen}
+use Rattle.ticks.proofs.Ticks.{every-order}
+use Rattle.ticks.proofs.Slots.{place, held-filled}
+use Rattle.ticks.proofs.Cells.{up-get, bytes-kept}
 use Rattle.eit_state.specs.State.{Store, wholeOf}
 use Rattle.eit_state.proofs.Whole.{whole-store}
 use Rattle.ties_eit.specs.View.{keyShown, scheduleShown, rowSeen, copySeen, placeSeen, scheduleSeen, seen, Given, clears, drops, section, reads, readsEit, readsAs, readOn, readSection, sectionOf, acts, Opened, Reached}
@@ -228,15 +228,15 @@ module _ (s : Store) (l : Left s) where
   row-good : (row : ℕ) → row < s .eit .sets .used → everyHeld (test) (heldSlots (rowSlots (s .heads) (s .slots) row)) ≡ true
   unfolding seen rowSeen rowsSeen
   row-good row h =
-      every-order (λ (r : SetOf Held). everyHeld (test) (r .slots)) (ageOf (s .heads)) (s .eit .sets .used) (l .reached .sets .ages)
-      (λ (i : ℕ). under (keyShown (keyAt (s .heads) i)) (rowSeen (s .heads) (s .slots) i)) row
+      every-order (tickOf (s .heads)) (s .eit .sets .used) (s .eit .sets .clock) (l .reached .sets .ticks)
+      (λ (i : ℕ). under (keyShown (keyAt (s .heads) i)) (rowSeen (s .heads) (s .slots) i)) (λ (r : SetOf Held). everyHeld (test) (r .slots)) row
       (all-every (λ (r : SetOf Held). everyHeld (test) (r .slots)) ((seen s) .eit .sets .rows) (l .sound .eit .sets)) h
 
   schedule-good : (row : ℕ) → row < s .eit .schedules → everyHeld (copyOk test) (upFrom (placeSeen (s .schedule-heads) (s .units) row) 16 0) ≡ true
   unfolding seen scheduleSeen rowsSeen
   schedule-good row h =
-      every-order (λ (g : ScheduleOf Held). everyHeld (copyOk test) (g .copies)) (ageOf (s .schedule-heads)) (s .eit .schedules) (l .reached .schedules .ages)
-      (λ (i : ℕ). under (scheduleShown (keyAt (s .schedule-heads) i)) (scheduleSeen (s .schedule-heads) (s .units) i)) row
+      every-order (tickOf (s .schedule-heads)) (s .eit .schedules) (s .eit .sets .clock) (l .reached .schedules .ticks)
+      (λ (i : ℕ). under (scheduleShown (keyAt (s .schedule-heads) i)) (scheduleSeen (s .schedule-heads) (s .units) i)) (λ (g : ScheduleOf Held). everyHeld (copyOk test) (g .copies)) row
       (all-every (λ (g : ScheduleOf Held). everyHeld (copyOk test) (g .copies)) ((seen s) .eit .schedules .rows) (l .sound .eit .schedules)) h
 
   place-is : (row table : ℕ) → table < tablesOf (s .schedule-heads) row → isPresent (s .units) (row * 16 + table) ≡ true

@@ -11,11 +11,11 @@ use Rattle.demux_places.proofs.section_at.Reads as section-at-reads
 
 -- src/lib.rt:39:24
 mul-is-sound : tie.Need-mul-is-sound
-mul-is-sound c = search needs
+mul-is-sound c = let z = c .before .before .before .before .before .before .before .before .before .before .before .good .1 .1 .1 .1 .1 .1 .1 .1 .1 .1 .0 in search (needs, z)
 
 -- src/lib.rt:39:17
 mul-is-sound-2 : tie.Need-mul-is-sound-2
-mul-is-sound-2 c = search needs
+mul-is-sound-2 c = let z = c .before .before .before .before .before .before .before .before .before .before .before .good .1 .1 .1 .1 .1 .1 .1 .1 .1 .1 .0 in search (needs, z)
 
 -- src/lib.rt:39:17
 shared-slice-read-is-sound : tie.Need-shared-slice-read-is-sound

@@ -10,8 +10,8 @@ is-whole-requires c κs = search needs
 returns : tie.Need-returns
 returns c = search not-whole
 
-pat-evictions-requires : tie.Need-pat-evictions-requires
-pat-evictions-requires c κs = let a = c .before .before .before .before .before .before .before .args in has-count (a .gate) (a .counters) (a .streams) (a .keys) (a .changes) (recordOf (a .words .now) (a .pat-slots .now) (a .pat-cells .now)) (a .pids .now) (a .buffers) (a .input) (a .packet .now) (a .places) (c .before .is-whole .result) (c .before .is-whole .ensures) (c .if1 .left)
+pat-count-requires : tie.Need-pat-count-requires
+pat-count-requires c κs = let a = c .before .before .before .before .before .before .before .args in has-count (a .gate) (a .counters) (a .streams) (a .keys) (a .changes) (recordOf (a .words .now) (a .pat-slots .now) (a .pat-cells .now)) (a .pids .now) (a .buffers) (a .input) (a .packet .now) (a .places) (c .before .is-whole .result) (c .before .is-whole .ensures) (c .if1 .left)
 
 near-end-requires : tie.Need-near-end-requires
 near-end-requires c κs = search needs
@@ -34,7 +34,7 @@ judge-spec =
     (tie.spec
     is-whole-requires
     returns
-    pat-evictions-requires
+    pat-count-requires
     near-end-requires
     returns-2
     judge-requires

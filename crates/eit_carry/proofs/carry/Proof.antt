@@ -1,4 +1,4 @@
-use Rattle.eit_carry.proofs.Ways.{carried-leave, carried-conflict, carried-repeat, carried-keep, conflict-row, conflict-heads, repeat-may, keep-may}
+use Rattle.eit_carry.proofs.Ways.{carried-leave, carried-conflict, carried-repeat, carried-keep, conflict-runs, conflict-may, repeat-runs, repeat-may, keep-may}
 use borrow.Author.Needs.{needs}
 use Rattle.eit_carry.proofs.carry.Statement.{statement}
 use Rattle.eit_carry.proofs.carry.Tie as tie
@@ -16,15 +16,19 @@ enum-known-plan c = search needs
 enum-known-plan-2 : tie.Need-enum-known-plan-2
 enum-known-plan-2 c = search needs
 
--- src/lib.rt:277:13
+risen-requires : tie.Need-risen-requires
+risen-requires c κs = search conflict-runs
+
 conflict-requires : tie.Need-conflict-requires
-conflict-requires c κs = (search conflict-row, search conflict-heads)
+conflict-requires c κs = search conflict-may
 
 -- src/lib.rt:283:22
 enum-known-plan-3 : tie.Need-enum-known-plan-3
 enum-known-plan-3 c = search needs
 
--- src/lib.rt:283:28
+risen-requires-2 : tie.Need-risen-requires-2
+risen-requires-2 c κs = search repeat-runs
+
 settle-requires : tie.Need-settle-requires
 settle-requires c κs = search repeat-may
 
@@ -98,8 +102,10 @@ carry-spec =
     (tie.spec
     enum-known-plan
     enum-known-plan-2
+    risen-requires
     conflict-requires
     enum-known-plan-3
+    risen-requires-2
     settle-requires
     enum-known-plan-4
     keep-section-requires

@@ -1,4 +1,5 @@
-use Rattle.eit_carry.proofs.Ways.{cell-may, kept-may, kept-left}
+use Rattle.eit_carry.proofs.Ways.{cell-may, kept-runs, kept-may, kept-left}
+use mathlib.Core.Path.{_∙_}
 use borrow.Author.Needs.{needs}
 use Rattle.eit_carry.proofs.keep_section.Statement.{statement}
 use Rattle.eit_carry.proofs.keep_section.Tie as tie
@@ -16,13 +17,19 @@ keep-requires c κs = search cell-may
 with-sets-requires : tie.Need-with-sets-requires
 with-sets-requires c κs = search needs
 
--- src/lib.rt:248:5
+risen-requires : tie.Need-risen-requires
+risen-requires c κs = search kept-runs
+
 settle-requires : tie.Need-settle-requires
-settle-requires c κs = search kept-may
+settle-requires c κs = let a = c .before .before .before .before .before .before .before .before .before .before .before .before .before .before .before .before .before .before .before .before .before .before .before .before .args in
+    let k = c .before .before .before .before .before .before .before .before .before .before .before .before .before .keep in
+    let w = c .before .before .before .before .before .with-sets in
+    let e = c .before .before .before .before .risen in
+    kept-may (a .eit) (a .heads .now) (a .slots .now) (a .cells .now) (a .schedule-heads .now) (a .units .now) (a .bytes .now) (a .k) (c .before .before .before .before .before .before .before .before .before .before .before .before .before .before .before .before .before .before .before .before .before .before .before .before .pre) (w .result) (e .result) (k .last .1 .0) (k .last .1 .1 .0) (w .ensures) (e .ensures) (k .kept .1 .0) (k .kept .1 .1 .0)
 
 -- src/lib.rt:231:1
 same-length : tie.Need-same-length
-same-length c = search needs
+same-length c = c .before .before .before .before .before .before .settle .kept .1 .0 ∙ c .before .before .before .before .before .before .before .before .before .before .before .before .before .before .before .before .before .before .before .before .keep .kept .1 .0
 
 -- src/lib.rt:231:1
 same-length-2 : tie.Need-same-length-2
@@ -42,12 +49,14 @@ same-length-5 c = search needs
 
 -- src/lib.rt:231:1
 returns : tie.Need-returns
-returns c = let a = c .before .before .before .before .before .before .before .before .before .before .before .before .before .before .before .before .before .before .before .before .before .before .before .before .before .before .before .before .before .before .args in
-    let k = c .before .before .before .before .before .before .before .before .before .before .before .before .before .before .before .before .before .before .before .keep in
+returns c = let a = c .before .before .before .before .before .before .before .before .before .before .before .before .before .before .before .before .before .before .before .before .before .before .before .before .before .before .before .before .before .before .before .args in
+    let k = c .before .before .before .before .before .before .before .before .before .before .before .before .before .before .before .before .before .before .before .before .keep in
+    let w = c .before .before .before .before .before .before .before .before .before .before .before .before .with-sets in
+    let e = c .before .before .before .before .before .before .before .before .before .before .before .risen in
     let s = c .before .before .before .before .before .before .settle in
-    kept-left (a .eit) (a .heads .now) (a .slots .now) (a .cells .now) (a .schedule-heads .now) (a .units .now) (a .bytes .now) (a .k) (c .before .before .before .before .before .before .before .before .before .before .before .with-sets .result) (s .result)
+    kept-left (a .eit) (a .heads .now) (a .slots .now) (a .cells .now) (a .schedule-heads .now) (a .units .now) (a .bytes .now) (a .k) (w .result) (e .result) (s .result)
     (k .last .1 .0) (k .last .1 .1 .0) (k .last .1 .1 .1 .0) (s .last .1 .0) (s .last .1 .1 .1 .0) (s .last .1 .1 .1 .1 .0)
-    (k .ensures .0) (k .ensures .1 .0) (k .ensures .1 .1) (c .before .before .before .before .before .before .before .before .before .before .before .with-sets .ensures) (s .ensures)
+    (k .ensures .0) (k .ensures .1 .0) (k .ensures .1 .1) (w .ensures) (e .ensures) (s .ensures)
 
 pub keep-section-spec : {M : Type 1} → statement M
 keep-section-spec =
@@ -55,6 +64,7 @@ keep-section-spec =
     (tie.spec
     keep-requires
     with-sets-requires
+    risen-requires
     settle-requires
     same-length
     same-length-2

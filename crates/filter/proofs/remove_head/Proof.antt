@@ -3,9 +3,6 @@ use borrow.Author.Needs.{needs}
 use Rattle.filter.proofs.remove_head.Statement.{statement}
 use Rattle.filter.proofs.remove_head.Tie as tie
 
-age-requires : tie.Need-age-requires
-age-requires c κs = search needs
-
 sub-last : tie.Need-sub-last
 sub-last c = search needs
 
@@ -18,9 +15,6 @@ mul-move-head-2 c = search needs
 move-head-requires : tie.Need-move-head-requires
 move-head-requires c κs = search needs
 
-make-younger-requires : tie.Need-make-younger-requires
-make-younger-requires c κs = search needs
-
 same-length : tie.Need-same-length
 same-length c = search needs
 
@@ -31,11 +25,9 @@ pub remove-head-spec : {M : Type 1} → statement M
 remove-head-spec =
     tie.close
     (tie.spec
-    age-requires
     sub-last
     mul-move-head
     mul-move-head-2
     move-head-requires
-    make-younger-requires
     same-length
     returns)

@@ -20,6 +20,9 @@ gate-whole-requires c κs = search needs
 is-whole-requires : tie.Need-is-whole-requires
 is-whole-requires c κs = search needs
 
+counters-full-requires : tie.Need-counters-full-requires
+counters-full-requires c κs = search needs
+
 -- src/lib.rt:209:17
 returns-2 : tie.Need-returns-2
 returns-2 c = (search ruled-full, tt)
@@ -47,6 +50,7 @@ judge-spec =
     returns
     gate-whole-requires
     is-whole-requires
+    counters-full-requires
     returns-2
     read-requires
     returns-3

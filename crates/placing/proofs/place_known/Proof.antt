@@ -16,9 +16,6 @@ slot-requires c κs = search needs
 place-slot-requires : tie.Need-place-slot-requires
 place-slot-requires c κs = (search needs, search known-slot)
 
-age-requires : tie.Need-age-requires
-age-requires c κs = search needs
-
 room-renewed-requires : tie.Need-room-renewed-requires
 room-renewed-requires c κs = search needs
 
@@ -36,7 +33,6 @@ place-known-spec =
     last-requires
     slot-requires
     place-slot-requires
-    age-requires
     room-renewed-requires
     returns
     returns-2)

@@ -9,9 +9,6 @@ last-requires c κs = search needs
 room-in-requires : tie.Need-room-in-requires
 room-in-requires c κs = search needs
 
-age-requires : tie.Need-age-requires
-age-requires c κs = search needs
-
 room-renewed-requires : tie.Need-room-renewed-requires
 room-renewed-requires c κs = search needs
 
@@ -24,4 +21,4 @@ returns-2 c = search known-other
 pub known-room-spec : {M : Type 1} → statement M
 known-room-spec =
     tie.close
-    (tie.spec last-requires room-in-requires age-requires room-renewed-requires returns returns-2)
+    (tie.spec last-requires room-in-requires room-renewed-requires returns returns-2)

@@ -16,6 +16,9 @@ use Rattle.without_pid.proofs.any_without_pid.Reads as any-without-pid-reads
 is-whole-requires : tie.Need-is-whole-requires
 is-whole-requires c κs = search needs
 
+counters-full-requires : tie.Need-counters-full-requires
+counters-full-requires c κs = search needs
+
 -- src/lib.rt:163:13
 refuse-requires : tie.Need-refuse-requires
 refuse-requires c κs = search needs
@@ -34,11 +37,11 @@ same-length-3 c = search needs
 
 -- src/lib.rt:163:13
 returns : tie.Need-returns
-returns c = let a = c .before .before .before .before .before .before .before .before .before .before .before .args in listed-full (a .sets) (a .heads .now) (a .slots .now) (a .cells .now) (givensFrom (a .list .now) 0) (c .before .before .before .is-whole .result) (c .before .before .before .is-whole .ensures) (c .refuse .result) (c .before .before .if1 .taken) (c .before .if2 .taken) (c .refuse .ensures)
+returns c = let a = c .before .before .before .before .before .before .before .before .before .before .before .before .args in listed-full (a .sets) (a .heads .now) (a .slots .now) (a .cells .now) (givensFrom (a .list .now) 0) (c .before .before .before .before .is-whole .result) (c .before .before .before .before .is-whole .ensures) (c .before .before .counters-full .result) (c .before .before .counters-full .ensures) (c .before .before .before .if1 .taken) (c .refuse .result) (c .before .if2 .taken) (c .refuse .ensures)
 
 -- src/lib.rt:168:12
 any-without-pid-requires : tie.Need-any-without-pid-requires
-any-without-pid-requires c κs = let a = c .before .before .before .before .before .before .before .before .before .before .before .args in rows-lent (a .sets) (a .heads .now) (a .slots .now) (a .cells .now) (c .before .before .before .is-whole .result) (c .before .before .before .is-whole .ensures) (c .before .before .if1 .taken)
+any-without-pid-requires c κs = let a = c .before .before .before .before .before .before .before .before .before .before .before .before .args in rows-lent (a .sets) (a .heads .now) (a .slots .now) (a .cells .now) (c .before .before .before .before .is-whole .result) (c .before .before .before .before .is-whole .ensures) (c .before .before .before .if1 .taken)
 
 -- src/lib.rt:169:13
 refuse-requires-2 : tie.Need-refuse-requires-2
@@ -58,11 +61,11 @@ same-length-6 c = search needs
 
 -- src/lib.rt:169:13
 returns-2 : tie.Need-returns-2
-returns-2 c = let a = c .before .before .before .before .before .before .before .before .before .before .before .before .before .before .args in listed-without (a .sets) (a .heads .now) (a .slots .now) (a .cells .now) (givensFrom (a .list .now) 0) (c .before .before .before .before .before .before .is-whole .result) (c .before .before .before .before .before .before .is-whole .ensures) (c .before .before .any-without-pid .result) (c .refuse2 .result) (c .before .before .before .before .before .if1 .taken) (c .before .before .before .before .if2 .left) (c .before .before .any-without-pid .ensures) (c .before .if3 .taken) (c .refuse2 .ensures)
+returns-2 c = let a = c .before .before .before .before .before .before .before .before .before .before .before .before .before .before .before .args in listed-without (a .sets) (a .heads .now) (a .slots .now) (a .cells .now) (givensFrom (a .list .now) 0) (c .before .before .before .before .before .before .before .is-whole .result) (c .before .before .before .before .before .before .before .is-whole .ensures) (c .before .before .before .before .before .counters-full .result) (c .before .before .before .before .before .counters-full .ensures) (c .before .before .before .before .before .before .if1 .taken) (c .before .before .any-without-pid .result) (c .refuse2 .result) (c .before .before .before .before .if2 .left) (c .before .before .any-without-pid .ensures) (c .before .if3 .taken) (c .refuse2 .ensures)
 
 -- src/lib.rt:171:9
 push-each-requires : tie.Need-push-each-requires
-push-each-requires c κs = let a = c .before .before .before .before .before .before .before .before .before .before .before .before .before .before .before .before .args in (looked (a .sets) (a .heads .now) (a .slots .now) (a .cells .now) (c .before .before .before .before .before .before .before .before .is-whole .result) (c .before .before .before .before .any-without-pid .result) (c .before .before .before .before .before .before .before .before .is-whole .ensures) (c .before .before .before .before .before .before .before .if1 .taken) (c .before .before .before .before .any-without-pid .ensures) (c .before .before .before .if3 .left), c .before .before .before .before .before .before .before .before .before .before .before .before .before .before .before .before .pre)
+push-each-requires c κs = let a = c .before .before .before .before .before .before .before .before .before .before .before .before .before .before .before .before .before .args in (looked (a .sets) (a .heads .now) (a .slots .now) (a .cells .now) (c .before .before .before .before .before .before .before .before .before .is-whole .result) (c .before .before .before .before .any-without-pid .result) (c .before .before .before .before .before .before .before .before .before .is-whole .ensures) (c .before .before .before .before .before .before .before .before .if1 .taken) (c .before .before .before .before .any-without-pid .ensures) (c .before .before .before .if3 .left), c .before .before .before .before .before .before .before .before .before .before .before .before .before .before .before .before .before .pre)
 
 -- src/lib.rt:171:9
 same-length-7 : tie.Need-same-length-7
@@ -78,7 +81,7 @@ same-length-9 c = search needs
 
 -- src/lib.rt:171:9
 returns-3 : tie.Need-returns-3
-returns-3 c = let a = c .before .before .before .before .before .before .before .before .before .before .before .before .before .before .before .before .before .before .before .before .before .before .before .args in let k = c .before .before .before .before .before .before .push-each in listed-each (a .sets) (a .heads .now) (a .slots .now) (a .cells .now) (givensFrom (a .list .now) 0) (c .before .before .before .before .before .before .before .before .before .before .before .before .before .before .before .is-whole .result) (c .before .before .before .before .before .before .before .before .before .before .before .before .before .before .before .is-whole .ensures) (c .before .before .before .before .before .before .before .before .before .before .before .any-without-pid .result) (afterAll (k .result) (k .last .1 .0) (k .last .1 .1 .0) (k .last .1 .1 .1 .0)) (c .before .before .before .before .before .before .before .before .before .before .before .before .before .before .if1 .taken) (c .before .before .before .before .before .before .before .before .before .before .before .before .before .if2 .left) (c .before .before .before .before .before .before .before .before .before .before .before .any-without-pid .ensures) (c .before .before .before .before .before .before .before .before .before .before .if3 .left) (k .ensures)
+returns-3 c = let a = c .before .before .before .before .before .before .before .before .before .before .before .before .before .before .before .before .before .before .before .before .before .before .before .before .args in let k = c .before .before .before .before .before .before .push-each in listed-each (a .sets) (a .heads .now) (a .slots .now) (a .cells .now) (givensFrom (a .list .now) 0) (c .before .before .before .before .before .before .before .before .before .before .before .before .before .before .before .before .is-whole .result) (c .before .before .before .before .before .before .before .before .before .before .before .before .before .before .before .before .is-whole .ensures) (c .before .before .before .before .before .before .before .before .before .before .before .before .before .before .counters-full .result) (c .before .before .before .before .before .before .before .before .before .before .before .before .before .before .counters-full .ensures) (c .before .before .before .before .before .before .before .before .before .before .before .before .before .before .before .if1 .taken) (c .before .before .before .before .before .before .before .before .before .before .before .any-without-pid .result) (afterAll (k .result) (k .last .1 .0) (k .last .1 .1 .0) (k .last .1 .1 .1 .0)) (c .before .before .before .before .before .before .before .before .before .before .before .before .before .if2 .left) (c .before .before .before .before .before .before .before .before .before .before .before .any-without-pid .ensures) (c .before .before .before .before .before .before .before .before .before .before .if3 .left) (k .ensures)
 
 -- src/lib.rt:173:5
 refuse-requires-3 : tie.Need-refuse-requires-3
@@ -105,6 +108,7 @@ push-listed-spec =
     tie.close
     (tie.spec
     is-whole-requires
+    counters-full-requires
     refuse-requires
     same-length
     same-length-2

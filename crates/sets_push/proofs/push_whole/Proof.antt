@@ -10,7 +10,7 @@ decide-requires : tie.Need-decide-requires
 decide-requires c κs = search needs
 
 carry-requires : tie.Need-carry-requires
-carry-requires c κs = let a = c .before .before .before .before .before .before .before .before .before .before .before .args in let p = c .before .before .before .before .before .before .before .before .before .before .before .pre in plan-may (store (a .sets) (a .heads .now) (a .slots .now) (a .cells .now)) (p .0 .whole) (a .e) (a .bytes .now) (p .1) (c .before .before .before .decide .result) (c .before .before .before .decide .ensures)
+carry-requires c κs = let a = c .before .before .before .before .before .before .before .before .before .before .before .args in let p = c .before .before .before .before .before .before .before .before .before .before .before .pre in plan-may (store (a .sets) (a .heads .now) (a .slots .now) (a .cells .now)) (p .0) (a .e) (a .bytes .now) (p .1) (c .before .before .before .decide .result) (c .before .before .before .decide .ensures)
 
 same-length : tie.Need-same-length
 same-length c = search needs

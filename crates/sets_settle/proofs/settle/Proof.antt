@@ -16,13 +16,13 @@ same-length : tie.Need-same-length
 same-length c = search needs
 
 returns : tie.Need-returns
-returns c = let a = c .before .before .before .before .before .before .before .before .before .before .before .before .before .args in settle-out (a .used) (a .heads .now) (a .slots .now) (a .i) (c .before .before .before .before .before .before .before .before .before .touch .last .0) (c .before .before .before .before .before .goes-out .result) (c .before .before .before .before .before .before .before .before .before .touch .ensures) (c .before .before .before .before .before .goes-out .ensures) (c .before .before .set-mark .last .0) (c .before .before .before .before .if1 .taken) (c .before .before .set-mark .ensures)
+returns c = let a = c .before .before .before .before .before .before .before .before .before .before .before .before .before .args in settle-out (a .clock) (a .heads .now) (a .slots .now) (a .i) (c .before .before .before .before .before .before .before .before .before .touch .last .0) (c .before .before .before .before .before .goes-out .result) (c .before .before .before .before .before .before .before .before .before .touch .ensures) (c .before .before .before .before .before .goes-out .ensures) (c .before .before .set-mark .last .0) (c .before .before .before .before .if1 .taken) (c .before .before .set-mark .ensures)
 
 same-length-2 : tie.Need-same-length-2
 same-length-2 c = search needs
 
 returns-2 : tie.Need-returns-2
-returns-2 c = let a = c .before .before .before .before .before .before .before .before .before .args in settle-not (a .used) (a .heads .now) (a .slots .now) (a .i) (c .before .before .before .before .before .touch .last .0) (c .before .goes-out .result) (c .before .before .before .before .before .touch .ensures) (c .before .goes-out .ensures) (c .if1 .left)
+returns-2 c = let a = c .before .before .before .before .before .before .before .before .before .args in settle-not (a .clock) (a .heads .now) (a .slots .now) (a .i) (c .before .before .before .before .before .touch .last .0) (c .before .goes-out .result) (c .before .before .before .before .before .touch .ensures) (c .before .goes-out .ensures) (c .if1 .left)
 
 pub settle-spec : {M : Type 1} → statement M
 settle-spec =

@@ -42,7 +42,7 @@ const SCHEDULE: &[u8] = b"\x50\xB0\x0F\x00\x01\xC1\x00\x00\x00\x01\x00\x01\x00\x
 const VERSION: &[u8] = b"\x50\xB0\x0F\x00\x01\xC3\x00\x00\x00\x01\x00\x01\x00\x50\x92\x65\xD9\x14";
 
 /// What is kept by value after `filled`.
-const WHOLE: EitState = EitState { limit: 3, size: 64, count: 4, used: 2, evictions: 0, schedules: 1, schedule_evictions: 0 };
+const WHOLE: EitState = EitState { limit: 3, size: 64, count: 4, used: 2, evictions: 0, schedules: 1, schedule_evictions: 0, clock: 2 };
 
 impl Damaged {
     fn push(&mut self) -> Answer {
@@ -123,7 +123,7 @@ impl Store for Damaged {
             Clear => self.eit.clear(),
             Open => self.open(asked),
             Former => self.refused(WHOLE),
-            Anew => self.refused(EitState { used: 0, evictions: 0, schedules: 0, schedule_evictions: 0, ..asked }),
+            Anew => self.refused(EitState { used: 0, evictions: 0, schedules: 0, schedule_evictions: 0, clock: 0, ..asked }),
         }
     }
 }
@@ -203,6 +203,9 @@ pub const CASES: &[Case<Damaged>] = &[
     // 11, 12, and the lower number first.
     case("evictions at their end", ALL, |d| d.eit.state.evictions = u64::MAX),
     case("schedule evictions at their end", ALL, |d| d.eit.state.schedule_evictions = u64::MAX),
+    case("the clock at its end", ALL, |d| d.eit.state.clock = u64::MAX),
+    case("the clock one below its end", ALL, |d| d.eit.state.clock = u64::MAX - 1),
+    case("a clock below a tick in use", ALL, |d| d.eit.state.clock = 0),
     case("PID 8192", ALL, |d| d.pid = 8192),
     case("PID 8192, evictions at their end", ALL, |d| {
         d.pid = 8192;

@@ -31,7 +31,7 @@ const SECOND: &[u8] =
 const SCHEDULE: &[u8] = b"\x50\xF0\x1F\x00\x01\xC1\x00\x00\x00\x01\x21\x74\x00\x50\x00\x03\xC0\x79\x12\x45\x00\x01\x45\x30\x80\x04\x4D\x02\x61\x62\xC3\xA0\xF4\x6B";
 
 /// What is kept by value after `filled`.
-const WHOLE: EitState = EitState { limit: 3, size: 64, count: 4, used: 2, evictions: 0, schedules: 1, schedule_evictions: 0 };
+const WHOLE: EitState = EitState { limit: 3, size: 64, count: 4, used: 2, evictions: 0, schedules: 1, schedule_evictions: 0, clock: 3 };
 
 /// A word that no entry has, and what is told before the question.
 const BEFORE: u32 = 0xA5A5_A5A5;

@@ -297,8 +297,13 @@ pub const CASES: &[Case<Damaged>] = &[
     case("262,143 PAT cells", MANNERS, |d| d.gate.watch[0].pat_cells.lend(262_143)),
     case("no PAT cells", MANNERS, |d| d.gate.watch[0].pat_cells.lend(0)),
     case("287 PAT slots", &[Former, Anew], |d| d.gate.watch[0].pat_slots.lend(287)),
-    // 11: the count of the PAT store at its end.
+    // 11: a count of the PAT store at its end.
     case("PAT evictions at their end", MANNERS, |d| d.gate.watch[0].words[WATCH_PAT_EVICTIONS] = u64::MAX),
+    case("the PAT row's tick at its end", MANNERS, |d| d.gate.watch[0].words[PAT_HEAD + 9] = u64::MAX),
+    case("the PAT row's tick at its end, no PAT row used", MANNERS, |d| {
+        d.gate.watch[0].words[PAT_HEAD + 9] = u64::MAX;
+        d.gate.watch[0].words[PAT_ROWS] = 0;
+    }),
     case("PAT evictions one below their end", MANNERS, |d| d.gate.watch[0].words[WATCH_PAT_EVICTIONS] = u64::MAX - 1),
     // The lower number first.
     case("PAT evictions at their end, 2 PAT rows used", MANNERS, |d| {

@@ -36,7 +36,7 @@ const FIRST: &[u8] = b"\x42\xB0\x0D\x00\x02\xC1\x00\x01\xB0\xB0\xB0\xB0\xF5\xB8\
 const SECOND: &[u8] = b"\x42\xB0\x0D\x00\x02\xC1\x01\x01\xB1\xB1\xB1\xB1\xE5\xFD\xFB\x93";
 
 /// What is kept by value after `filled`.
-const WHOLE: SetsState = SetsState { limit: 3, size: 64, count: 4, used: 2, evictions: 0 };
+const WHOLE: SetsState = SetsState { limit: 3, size: 64, count: 4, used: 2, evictions: 0, clock: 2 };
 
 impl Damaged {
     fn push(&mut self) -> Answer {
@@ -110,7 +110,7 @@ impl Store for Damaged {
             Clear => self.sets.clear(),
             Open => self.open(asked),
             Former => self.refused(WHOLE),
-            Anew => self.refused(SetsState { used: 0, evictions: 0, ..asked }),
+            Anew => self.refused(SetsState { used: 0, evictions: 0, clock: 0, ..asked }),
         }
     }
 }
@@ -156,11 +156,14 @@ pub const CASES: &[Case<Damaged>] = &[
     case("a last_section_number of 300", ALL, |d| d.sets.heads[19] = 300),
     case("a version of 2^64 - 1", ALL, |d| d.sets.heads[18] = u64::MAX),
     case("a mark on a row that is not full", ALL, |d| d.sets.heads[20] = 7),
-    case("an age of 2^64 - 1", ALL, |d| d.sets.heads[9] = u64::MAX),
-    case("two rows of one age", ALL, |d| d.sets.heads[9] = 0),
+    case("a tick of 2^64 - 1", ALL, |d| d.sets.heads[9] = u64::MAX),
+    case("two rows of one tick", ALL, |d| d.sets.heads[9] = 2),
+    case("a clock below a tick in use", ALL, |d| d.sets.state.clock = 0),
     // 11, 12, and the lower number first; limit 0.
     case("evictions at their end", ALL, |d| d.sets.state.evictions = u64::MAX),
     case("evictions one below their end", ALL, |d| d.sets.state.evictions = u64::MAX - 1),
+    case("the clock at its end", ALL, |d| d.sets.state.clock = u64::MAX),
+    case("the clock one below its end", ALL, |d| d.sets.state.clock = u64::MAX - 1),
     case("PID 8192", ALL, |d| d.pid = 8192),
     case("PID 8192, evictions at their end", ALL, |d| {
         d.pid = 8192;

@@ -30,7 +30,7 @@ const SECOND: &[u8] = b"\x40\xF0\x13\x30\x01\xC1\x01\x01\xF0\x00\xF0\x06\x00\x02
 const SERVICES: &[u8] = b"\x42\xF0\x15\x00\x01\xC1\x00\x00\x21\x74\xFF\x00\x01\xFD\x80\x04\x48\x02\x01\x00\x5A\x12\x60\xC3";
 
 /// What is kept by value after `filled`.
-const WHOLE: SetsState = SetsState { limit: 3, size: 64, count: 4, used: 2, evictions: 0 };
+const WHOLE: SetsState = SetsState { limit: 3, size: 64, count: 4, used: 2, evictions: 0, clock: 3 };
 
 /// A word that no entry has, and what is told before the question.
 const BEFORE: u32 = 0xA5A5_A5A5;

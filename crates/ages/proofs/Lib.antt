@@ -1,8 +1,0 @@
-pub mod Ages
-pub mod Touch
-pub mod Words
-pub mod Origins
-pub mod Slots
-pub mod Cells
-pub mod Taken
-pub mod Drop
