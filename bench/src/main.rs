@@ -575,37 +575,38 @@ fn tables(rounds: usize) {
     }
 }
 
+/// A table of the documents, under the word that asks for it.
+type Part = (&'static str, fn(usize));
+
+const PARTS: [Part; 16] = [
+    ("crc", crc),
+    ("gate", gate),
+    ("new-keys", gate_new_keys),
+    ("following", following),
+    ("packets", packets::packets),
+    ("passed", packets::many),
+    ("sets", sets),
+    ("many", many),
+    ("new-sets", sets_new_keys),
+    ("present", |rounds| event_repeats(rounds, "EIT collector: a repeat of a held present/following set of one section", 0x4E)),
+    ("schedules", |rounds| event_repeats(rounds, "EIT collector: a repeat of a held schedule of one table of one section", 0x50)),
+    ("guide", full_guide),
+    ("check", check_of_the_store),
+    ("entries", listings),
+    ("guides", guides::guides),
+    ("logs", logs::logs),
+];
+
 fn main() {
-    let rounds = if std::env::args().any(|a| a == "quick") { 3 } else { 9 };
+    let words: Vec<String> = std::env::args().skip(1).collect();
+    let rounds = if words.iter().any(|word| word == "quick") { 3 } else { 9 };
     println!(
         "Nanoseconds a section, best of {rounds} rounds (two or three at thousands of rows). Ratios: to the original over one table, then over eight."
     );
-    if std::env::args().any(|a| a == "entries") {
-        return listings(rounds);
+    let all = words.iter().all(|word| word == "quick");
+    for (name, part) in PARTS {
+        if all || words.iter().any(|word| word == name) {
+            part(rounds);
+        }
     }
-    if std::env::args().any(|a| a == "guides") {
-        return guides::guides(rounds);
-    }
-    if std::env::args().any(|a| a == "logs") {
-        return logs::logs(rounds);
-    }
-    if std::env::args().any(|a| a == "many") {
-        return many(rounds);
-    }
-    crc(rounds);
-    gate(rounds);
-    gate_new_keys(rounds);
-    following(rounds);
-    packets::packets(rounds);
-    packets::many(rounds);
-    sets(rounds);
-    many(rounds);
-    sets_new_keys(rounds);
-    event_repeats(rounds, "EIT collector: a repeat of a held present/following set of one section", 0x4E);
-    event_repeats(rounds, "EIT collector: a repeat of a held schedule of one table of one section", 0x50);
-    full_guide(rounds);
-    check_of_the_store(rounds);
-    listings(rounds);
-    guides::guides(rounds);
-    logs::logs(rounds);
 }

@@ -7,7 +7,6 @@ use crate::{
 };
 
 /// The streams of one input.
-#[derive(Default)]
 struct Streams {
     state: StreamsState,
     pids: Box<[u64]>,
@@ -47,11 +46,11 @@ impl Demux {
     /// Gives a packet that came on an input: the sections that it finished, in order, with the gate's answer to each.
     /// A packet that is malformed (30) or finds no section buffer (43) is counted. Of an input without streams the answer is 10, of one that there is not 37.
     pub fn feed<'a>(&'a mut self, input: u8, packet: &'a [u8]) -> Result<Fed<'a>, Refused> {
-        // An input that there is not is refused whatever is lent.
+        // An input that there is not is refused whatever is lent (37); one without streams lends none.
         let at = if usize::from(input) < INPUTS { usize::from(input) } else { 0 };
-        let mut none = Streams::default();
-        let has = at < self.streams.len();
-        let streams = if has { &mut self.streams[at] } else { &mut none };
+        let Some(streams) = self.streams.get_mut(at) else {
+            return Err(Refused(Answer::NOT_WHOLE));
+        };
         let Record { words, pat_slots, pat_cells } = self.gate.watches.of(at as u8);
         let mut finished = 0;
         let answer = calls::indexed_feed(
@@ -72,10 +71,7 @@ impl Demux {
             &mut finished,
         );
         match answer {
-            Answer::FED if has => {
-                let places = &self.places[..finished as usize * PLACE_WORDS];
-                Ok(Fed { places, packet, buffers: &self.streams[at].buffers })
-            }
+            Answer::FED => Ok(Fed { places: &self.places[..finished as usize * PLACE_WORDS], packet, buffers: &streams.buffers }),
             refused => Err(Refused(refused)),
         }
     }
