@@ -3,8 +3,8 @@
 // A known key keeps its place.
 ghost use mathlib.Core.Path.{_≡_};
 ghost use mathlib.Core.Bool.{Bool};
-ghost use Prim.Native.Nat.{_<_, _≤_};
-ghost use lib.ListN.{length, take, set};
+ghost use Prim.Native.Nat.{_+_, _<_, _≤_};
+ghost use lib.ListN.{length, take, drop, set};
 ghost use Rattle.ring.specs.Store.{roomOf, wholeOf, Whole, stampOf, rowOf, freeRow, renewed, arrived, seenOf, keysAfter, changesAfter};
 
 pub struct Ring {
@@ -69,12 +69,12 @@ pub fn stamp(version: u8, change: u32) -> u64
     (version as u64) * 4294967296 + (change as u64)
 }
 
-// The first of the rows in use that has the key, or used where none has it.
-fn find(keys: &[u64], used: usize, key: u64) -> usize
-    requires { ⌜ used ≤ length (now keys) ⌝ }
-    ensures { λ r. ⌜ r ≡ rowOf (take used (now (keys .entry))) key ⌝ }
+// The first of the rows in use, from row `from` on, that has the key, or used where none has it: row by row.
+fn find_from(keys: &[u64], used: usize, key: u64, from: usize) -> usize
+    requires { ⌜ (used ≤ length (now keys)) × (from ≤ used) ⌝ }
+    ensures { λ r. ⌜ r ≡ from + rowOf (drop from (take used (now (keys .entry)))) key ⌝ }
 {
-    let mut i = 0;
+    let mut i = from;
     while i < used {
         if keys[i] == key {
             return i;
@@ -82,6 +82,30 @@ fn find(keys: &[u64], used: usize, key: u64) -> usize
         i += 1;
     }
     i
+}
+
+// The first of the rows in use that has the key, or used where none has it. Four rows a turn: half of a turn's work is to ask whether there are more.
+fn find(keys: &[u64], used: usize, key: u64) -> usize
+    requires { ⌜ used ≤ length (now keys) ⌝ }
+    ensures { λ r. ⌜ r ≡ rowOf (take used (now (keys .entry))) key ⌝ }
+{
+    let mut i = 0;
+    while used - i >= 4 {
+        if keys[i] == key {
+            return i;
+        }
+        if keys[i + 1] == key {
+            return i + 1;
+        }
+        if keys[i + 2] == key {
+            return i + 2;
+        }
+        if keys[i + 3] == key {
+            return i + 3;
+        }
+        i += 4;
+    }
+    find_from(keys, used, key, i)
 }
 
 // The key is in row i: its number is replaced, and nothing else.
