@@ -84,8 +84,9 @@ pub fn push(
 pub fn clear(sets: Sets, heads: &[u64], slots: &[u32], cells: &[u8]) -> Cleared
     ensures { λ r. ⌜ afterClear r (now (heads .entry)) (now (slots .entry)) (now (cells .entry)) ≡ clearedOf (store sets (now (heads .entry)) (now (slots .entry)) (now (cells .entry))) ⌝ }
 {
-    if store::is_whole(sets, heads, slots, cells) {
-        if without_pid::any_without_pid(heads, sets.used) {
+    let seen = store::look(sets, heads, slots, cells);
+    if seen.whole {
+        if seen.without {
             return Cleared {
                 answer: Outcome::Refused(Refusal::NoPid),
                 sets,
@@ -120,8 +121,9 @@ pub fn next_section(
 ) -> Next
     ensures { λ r. ⌜ r ≡ nextOf (store sets (now (heads .entry)) (now (slots .entry)) (now (cells .entry))) row from ⌝ }
 {
-    if store::is_whole(sets, heads, slots, cells) {
-        if without_pid::any_without_pid(heads, sets.used) {
+    let seen = store::look(sets, heads, slots, cells);
+    if seen.whole {
+        if seen.without {
             return readers::no_section(Reply::Refused(Refusal::NoPid));
         }
         if row < sets.used {
