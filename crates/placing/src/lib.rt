@@ -68,8 +68,8 @@ fn place_slot(
     }
 }
 
-// Row i has the section's key.
-fn place_known(
+// Where the section goes, of which row i has the key.
+pub fn place_known(
     sets: Sets,
     heads: &[u64],
     slots: &[u32],
