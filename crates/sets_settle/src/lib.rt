@@ -37,7 +37,7 @@ impl PushAnswer {
 }
 
 // Whether row i is full and not marked.
-fn goes_out(heads: &[u64], slots: &[u32], i: usize) -> bool
+pub fn goes_out(heads: &[u64], slots: &[u32], i: usize) -> bool
     requires { ⌜ (i * 12 + 12 ≤ length (now heads)) × (i * 288 + 288 ≤ length (now slots)) ⌝ }
     ensures { λ r. ⌜ r ≡ goesOut (now (heads .entry)) (now (slots .entry)) i ⌝ }
 {
