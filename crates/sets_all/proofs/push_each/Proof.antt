@@ -17,10 +17,10 @@ use Rattle.sets_all.proofs.push_at.Reads as push-at-reads
 use Rattle.sets_settle.proofs.PushAnswer.number.Reads as number-reads
 
 abbrev Inv-loop : tie.InvT-loop
-Inv-loop heads₀ slots₀ cells₀ list held₀ at₀ heads slots cells held at = (length heads ≡ length heads₀) × (length slots ≡ length slots₀) × (length cells ≡ length cells₀) × Pushable held heads slots cells × WholeFrom list at × (pushedEach at (store held heads slots cells) (givensFrom list at) ≡ pushedEach 0 (store held₀ heads₀ slots₀ cells₀) (givensFrom list 0))
+Inv-loop heads₀ slots₀ cells₀ list from held₀ at₀ heads slots cells held at = (length heads ≡ length heads₀) × (length slots ≡ length slots₀) × (length cells ≡ length cells₀) × Pushable held heads slots cells × WholeFrom list at × (pushedEach at (store held heads slots cells) (givensFrom list at) ≡ pushedEach from (store held₀ heads₀ slots₀ cells₀) (givensFrom list from))
 
 abbrev μ-loop : tie.MeasureT-loop
-μ-loop heads₀ slots₀ cells₀ list held₀ at₀ heads slots cells held at = length list - at
+μ-loop heads₀ slots₀ cells₀ list from held₀ at₀ heads slots cells held at = length list - at
 
 -- src/lib.rt:117:5
 loop-holds : tie.Need-loop-holds Inv-loop μ-loop
