@@ -1,7 +1,6 @@
-//! bench [quick] [entries|guides|logs|many]: nanoseconds a section, the port beside the original on the same sections in the same scattered order. Times are the thread's
+//! bench [quick] [PART..]: nanoseconds a section, the port beside the original on the same sections in the same scattered order. Times are the thread's
 //! processor time, the best of some rounds; the rounds of the port and of the original take turns, so that a busy machine slows both.
-//! With `entries` only the listing of a section's entries, with `guides` only the comparison of two sets, with `logs` only a log is measured; the original has none of them. With `many` only
-//! repeats to the collectors, one at a time and many in one call.
+//! With the names of parts (`PARTS` below) only these are measured. The original has no entries, guides and logs.
 
 mod guides;
 mod logs;
@@ -14,8 +13,12 @@ use bytes::Bytes;
 use dvb_si::collect::{EitCollector, SectionSetCollector};
 use dvb_si::demux::SiDemux;
 use mpeg_ts::pid::Pid;
-use petrizolu::{Answer, BAT, DEFAULT_SETTINGS, ENTRY_WORDS, Eit, FOLLOW_SECTIONS, Gate, Listed, NIT, Offered, Refused, SDT, Sets, SmallGate, calls, listed_section};
+use petrizolu::{
+    Answer, BAT, DEFAULT_SETTINGS, ENTRY_WORDS, Eit, FOLLOW_SECTIONS, Gate, Listed, NIT, Offered, Refused, SDT, Sets, SmallGate, calls,
+    listed_section,
+};
 use sections::{eit, long, of_version};
+use std::cell::RefCell;
 use std::hint::black_box;
 use std::sync::atomic::Ordering;
 
@@ -314,39 +317,48 @@ fn sets(rounds: usize) {
     }
 }
 
-/// What a host gathers for one call.
-const MANY: usize = 64;
+/// What a host gathers for one call: some, and as many short sections as both monitors gather.
+const SOME: usize = 64;
+const MANY: usize = 512;
 
-/// Sections of a PID as lists of `MANY`.
-fn lists(pid: u16, sections: impl Iterator<Item = impl AsRef<[u8]>>) -> Vec<Vec<u8>> {
+/// Sections of a PID as lists of so many.
+fn lists(pid: u16, many: usize, sections: impl Iterator<Item = impl AsRef<[u8]>>) -> Vec<Vec<u8>> {
     let listed: Vec<Vec<u8>> = sections.map(|section| listed_section(0, pid, section.as_ref()).expect("short enough")).collect();
-    listed.chunks(MANY).map(<[Vec<u8>]>::concat).collect()
+    listed.chunks(many).map(<[Vec<u8>]>::concat).collect()
 }
 
+/// The ways that are measured of a collector's repeats.
+const WAYS: [&str; 3] = ["one at a time", "64 in one call", "512 in one call"];
+
 fn sets_many(rounds: usize) {
-    head("Set collector: a repeat of a held set of one section, one at a time and 64 in one call", "keys held", &["one at a time", "64 in one call"]);
+    head("Set collector: a repeat of a held set of one section, one at a time and many in one call", "keys held", &WAYS);
     for limit in [16, 256, 4096] {
         for size in [64, 200, 1000] {
             let all: Vec<Vec<u8>> = (0..limit).map(|i| long(0x42, i as u16, 0, 0, &vec![i as u8; size - 12])).collect();
             let order: Vec<usize> = scattered(limit).into_iter().cycle().take(limit.max(4_096)).collect();
-            let lists = lists(PID, order.iter().map(|&i| &all[i]));
+            let [some, more] = [SOME, MANY].map(|n| lists(PID, n, order.iter().map(|&i| &all[i])));
             let mut single = Sets::open(limit, size, limit).expect("opens");
-            let mut many = Sets::open(limit, size, limit).expect("opens");
+            let many = RefCell::new(Sets::open(limit, size, limit).expect("opens"));
             let mut collector = SectionSetCollector::new().with_max_partial_keys(limit);
             for section in &all {
-                assert!(matches!((single.push(0, Some(PID), section), many.push(0, Some(PID), section)), (Ok(Some(_)), Ok(Some(_)))));
+                assert!(matches!(
+                    (single.push(0, Some(PID), section), many.borrow_mut().push(0, Some(PID), section)),
+                    (Ok(Some(_)), Ok(Some(_)))
+                ));
             }
-            let mut port: [Side; 2] = [
+            let push_all = |lists: &[Vec<u8>]| {
+                for list in lists {
+                    assert!(matches!(black_box(many.borrow_mut().push_all(list)), (Ok(None), taken) if taken == list.len()));
+                }
+            };
+            let mut port: [Side; 3] = [
                 Box::new(|| {
                     for &i in &order {
                         assert!(matches!(black_box(single.push(0, Some(PID), &all[i])), Ok(None)));
                     }
                 }),
-                Box::new(|| {
-                    for list in &lists {
-                        assert!(matches!(black_box(many.push_all(list)), (Ok(None), taken) if taken == list.len()));
-                    }
-                }),
+                Box::new(|| push_all(&some)),
+                Box::new(|| push_all(&more)),
             ];
             let mut original: Side = Box::new(|| {
                 for &i in &order {
@@ -360,29 +372,34 @@ fn sets_many(rounds: usize) {
 }
 
 fn events_many(rounds: usize, title: &str, table_id: u8) {
-    head(&format!("EIT collector: {title}, one at a time and 64 in one call"), "keys held", &["one at a time", "64 in one call"]);
+    head(&format!("EIT collector: {title}, one at a time and many in one call"), "keys held", &WAYS);
     for limit in [16, 256, 4096] {
         for size in [64, 200, 1000] {
             let all: Vec<Vec<u8>> = (0..limit).map(|i| eit(table_id, i as u16, table_id, size)).collect();
             let order: Vec<usize> = scattered(limit).into_iter().cycle().take(limit.max(4_096)).collect();
-            let lists = lists(0x12, order.iter().map(|&i| &all[i]));
+            let [some, more] = [SOME, MANY].map(|n| lists(0x12, n, order.iter().map(|&i| &all[i])));
             let mut single = Eit::open(limit, size, limit).expect("opens");
-            let mut many = Eit::open(limit, size, limit).expect("opens");
+            let many = RefCell::new(Eit::open(limit, size, limit).expect("opens"));
             let mut collector = EitCollector::new().with_max_logical_keys(limit);
             for section in &all {
-                assert!(matches!((single.push(0, Some(0x12), section), many.push(0, Some(0x12), section)), (Ok(Some(_)), Ok(Some(_)))));
+                assert!(matches!(
+                    (single.push(0, Some(0x12), section), many.borrow_mut().push(0, Some(0x12), section)),
+                    (Ok(Some(_)), Ok(Some(_)))
+                ));
             }
-            let mut port: [Side; 2] = [
+            let push_all = |lists: &[Vec<u8>]| {
+                for list in lists {
+                    assert!(matches!(black_box(many.borrow_mut().push_all(list)), (Ok(None), taken) if taken == list.len()));
+                }
+            };
+            let mut port: [Side; 3] = [
                 Box::new(|| {
                     for &i in &order {
                         assert!(matches!(black_box(single.push(0, Some(0x12), &all[i])), Ok(None)));
                     }
                 }),
-                Box::new(|| {
-                    for list in &lists {
-                        assert!(matches!(black_box(many.push_all(list)), (Ok(None), taken) if taken == list.len()));
-                    }
-                }),
+                Box::new(|| push_all(&some)),
+                Box::new(|| push_all(&more)),
             ];
             let mut original: Side = Box::new(|| {
                 for &i in &order {

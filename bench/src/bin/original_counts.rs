@@ -103,7 +103,11 @@ impl Monitor {
 
     fn say(&self, first: &str, out: &mut impl Write) -> io::Result<()> {
         let (stats, c) = (self.demux.stats(), &self.counts);
-        write!(out, "{first}\t{}\t{}\t0\t{}\t{}\t{}\t0\t{}", stats.packets, stats.malformed_packets, stats.sections_completed, c.emitted, c.suppressed, stats.crc_failures)?;
+        write!(
+            out,
+            "{first}\t{}\t{}\t0\t{}\t{}\t{}\t0\t{}",
+            stats.packets, stats.malformed_packets, stats.sections_completed, c.emitted, c.suppressed, stats.crc_failures
+        )?;
         write!(out, "\t{}\t{}\t{}\t0\t{}", stats.gate_evictions, c.sets, c.set_conflicts, self.sets.evicted_for_capacity())?;
         write!(out, "\t{}\t{}\t0\t0\t0\t{}", c.present_following, c.schedules, c.eit_refused)?;
         writeln!(out, "\t{}\t{}", self.eit.sections_evicted_for_capacity(), self.eit.schedules_evicted_for_capacity())?;
