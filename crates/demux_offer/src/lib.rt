@@ -93,7 +93,7 @@ pub fn offer(
             section,
         );
     }
-    demux_take::take(
+    gate_pats::inner::take(
         gate,
         counters,
         keys,
