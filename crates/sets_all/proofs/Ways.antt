@@ -2,14 +2,13 @@
 -- Assumes nothing.
 use mathlib.Core.Path.{_≡_, refl, sym, ap, subst, _∙_}
 use mathlib.Core.List.{List, [], _∷_}
-use mathlib.Core.Bool.{Bool, true, false, cond, _&&_}
+use mathlib.Core.Bool.{Bool, true, false, cond}
 use Prim.Native.Nat.{ℕ, _+_, _-_, _≤_, _<_}
 use native.Mathlib.Omega.{arith}
-use borrow.Author.Tests.{eq-eqb, ne-eqb, ltb-false, leb-true}
-use lib.Dec.{leb, ltb, eqb}
+use borrow.Author.Tests.{eq-eqb, ne-eqb, ltb-false}
+use lib.Dec.{eqb}
 use lib.ListN.{length, getD, take, drop, length-drop}
 use lib.Seq.{length-take-le}
-use Rattle.laws.proofs.Tests.{and-true as both-true}
 use Rattle.answers.specs.Answers.{refusalNo}
 use Rattle.answers.proofs.Laws.{refused-from-10}
 use Rattle.answers.specs.declared.Refusal.{Refusal}
@@ -25,8 +24,7 @@ use Rattle.arrivals.specs.Arrivals.{setArrival, SetTaken, Taken}
 use Rattle.arrivals.specs.declared.SetArrival.{SetArrival}
 use Rattle.arrivals.specs.declared.SetArrival.the-variants as arrival
 use Rattle.sets_plan.specs.Plan.{Ready}
-use Rattle.columns.specs.Columns.{Tells}
-use Rattle.sets_repeats.specs.Repeats.{Searchable, Passed, start, next}
+use Rattle.sets_repeats.specs.Repeats.{Passed, start, next}
 use Rattle.sets_settle.specs.Settle.{Told, nothing, refused, SetsAfter, after, afterPush, answerOf, pushNo}
 use Rattle.sets_settle.specs.declared.PushAnswer.{PushAnswer}
 use Rattle.sets_settle.specs.declared.PushAnswer.the-variants as push-answer
@@ -188,15 +186,5 @@ module _ (list : Bytes) (s₀ : Store) where
   passed-each start = refl
   passed-each (next k r o t e) = passed-each k ∙ each-turn list _ _ r o (after nothing t) e refl
 
-pub searchable : (s : Sets) (heads slots cells tags : List ℕ) → Pushable s heads slots cells → s .used ≤ length tags → Tells tags heads (s .used) → Searchable s heads slots cells tags
-searchable s heads slots cells tags w l t = record { whole = w .whole; pids = w .pids; long = l; tells = t }
-
-pub still-pushable : (s : Sets) (heads slots cells tags : List ℕ) → Searchable s heads slots cells tags → Pushable s heads slots cells
-still-pushable s heads slots cells tags o = record { whole = o .whole; pids = o .pids }
-
 pub rest-pushed : (list : Bytes) (s₀ s : Store) (p : ℕ) (k : AllAfter) → Passed list s₀ p s → k ≡ pushedEach p s (givensFrom list p) → k ≡ pushedEach 0 s₀ (givensFrom list 0)
 rest-pushed list s₀ s p k o e = e ∙ sym (passed-each list s₀ o)
-
-pub column-room : (r : Bool) (used bytes : ℕ) → r ≡ (leb 64 used && leb used 8192 && ltb 4103 bytes) → r ≡ true → used ≤ 8192
-column-room r used bytes e t =
-    leb-true used 8192 (both-true (leb 64 used) (leb used 8192) (both-true (leb 64 used && leb used 8192) (ltb 4103 bytes) (sym e ∙ t) .0) .1)

@@ -9,9 +9,7 @@ use sets_settle::PushAnswer;
 use sets_settle::Pushed;
 use store::Sets;
 ghost use mathlib.Core.Path.{_≡_};
-ghost use mathlib.Core.Bool.{_&&_};
 ghost use Prim.Native.Nat.{_+_, _≤_};
-ghost use lib.Dec.{leb, ltb};
 ghost use lib.ListN.{length, take, drop};
 ghost use Rattle.section.specs.declared.ids.MaybePid.the-variants as maybe;
 ghost use Rattle.store.specs.Store.{store};
@@ -19,12 +17,6 @@ ghost use Rattle.sets_settle.specs.Settle.{afterPush};
 ghost use Rattle.sets.specs.Store.{pushedOf};
 ghost use Rattle.log_list.specs.List.{givenAt, givensFrom, WholeFrom};
 ghost use Rattle.sets_all.specs.All.{allNo, afterAll, pushedEach, pushedAll, pushedGiven, pushedSections, Pushable};
-
-// The fewest rows in use for which a column of tags is made.
-const FEWEST_ROWS: usize = 64;
-
-// The most bytes that one section of a list takes there.
-const LARGEST: usize = log_list::HEAD + log_list::LONGEST;
 
 // What the section answered that was pushed last: 4 where all of them did, and where there is none. Or a section of more than 4,098 bytes (42).
 pub enum AllAnswer {
@@ -144,33 +136,7 @@ fn push_each(
     }
 }
 
-// The same from the start of the list: sections that only touch their row go first, found by a column of tags; the rest goes one by one.
-fn push_by_column(
-    sets: Sets,
-    heads: &mut [u64],
-    slots: &mut [u32],
-    cells: &mut [u8],
-    tags: &mut [u16],
-    list: &[u8],
-) -> AllPushed
-    requires { ⌜ Pushable sets (now heads) (now slots) (now cells) ⌝ }
-    requires { ⌜ sets .used ≤ length (now tags) ⌝ }
-    requires { ⌜ WholeFrom (now list) 0 ⌝ }
-    ensures { λ r. ⌜ afterAll r (now (heads .exit)) (now (slots .exit)) (now (cells .exit)) ≡ pushedEach 0 (store sets (now (heads .entry)) (now (slots .entry)) (now (cells .entry))) (givensFrom (now (list .entry)) 0) ⌝ }
-{
-    columns::fill(tags, heads, sets.used);
-    let passed = sets_repeats::push_repeats(sets, heads, slots, cells, tags, list);
-    push_each(passed.sets, heads, slots, cells, list, passed.at)
-}
-
-// Whether a column is worth its making: not for few rows, and not for a list that one section may fill; and its rows have room.
-fn column_pays(used: usize, bytes: usize) -> bool
-    ensures { λ r. ⌜ r ≡ (leb 64 used && leb used 8192 && ltb 4103 bytes) ⌝ }
-{
-    (FEWEST_ROWS <= used) & (used <= columns::ROWS) & (LARGEST < bytes)
-}
-
-// All sections of a list, until one answers something else than 4.
+// All sections of a list, until one answers something else than 4: at first those that only touch their row, then the rest one by one.
 fn push_sections(
     sets: Sets,
     heads: &mut [u64],
@@ -182,11 +148,8 @@ fn push_sections(
     requires { ⌜ WholeFrom (now list) 0 ⌝ }
     ensures { λ r. ⌜ afterAll r (now (heads .exit)) (now (slots .exit)) (now (cells .exit)) ≡ pushedEach 0 (store sets (now (heads .entry)) (now (slots .entry)) (now (cells .entry))) (givensFrom (now (list .entry)) 0) ⌝ }
 {
-    if column_pays(sets.used, list.len()) {
-        let mut tags = columns::room();
-        return push_by_column(sets, heads, slots, cells, &mut tags, list);
-    }
-    push_each(sets, heads, slots, cells, list, 0)
+    let first = sets_repeats::push_first(sets, heads, slots, cells, list);
+    push_each(first.sets, heads, slots, cells, list, first.at)
 }
 
 // Nothing is pushed.
