@@ -46,7 +46,7 @@ fn push_listed(
         if eit_pids::any_row_without_pid(eit, heads, schedule_heads) {
             return refuse(AllAnswer::Pushed(PushAnswer::Refused(Refusal::NoPid)), eit);
         }
-        return eit_each::push_each(eit, heads, slots, cells, schedule_heads, units, list);
+        return eit_each::push_each(eit, heads, slots, cells, schedule_heads, units, list, 0);
     }
     refuse(
         AllAnswer::Pushed(PushAnswer::Refused(Refusal::NotWhole)),

@@ -69,7 +69,7 @@ fn push_at(
     )
 }
 
-// One section after another, until one answers something else than 4.
+// One section after another from place `from` of the list on, until one answers something else than 4.
 pub fn push_each(
     eit: Eit,
     heads: &mut [u64],
@@ -78,13 +78,14 @@ pub fn push_each(
     schedule_heads: &mut [u64],
     units: &mut [u32],
     list: &[u8],
+    from: usize,
 ) -> AllPushed
     requires { ⌜ Pushable (store eit (now heads) (now slots) (now cells) (now «schedule_heads») (now units)) ⌝ }
-    requires { ⌜ WholeFrom (now list) 0 ⌝ }
-    ensures { λ r. ⌜ afterAll r (now (heads .exit)) (now (slots .exit)) (now (cells .exit)) (now («schedule_heads» .exit)) (now (units .exit)) ≡ pushedEach 0 (store eit (now (heads .entry)) (now (slots .entry)) (now (cells .entry)) (now («schedule_heads» .entry)) (now (units .entry))) (givensFrom (now (list .entry)) 0) ⌝ }
+    requires { ⌜ WholeFrom (now list) from ⌝ }
+    ensures { λ r. ⌜ afterAll r (now (heads .exit)) (now (slots .exit)) (now (cells .exit)) (now («schedule_heads» .exit)) (now (units .exit)) ≡ pushedEach from (store eit (now (heads .entry)) (now (slots .entry)) (now (cells .entry)) (now («schedule_heads» .entry)) (now (units .entry))) (givensFrom (now (list .entry)) from) ⌝ }
 {
     let mut held = eit;
-    let mut at = 0;
+    let mut at = from;
     while at < list.len() {
         let place = log_list::section_at(list, at);
         let pushed = push_at(

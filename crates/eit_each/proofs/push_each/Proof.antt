@@ -18,10 +18,10 @@ use Rattle.eit_each.proofs.push_at.Reads as push-at-reads
 use Rattle.eit_state.proofs.PushAnswer.number.Reads as number-reads
 
 abbrev Inv-loop : tie.InvT-loop
-Inv-loop heads₀ slots₀ cells₀ schedule-heads₀ units₀ list held₀ at₀ heads slots cells schedule-heads units held at = (length heads ≡ length heads₀) × (length slots ≡ length slots₀) × (length cells ≡ length cells₀) × (length schedule-heads ≡ length schedule-heads₀) × (length units ≡ length units₀) × Pushable (store held heads slots cells schedule-heads units) × WholeFrom list at × (pushedEach at (store held heads slots cells schedule-heads units) (givensFrom list at) ≡ pushedEach 0 (store held₀ heads₀ slots₀ cells₀ schedule-heads₀ units₀) (givensFrom list 0))
+Inv-loop heads₀ slots₀ cells₀ schedule-heads₀ units₀ list from held₀ at₀ heads slots cells schedule-heads units held at = (length heads ≡ length heads₀) × (length slots ≡ length slots₀) × (length cells ≡ length cells₀) × (length schedule-heads ≡ length schedule-heads₀) × (length units ≡ length units₀) × Pushable (store held heads slots cells schedule-heads units) × WholeFrom list at × (pushedEach at (store held heads slots cells schedule-heads units) (givensFrom list at) ≡ pushedEach from (store held₀ heads₀ slots₀ cells₀ schedule-heads₀ units₀) (givensFrom list from))
 
 abbrev μ-loop : tie.MeasureT-loop
-μ-loop heads₀ slots₀ cells₀ schedule-heads₀ units₀ list held₀ at₀ heads slots cells schedule-heads units held at = length list - at
+μ-loop heads₀ slots₀ cells₀ schedule-heads₀ units₀ list from held₀ at₀ heads slots cells schedule-heads units held at = length list - at
 
 loop-holds : tie.Need-loop-holds Inv-loop μ-loop
 loop-holds c = (refl, refl, refl, refl, refl, c .before .before .before .before .before .before .pre .0, c .before .before .before .before .before .before .pre .1, refl)
