@@ -23,7 +23,7 @@ fn refuse(answer: AllAnswer, eit: Eit) -> AllPushed
     }
 }
 
-// A list that is whole, over any store: 10, 11, 41 where a set or a schedule has no PID, else its sections.
+// A list that is whole, over any store: 10, 11, 41 where a set or a schedule has no PID, else its sections, those first that are repeats.
 fn push_listed(
     eit: Eit,
     heads: &mut [u64],
@@ -46,7 +46,17 @@ fn push_listed(
         if eit_pids::any_row_without_pid(eit, heads, schedule_heads) {
             return refuse(AllAnswer::Pushed(PushAnswer::Refused(Refusal::NoPid)), eit);
         }
-        return eit_each::push_each(eit, heads, slots, cells, schedule_heads, units, list, 0);
+        let passed = eit_repeats::push_by_column(eit, heads, slots, cells, list);
+        return eit_each::push_each(
+            passed.eit,
+            heads,
+            slots,
+            cells,
+            schedule_heads,
+            units,
+            list,
+            passed.at,
+        );
     }
     refuse(
         AllAnswer::Pushed(PushAnswer::Refused(Refusal::NotWhole)),

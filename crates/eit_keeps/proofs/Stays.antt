@@ -107,6 +107,9 @@ with-cells r cells w c =
 -- ---- a row is settled
 
 -- heads that differ in no last_section_number
+pub same-slots : (heads heads′ slots : List ℕ) (count size n : ℕ) → ((j : ℕ) → lastOf heads′ j ≡ lastOf heads j) → n * 288 ≤ length slots → rowsWhole heads slots count size n ≡ true → rowsWhole heads′ slots count size n ≡ true
+same-slots heads heads′ slots count size n e a w = slot-all heads′ slots count size n a (λ i k h hk. slot-get heads slots count size n i k w h a (rw (e i) at hk))
+
 other-heads : (r : Rows) (heads′ : List ℕ) → ((j : ℕ) → lastOf heads′ j ≡ lastOf (r .heads) j) → length heads′ ≡ length (r .heads) → WholeRows r → WholeRows (rows (r .eit) heads′ (r .slots) (r .schedule-heads) (r .units))
 other-heads r heads′ e l w =
     let f = w .fit in
@@ -121,8 +124,7 @@ other-heads r heads′ e l w =
         units-long = f .units-long;
         schedules = f .schedules;
       };
-      sets = slot-all heads′ (r .slots) (r .eit .sets .count) (r .eit .sets .size) n a (λ i k h hk.
-          slot-get (r .heads) (r .slots) (r .eit .sets .count) (r .eit .sets .size) n i k (w .sets) h a (rw (e i) at hk));
+      sets = same-slots (r .heads) heads′ (r .slots) (r .eit .sets .count) (r .eit .sets .size) n e a (w .sets);
       units = w .units;
     }
 
