@@ -3,13 +3,13 @@
 use mathlib.Core.Path.{_≡_, refl, sym, ap, _∙_}
 use mathlib.Core.List.{List}
 use mathlib.Core.Logic.{_≢_}
-use mathlib.Core.Bool.{Bool, true, false, cond, _||_, or-assoc, or-false}
+use mathlib.Core.Bool.{Bool, true, false, cond, _&&_, _||_, or-assoc, or-false}
 use Prim.Native.Nat.{ℕ, zero, suc, _+_, _-_, _*_, _<_, _≤_, _%_}
 use native.Mathlib.Numerals.{add-one}
 use native.Mathlib.Decide.{ℕ-discrete}
 use native.Mathlib.Omega.{arith}
-use borrow.Author.Tests.{eqb-true, eqb-false}
-use lib.Dec.{eqb}
+use borrow.Author.Tests.{eqb-true, eqb-false, leb-true}
+use lib.Dec.{eqb, leb, ltb}
 use lib.ListN.{length, getD, take, drop, set, length-drop, drop-of-length-le}
 use lib.Seq.{drop-cons, getD-take, getD-drop, length-take-le, getD-set-same, getD-set-other}
 use Rattle.laws.specs.Lists.{any, firstFrom}
@@ -37,6 +37,11 @@ tells-touched tags heads used clock i t = record {
 -- fewer rows
 pub tells-fewer : (tags heads : List ℕ) (n m : ℕ) → m ≤ n → Tells tags heads n → Tells tags heads m
 tells-fewer tags heads n m h t = record { each = λ i l. t .each i (omega arith) }
+
+-- ---- a column that pays has room for the rows
+
+pub pays-room : (used bytes : ℕ) (b : Bool) → b ≡ (leb 64 used && leb used 8192 && ltb 4103 bytes) → b ≡ true → used ≤ 8192
+pays-room used bytes b e t = leb-true used 8192 (both-true (leb 64 used) (leb used 8192) (both-true (leb 64 used && leb used 8192) (ltb 4103 bytes) (sym e ∙ t) .0) .1)
 
 -- ---- filling
 

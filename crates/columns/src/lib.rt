@@ -2,9 +2,9 @@
 // rows at a time, where the heads have 96 bytes a row; only a row with the key's tag is looked at itself. Nothing of it outlives the call.
 use rows::Key;
 ghost use mathlib.Core.Path.{_≡_};
-ghost use mathlib.Core.Bool.{Bool};
+ghost use mathlib.Core.Bool.{Bool, _&&_};
 ghost use Prim.Native.Nat.{ℕ, _+_, _-_, _*_, _<_, _≤_, min};
-ghost use lib.Dec.{eqb};
+ghost use lib.Dec.{eqb, leb, ltb};
 ghost use lib.ListN.{length};
 ghost use Rattle.laws.specs.Lists.{any, firstFrom};
 ghost use Rattle.rows.specs.Rows.{keyAt, sameKey, rowOf};
@@ -15,6 +15,19 @@ pub const ROWS: usize = 8192;
 
 // Rows whose tags are looked at together.
 const BLOCK: usize = 256;
+
+// The fewest rows in use for which a column is made.
+const FEWEST: usize = 64;
+
+// The most bytes that one section of a list takes there.
+const LARGEST: usize = log_list::HEAD + log_list::LONGEST;
+
+// Whether a column is worth its making for a list of so many bytes: not for few rows, nor for a list that one section may fill; and it has room for the rows.
+pub fn pays(used: usize, bytes: usize) -> bool
+    ensures { λ r. ⌜ r ≡ (leb 64 used && leb used 8192 && ltb 4103 bytes) ⌝ }
+{
+    (FEWEST <= used) & (used <= ROWS) & (LARGEST < bytes)
+}
 
 // A column with no tags yet.
 pub fn room() -> [u16; 8192]

@@ -47,9 +47,9 @@ module _ (e : Eit) (heads slots cells schedule-heads units : List ℕ) (gs : Lis
       unfolding pushedSections
       listed-without r y f = rw (f, ← q, t, ← g, h, ← o, y)
 
-      pub listed-each : (k : AllAfter) → n ≡ false → k ≡ pushedEach 0 here gs → k ≡ pushedSections here gs
+      pub listed-each : (k x : AllAfter) → n ≡ false → k ≡ x → x ≡ pushedEach 0 here gs → k ≡ pushedSections here gs
       unfolding pushedSections
-      listed-each k y f = rw (← q, t, ← g, h, ← o, y) f
+      listed-each k x y f p = rw (← q, t, ← g, h, ← o, y) (f ∙ p)
 
 -- a store that passed both looks
 pub looked : (e : Eit) (heads slots cells schedule-heads units : List ℕ) (w n : Bool) → w ≡ wholeOf (store e heads slots cells schedule-heads units) → w ≡ true → n ≡ anyWithout e heads schedule-heads → n ≡ false

@@ -46,16 +46,16 @@ fn push_listed(
         if eit_pids::any_row_without_pid(eit, heads, schedule_heads) {
             return refuse(AllAnswer::Pushed(PushAnswer::Refused(Refusal::NoPid)), eit);
         }
-        let passed = eit_repeats::push_by_column(eit, heads, slots, cells, list);
+        let first = eit_repeats::push_first(eit, heads, slots, cells, list);
         return eit_each::push_each(
-            passed.eit,
+            first.eit,
             heads,
             slots,
             cells,
             schedule_heads,
             units,
             list,
-            passed.at,
+            first.at,
         );
     }
     refuse(

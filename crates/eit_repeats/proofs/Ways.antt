@@ -2,19 +2,18 @@
 -- Assumes nothing.
 use mathlib.Core.Path.{_≡_, refl, sym, subst, _∙_}
 use mathlib.Core.Logic.{_≢_}
-use mathlib.Core.Bool.{Bool, false, _||_}
+use mathlib.Core.Bool.{Bool, true, false, _&&_}
 use mathlib.Core.List.{List}
 use Prim.Native.Nat.{ℕ, _+_, _-_, _*_, _≤_, _<_}
 use native.Mathlib.Omega.{arith}
-use borrow.Author.Tests.{ltb-false}
-use lib.Dec.{eqb, ltb}
+use lib.Dec.{eqb, leb, ltb}
 use lib.ListN.{length, take, drop, getD}
 use Rattle.laws.proofs.Tests.{or-false}
 use Rattle.section.specs.declared.ids.MaybePid.{MaybePid}
 use Rattle.section.specs.declared.ids.MaybePid.the-variants as maybe
 use Rattle.rows.specs.Rows.{rowOf, touched}
 use Rattle.rows.proofs.Words.{length-touched, touched-not}
-use Rattle.columns.proofs.Ways.{tells-touched}
+use Rattle.columns.proofs.Ways.{tells-touched, pays-room}
 use Rattle.store.specs.Store as sets
 use Rattle.store.specs.declared.Sets.{Sets}
 use Rattle.store.proofs.Whole.{clock-goes-on}
@@ -134,11 +133,10 @@ module _ (e : Eit) (heads slots cells : List ℕ) (g : Given) (i : ℕ) (o : Rep
 
 -- ---- one after another
 
--- a column has as many rows
-pub column-may : (s : Sets) (heads slots cells tags : List ℕ) (few long : Bool) → 8192 ≡ length tags → ((few || ltb 8192 (s .used)) || long) ≡ false → sets.Whole s heads slots cells → (s .used ≤ length tags) × (s .used * 12 ≤ length heads)
-column-may s heads slots cells tags few long l t w =
-    let h : s .used ≤ 8192 = ltb-false 8192 (s .used) (or-false few (ltb 8192 (s .used)) (or-false (few || ltb 8192 (s .used)) long t .0) .1) in
-    (omega (arith, l), omega (arith, w .used, w .heads-long))
+-- a column that pays
+pub column-may : (s : Sets) (heads slots cells tags : List ℕ) (bytes : ℕ) (b : Bool) → 8192 ≡ length tags → b ≡ (leb 64 (s .used) && leb (s .used) 8192 && ltb 4103 bytes) → b ≡ true → sets.Whole s heads slots cells
+    → (s .used ≤ length tags) × (s .used * 12 ≤ length heads)
+column-may s heads slots cells tags bytes b l e t w = let h = pays-room (s .used) bytes b e t in (omega (arith, l), omega (arith, w .used, w .heads-long))
 
 pub passed-none : (list : Bytes) (slots cells : List ℕ) (e : Eit) (heads : List ℕ) → WholeFrom list 0 → Passed list slots cells e heads e heads 0
 passed-none list slots cells e heads w = record { behind = w; stays = λ t u o. o; gives = λ t u o. refl }

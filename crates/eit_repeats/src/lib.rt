@@ -16,12 +16,6 @@ ghost use Rattle.store.specs.Store.{Whole};
 ghost use Rattle.log_list.specs.List.{givenAt, WholeFrom};
 ghost use Rattle.eit_repeats.specs.Repeats.{Searchable, Known, Repeat, RepeatGiven, Passed};
 
-// The fewest sets in use for which a column of tags is made.
-const FEWEST_ROWS: usize = 64;
-
-// The most bytes that one section of a list takes there.
-const LARGEST: usize = log_list::HEAD + log_list::LONGEST;
-
 // The sections before `at` are pushed.
 pub struct Repeats {
     pub eit: Eit,
@@ -145,24 +139,18 @@ fn push_repeats(
     Repeats { eit: held, at }
 }
 
-// The repeats at the start of a list: none where the column would cost more than it saves, or has too few rows.
-pub fn push_by_column(
-    eit: Eit,
-    heads: &mut [u64],
-    slots: &[u32],
-    cells: &[u8],
-    list: &[u8],
-) -> Repeats
+// The same of a list from its start on, with a column that is made here; none where a column does not pay.
+pub fn push_first(eit: Eit, heads: &mut [u64], slots: &[u32], cells: &[u8], list: &[u8]) -> Repeats
     requires { ⌜ Whole (eit .sets) (now heads) (now slots) (now cells) ⌝ }
     requires { ⌜ WholeFrom (now list) 0 ⌝ }
     ensures { λ r. ⌜ Passed (now (list .entry)) (now (slots .entry)) (now (cells .entry)) eit (now (heads .entry)) (r .eit) (now (heads .exit)) (r .at) ⌝ }
 {
     let sets = eit.sets;
     let used = sets.used;
-    if (used < FEWEST_ROWS) | (columns::ROWS < used) | (list.len() <= LARGEST) {
-        return Repeats { eit, at: 0 };
+    if columns::pays(used, list.len()) {
+        let mut tags = columns::room();
+        columns::fill(&mut tags, heads, used);
+        return push_repeats(eit, heads, slots, cells, &tags, list);
     }
-    let mut tags = columns::room();
-    columns::fill(&mut tags, heads, used);
-    push_repeats(eit, heads, slots, cells, &tags, list)
+    Repeats { eit, at: 0 }
 }

@@ -1,4 +1,3 @@
-use mathlib.Core.Path.{_∙_}
 use Rattle.log_list.specs.List.{givensFrom}
 use Rattle.eit_pids.proofs.Heads.{heads-fit}
 use Rattle.eit_each.specs.Each.{afterAll}
@@ -9,7 +8,7 @@ use Rattle.eit_all.proofs.push_listed.Tie as tie
 use Rattle.eit_all.proofs.push_listed.Reads as reads
 use Rattle.eit_all.proofs.push_listed.Lts as lts
 use Rattle.eit_each.proofs.push_each.Reads as push-each-reads
-use Rattle.eit_repeats.proofs.push_by_column.Reads as push-by-column-reads
+use Rattle.eit_repeats.proofs.push_first.Reads as push-first-reads
 use Rattle.eit_all.proofs.refuse.Reads as refuse-reads
 use Rattle.eit_pids.proofs.any_row_without_pid.Reads as any-row-without-pid-reads
 use Rattle.eit_state.proofs.counters_full.Reads as counters-full-reads
@@ -66,11 +65,11 @@ same-length-10 c = search needs
 returns-2 : tie.Need-returns-2
 returns-2 c = let a = c .before .before .before .before .before .before .before .before .before .before .before .before .before .before .before .before .before .before .before .before .args in listed-without (a .eit) (a .heads .now) (a .slots .now) (a .cells .now) (a .schedule-heads .now) (a .units .now) (givensFrom (a .list .now) 0) (c .before .before .before .before .before .before .before .before .is-whole .result) (c .before .before .before .before .before .before .before .before .is-whole .ensures) (c .before .before .before .before .before .before .before .if1 .taken) (c .before .before .before .before .before .before .counters-full .result) (c .before .before .before .before .before .before .counters-full .ensures) (c .before .before .before .before .before .if2 .left) (c .before .before .any-row-without-pid .result) (c .before .before .any-row-without-pid .ensures) (c .refuse2 .result) (c .before .if3 .taken) (c .refuse2 .ensures)
 
-push-by-column-requires : tie.Need-push-by-column-requires
-push-by-column-requires c κs = let a = c .before .before .before .before .before .before .before .before .before .before .before .before .before .before .before .before .before .before .before .before .before .before .args in (looked (a .eit) (a .heads .now) (a .slots .now) (a .cells .now) (a .schedule-heads .now) (a .units .now) (c .before .before .before .before .before .before .before .before .before .before .is-whole .result) (c .before .before .before .before .any-row-without-pid .result) (c .before .before .before .before .before .before .before .before .before .before .is-whole .ensures) (c .before .before .before .before .before .before .before .before .before .if1 .taken) (c .before .before .before .before .any-row-without-pid .ensures) (c .before .before .before .if3 .left) .whole .fits .sets, c .before .before .before .before .before .before .before .before .before .before .before .before .before .before .before .before .before .before .before .before .before .before .pre)
+push-first-requires : tie.Need-push-first-requires
+push-first-requires c κs = let a = c .before .before .before .before .before .before .before .before .before .before .before .before .before .before .before .before .before .before .before .before .before .before .args in (looked (a .eit) (a .heads .now) (a .slots .now) (a .cells .now) (a .schedule-heads .now) (a .units .now) (c .before .before .before .before .before .before .before .before .before .before .is-whole .result) (c .before .before .before .before .any-row-without-pid .result) (c .before .before .before .before .before .before .before .before .before .before .is-whole .ensures) (c .before .before .before .before .before .before .before .before .before .if1 .taken) (c .before .before .before .before .any-row-without-pid .ensures) (c .before .before .before .if3 .left) .whole .fits .sets, c .before .before .before .before .before .before .before .before .before .before .before .before .before .before .before .before .before .before .before .before .before .before .pre)
 
 push-each-requires : tie.Need-push-each-requires
-push-each-requires c κs = let a = c .before .before .before .before .before .before .before .before .before .before .before .before .before .before .before .before .before .before .before .before .before .before .before .before .before .before .before .before .before .before .args in let d = c .before .before .before .before .before .before .before .push-by-column .ensures in (d .stays (a .schedule-heads .now) (a .units .now) (looked (a .eit) (a .heads .now) (a .slots .now) (a .cells .now) (a .schedule-heads .now) (a .units .now) (c .before .before .before .before .before .before .before .before .before .before .before .before .before .before .before .before .before .before .is-whole .result) (c .before .before .before .before .before .before .before .before .before .before .before .before .any-row-without-pid .result) (c .before .before .before .before .before .before .before .before .before .before .before .before .before .before .before .before .before .before .is-whole .ensures) (c .before .before .before .before .before .before .before .before .before .before .before .before .before .before .before .before .before .if1 .taken) (c .before .before .before .before .before .before .before .before .before .before .before .before .any-row-without-pid .ensures) (c .before .before .before .before .before .before .before .before .before .before .before .if3 .left)), d .behind)
+push-each-requires c κs = let a = c .before .before .before .before .before .before .before .before .before .before .before .before .before .before .before .before .before .before .before .before .before .before .before .before .before .before .before .before .before .before .args in let d = c .before .before .before .before .before .before .before .push-first .ensures in (d .stays (a .schedule-heads .now) (a .units .now) (looked (a .eit) (a .heads .now) (a .slots .now) (a .cells .now) (a .schedule-heads .now) (a .units .now) (c .before .before .before .before .before .before .before .before .before .before .before .before .before .before .before .before .before .before .is-whole .result) (c .before .before .before .before .before .before .before .before .before .before .before .before .any-row-without-pid .result) (c .before .before .before .before .before .before .before .before .before .before .before .before .before .before .before .before .before .before .is-whole .ensures) (c .before .before .before .before .before .before .before .before .before .before .before .before .before .before .before .before .before .if1 .taken) (c .before .before .before .before .before .before .before .before .before .before .before .before .any-row-without-pid .ensures) (c .before .before .before .before .before .before .before .before .before .before .before .if3 .left)), d .behind)
 
 same-length-11 : tie.Need-same-length-11
 same-length-11 c = search needs
@@ -88,7 +87,7 @@ same-length-15 : tie.Need-same-length-15
 same-length-15 c = search needs
 
 returns-3 : tie.Need-returns-3
-returns-3 c = let a = c .before .before .before .before .before .before .before .before .before .before .before .before .before .before .before .before .before .before .before .before .before .before .before .before .before .before .before .before .before .before .before .before .before .before .before .before .before .before .before .before .before .args in let k = c .before .before .before .before .before .before .before .before .before .before .push-each in let d = c .before .before .before .before .before .before .before .before .before .before .before .before .before .before .before .before .before .before .push-by-column .ensures in let w = looked (a .eit) (a .heads .now) (a .slots .now) (a .cells .now) (a .schedule-heads .now) (a .units .now) (c .before .before .before .before .before .before .before .before .before .before .before .before .before .before .before .before .before .before .before .before .before .before .before .before .before .before .before .before .before .is-whole .result) (c .before .before .before .before .before .before .before .before .before .before .before .before .before .before .before .before .before .before .before .before .before .before .before .any-row-without-pid .result) (c .before .before .before .before .before .before .before .before .before .before .before .before .before .before .before .before .before .before .before .before .before .before .before .before .before .before .before .before .before .is-whole .ensures) (c .before .before .before .before .before .before .before .before .before .before .before .before .before .before .before .before .before .before .before .before .before .before .before .before .before .before .before .before .if1 .taken) (c .before .before .before .before .before .before .before .before .before .before .before .before .before .before .before .before .before .before .before .before .before .before .before .any-row-without-pid .ensures) (c .before .before .before .before .before .before .before .before .before .before .before .before .before .before .before .before .before .before .before .before .before .before .if3 .left) in listed-each (a .eit) (a .heads .now) (a .slots .now) (a .cells .now) (a .schedule-heads .now) (a .units .now) (givensFrom (a .list .now) 0) (c .before .before .before .before .before .before .before .before .before .before .before .before .before .before .before .before .before .before .before .before .before .before .before .before .before .before .before .before .before .is-whole .result) (c .before .before .before .before .before .before .before .before .before .before .before .before .before .before .before .before .before .before .before .before .before .before .before .before .before .before .before .before .before .is-whole .ensures) (c .before .before .before .before .before .before .before .before .before .before .before .before .before .before .before .before .before .before .before .before .before .before .before .before .before .before .before .before .if1 .taken) (c .before .before .before .before .before .before .before .before .before .before .before .before .before .before .before .before .before .before .before .before .before .before .before .before .before .before .before .counters-full .result) (c .before .before .before .before .before .before .before .before .before .before .before .before .before .before .before .before .before .before .before .before .before .before .before .before .before .before .before .counters-full .ensures) (c .before .before .before .before .before .before .before .before .before .before .before .before .before .before .before .before .before .before .before .before .before .before .before .before .before .before .if2 .left) (c .before .before .before .before .before .before .before .before .before .before .before .before .before .before .before .before .before .before .before .before .before .before .before .any-row-without-pid .result) (c .before .before .before .before .before .before .before .before .before .before .before .before .before .before .before .before .before .before .before .before .before .before .before .any-row-without-pid .ensures) (afterAll (k .result) (k .last .1 .0) (k .last .1 .1 .0) (k .last .1 .1 .1 .0) (k .last .1 .1 .1 .1 .0) (k .last .1 .1 .1 .1 .1 .0)) (c .before .before .before .before .before .before .before .before .before .before .before .before .before .before .before .before .before .before .before .before .before .before .if3 .left) (k .ensures ∙ d .gives (a .schedule-heads .now) (a .units .now) w)
+returns-3 c = let a = c .before .before .before .before .before .before .before .before .before .before .before .before .before .before .before .before .before .before .before .before .before .before .before .before .before .before .before .before .before .before .before .before .before .before .before .before .before .before .before .before .before .args in let k = c .before .before .before .before .before .before .before .before .before .before .push-each in let d = c .before .before .before .before .before .before .before .before .before .before .before .before .before .before .before .before .before .before .push-first .ensures in let w = looked (a .eit) (a .heads .now) (a .slots .now) (a .cells .now) (a .schedule-heads .now) (a .units .now) (c .before .before .before .before .before .before .before .before .before .before .before .before .before .before .before .before .before .before .before .before .before .before .before .before .before .before .before .before .before .is-whole .result) (c .before .before .before .before .before .before .before .before .before .before .before .before .before .before .before .before .before .before .before .before .before .before .before .any-row-without-pid .result) (c .before .before .before .before .before .before .before .before .before .before .before .before .before .before .before .before .before .before .before .before .before .before .before .before .before .before .before .before .before .is-whole .ensures) (c .before .before .before .before .before .before .before .before .before .before .before .before .before .before .before .before .before .before .before .before .before .before .before .before .before .before .before .before .if1 .taken) (c .before .before .before .before .before .before .before .before .before .before .before .before .before .before .before .before .before .before .before .before .before .before .before .any-row-without-pid .ensures) (c .before .before .before .before .before .before .before .before .before .before .before .before .before .before .before .before .before .before .before .before .before .before .if3 .left) in listed-each (a .eit) (a .heads .now) (a .slots .now) (a .cells .now) (a .schedule-heads .now) (a .units .now) (givensFrom (a .list .now) 0) (c .before .before .before .before .before .before .before .before .before .before .before .before .before .before .before .before .before .before .before .before .before .before .before .before .before .before .before .before .before .is-whole .result) (c .before .before .before .before .before .before .before .before .before .before .before .before .before .before .before .before .before .before .before .before .before .before .before .before .before .before .before .before .before .is-whole .ensures) (c .before .before .before .before .before .before .before .before .before .before .before .before .before .before .before .before .before .before .before .before .before .before .before .before .before .before .before .before .if1 .taken) (c .before .before .before .before .before .before .before .before .before .before .before .before .before .before .before .before .before .before .before .before .before .before .before .before .before .before .before .counters-full .result) (c .before .before .before .before .before .before .before .before .before .before .before .before .before .before .before .before .before .before .before .before .before .before .before .before .before .before .before .counters-full .ensures) (c .before .before .before .before .before .before .before .before .before .before .before .before .before .before .before .before .before .before .before .before .before .before .before .before .before .before .if2 .left) (c .before .before .before .before .before .before .before .before .before .before .before .before .before .before .before .before .before .before .before .before .before .before .before .any-row-without-pid .result) (c .before .before .before .before .before .before .before .before .before .before .before .before .before .before .before .before .before .before .before .before .before .before .before .any-row-without-pid .ensures) (afterAll (k .result) (k .last .1 .0) (k .last .1 .1 .0) (k .last .1 .1 .1 .0) (k .last .1 .1 .1 .1 .0) (k .last .1 .1 .1 .1 .1 .0)) _ (c .before .before .before .before .before .before .before .before .before .before .before .before .before .before .before .before .before .before .before .before .before .before .if3 .left) (k .ensures) (d .gives (a .schedule-heads .now) (a .units .now) w)
 
 refuse-requires-3 : tie.Need-refuse-requires-3
 refuse-requires-3 c κs = search needs
@@ -132,7 +131,7 @@ push-listed-spec =
     same-length-9
     same-length-10
     returns-2
-    push-by-column-requires
+    push-first-requires
     push-each-requires
     same-length-11
     same-length-12
