@@ -23,6 +23,7 @@ use Rattle.log_list.proofs.Laws.{from-start}
 use Rattle.eit_each.specs.declared.AllAnswer.the-variants as answer
 use Rattle.eit_each.specs.declared.AllPushed.{AllPushed}
 use Rattle.eit_each.specs.Each.{of, overlong, AllAfter, allAfter, afterAll, pushedEach}
+use Rattle.eit_repeats.specs.Repeats.{Passed}
 use Rattle.eit_all.specs.All.{pushedSections, pushedList, pushedAll}
 
 -- nothing pushed
@@ -47,9 +48,14 @@ module _ (e : Eit) (heads slots cells schedule-heads units : List ℕ) (gs : Lis
       unfolding pushedSections
       listed-without r y f = rw (f, ← q, t, ← g, h, ← o, y)
 
-      pub listed-each : (k x : AllAfter) → n ≡ false → k ≡ x → x ≡ pushedEach 0 here gs → k ≡ pushedSections here gs
+      pub listed-each : (k : AllAfter) → n ≡ false → k ≡ pushedEach 0 here gs → k ≡ pushedSections here gs
       unfolding pushedSections
-      listed-each k x y f p = rw (← q, t, ← g, h, ← o, y) (f ∙ p)
+      listed-each k y f = rw (← q, t, ← g, h, ← o, y) f
+
+-- the sections behind those that were pushed first
+pub first-each : (e e′ : Eit) (heads slots cells schedule-heads units heads′ : List ℕ) (list : Bytes) (p : ℕ) (k : AllAfter) → Passed list slots cells e heads e′ heads′ p → Pushable (store e heads slots cells schedule-heads units)
+    → k ≡ pushedEach p (store e′ heads′ slots cells schedule-heads units) (givensFrom list p) → k ≡ pushedEach 0 (store e heads slots cells schedule-heads units) (givensFrom list 0)
+first-each e e′ heads slots cells schedule-heads units heads′ list p k d w f = f ∙ d .gives schedule-heads units w
 
 -- a store that passed both looks
 pub looked : (e : Eit) (heads slots cells schedule-heads units : List ℕ) (w n : Bool) → w ≡ wholeOf (store e heads slots cells schedule-heads units) → w ≡ true → n ≡ anyWithout e heads schedule-heads → n ≡ false

@@ -3,13 +3,12 @@
 use mathlib.Core.Path.{_≡_, refl, sym, ap, subst, _∙_}
 use mathlib.Core.Logic.{_≢_}
 use mathlib.Core.List.{List}
-use mathlib.Core.Bool.{Bool, true, false, cond, _&&_}
+use mathlib.Core.Bool.{Bool, true, false, cond}
 use Prim.Native.Nat.{ℕ, _+_, _-_, _*_, _≤_, _<_}
 use native.Mathlib.Omega.{arith}
-use borrow.Author.Tests.{le-ltb, ne-eqb, leb-true}
-use lib.Dec.{leb, ltb, eqb}
+use borrow.Author.Tests.{le-ltb, ne-eqb}
+use lib.Dec.{ltb, eqb}
 use lib.ListN.{length, getD, take, drop}
-use Rattle.laws.proofs.Tests.{and-true as both-true}
 use Rattle.section.specs.declared.ids.MaybePid.{MaybePid}
 use Rattle.section.specs.declared.ids.MaybePid.the-variants as maybe
 use Rattle.rows.specs.Rows.{rowOf, rowSlots, touched}
@@ -134,7 +133,3 @@ repeat-turn list s₀ s heads slots cells tags p r i s' heads' o q l k e f =
 
 pub searchable : (s : Sets) (heads slots cells tags : List ℕ) → Whole s heads slots cells → withoutPid heads (s .used) ≡ false → s .used ≤ length tags → Tells tags heads (s .used) → Searchable s heads slots cells tags
 searchable s heads slots cells tags w n l t = record { whole = w; pids = n; long = l; tells = t }
-
-pub column-room : (r : Bool) (used bytes : ℕ) → r ≡ (leb 64 used && leb used 8192 && ltb 4103 bytes) → r ≡ true → used ≤ 8192
-column-room r used bytes e t =
-    leb-true used 8192 (both-true (leb 64 used) (leb used 8192) (both-true (leb 64 used && leb used 8192) (ltb 4103 bytes) (sym e ∙ t) .0) .1)

@@ -7,9 +7,8 @@ use rows::Entry;
 use section::ids::MaybePid;
 use store::Sets;
 ghost use mathlib.Core.Path.{_≡_};
-ghost use mathlib.Core.Bool.{false, cond, _&&_};
+ghost use mathlib.Core.Bool.{false, cond};
 ghost use Prim.Native.Nat.{_+_, _*_, _<_, _≤_};
-ghost use lib.Dec.{leb, ltb};
 ghost use lib.ListN.{length};
 ghost use Rattle.without_pid.specs.Pids.{withoutPid};
 ghost use Rattle.store.specs.Store.{store, Whole};
@@ -17,12 +16,6 @@ ghost use Rattle.arrivals.specs.Arrivals.{Numbered};
 ghost use Rattle.sets_settle.specs.Settle.{goesOut};
 ghost use Rattle.log_list.specs.List.{givenAt, WholeFrom};
 ghost use Rattle.sets_repeats.specs.Repeats.{Searchable, Known, Repeat, RepeatGiven, Passed};
-
-// The fewest rows in use for which a column is made.
-const FEWEST_ROWS: usize = 64;
-
-// The most bytes that one section of a list takes there.
-const LARGEST: usize = log_list::HEAD + log_list::LONGEST;
 
 // The settings and counts after them, and the place of the list where the next section begins.
 pub struct Repeats {
@@ -173,13 +166,6 @@ fn push_filled(
     push_repeats(sets, heads, slots, cells, tags, list)
 }
 
-// Whether a column is worth its making: not for few rows, nor for a list that one section may fill; and it has room for the rows.
-fn column_pays(used: usize, bytes: usize) -> bool
-    ensures { λ r. ⌜ r ≡ (leb 64 used && leb used 8192 && ltb 4103 bytes) ⌝ }
-{
-    (FEWEST_ROWS <= used) & (used <= columns::ROWS) & (LARGEST < bytes)
-}
-
 // The sections at the start of a list that only touch their row; none where a column does not pay.
 pub fn push_first(
     sets: Sets,
@@ -196,7 +182,7 @@ pub fn push_first(
     ensures { λ r. ⌜ withoutPid (now (heads .exit)) (r .sets .used) ≡ false ⌝ }
     ensures { λ r. ⌜ WholeFrom (now (list .entry)) (r .at) ⌝ }
 {
-    if column_pays(sets.used, list.len()) {
+    if columns::pays(sets.used, list.len()) {
         let mut tags = columns::room();
         return push_filled(sets, heads, slots, cells, &mut tags, list);
     }
