@@ -40,8 +40,8 @@ tells-fewer tags heads n m h t = record { each = λ i l. t .each i (omega arith)
 
 -- ---- a column that pays has room for the rows
 
-pub pays-room : (used bytes : ℕ) (b : Bool) → b ≡ (leb 64 used && leb used 8192 && ltb 4103 bytes) → b ≡ true → used ≤ 8192
-pays-room used bytes b e t = leb-true used 8192 (both-true (leb 64 used) (leb used 8192) (both-true (leb 64 used && leb used 8192) (ltb 4103 bytes) (sym e ∙ t) .0) .1)
+pub pays-room : (used bytes : ℕ) (b : Bool) → b ≡ (leb 512 used && leb used 8192 && ltb 4103 bytes) → b ≡ true → used ≤ 8192
+pays-room used bytes b e t = leb-true used 8192 (both-true (leb 512 used) (leb used 8192) (both-true (leb 512 used && leb used 8192) (ltb 4103 bytes) (sym e ∙ t) .0) .1)
 
 -- ---- filling
 

@@ -17,14 +17,14 @@ pub const ROWS: usize = 8192;
 const BLOCK: usize = 256;
 
 // The fewest rows in use for which a column is made.
-const FEWEST: usize = 64;
+const FEWEST: usize = 512;
 
 // The most bytes that one section of a list takes there.
 const LARGEST: usize = log_list::HEAD + log_list::LONGEST;
 
 // Whether a column is worth its making for a list of so many bytes: not for few rows, nor for a list that one section may fill; and it has room for the rows.
 pub fn pays(used: usize, bytes: usize) -> bool
-    ensures { λ r. ⌜ r ≡ (leb 64 used && leb used 8192 && ltb 4103 bytes) ⌝ }
+    ensures { λ r. ⌜ r ≡ (leb 512 used && leb used 8192 && ltb 4103 bytes) ⌝ }
 {
     (FEWEST <= used) & (used <= ROWS) & (LARGEST < bytes)
 }

@@ -134,7 +134,7 @@ module _ (e : Eit) (heads slots cells : List ℕ) (g : Given) (i : ℕ) (o : Rep
 -- ---- one after another
 
 -- a column that pays
-pub column-may : (s : Sets) (heads slots cells tags : List ℕ) (bytes : ℕ) (b : Bool) → 8192 ≡ length tags → b ≡ (leb 64 (s .used) && leb (s .used) 8192 && ltb 4103 bytes) → b ≡ true → sets.Whole s heads slots cells
+pub column-may : (s : Sets) (heads slots cells tags : List ℕ) (bytes : ℕ) (b : Bool) → 8192 ≡ length tags → b ≡ (leb 512 (s .used) && leb (s .used) 8192 && ltb 4103 bytes) → b ≡ true → sets.Whole s heads slots cells
     → (s .used ≤ length tags) × (s .used * 12 ≤ length heads)
 column-may s heads slots cells tags bytes b l e t w = let h = pays-room (s .used) bytes b e t in (omega (arith, l), omega (arith, w .used, w .heads-long))
 
