@@ -100,21 +100,21 @@ fn push_at(
     )
 }
 
-// One section after another, from a place of the list on, until one answers something else than 4.
+// One section after another, until one answers something else than 4: at first those that only touch their row.
 fn push_each(
     sets: Sets,
     heads: &mut [u64],
     slots: &mut [u32],
     cells: &mut [u8],
     list: &[u8],
-    from: usize,
 ) -> AllPushed
     requires { ⌜ Pushable sets (now heads) (now slots) (now cells) ⌝ }
-    requires { ⌜ WholeFrom (now list) from ⌝ }
-    ensures { λ r. ⌜ afterAll r (now (heads .exit)) (now (slots .exit)) (now (cells .exit)) ≡ pushedEach from (store sets (now (heads .entry)) (now (slots .entry)) (now (cells .entry))) (givensFrom (now (list .entry)) from) ⌝ }
+    requires { ⌜ WholeFrom (now list) 0 ⌝ }
+    ensures { λ r. ⌜ afterAll r (now (heads .exit)) (now (slots .exit)) (now (cells .exit)) ≡ pushedEach 0 (store sets (now (heads .entry)) (now (slots .entry)) (now (cells .entry))) (givensFrom (now (list .entry)) 0) ⌝ }
 {
-    let mut held = sets;
-    let mut at = from;
+    let first = sets_repeats::push_first(sets, heads, slots, cells, list);
+    let mut held = first.sets;
+    let mut at = first.at;
     while at < list.len() {
         let place = log_list::section_at(list, at);
         let pushed = push_at(held, heads, slots, cells, list, place);
@@ -134,22 +134,6 @@ fn push_each(
         sets: held,
         taken: at,
     }
-}
-
-// All sections of a list, until one answers something else than 4: at first those that only touch their row, then the rest one by one.
-fn push_sections(
-    sets: Sets,
-    heads: &mut [u64],
-    slots: &mut [u32],
-    cells: &mut [u8],
-    list: &[u8],
-) -> AllPushed
-    requires { ⌜ Pushable sets (now heads) (now slots) (now cells) ⌝ }
-    requires { ⌜ WholeFrom (now list) 0 ⌝ }
-    ensures { λ r. ⌜ afterAll r (now (heads .exit)) (now (slots .exit)) (now (cells .exit)) ≡ pushedEach 0 (store sets (now (heads .entry)) (now (slots .entry)) (now (cells .entry))) (givensFrom (now (list .entry)) 0) ⌝ }
-{
-    let first = sets_repeats::push_first(sets, heads, slots, cells, list);
-    push_each(first.sets, heads, slots, cells, list, first.at)
 }
 
 // Nothing is pushed.
@@ -184,7 +168,7 @@ fn push_listed(
         if without_pid::any_without_pid(heads, sets.used) {
             return refuse(AllAnswer::Pushed(PushAnswer::Refused(Refusal::NoPid)), sets);
         }
-        return push_sections(sets, heads, slots, cells, list);
+        return push_each(sets, heads, slots, cells, list);
     }
     refuse(
         AllAnswer::Pushed(PushAnswer::Refused(Refusal::NotWhole)),

@@ -7,7 +7,7 @@ use Rattle.sets_all.proofs.push_listed.Statement.{statement}
 use Rattle.sets_all.proofs.push_listed.Tie as tie
 use Rattle.sets_all.proofs.push_listed.Reads as reads
 use Rattle.sets_all.proofs.push_listed.Lts as lts
-use Rattle.sets_all.proofs.push_sections.Reads as push-sections-reads
+use Rattle.sets_all.proofs.push_each.Reads as push-each-reads
 use Rattle.sets_all.proofs.refuse.Reads as refuse-reads
 use Rattle.store.proofs.is_whole.Reads as is-whole-reads
 use Rattle.without_pid.proofs.any_without_pid.Reads as any-without-pid-reads
@@ -64,8 +64,8 @@ returns-2 : tie.Need-returns-2
 returns-2 c = let a = c .before .before .before .before .before .before .before .before .before .before .before .before .before .before .before .args in listed-without (a .sets) (a .heads .now) (a .slots .now) (a .cells .now) (givensFrom (a .list .now) 0) (c .before .before .before .before .before .before .before .is-whole .result) (c .before .before .before .before .before .before .before .is-whole .ensures) (c .before .before .before .before .before .counters-full .result) (c .before .before .before .before .before .counters-full .ensures) (c .before .before .before .before .before .before .if1 .taken) (c .before .before .any-without-pid .result) (c .refuse2 .result) (c .before .before .before .before .if2 .left) (c .before .before .any-without-pid .ensures) (c .before .if3 .taken) (c .refuse2 .ensures)
 
 -- src/lib.rt:171:9
-push-sections-requires : tie.Need-push-sections-requires
-push-sections-requires c κs = let a = c .before .before .before .before .before .before .before .before .before .before .before .before .before .before .before .before .before .args in (looked (a .sets) (a .heads .now) (a .slots .now) (a .cells .now) (c .before .before .before .before .before .before .before .before .before .is-whole .result) (c .before .before .before .before .any-without-pid .result) (c .before .before .before .before .before .before .before .before .before .is-whole .ensures) (c .before .before .before .before .before .before .before .before .if1 .taken) (c .before .before .before .before .any-without-pid .ensures) (c .before .before .before .if3 .left), c .before .before .before .before .before .before .before .before .before .before .before .before .before .before .before .before .before .pre)
+push-each-requires : tie.Need-push-each-requires
+push-each-requires c κs = let a = c .before .before .before .before .before .before .before .before .before .before .before .before .before .before .before .before .before .args in (looked (a .sets) (a .heads .now) (a .slots .now) (a .cells .now) (c .before .before .before .before .before .before .before .before .before .is-whole .result) (c .before .before .before .before .any-without-pid .result) (c .before .before .before .before .before .before .before .before .before .is-whole .ensures) (c .before .before .before .before .before .before .before .before .if1 .taken) (c .before .before .before .before .any-without-pid .ensures) (c .before .before .before .if3 .left), c .before .before .before .before .before .before .before .before .before .before .before .before .before .before .before .before .before .pre)
 
 -- src/lib.rt:171:9
 same-length-7 : tie.Need-same-length-7
@@ -81,7 +81,7 @@ same-length-9 c = search needs
 
 -- src/lib.rt:171:9
 returns-3 : tie.Need-returns-3
-returns-3 c = let a = c .before .before .before .before .before .before .before .before .before .before .before .before .before .before .before .before .before .before .before .before .before .before .before .before .args in let k = c .before .before .before .before .before .before .push-sections in listed-each (a .sets) (a .heads .now) (a .slots .now) (a .cells .now) (givensFrom (a .list .now) 0) (c .before .before .before .before .before .before .before .before .before .before .before .before .before .before .before .before .is-whole .result) (c .before .before .before .before .before .before .before .before .before .before .before .before .before .before .before .before .is-whole .ensures) (c .before .before .before .before .before .before .before .before .before .before .before .before .before .before .counters-full .result) (c .before .before .before .before .before .before .before .before .before .before .before .before .before .before .counters-full .ensures) (c .before .before .before .before .before .before .before .before .before .before .before .before .before .before .before .if1 .taken) (c .before .before .before .before .before .before .before .before .before .before .before .any-without-pid .result) (afterAll (k .result) (k .last .1 .0) (k .last .1 .1 .0) (k .last .1 .1 .1 .0)) (c .before .before .before .before .before .before .before .before .before .before .before .before .before .if2 .left) (c .before .before .before .before .before .before .before .before .before .before .before .any-without-pid .ensures) (c .before .before .before .before .before .before .before .before .before .before .if3 .left) (k .ensures)
+returns-3 c = let a = c .before .before .before .before .before .before .before .before .before .before .before .before .before .before .before .before .before .before .before .before .before .before .before .before .args in let k = c .before .before .before .before .before .before .push-each in listed-each (a .sets) (a .heads .now) (a .slots .now) (a .cells .now) (givensFrom (a .list .now) 0) (c .before .before .before .before .before .before .before .before .before .before .before .before .before .before .before .before .is-whole .result) (c .before .before .before .before .before .before .before .before .before .before .before .before .before .before .before .before .is-whole .ensures) (c .before .before .before .before .before .before .before .before .before .before .before .before .before .before .counters-full .result) (c .before .before .before .before .before .before .before .before .before .before .before .before .before .before .counters-full .ensures) (c .before .before .before .before .before .before .before .before .before .before .before .before .before .before .before .if1 .taken) (c .before .before .before .before .before .before .before .before .before .before .before .any-without-pid .result) (afterAll (k .result) (k .last .1 .0) (k .last .1 .1 .0) (k .last .1 .1 .1 .0)) (c .before .before .before .before .before .before .before .before .before .before .before .before .before .if2 .left) (c .before .before .before .before .before .before .before .before .before .before .before .any-without-pid .ensures) (c .before .before .before .before .before .before .before .before .before .before .if3 .left) (k .ensures)
 
 -- src/lib.rt:173:5
 refuse-requires-3 : tie.Need-refuse-requires-3
@@ -120,7 +120,7 @@ push-listed-spec =
     same-length-5
     same-length-6
     returns-2
-    push-sections-requires
+    push-each-requires
     same-length-7
     same-length-8
     same-length-9
