@@ -18,7 +18,7 @@
 /* All records, and all packets, come on one input. */
 enum { INPUT = 0, NULL_PID = 0x1FFF };
 
-enum { CAPACITY = 4096, SECTION_BUFFERS = 64, LIMIT = 64, CELL_SIZE = 4096, CELLS = 1024, LOG_CELLS = 256, LONGEST_SECTION = 3 + 0xFFF, PAGE = 2048, GATHERED = 1 << 16 };
+enum { CAPACITY = 4096, SECTION_BUFFERS = 64, LIMIT = 64, CELL_SIZE = 4096, CELLS = 1024, LOG_CELLS = 256, LONGEST_SECTION = 3 + 0xFFF, PAGE = 2048, GATHERED = 1 << 16, BLOCK_PACKETS = 256 };
 
 /* ---- the stores: a struct of words and the arrays that it goes with */
 
@@ -469,10 +469,15 @@ static void take(struct monitor *m, uint32_t pid, const uint8_t *section, size_t
     judged(m, pid, section, length, answer, failure.stored, failure.worked);
 }
 
+static uint32_t pid_of(const uint8_t *packet)
+{
+    return (packet[1] & 0x1Fu) << 8 | packet[2];
+}
+
 /* A packet, and each section that it finishes. Packets of PIDs that are not watched are counted, but null packets. */
 static void take_packet(struct monitor *m, const uint8_t *packet)
 {
-    uint32_t pid = (packet[1] & 0x1Fu) << 8 | packet[2];
+    uint32_t pid = pid_of(packet);
     bool watched = is_watched(m, pid);
     uint64_t finished = 0;
     switch (petrizolu_indexed_feed(&m->gate.state, &m->streams.state, LEND_GATE(&m->gate), LEND_STREAMS(&m->streams), INPUT, packet, PETRIZOLU_PACKET_BYTES, LEND(m->streams.places), &finished)) {
@@ -526,13 +531,41 @@ static bool read_records(struct monitor *m, FILE *in)
     return more == 0;
 }
 
+/* Packets that were passed over. */
+static void count_unwatched(struct monitor *m, const uint8_t *packets, size_t bytes)
+{
+    for (size_t at = 0; at < bytes; at += PETRIZOLU_PACKET_BYTES) {
+        uint32_t pid = pid_of(packets + at);
+        m->unwatched += !is_watched(m, pid) && pid != NULL_PID;
+    }
+}
+
+/* Packets one after another: those that are passed over by one call, each other by a feed. */
+static void take_packets(struct monitor *m, const uint8_t *packets, size_t bytes)
+{
+    while (bytes > 0) {
+        size_t passed = PETRIZOLU_PACKET_BYTES * petrizolu_indexed_pass(&m->gate.state, &m->streams.state, LEND_GATE(&m->gate), LEND_STREAMS(&m->streams), INPUT,
+                                                                        packets, bytes, LEND(m->streams.places));
+        count_unwatched(m, packets, passed);
+        packets += passed;
+        bytes -= passed;
+        if (bytes == 0)
+            return;
+        take_packet(m, packets);
+        packets += PETRIZOLU_PACKET_BYTES;
+        bytes -= PETRIZOLU_PACKET_BYTES;
+    }
+}
+
 static bool read_packets(struct monitor *m, FILE *in)
 {
-    uint8_t packet[PETRIZOLU_PACKET_BYTES];
+    static uint8_t block[BLOCK_PACKETS * PETRIZOLU_PACKET_BYTES];
     size_t n;
-    while ((n = fread(packet, 1, sizeof packet, in)) == sizeof packet)
-        take_packet(m, packet);
-    return n == 0;
+    do {
+        n = fread(block, 1, sizeof block, in);
+        take_packets(m, block, n - n % PETRIZOLU_PACKET_BYTES);
+    } while (n == sizeof block);
+    return n % PETRIZOLU_PACKET_BYTES == 0;
 }
 
 int main(int argc, char **argv)

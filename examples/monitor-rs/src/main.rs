@@ -340,30 +340,64 @@ fn read_records(mut input: impl Read, mut monitor: Monitor) -> io::Result<()> {
     monitor.end(gate.state())
 }
 
-/// Packets one after another. Those of PIDs that are not watched are counted, but null packets.
+fn pid_of(packet: &[u8]) -> u16 {
+    u16::from_be_bytes([packet[1] & 0x1F, packet[2]])
+}
+
+/// Fills the block; less where the input ends.
+fn read_block(input: &mut impl Read, block: &mut [u8]) -> io::Result<usize> {
+    let mut filled = 0;
+    while filled < block.len() {
+        match input.read(&mut block[filled..]) {
+            Ok(0) => break,
+            Ok(n) => filled += n,
+            Err(error) if error.kind() == io::ErrorKind::Interrupted => {}
+            Err(error) => return Err(error),
+        }
+    }
+    Ok(filled)
+}
+
+/// A packet, and each section that it finishes. Packets of PIDs that are not watched are counted, but null packets.
+fn take_packet(demux: &mut Demux, monitor: &mut Monitor, packet: &[u8]) {
+    let pid = pid_of(packet);
+    let watched = demux.watches(INPUT, pid);
+    match demux.feed(INPUT, packet) {
+        Ok(fed) => {
+            monitor.unwatched += u64::from(!watched && pid != NULL_PID);
+            fed.for_each(|(offered, section)| monitor.judged(pid, offered, section));
+        }
+        Err(Refused(Answer::NO_BUFFER)) => {
+            monitor.push_gathered();
+            println!("no buffer for pid {pid:04X}");
+        }
+        Err(_) => {}
+    }
+}
+
+/// Packets one after another: those that are passed over by one call, each other by a feed.
+fn take_packets(demux: &mut Demux, monitor: &mut Monitor, mut packets: &[u8]) {
+    while !packets.is_empty() {
+        let (passed, rest) = packets.split_at(demux.pass(INPUT, packets) * PACKET_BYTES);
+        let unwatched = |packet: &&[u8]| !demux.watches(INPUT, pid_of(packet)) && pid_of(packet) != NULL_PID;
+        monitor.unwatched += passed.chunks_exact(PACKET_BYTES).filter(unwatched).count() as u64;
+        let Some((packet, rest)) = rest.split_at_checked(PACKET_BYTES) else { return };
+        take_packet(demux, monitor, packet);
+        packets = rest;
+    }
+}
+
 fn read_packets(mut input: impl Read, mut monitor: Monitor) -> io::Result<()> {
     let mut demux = Demux::open(1, 4096, 64, &[]).map_err(not_open)?;
-    let mut packet = [0; PACKET_BYTES];
-    let cut = until_the_end(|| {
-        if input.read(&mut packet[..1])? == 0 {
-            return Ok(false);
+    let mut block = [0; 256 * PACKET_BYTES];
+    let cut = loop {
+        let filled = read_block(&mut input, &mut block)?;
+        let cut = filled % PACKET_BYTES;
+        take_packets(&mut demux, &mut monitor, &block[..filled - cut]);
+        if filled < block.len() {
+            break cut != 0;
         }
-        input.read_exact(&mut packet[1..])?;
-        let pid = u16::from_be_bytes([packet[1] & 0x1F, packet[2]]);
-        let watched = demux.watches(INPUT, pid);
-        match demux.feed(INPUT, &packet) {
-            Ok(fed) => {
-                monitor.unwatched += u64::from(!watched && pid != NULL_PID);
-                fed.for_each(|(offered, section)| monitor.judged(pid, offered, section));
-            }
-            Err(Refused(Answer::NO_BUFFER)) => {
-                monitor.push_gathered();
-                println!("no buffer for pid {pid:04X}");
-            }
-            Err(_) => {}
-        }
-        Ok(true)
-    })?;
+    };
     monitor.input_ends(cut);
     let streams = demux.streams(INPUT);
     println!("packets {} malformed {}", streams.packets, streams.malformed);
