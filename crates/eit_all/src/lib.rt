@@ -36,14 +36,15 @@ fn push_listed(
     requires { ⌜ WholeFrom (now list) 0 ⌝ }
     ensures { λ r. ⌜ afterAll r (now (heads .exit)) (now (slots .exit)) (now (cells .exit)) (now («schedule_heads» .exit)) (now (units .exit)) ≡ pushedSections (store eit (now (heads .entry)) (now (slots .entry)) (now (cells .entry)) (now («schedule_heads» .entry)) (now (units .entry))) (givensFrom (now (list .entry)) 0) ⌝ }
 {
-    if eit_state::is_whole(eit, heads, slots, cells, schedule_heads, units) {
+    let seen = eit_state::look(eit, heads, slots, cells, schedule_heads, units);
+    if seen.whole {
         if eit_state::counters_full(eit) {
             return refuse(
                 AllAnswer::Pushed(PushAnswer::Refused(Refusal::CounterFull)),
                 eit,
             );
         }
-        if eit_pids::any_row_without_pid(eit, heads, schedule_heads) {
+        if seen.without | without_pid::any_without_pid(schedule_heads, eit.schedules) {
             return refuse(AllAnswer::Pushed(PushAnswer::Refused(Refusal::NoPid)), eit);
         }
         let first = eit_repeats::push_first(eit, heads, slots, cells, list);

@@ -158,14 +158,15 @@ fn push_listed(
     requires { ⌜ WholeFrom (now list) 0 ⌝ }
     ensures { λ r. ⌜ afterAll r (now (heads .exit)) (now (slots .exit)) (now (cells .exit)) ≡ pushedSections (store sets (now (heads .entry)) (now (slots .entry)) (now (cells .entry))) (givensFrom (now (list .entry)) 0) ⌝ }
 {
-    if store::is_whole(sets, heads, slots, cells) {
+    let seen = store::look(sets, heads, slots, cells);
+    if seen.whole {
         if store::counters_full(sets) {
             return refuse(
                 AllAnswer::Pushed(PushAnswer::Refused(Refusal::CounterFull)),
                 sets,
             );
         }
-        if without_pid::any_without_pid(heads, sets.used) {
+        if seen.without {
             return refuse(AllAnswer::Pushed(PushAnswer::Refused(Refusal::NoPid)), sets);
         }
         return push_each(sets, heads, slots, cells, list);

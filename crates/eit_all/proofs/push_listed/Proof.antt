@@ -1,5 +1,5 @@
 use Rattle.log_list.specs.List.{givensFrom}
-use Rattle.eit_pids.proofs.Heads.{heads-fit}
+use Rattle.eit_pids.proofs.Heads.{heads-fit, either-without}
 use Rattle.eit_each.specs.Each.{afterAll}
 use Rattle.eit_all.proofs.Ways.{listed-broken, listed-full, listed-without, listed-each, first-each, looked}
 use borrow.Author.Needs.{needs}
@@ -10,12 +10,12 @@ use Rattle.eit_all.proofs.push_listed.Lts as lts
 use Rattle.eit_each.proofs.push_each.Reads as push-each-reads
 use Rattle.eit_repeats.proofs.push_first.Reads as push-first-reads
 use Rattle.eit_all.proofs.refuse.Reads as refuse-reads
-use Rattle.eit_pids.proofs.any_row_without_pid.Reads as any-row-without-pid-reads
+use Rattle.without_pid.proofs.any_without_pid.Reads as any-without-pid-reads
 use Rattle.eit_state.proofs.counters_full.Reads as counters-full-reads
-use Rattle.eit_state.proofs.is_whole.Reads as is-whole-reads
+use Rattle.eit_state.proofs.look.Reads as look-reads
 
-is-whole-requires : tie.Need-is-whole-requires
-is-whole-requires c κs = search needs
+look-requires : tie.Need-look-requires
+look-requires c κs = search needs
 
 counters-full-requires : tie.Need-counters-full-requires
 counters-full-requires c κs = search needs
@@ -39,10 +39,10 @@ same-length-5 : tie.Need-same-length-5
 same-length-5 c = search needs
 
 returns : tie.Need-returns
-returns c = let a = c .before .before .before .before .before .before .before .before .before .before .before .before .before .before .before .before .args in listed-full (a .eit) (a .heads .now) (a .slots .now) (a .cells .now) (a .schedule-heads .now) (a .units .now) (givensFrom (a .list .now) 0) (c .before .before .before .before .is-whole .result) (c .before .before .before .before .is-whole .ensures) (c .before .before .before .if1 .taken) (c .before .before .counters-full .result) (c .before .before .counters-full .ensures) (c .refuse .result) (c .before .if2 .taken) (c .refuse .ensures)
+returns c = let a = c .before .before .before .before .before .before .before .before .before .before .before .before .before .before .before .before .args in let s = c .before .before .before .before .look in let f = c .before .before .counters-full in listed-full (a .eit) (a .heads .now) (a .slots .now) (a .cells .now) (a .schedule-heads .now) (a .units .now) (givensFrom (a .list .now) 0) (s .result .whole) (s .ensures .0) (c .before .before .before .if1 .taken) (f .result) (f .ensures) (c .refuse .result) (c .before .if2 .taken) (c .refuse .ensures)
 
-any-row-without-pid-requires : tie.Need-any-row-without-pid-requires
-any-row-without-pid-requires c κs = let a = c .before .before .before .before .before .before .before .before .before .before .before .before .before .before .before .before .before .args in heads-fit (a .eit) (a .heads .now) (a .slots .now) (a .cells .now) (a .schedule-heads .now) (a .units .now) (c .before .before .before .before .before .is-whole .result) (c .before .before .before .before .before .is-whole .ensures) (c .before .before .before .before .if1 .taken)
+any-without-pid-requires : tie.Need-any-without-pid-requires
+any-without-pid-requires c κs = let a = c .before .before .before .before .before .before .before .before .before .before .before .before .before .before .before .before .args in let s = c .before .before .before .before .look in (heads-fit (a .eit) (a .heads .now) (a .slots .now) (a .cells .now) (a .schedule-heads .now) (a .units .now) (s .result .whole) (s .ensures .0) (c .before .before .before .if1 .taken)) .schedules
 
 refuse-requires-2 : tie.Need-refuse-requires-2
 refuse-requires-2 c κs = search needs
@@ -63,13 +63,13 @@ same-length-10 : tie.Need-same-length-10
 same-length-10 c = search needs
 
 returns-2 : tie.Need-returns-2
-returns-2 c = let a = c .before .before .before .before .before .before .before .before .before .before .before .before .before .before .before .before .before .before .before .before .args in listed-without (a .eit) (a .heads .now) (a .slots .now) (a .cells .now) (a .schedule-heads .now) (a .units .now) (givensFrom (a .list .now) 0) (c .before .before .before .before .before .before .before .before .is-whole .result) (c .before .before .before .before .before .before .before .before .is-whole .ensures) (c .before .before .before .before .before .before .before .if1 .taken) (c .before .before .before .before .before .before .counters-full .result) (c .before .before .before .before .before .before .counters-full .ensures) (c .before .before .before .before .before .if2 .left) (c .before .before .any-row-without-pid .result) (c .before .before .any-row-without-pid .ensures) (c .refuse2 .result) (c .before .if3 .taken) (c .refuse2 .ensures)
+returns-2 c = let a = c .before .before .before .before .before .before .before .before .before .before .before .before .before .before .before .before .before .before .before .before .args in let s = c .before .before .before .before .before .before .before .before .look in let n = c .before .before .before .any-without-pid in let o = either-without (a .eit) (a .heads .now) (a .schedule-heads .now) (s .result .without) (n .result) (s .ensures .1 (c .before .before .before .before .before .before .before .if1 .taken)) (n .ensures) in let f = c .before .before .before .before .before .before .counters-full in listed-without (a .eit) (a .heads .now) (a .slots .now) (a .cells .now) (a .schedule-heads .now) (a .units .now) (givensFrom (a .list .now) 0) (s .result .whole) (s .ensures .0) (c .before .before .before .before .before .before .before .if1 .taken) (f .result) (f .ensures) (c .before .before .before .before .before .if2 .left) _ o (c .refuse2 .result) (c .before .if3 .taken) (c .refuse2 .ensures)
 
 push-first-requires : tie.Need-push-first-requires
-push-first-requires c κs = let a = c .before .before .before .before .before .before .before .before .before .before .before .before .before .before .before .before .before .before .before .before .before .before .args in (looked (a .eit) (a .heads .now) (a .slots .now) (a .cells .now) (a .schedule-heads .now) (a .units .now) (c .before .before .before .before .before .before .before .before .before .before .is-whole .result) (c .before .before .before .before .any-row-without-pid .result) (c .before .before .before .before .before .before .before .before .before .before .is-whole .ensures) (c .before .before .before .before .before .before .before .before .before .if1 .taken) (c .before .before .before .before .any-row-without-pid .ensures) (c .before .before .before .if3 .left) .whole .fits .sets, c .before .before .before .before .before .before .before .before .before .before .before .before .before .before .before .before .before .before .before .before .before .before .pre)
+push-first-requires c κs = let a = c .before .before .before .before .before .before .before .before .before .before .before .before .before .before .before .before .before .before .before .before .before .before .args in let s = c .before .before .before .before .before .before .before .before .before .before .look in let n = c .before .before .before .before .before .any-without-pid in let o = either-without (a .eit) (a .heads .now) (a .schedule-heads .now) (s .result .without) (n .result) (s .ensures .1 (c .before .before .before .before .before .before .before .before .before .if1 .taken)) (n .ensures) in (looked (a .eit) (a .heads .now) (a .slots .now) (a .cells .now) (a .schedule-heads .now) (a .units .now) (s .result .whole) _ (s .ensures .0) (c .before .before .before .before .before .before .before .before .before .if1 .taken) o (c .before .before .before .if3 .left) .whole .fits .sets, c .before .before .before .before .before .before .before .before .before .before .before .before .before .before .before .before .before .before .before .before .before .before .pre)
 
 push-each-requires : tie.Need-push-each-requires
-push-each-requires c κs = let a = c .before .before .before .before .before .before .before .before .before .before .before .before .before .before .before .before .before .before .before .before .before .before .before .before .before .before .before .before .before .before .args in let d = c .before .before .before .before .before .before .before .push-first .ensures in (d .stays (a .schedule-heads .now) (a .units .now) (looked (a .eit) (a .heads .now) (a .slots .now) (a .cells .now) (a .schedule-heads .now) (a .units .now) (c .before .before .before .before .before .before .before .before .before .before .before .before .before .before .before .before .before .before .is-whole .result) (c .before .before .before .before .before .before .before .before .before .before .before .before .any-row-without-pid .result) (c .before .before .before .before .before .before .before .before .before .before .before .before .before .before .before .before .before .before .is-whole .ensures) (c .before .before .before .before .before .before .before .before .before .before .before .before .before .before .before .before .before .if1 .taken) (c .before .before .before .before .before .before .before .before .before .before .before .before .any-row-without-pid .ensures) (c .before .before .before .before .before .before .before .before .before .before .before .if3 .left)), d .behind)
+push-each-requires c κs = let a = c .before .before .before .before .before .before .before .before .before .before .before .before .before .before .before .before .before .before .before .before .before .before .before .before .before .before .before .before .before .before .args in let s = c .before .before .before .before .before .before .before .before .before .before .before .before .before .before .before .before .before .before .look in let n = c .before .before .before .before .before .before .before .before .before .before .before .before .before .any-without-pid in let o = either-without (a .eit) (a .heads .now) (a .schedule-heads .now) (s .result .without) (n .result) (s .ensures .1 (c .before .before .before .before .before .before .before .before .before .before .before .before .before .before .before .before .before .if1 .taken)) (n .ensures) in let d = c .before .before .before .before .before .before .before .push-first .ensures in (d .stays (a .schedule-heads .now) (a .units .now) (looked (a .eit) (a .heads .now) (a .slots .now) (a .cells .now) (a .schedule-heads .now) (a .units .now) (s .result .whole) _ (s .ensures .0) (c .before .before .before .before .before .before .before .before .before .before .before .before .before .before .before .before .before .if1 .taken) o (c .before .before .before .before .before .before .before .before .before .before .before .if3 .left)), d .behind)
 
 same-length-11 : tie.Need-same-length-11
 same-length-11 c = search needs
@@ -87,7 +87,7 @@ same-length-15 : tie.Need-same-length-15
 same-length-15 c = search needs
 
 returns-3 : tie.Need-returns-3
-returns-3 c = let a = c .before .before .before .before .before .before .before .before .before .before .before .before .before .before .before .before .before .before .before .before .before .before .before .before .before .before .before .before .before .before .before .before .before .before .before .before .before .before .before .before .before .args in let k = c .before .before .before .before .before .before .before .before .before .before .push-each in let y = c .before .before .before .before .before .before .before .before .before .before .before .before .before .before .before .before .before .before .push-first in let w = looked (a .eit) (a .heads .now) (a .slots .now) (a .cells .now) (a .schedule-heads .now) (a .units .now) (c .before .before .before .before .before .before .before .before .before .before .before .before .before .before .before .before .before .before .before .before .before .before .before .before .before .before .before .before .before .is-whole .result) (c .before .before .before .before .before .before .before .before .before .before .before .before .before .before .before .before .before .before .before .before .before .before .before .any-row-without-pid .result) (c .before .before .before .before .before .before .before .before .before .before .before .before .before .before .before .before .before .before .before .before .before .before .before .before .before .before .before .before .before .is-whole .ensures) (c .before .before .before .before .before .before .before .before .before .before .before .before .before .before .before .before .before .before .before .before .before .before .before .before .before .before .before .before .if1 .taken) (c .before .before .before .before .before .before .before .before .before .before .before .before .before .before .before .before .before .before .before .before .before .before .before .any-row-without-pid .ensures) (c .before .before .before .before .before .before .before .before .before .before .before .before .before .before .before .before .before .before .before .before .before .before .if3 .left) in listed-each (a .eit) (a .heads .now) (a .slots .now) (a .cells .now) (a .schedule-heads .now) (a .units .now) (givensFrom (a .list .now) 0) (c .before .before .before .before .before .before .before .before .before .before .before .before .before .before .before .before .before .before .before .before .before .before .before .before .before .before .before .before .before .is-whole .result) (c .before .before .before .before .before .before .before .before .before .before .before .before .before .before .before .before .before .before .before .before .before .before .before .before .before .before .before .before .before .is-whole .ensures) (c .before .before .before .before .before .before .before .before .before .before .before .before .before .before .before .before .before .before .before .before .before .before .before .before .before .before .before .before .if1 .taken) (c .before .before .before .before .before .before .before .before .before .before .before .before .before .before .before .before .before .before .before .before .before .before .before .before .before .before .before .counters-full .result) (c .before .before .before .before .before .before .before .before .before .before .before .before .before .before .before .before .before .before .before .before .before .before .before .before .before .before .before .counters-full .ensures) (c .before .before .before .before .before .before .before .before .before .before .before .before .before .before .before .before .before .before .before .before .before .before .before .before .before .before .if2 .left) (c .before .before .before .before .before .before .before .before .before .before .before .before .before .before .before .before .before .before .before .before .before .before .before .any-row-without-pid .result) (c .before .before .before .before .before .before .before .before .before .before .before .before .before .before .before .before .before .before .before .before .before .before .before .any-row-without-pid .ensures) (afterAll (k .result) (k .last .1 .0) (k .last .1 .1 .0) (k .last .1 .1 .1 .0) (k .last .1 .1 .1 .1 .0) (k .last .1 .1 .1 .1 .1 .0)) (c .before .before .before .before .before .before .before .before .before .before .before .before .before .before .before .before .before .before .before .before .before .before .if3 .left) (first-each (a .eit) (y .result .eit) (a .heads .now) (a .slots .now) (a .cells .now) (a .schedule-heads .now) (a .units .now) (y .last .1 .0) (a .list .now) (y .result .at) (afterAll (k .result) (k .last .1 .0) (k .last .1 .1 .0) (k .last .1 .1 .1 .0) (k .last .1 .1 .1 .1 .0) (k .last .1 .1 .1 .1 .1 .0)) (y .ensures) w (k .ensures))
+returns-3 c = let a = c .before .before .before .before .before .before .before .before .before .before .before .before .before .before .before .before .before .before .before .before .before .before .before .before .before .before .before .before .before .before .before .before .before .before .before .before .before .before .before .before .before .args in let s = c .before .before .before .before .before .before .before .before .before .before .before .before .before .before .before .before .before .before .before .before .before .before .before .before .before .before .before .before .before .look in let n = c .before .before .before .before .before .before .before .before .before .before .before .before .before .before .before .before .before .before .before .before .before .before .before .before .any-without-pid in let o = either-without (a .eit) (a .heads .now) (a .schedule-heads .now) (s .result .without) (n .result) (s .ensures .1 (c .before .before .before .before .before .before .before .before .before .before .before .before .before .before .before .before .before .before .before .before .before .before .before .before .before .before .before .before .if1 .taken)) (n .ensures) in let f = c .before .before .before .before .before .before .before .before .before .before .before .before .before .before .before .before .before .before .before .before .before .before .before .before .before .before .before .counters-full in let k = c .before .before .before .before .before .before .before .before .before .before .push-each in let y = c .before .before .before .before .before .before .before .before .before .before .before .before .before .before .before .before .before .before .push-first in let w = looked (a .eit) (a .heads .now) (a .slots .now) (a .cells .now) (a .schedule-heads .now) (a .units .now) (s .result .whole) _ (s .ensures .0) (c .before .before .before .before .before .before .before .before .before .before .before .before .before .before .before .before .before .before .before .before .before .before .before .before .before .before .before .before .if1 .taken) o (c .before .before .before .before .before .before .before .before .before .before .before .before .before .before .before .before .before .before .before .before .before .before .if3 .left) in listed-each (a .eit) (a .heads .now) (a .slots .now) (a .cells .now) (a .schedule-heads .now) (a .units .now) (givensFrom (a .list .now) 0) (s .result .whole) (s .ensures .0) (c .before .before .before .before .before .before .before .before .before .before .before .before .before .before .before .before .before .before .before .before .before .before .before .before .before .before .before .before .if1 .taken) (f .result) (f .ensures) (c .before .before .before .before .before .before .before .before .before .before .before .before .before .before .before .before .before .before .before .before .before .before .before .before .before .before .if2 .left) _ o (afterAll (k .result) (k .last .1 .0) (k .last .1 .1 .0) (k .last .1 .1 .1 .0) (k .last .1 .1 .1 .1 .0) (k .last .1 .1 .1 .1 .1 .0)) (c .before .before .before .before .before .before .before .before .before .before .before .before .before .before .before .before .before .before .before .before .before .before .if3 .left) (first-each (a .eit) (y .result .eit) (a .heads .now) (a .slots .now) (a .cells .now) (a .schedule-heads .now) (a .units .now) (y .last .1 .0) (a .list .now) (y .result .at) (afterAll (k .result) (k .last .1 .0) (k .last .1 .1 .0) (k .last .1 .1 .1 .0) (k .last .1 .1 .1 .1 .0) (k .last .1 .1 .1 .1 .1 .0)) (y .ensures) w (k .ensures))
 
 refuse-requires-3 : tie.Need-refuse-requires-3
 refuse-requires-3 c κs = search needs
@@ -108,13 +108,13 @@ same-length-20 : tie.Need-same-length-20
 same-length-20 c = search needs
 
 returns-4 : tie.Need-returns-4
-returns-4 c = let a = c .before .before .before .before .before .before .before .before .before .before .before .before .before .before .args in listed-broken (a .eit) (a .heads .now) (a .slots .now) (a .cells .now) (a .schedule-heads .now) (a .units .now) (givensFrom (a .list .now) 0) (c .before .before .is-whole .result) (c .before .before .is-whole .ensures) (c .refuse3 .result) (c .before .if1 .left) (c .refuse3 .ensures)
+returns-4 c = let a = c .before .before .before .before .before .before .before .before .before .before .before .before .before .before .args in let s = c .before .before .look in listed-broken (a .eit) (a .heads .now) (a .slots .now) (a .cells .now) (a .schedule-heads .now) (a .units .now) (givensFrom (a .list .now) 0) (s .result .whole) (s .ensures .0) (c .refuse3 .result) (c .before .if1 .left) (c .refuse3 .ensures)
 
 pub push-listed-spec : {M : Type 1} → statement M
 push-listed-spec =
     tie.close
     (tie.spec
-    is-whole-requires
+    look-requires
     counters-full-requires
     refuse-requires
     same-length
@@ -123,7 +123,7 @@ push-listed-spec =
     same-length-4
     same-length-5
     returns
-    any-row-without-pid-requires
+    any-without-pid-requires
     refuse-requires-2
     same-length-6
     same-length-7

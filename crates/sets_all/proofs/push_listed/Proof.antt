@@ -1,5 +1,4 @@
 use Rattle.log_list.specs.List.{givensFrom}
-use Rattle.sets_push.proofs.Ways.{rows-lent}
 use Rattle.sets_all.specs.All.{afterAll}
 use Rattle.sets_all.proofs.Ways.{listed-broken, listed-full, listed-without, listed-each, looked}
 use borrow.Author.Needs.{needs}
@@ -9,12 +8,11 @@ use Rattle.sets_all.proofs.push_listed.Reads as reads
 use Rattle.sets_all.proofs.push_listed.Lts as lts
 use Rattle.sets_all.proofs.push_each.Reads as push-each-reads
 use Rattle.sets_all.proofs.refuse.Reads as refuse-reads
-use Rattle.store.proofs.is_whole.Reads as is-whole-reads
-use Rattle.without_pid.proofs.any_without_pid.Reads as any-without-pid-reads
+use Rattle.store.proofs.look.Reads as look-reads
 
 -- src/lib.rt:160:8
-is-whole-requires : tie.Need-is-whole-requires
-is-whole-requires c κs = search needs
+look-requires : tie.Need-look-requires
+look-requires c κs = search needs
 
 counters-full-requires : tie.Need-counters-full-requires
 counters-full-requires c κs = search needs
@@ -37,11 +35,7 @@ same-length-3 c = search needs
 
 -- src/lib.rt:163:13
 returns : tie.Need-returns
-returns c = let a = c .before .before .before .before .before .before .before .before .before .before .before .before .args in listed-full (a .sets) (a .heads .now) (a .slots .now) (a .cells .now) (givensFrom (a .list .now) 0) (c .before .before .before .before .is-whole .result) (c .before .before .before .before .is-whole .ensures) (c .before .before .counters-full .result) (c .before .before .counters-full .ensures) (c .before .before .before .if1 .taken) (c .refuse .result) (c .before .if2 .taken) (c .refuse .ensures)
-
--- src/lib.rt:168:12
-any-without-pid-requires : tie.Need-any-without-pid-requires
-any-without-pid-requires c κs = let a = c .before .before .before .before .before .before .before .before .before .before .before .before .args in rows-lent (a .sets) (a .heads .now) (a .slots .now) (a .cells .now) (c .before .before .before .before .is-whole .result) (c .before .before .before .before .is-whole .ensures) (c .before .before .before .if1 .taken)
+returns c = let a = c .before .before .before .before .before .before .before .before .before .before .before .before .args in let s = c .before .before .before .before .look in let f = c .before .before .counters-full in listed-full (a .sets) (a .heads .now) (a .slots .now) (a .cells .now) (givensFrom (a .list .now) 0) (s .result .whole) (s .ensures .0) (f .result) (f .ensures) (c .before .before .before .if1 .taken) (c .refuse .result) (c .before .if2 .taken) (c .refuse .ensures)
 
 -- src/lib.rt:169:13
 refuse-requires-2 : tie.Need-refuse-requires-2
@@ -61,11 +55,11 @@ same-length-6 c = search needs
 
 -- src/lib.rt:169:13
 returns-2 : tie.Need-returns-2
-returns-2 c = let a = c .before .before .before .before .before .before .before .before .before .before .before .before .before .before .before .args in listed-without (a .sets) (a .heads .now) (a .slots .now) (a .cells .now) (givensFrom (a .list .now) 0) (c .before .before .before .before .before .before .before .is-whole .result) (c .before .before .before .before .before .before .before .is-whole .ensures) (c .before .before .before .before .before .counters-full .result) (c .before .before .before .before .before .counters-full .ensures) (c .before .before .before .before .before .before .if1 .taken) (c .before .before .any-without-pid .result) (c .refuse2 .result) (c .before .before .before .before .if2 .left) (c .before .before .any-without-pid .ensures) (c .before .if3 .taken) (c .refuse2 .ensures)
+returns-2 c = let a = c .before .before .before .before .before .before .before .before .before .before .before .before .before .args in let s = c .before .before .before .before .before .look in let f = c .before .before .before .counters-full in listed-without (a .sets) (a .heads .now) (a .slots .now) (a .cells .now) (givensFrom (a .list .now) 0) (s .result .whole) (s .ensures .0) (f .result) (f .ensures) (c .before .before .before .before .if1 .taken) (s .result .without) (c .refuse2 .result) (c .before .before .if2 .left) (s .ensures .1 (c .before .before .before .before .if1 .taken)) (c .before .if3 .taken) (c .refuse2 .ensures)
 
 -- src/lib.rt:171:9
 push-each-requires : tie.Need-push-each-requires
-push-each-requires c κs = let a = c .before .before .before .before .before .before .before .before .before .before .before .before .before .before .before .before .before .args in (looked (a .sets) (a .heads .now) (a .slots .now) (a .cells .now) (c .before .before .before .before .before .before .before .before .before .is-whole .result) (c .before .before .before .before .any-without-pid .result) (c .before .before .before .before .before .before .before .before .before .is-whole .ensures) (c .before .before .before .before .before .before .before .before .if1 .taken) (c .before .before .before .before .any-without-pid .ensures) (c .before .before .before .if3 .left), c .before .before .before .before .before .before .before .before .before .before .before .before .before .before .before .before .before .pre)
+push-each-requires c κs = let a = c .before .before .before .before .before .before .before .before .before .before .before .before .before .before .before .args in let s = c .before .before .before .before .before .before .before .look in (looked (a .sets) (a .heads .now) (a .slots .now) (a .cells .now) (s .result .whole) (s .result .without) (s .ensures .0) (c .before .before .before .before .before .before .if1 .taken) (s .ensures .1 (c .before .before .before .before .before .before .if1 .taken)) (c .before .before .before .if3 .left), c .before .before .before .before .before .before .before .before .before .before .before .before .before .before .before .pre)
 
 -- src/lib.rt:171:9
 same-length-7 : tie.Need-same-length-7
@@ -81,7 +75,7 @@ same-length-9 c = search needs
 
 -- src/lib.rt:171:9
 returns-3 : tie.Need-returns-3
-returns-3 c = let a = c .before .before .before .before .before .before .before .before .before .before .before .before .before .before .before .before .before .before .before .before .before .before .before .before .args in let k = c .before .before .before .before .before .before .push-each in listed-each (a .sets) (a .heads .now) (a .slots .now) (a .cells .now) (givensFrom (a .list .now) 0) (c .before .before .before .before .before .before .before .before .before .before .before .before .before .before .before .before .is-whole .result) (c .before .before .before .before .before .before .before .before .before .before .before .before .before .before .before .before .is-whole .ensures) (c .before .before .before .before .before .before .before .before .before .before .before .before .before .before .counters-full .result) (c .before .before .before .before .before .before .before .before .before .before .before .before .before .before .counters-full .ensures) (c .before .before .before .before .before .before .before .before .before .before .before .before .before .before .before .if1 .taken) (c .before .before .before .before .before .before .before .before .before .before .before .any-without-pid .result) (afterAll (k .result) (k .last .1 .0) (k .last .1 .1 .0) (k .last .1 .1 .1 .0)) (c .before .before .before .before .before .before .before .before .before .before .before .before .before .if2 .left) (c .before .before .before .before .before .before .before .before .before .before .before .any-without-pid .ensures) (c .before .before .before .before .before .before .before .before .before .before .if3 .left) (k .ensures)
+returns-3 c = let a = c .before .before .before .before .before .before .before .before .before .before .before .before .before .before .before .before .before .before .before .before .before .before .args in let s = c .before .before .before .before .before .before .before .before .before .before .before .before .before .before .look in let f = c .before .before .before .before .before .before .before .before .before .before .before .before .counters-full in let k = c .before .before .before .before .before .before .push-each in listed-each (a .sets) (a .heads .now) (a .slots .now) (a .cells .now) (givensFrom (a .list .now) 0) (s .result .whole) (s .ensures .0) (f .result) (f .ensures) (c .before .before .before .before .before .before .before .before .before .before .before .before .before .if1 .taken) (s .result .without) (afterAll (k .result) (k .last .1 .0) (k .last .1 .1 .0) (k .last .1 .1 .1 .0)) (c .before .before .before .before .before .before .before .before .before .before .before .if2 .left) (s .ensures .1 (c .before .before .before .before .before .before .before .before .before .before .before .before .before .if1 .taken)) (c .before .before .before .before .before .before .before .before .before .before .if3 .left) (k .ensures)
 
 -- src/lib.rt:173:5
 refuse-requires-3 : tie.Need-refuse-requires-3
@@ -101,20 +95,19 @@ same-length-12 c = search needs
 
 -- src/lib.rt:150:1
 returns-4 : tie.Need-returns-4
-returns-4 c = let a = c .before .before .before .before .before .before .before .before .before .before .args in listed-broken (a .sets) (a .heads .now) (a .slots .now) (a .cells .now) (givensFrom (a .list .now) 0) (c .before .before .is-whole .result) (c .before .before .is-whole .ensures) (c .refuse3 .result) (c .before .if1 .left) (c .refuse3 .ensures)
+returns-4 c = let a = c .before .before .before .before .before .before .before .before .before .before .args in let s = c .before .before .look in listed-broken (a .sets) (a .heads .now) (a .slots .now) (a .cells .now) (givensFrom (a .list .now) 0) (s .result .whole) (s .ensures .0) (c .refuse3 .result) (c .before .if1 .left) (c .refuse3 .ensures)
 
 pub push-listed-spec : {M : Type 1} → statement M
 push-listed-spec =
     tie.close
     (tie.spec
-    is-whole-requires
+    look-requires
     counters-full-requires
     refuse-requires
     same-length
     same-length-2
     same-length-3
     returns
-    any-without-pid-requires
     refuse-requires-2
     same-length-4
     same-length-5
