@@ -1,7 +1,7 @@
 //! Logs: the worked example written, checked, spoilt and read, by a run and by the record makers; what refusals leave.
 use petrizolu::{
-    Answer, Judged, LOG_BARE_SET, LOG_BEFORE, LOG_MISMATCH, LOG_SHORT, LOG_WITH, LOG_WITHOUT, LogRecord, LogRun, LogSettings, NO_PID, Refused, SLOT_WORDS, Sets, Wrong, calls,
-    crc, listed_section, offer_record, record_at, set_record,
+    Answer, Judged, LOG_BARE_SET, LOG_BEFORE, LOG_MISMATCH, LOG_SHORT, LOG_WITH, LOG_WITHOUT, LogRecord, LogRun, LogSettings, NO_PID,
+    Refused, SLOT_WORDS, Sets, Wrong, calls, crc, listed_section, offer_record, record_at, set_record,
 };
 
 const SETTINGS: LogSettings = LogSettings { capacity: 512, repeats: 0, change_rule: 2, limit: 16, size: 4096, count: 64, pids: LOG_WITH };

@@ -1,6 +1,7 @@
 //! The entries of a NIT, a BAT and an SDT, of a section and of a set; pages; why nothing is listed.
 use petrizolu::{
-    Answer, BAT, DESCRIPTOR, ENTRY_WORDS, Ended, Entry, Listed, Listing, NIT, Refused, SDT, SERVICE, Sets, TRANSPORT_STREAM, calls, crc, entries,
+    Answer, BAT, DESCRIPTOR, ENTRY_WORDS, Ended, Entry, Listed, Listing, NIT, Refused, SDT, SERVICE, Sets, TRANSPORT_STREAM, calls, crc,
+    entries,
 };
 
 fn counted(bytes: &[u8]) -> Vec<u8> {
@@ -44,7 +45,17 @@ fn networks_and_bouquets() {
 
 #[test]
 fn services() {
-    let first = Entry { kind: SERVICE, section: 1, at: 11, id: 1, length: 5, original_network_id: 0x2174, running_status: 4, eit_flags: 3, ..Entry::default() };
+    let first = Entry {
+        kind: SERVICE,
+        section: 1,
+        at: 11,
+        id: 1,
+        length: 5,
+        original_network_id: 0x2174,
+        running_status: 4,
+        eit_flags: 3,
+        ..Entry::default()
+    };
     let name = Entry { kind: DESCRIPTOR, section: 1, at: 16, id: 0x48, length: 3, ..Entry::default() };
     let second = Entry { at: 21, id: 2, length: 0, free_ca_mode: 1, eit_flags: 2, ..first };
     for table_id in [0x42, 0x46] {

@@ -1,6 +1,7 @@
 //! Sections without a PID, and stores of before 2026-12 that hold a row without one: 41, and everything as before.
 use petrizolu::{
-    ANY, Answer, Eit, EitState, Filter, HEAD_WORDS, Listed, NIT, NO_PID, Place, Refused, SLOT_WORDS, Sets, SetsState, UNIT_WORDS, calls, crc,
+    ANY, Answer, Eit, EitState, Filter, HEAD_WORDS, Listed, NIT, NO_PID, Place, Refused, SLOT_WORDS, Sets, SetsState, UNIT_WORDS, calls,
+    crc,
 };
 
 /// What a head of before 2026-12 has in the place of a PID.
@@ -57,7 +58,9 @@ fn a_set_of_before() {
         ];
         if refuses {
             assert_eq!(answers, [Answer::NO_PID_GIVEN; 4], "row {damaged}");
-            assert!((sets, heads, slots, cells) == before && (place, listed, list, told) == (Place::default(), Listed::default(), [7; 12], 7));
+            assert!(
+                (sets, heads, slots, cells) == before && (place, listed, list, told) == (Place::default(), Listed::default(), [7; 12], 7)
+            );
         } else {
             assert_eq!(answers, [Answer::YES, Answer::NO, Answer::BAD_PID, Answer::DONE], "row {damaged}, {word}");
         }
@@ -102,8 +105,7 @@ fn a_schedule_of_before() {
             assert!((eit, heads, slots, cells, schedule_heads, units) == before);
             assert_eq!((place, listed, list, told), (Place::default(), Listed::default(), [7; 12], 7));
         } else {
-            let expected =
-                [Answer::YES, Answer::YES, Answer::NO, Answer::NO, Answer::BAD_PID, Answer::BAD_PID, Answer::DONE];
+            let expected = [Answer::YES, Answer::YES, Answer::NO, Answer::NO, Answer::BAD_PID, Answer::BAD_PID, Answer::DONE];
             assert_eq!(answers, expected, "schedules: {of_schedules}, row {row}");
         }
     }

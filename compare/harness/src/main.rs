@@ -250,7 +250,9 @@ fn played(tape: &[u8]) -> String {
 
 /// A tape that ends inside a command, at each place, and a command that there is not.
 fn compare_ends(root: &Path) -> bool {
-    let written = ["scripts", "inputs", "pats", "packets", "events", "networks", "guides", "logs", "all"].into_iter().flat_map(|folder| Written::all(root, folder));
+    let written = ["scripts", "inputs", "pats", "packets", "events", "networks", "guides", "logs", "all"]
+        .into_iter()
+        .flat_map(|folder| Written::all(root, folder));
     let script = &first_of_each_kind(written.flat_map(|script| script.commands))[..];
     let lines = Side::RULES.lines(script);
     let starts: Vec<usize> = (0..=script.len()).map(|whole| tape_of(&script[..whole]).len()).collect();

@@ -159,7 +159,8 @@ fn descriptors(dice: &mut Dice) -> Vec<u8> {
 fn output(input: &[u8], named: Option<u8>) -> String {
     let mut second = Second::new(Reading::default());
     second.open_sets(64, 512, 4096);
-    let mut run = Run { second, named, text: String::new(), sections: 0, sets: 0, streams: 0, services: 0, descriptors: 0, refused: 0, other: 0 };
+    let mut run =
+        Run { second, named, text: String::new(), sections: 0, sets: 0, streams: 0, services: 0, descriptors: 0, refused: 0, other: 0 };
     if !crate::watch::each_record(input, |pid, section| run.take(pid, section)) {
         run.text.push_str("cut\n");
     }
@@ -294,7 +295,8 @@ fn compare_program(root: &Path) -> bool {
     inputs.extend((0..40).map(|seed| beside::feed(seed, script(seed, 400), 0x0010)));
     let mut same = 0;
     for (at, input) in inputs.iter().enumerate() {
-        let (named, words): (_, &[&str]) = if at < 121 { (None, &[]) } else { [(None, &[][..]), (Some(1), &["nit"]), (Some(2), &["bat"]), (Some(3), &["sdt"])][at % 4] };
+        let (named, words): (_, &[&str]) =
+            if at < 121 { (None, &[]) } else { [(None, &[][..]), (Some(1), &["nit"]), (Some(2), &["bat"]), (Some(3), &["sdt"])][at % 4] };
         same += usize::from(program.output_of(words, input) == output(input, named));
     }
     println!("tables on {} inputs, an empty one among them, with and without a reader: {same} equal", inputs.len());

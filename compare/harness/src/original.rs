@@ -56,9 +56,7 @@ impl Original {
             Command::Push { part: Part::Eit, pid: None, .. } | Command::Drop(Filter { pid: Some(None), .. }) => {
                 Answer::Collected(if self.eit.is_some() { 41 } else { 10 }, self.eit_held(), Out::Nothing)
             }
-            Command::Push { pid: None, .. } => {
-                Answer::Collected(if self.sets.is_some() { 41 } else { 10 }, self.sets_held(), Out::Nothing)
-            }
+            Command::Push { pid: None, .. } => Answer::Collected(if self.sets.is_some() { 41 } else { 10 }, self.sets_held(), Out::Nothing),
             Command::Push { part: Part::Eit, pid: Some(pid), section } => self.push_eit(*pid, section),
             Command::Push { pid: Some(pid), section, .. } => self.push_set(*pid, section),
             Command::Clear { part } => self.clear(*part),

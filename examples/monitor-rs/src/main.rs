@@ -5,8 +5,8 @@
 //! sections there, to which `./run check_log 4096 0 2 LIMIT 4096 256 with FOLDER/sections < FOLDER/log` says yes.
 
 use petrizolu::{
-    Answer, BAT, Complete, DEFAULT_CHANGE_RULE, Demux, EVENT, Eit, Ended, Entry, Gate, GateState, Listing, NIT, Name, Offered, PACKET_BYTES,
-    Refused, SDT, SERVICE, Section, Sets, TRANSPORT_STREAM, UNDEFINED, date, listed_section, offer_record, set_record,
+    Answer, BAT, Complete, DEFAULT_CHANGE_RULE, Demux, EVENT, Eit, Ended, Entry, Gate, GateState, Listing, NIT, Name, Offered,
+    PACKET_BYTES, Refused, SDT, SERVICE, Section, Sets, TRANSPORT_STREAM, UNDEFINED, date, listed_section, offer_record, set_record,
 };
 use std::fs::File;
 use std::io::{self, BufReader, BufWriter, Read, Write};

@@ -172,7 +172,9 @@ impl Command {
             Command::Input(_) => None,
             Command::GateOpen { .. } | Command::Gate { .. } | Command::Ask { .. } => Some(Part::Gate),
             Command::Watched | Command::Counters | Command::Pats => Some(Part::Gate),
-            Command::Open { part, .. } | Command::Push { part, .. } | Command::PushAll { part, .. } | Command::Clear { part } => Some(*part),
+            Command::Open { part, .. } | Command::Push { part, .. } | Command::PushAll { part, .. } | Command::Clear { part } => {
+                Some(*part)
+            }
             Command::Drop(_) | Command::Events { .. } | Command::Read { .. } | Command::Date(_) => Some(Part::Eit),
             Command::Entries { .. } | Command::ReadTable { .. } => Some(Part::Sets),
             Command::Demux(_) => Some(Part::Demux),

@@ -217,11 +217,7 @@ pub fn parse(
 impl Display for Settings {
     fn fmt(&self, f: &mut fmt::Formatter<'_>) -> fmt::Result {
         let Settings { capacity, repeats, rule, limit, size, count, pids } = self;
-        write!(
-            f,
-            " cap={capacity} repeats={} rule={rule} limit={limit} size={size} cells={count} pids={pids}",
-            u8::from(*repeats)
-        )
+        write!(f, " cap={capacity} repeats={} rule={rule} limit={limit} size={size} cells={count} pids={pids}", u8::from(*repeats))
     }
 }
 

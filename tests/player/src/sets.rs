@@ -70,9 +70,9 @@ impl Sets {
                 Answer::Taken(taken, Box::new(self.collected(number, row)))
             }
             Command::Clear { .. } => Answer::Number(Part::Sets, self.clear().0),
-            Command::Entries { reader, row, page } => entries(Part::Sets, page, |skip, list, listed| {
-                self.entries((*reader).into(), (*row).into(), skip, list, listed)
-            }),
+            Command::Entries { reader, row, page } => {
+                entries(Part::Sets, page, |skip, list, listed| self.entries((*reader).into(), (*row).into(), skip, list, listed))
+            }
             Command::ReadTable { reader, section, page } => {
                 entries(Part::Sets, page, |skip, list, listed| calls::entries((*reader).into(), section, skip, list, listed))
             }

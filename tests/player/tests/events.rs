@@ -33,14 +33,15 @@ fn record(table_id: u8, [number, segment_end, last]: [u8; 3], descriptors: &[u8]
 }
 
 fn event_line(number: u8, length: usize) -> String {
-    format!("event {number} {number:04X} day 49273 1993-10-13 time 45900 12:45:00 duration 6330 01:45:30 running 4 ca 0 descriptors {length}\n")
+    format!(
+        "event {number} {number:04X} day 49273 1993-10-13 time 45900 12:45:00 duration 6330 01:45:30 running 4 ca 0 descriptors {length}\n"
+    )
 }
 
 #[test]
 fn inputs_that_are_not_stored() {
-    let totals = |sections, sets, events| {
-        format!("sections {sections} sets {sets} schedules 0 events {events} descriptors 0 refused 0 other 0\n")
-    };
+    let totals =
+        |sections, sets, events| format!("sections {sections} sets {sets} schedules 0 events {events} descriptors 0 refused 0 other 0\n");
     assert_eq!(printed(Vec::new()), totals(0, 0, 0));
     let [second, first] = [1, 0].map(|number| record(0x4E, [number, 1, 1], &[]));
     let set = "set 0012 4E 0001 stream 0001 network 2174 current 1 version 0 last 1\n";

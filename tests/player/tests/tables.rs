@@ -52,7 +52,9 @@ fn inputs_that_are_not_stored() {
     for end in 1..=first.len() {
         let line = |number| format!("service {number} 0001 network 2174 schedule 0 following 1 running 4 ca 0 descriptors 0\n");
         let expected = match end {
-            end if end == first.len() => format!("set 0011 42 0001 current 1 version 0 last 1\n{}{}{}", line(0), line(1), totals(2, 1, 0, 2)),
+            end if end == first.len() => {
+                format!("set 0011 42 0001 current 1 version 0 last 1\n{}{}{}", line(0), line(1), totals(2, 1, 0, 2))
+            }
             _ => format!("cut\n{}", totals(1, 0, 0, 0)),
         };
         assert_eq!(printed(&[], [&second, &first[..end]].concat()), expected, "cut behind {end} bytes");

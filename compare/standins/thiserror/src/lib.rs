@@ -12,9 +12,7 @@ pub fn derive_error(item: TokenStream) -> TokenStream {
         impl ::core::error::Error for {name} {{}}"
     );
     for (variant, source) in from_variants(variants) {
-        code += &format!(
-            "impl ::core::convert::From<{source}> for {name} {{ fn from(e: {source}) -> Self {{ {name}::{variant}(e) }} }}"
-        );
+        code += &format!("impl ::core::convert::From<{source}> for {name} {{ fn from(e: {source}) -> Self {{ {name}::{variant}(e) }} }}");
     }
     code.parse().expect("the code above is Rust")
 }

@@ -1,5 +1,5 @@
 //! An EIT collector of three rows and three schedules, two and one in use, and four cells of 64 bytes.
-use crate::{Case, Store, case, told};
+use crate::{Case, Opens, Store, case, told};
 use petrizolu::{Answer, EitState, Filter, NO_PID, listed_section};
 use player::eit::Eit;
 
@@ -58,27 +58,17 @@ impl Damaged {
         assert_eq!(taken, if refused { 0 } else { list.len() as u64 }, "what is taken after {answer}");
         answer
     }
+}
 
-    /// An opening with the settings that the case has. Whether a refusal left what is kept by value counts; what an opening makes of it does not.
-    fn open(&mut self, asked: EitState) -> Answer {
-        let before = self.eit.state;
-        let answer = self.eit.open(asked.limit, asked.size, asked.count);
-        if answer == Answer::DONE {
-            self.eit.state = before;
-        }
-        answer
+impl Opens for Damaged {
+    type State = EitState;
+
+    fn state(&mut self) -> &mut EitState {
+        &mut self.eit.state
     }
 
-    /// A refused opening and a push, with this kept by value instead.
-    fn refused(&mut self, state: EitState) -> Answer {
-        let asked = self.eit.state;
-        self.eit.state = state;
-        assert_ne!(self.open(asked), Answer::DONE);
-        let answer = self.push();
-        if self.eit.state == state {
-            self.eit.state = asked;
-        }
-        answer
+    fn opened(&mut self, asked: EitState) -> Answer {
+        self.eit.open(asked.limit, asked.size, asked.count)
     }
 }
 
@@ -122,8 +112,8 @@ impl Store for Damaged {
             Table => told(|place| self.eit.next_in_schedule(self.row, self.table, 0, place)),
             Clear => self.eit.clear(),
             Open => self.open(asked),
-            Former => self.refused(WHOLE),
-            Anew => self.refused(EitState { used: 0, evictions: 0, schedules: 0, schedule_evictions: 0, clock: 0, ..asked }),
+            Former => self.refused(WHOLE, Self::push),
+            Anew => self.refused(EitState { used: 0, evictions: 0, schedules: 0, schedule_evictions: 0, clock: 0, ..asked }, Self::push),
         }
     }
 }

@@ -1,6 +1,6 @@
 //! The readers of events over an EIT collector of three rows and three schedules, two and one in use, and four cells of 64 bytes; the list has room for five entries.
-use crate::{Case, Store, case};
-use petrizolu::{Answer, ENTRY_WORDS, EitState, Entry, Listed, calls};
+use crate::{BEFORE, Case, Store, UNTOLD, case, page};
+use petrizolu::{Answer, ENTRY_WORDS, EitState, Listed, calls};
 use player::eit::Eit;
 use player::lent::Lent;
 
@@ -32,10 +32,6 @@ const SCHEDULE: &[u8] = b"\x50\xF0\x1F\x00\x01\xC1\x00\x00\x00\x01\x21\x74\x00\x
 
 /// What is kept by value after `filled`.
 const WHOLE: EitState = EitState { limit: 3, size: 64, count: 4, used: 2, evictions: 0, schedules: 1, schedule_evictions: 0, clock: 3 };
-
-/// A word that no entry has, and what is told before the question.
-const BEFORE: u32 = 0xA5A5_A5A5;
-const UNTOLD: Listed = Listed { count: u64::MAX, section: u64::MAX, place: u64::MAX };
 
 impl Store for Damaged {
     type Call = Call;
@@ -72,14 +68,7 @@ impl Store for Damaged {
 
     /// What is told, and of the entries that are listed whether it is an event or a descriptor, its section, its place and its event_id or tag.
     fn says(&self) -> String {
-        if self.listed == UNTOLD {
-            return String::new();
-        }
-        let Listed { count, section, place } = self.listed;
-        let (entries, _) = self.list.as_chunks();
-        let shown = entries.iter().map(Entry::of).take_while(|entry| entry.kind != BEFORE);
-        let shown = shown.map(|Entry { kind, section, at, id, .. }| format!(" [{kind} {section} {at} {id}]"));
-        format!(" count={count} section={section} place={place}{}", shown.collect::<String>())
+        page(self.listed, &self.list)
     }
 }
 

@@ -1,5 +1,5 @@
 //! A set collector of three rows, two in use, and four cells of 64 bytes.
-use crate::{Case, Store, case, told};
+use crate::{Case, Opens, Store, case, told};
 use petrizolu::{Answer, NO_PID, SetsState, listed_section};
 use player::sets::Sets;
 
@@ -53,27 +53,17 @@ impl Damaged {
         assert!(answer == Answer::SET || row == 0, "a row after {answer}");
         answer
     }
+}
 
-    /// An opening with the settings that the case has. Whether a refusal left what is kept by value counts; what an opening makes of it does not.
-    fn open(&mut self, asked: SetsState) -> Answer {
-        let before = self.sets.state;
-        let answer = self.sets.open(asked.limit, asked.size, asked.count);
-        if answer == Answer::DONE {
-            self.sets.state = before;
-        }
-        answer
+impl Opens for Damaged {
+    type State = SetsState;
+
+    fn state(&mut self) -> &mut SetsState {
+        &mut self.sets.state
     }
 
-    /// A refused opening and a push, with this kept by value instead.
-    fn refused(&mut self, state: SetsState) -> Answer {
-        let asked = self.sets.state;
-        self.sets.state = state;
-        assert_ne!(self.open(asked), Answer::DONE);
-        let answer = self.push();
-        if self.sets.state == state {
-            self.sets.state = asked;
-        }
-        answer
+    fn opened(&mut self, asked: SetsState) -> Answer {
+        self.sets.open(asked.limit, asked.size, asked.count)
     }
 }
 
@@ -109,8 +99,8 @@ impl Store for Damaged {
             Next => told(|place| self.sets.next(self.row, 0, place)),
             Clear => self.sets.clear(),
             Open => self.open(asked),
-            Former => self.refused(WHOLE),
-            Anew => self.refused(SetsState { used: 0, evictions: 0, clock: 0, ..asked }),
+            Former => self.refused(WHOLE, Self::push),
+            Anew => self.refused(SetsState { used: 0, evictions: 0, clock: 0, ..asked }, Self::push),
         }
     }
 }

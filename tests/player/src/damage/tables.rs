@@ -1,6 +1,6 @@
 //! The readers of networks, bouquets and services over a set collector of three rows, two in use, and four cells of 64 bytes; the list has room for six entries.
-use crate::{Case, Store, case};
-use petrizolu::{Answer, BAT, ENTRY_WORDS, Entry, Listed, NIT, SDT, SetsState, calls};
+use crate::{BEFORE, Case, Store, UNTOLD, case, page};
+use petrizolu::{Answer, BAT, ENTRY_WORDS, Listed, NIT, SDT, SetsState, calls};
 use player::lent::Lent;
 use player::sets::Sets;
 
@@ -24,17 +24,14 @@ pub struct Damaged {
 
 /// Network 0x3001 in two sections. The first: descriptor 40 of two bytes at byte 10, the second length at byte 14, stream 1 at byte 16 with descriptor 41 at byte 22, its CRC at
 /// byte 26. The second: no descriptor, stream 2 at byte 12, its CRC at byte 18.
-const FIRST: &[u8] = b"\x40\xF0\x1B\x30\x01\xC1\x00\x01\xF0\x04\x40\x02\x61\x62\xF0\x0A\x00\x01\x21\x74\xF0\x04\x41\x02\x00\x01\xFA\x90\x41\x03";
+const FIRST: &[u8] =
+    b"\x40\xF0\x1B\x30\x01\xC1\x00\x01\xF0\x04\x40\x02\x61\x62\xF0\x0A\x00\x01\x21\x74\xF0\x04\x41\x02\x00\x01\xFA\x90\x41\x03";
 const SECOND: &[u8] = b"\x40\xF0\x13\x30\x01\xC1\x01\x01\xF0\x00\xF0\x06\x00\x02\x21\x74\xF0\x00\x83\x4D\x3C\x5D";
 /// Stream 1 of network 0x2174 in one section: service 1 at byte 11 with descriptor 48 of two bytes at byte 16, its CRC at byte 20.
 const SERVICES: &[u8] = b"\x42\xF0\x15\x00\x01\xC1\x00\x00\x21\x74\xFF\x00\x01\xFD\x80\x04\x48\x02\x01\x00\x5A\x12\x60\xC3";
 
 /// What is kept by value after `filled`.
 const WHOLE: SetsState = SetsState { limit: 3, size: 64, count: 4, used: 2, evictions: 0, clock: 3 };
-
-/// A word that no entry has, and what is told before the question.
-const BEFORE: u32 = 0xA5A5_A5A5;
-const UNTOLD: Listed = Listed { count: u64::MAX, section: u64::MAX, place: u64::MAX };
 
 impl Store for Damaged {
     type Call = Call;
@@ -69,14 +66,7 @@ impl Store for Damaged {
 
     /// What is told, and of the entries that are listed their kind, section, place and number.
     fn says(&self) -> String {
-        if self.listed == UNTOLD {
-            return String::new();
-        }
-        let Listed { count, section, place } = self.listed;
-        let (entries, _) = self.list.as_chunks();
-        let shown = entries.iter().map(Entry::of).take_while(|entry| entry.kind != BEFORE);
-        let shown = shown.map(|Entry { kind, section, at, id, .. }| format!(" [{kind} {section} {at} {id}]"));
-        format!(" count={count} section={section} place={place}{}", shown.collect::<String>())
+        page(self.listed, &self.list)
     }
 }
 
