@@ -48,54 +48,43 @@ fn rows(capacity: usize) -> Box<[u64]> {
 /// The words of a record that the three sets of PIDs need.
 const SET_WORDS: usize = 384;
 
-/// The watch record of each input, in equal parts. Who gives an input gets its own record, and no other.
-pub(crate) struct Watches {
-    words: Box<[u64]>,
-    pat_slots: Box<[u32]>,
-    pat_cells: Box<[u8]>,
+/// The watch record of one input: its words and, where complete PATs are followed, its PAT store.
+pub(crate) struct Record {
+    pub words: Box<[u64]>,
+    pub pat_slots: Box<[u32]>,
+    pub pat_cells: Box<[u8]>,
 }
 
-/// What is lent of one input.
-pub(crate) struct Record<'a> {
-    pub words: &'a mut [u64],
-    pub pat_slots: &'a mut [u32],
-    pub pat_cells: &'a mut [u8],
-}
+/// The watch record of each input. Who gives an input gets its own record, and no other.
+pub(crate) struct Watches([Record; INPUTS]);
 
 impl Watches {
     /// What the settings need: where complete PATs are not followed, no PAT store.
     fn new(settings: u32) -> Self {
         let tables = settings & (FOLLOW | FOLLOW_SECTIONS) == FOLLOW;
         let (words, slots, cells) = if tables { (WATCH_WORDS, PAT_SLOTS, PAT_CELLS) } else { (SET_WORDS, 0, 0) };
-        Self {
-            words: vec![0; INPUTS * words].into_boxed_slice(),
-            pat_slots: vec![0; INPUTS * slots].into_boxed_slice(),
-            pat_cells: vec![0; INPUTS * cells].into_boxed_slice(),
-        }
+        Self(std::array::from_fn(|_| Record {
+            words: vec![0; words].into_boxed_slice(),
+            pat_slots: vec![0; slots].into_boxed_slice(),
+            pat_cells: vec![0; cells].into_boxed_slice(),
+        }))
     }
 
     /// Opens the records of all inputs but 0: that one is opened with the gate.
     fn open_further(&mut self, settings: u32, extra: &[u16]) -> Result<(), Refused> {
-        (1..INPUTS as u8).try_for_each(|input| {
-            let Record { words, pat_slots, pat_cells } = self.of(input);
-            calls::watch_open(settings, extra, words, pat_slots, pat_cells).done()
-        })
+        self.0[1..]
+            .iter_mut()
+            .try_for_each(|Record { words, pat_slots, pat_cells }| calls::watch_open(settings, extra, words, pat_slots, pat_cells).done())
     }
 
     /// What is lent to a call on an input. An input that there is not is refused whatever is lent (37).
-    pub fn of(&mut self, input: u8) -> Record<'_> {
-        let at = usize::from(input) % INPUTS;
-        Record {
-            words: part_mut(&mut self.words, at),
-            pat_slots: part_mut(&mut self.pat_slots, at),
-            pat_cells: part_mut(&mut self.pat_cells, at),
-        }
+    pub fn of(&mut self, input: u8) -> &mut Record {
+        &mut self.0[usize::from(input) % INPUTS]
     }
 
     /// The words of an input, where it is one.
     fn words(&self, input: u8) -> Option<&[u64]> {
-        let at = usize::from(input);
-        (at < INPUTS).then(|| part(&self.words, at))
+        self.0.get(usize::from(input)).map(|record| &*record.words)
     }
 
     fn watches(&self, input: u8, pid: u16) -> bool {
@@ -105,17 +94,6 @@ impl Watches {
     fn pat_evictions(&self, input: u8) -> u64 {
         self.words(input).and_then(|words| words.get(WATCH_PAT_EVICTIONS)).copied().unwrap_or(0)
     }
-}
-
-/// One of as many equal parts as there are inputs.
-fn part<T>(all: &[T], at: usize) -> &[T] {
-    let size = all.len() / INPUTS;
-    &all[at * size..][..size]
-}
-
-fn part_mut<T>(all: &mut [T], at: usize) -> &mut [T] {
-    let size = all.len() / INPUTS;
-    &mut all[at * size..][..size]
 }
 
 /// The gate that looks through its rows in order: for some hundreds of keys.
