@@ -59,6 +59,11 @@ impl Fault {
         (Fault::AllSetPassed as usize..=Fault::AllOnCurrentInput as usize).contains(&(self as usize))
     }
 
+    /// Whether it shows in tables of 32 segments alone.
+    pub fn of_whole_tables(self) -> bool {
+        self == Fault::LastSegmentUnseen
+    }
+
     /// Whether the original has a counterpart of the faulty part.
     pub fn has_original(self) -> bool {
         let of_the_port = self.of_events() || self.of_networks() || self.of_guides() || self.of_logs() || self.of_all();

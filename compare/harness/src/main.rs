@@ -103,7 +103,7 @@ fn main() -> ExitCode {
             (Some(seeds), Some(commands)) => all::compare(&root, seeds, commands),
             _ => return usage(),
         },
-        Some(&"--faults") => match (number(1, 40), number(2, 2000)) {
+        Some(&"--faults") => match (number(1, 40), number(2, 4000)) {
             (Some(seeds), Some(commands)) => compare_faults(seeds, commands, words.get(3).copied()),
             _ => return usage(),
         },
@@ -351,6 +351,7 @@ fn domains_of(fault: Fault) -> &'static [(Domain, &'static str)] {
         fault if fault.of_guides() => &[(Domain::Inside, "guides")],
         fault if fault.of_logs() => &[(Domain::Inside, "logs")],
         fault if fault.of_all() => &[(Domain::Inside, "many in one call")],
+        fault if fault.of_whole_tables() => &[(Domain::Inside, "a table of 32 segments")],
         _ => &DOMAINS,
     }
 }
@@ -374,6 +375,9 @@ fn script_for(fault: Fault, seed: u64, commands: usize, domain: Domain) -> Vec<C
     }
     if fault.of_all() {
         return all::script(seed, commands);
+    }
+    if fault.of_whole_tables() {
+        return make::whole_table(seed);
     }
     let script = if fault.of_inputs() { make::on_inputs } else { make::script };
     let mut script = make::counted(script(seed, commands, domain));

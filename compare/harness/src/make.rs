@@ -589,6 +589,22 @@ pub fn collector_run(dice: &mut Dice, length: usize, domain: Domain, part: Part)
     run
 }
 
+/// One table of a schedule with all its 32 segments, section after section, and nothing between: scripts of many tables seldom come to the last segment.
+pub fn whole_table(seed: u64) -> Vec<Command> {
+    let mut dice = Dice::new(seed);
+    let part = Part::Eit;
+    let head =
+        Head { table_id: 0x50, extension: 1, version: dice.below(32) as u8, current_next: true, number: 0, last: dice.of(&[248, 255]) };
+    let table = Table { pid: 0x0012, head, network: (1, 1), last_table_id: 0x50, segments: [1; 32], salt: dice.next(), next: 0 };
+    let mut run = vec![Command::Open { part, limit: 1, cells: 64, size: 512 }];
+    run.extend(table.numbers().into_iter().map(|number| Command::Push {
+        part,
+        pid: Some(table.pid),
+        section: table.section(number, 0, true, 512),
+    }));
+    run
+}
+
 /// What a broadcaster changes between two sections: a version, current_next, or the range of a schedule.
 fn unrest(dice: &mut Dice, tables: &mut [Table], now: usize, eit: bool, calm: usize) {
     if dice.once_in(25 * calm) {
