@@ -2,8 +2,8 @@
 // least one, up to a place where it stands and stands again a packet further, or the input has ended by then. Nothing here reads: a caller hands over what it
 // has of the input and has not used up (the window), and whether that is the last of it.
 ghost use Rattle.std.specs.Prelude.{◌≡◌, true, ◌<◌, ◌≤◌, length};
-ghost use Rattle.laws.specs.Lists.{firstFrom};
-ghost use Rattle.alignment.specs.Alignment.{syncAt, judgedTo, sought, head_of, step_of};
+ghost use Rattle.laws.specs.Lists.{first_from};
+ghost use Rattle.alignment.specs.Alignment.{sync_at, judged_to, sought, head_of, step_of};
 
 use packet::PACKET_BYTES;
 
@@ -36,7 +36,7 @@ pub struct Step {
 // A packet may begin at byte j.
 fn sync_at(window: &[u8], j: usize) -> bool
     requires { j < length window.now }
-    ensures { result ≡ syncAt window.now j }
+    ensures { result ≡ sync_at window.now j }
 {
     if window[j] != SYNC_BYTE {
         return false;
@@ -50,7 +50,7 @@ fn sync_at(window: &[u8], j: usize) -> bool
 
 // How many places of the window can be judged: where the input goes on, the byte a packet further must be there.
 fn judged(length: usize, last: bool) -> usize
-    ensures { result ≡ judgedTo length last }
+    ensures { result ≡ judged_to length last }
 {
     if last {
         return length;
@@ -64,7 +64,7 @@ fn judged(length: usize, last: bool) -> usize
 // The first place below `end` where a packet may begin, or end.
 fn seek(window: &[u8], end: usize) -> usize
     requires { end ≤ length window.now }
-    ensures { result ≡ firstFrom (syncAt window.now) end 0 }
+    ensures { result ≡ first_from (sync_at window.now) end 0 }
 {
     let mut j = 0;
     while j < end {

@@ -12,7 +12,7 @@ use Rattle.answers.specs.declared.Outcome.{Outcome}
 use Rattle.answers.specs.declared.Outcome.TheVariants as outcome
 use Rattle.answers.specs.declared.Reply.{Reply}
 use Rattle.answers.specs.declared.Reply.TheVariants as reply
-use Rattle.answers.specs.Answers.{refusalNo, outcomeNo, replyNo}
+use Rattle.answers.specs.Answers.{refusal_no, outcome_no, reply_no}
 
 -- the refusals by rising number
 refusals : List Refusal
@@ -20,79 +20,79 @@ refusals = NotWhole ∷ CounterFull ∷ BadPid ∷ TooLittle ∷ Malformed ∷ S
 
 pick : List Refusal → ℕ → Refusal
 pick [] n = NotWhole
-pick (r ∷ rs) n = cond (eqb (refusalNo r) n) r (pick rs n)
+pick (r ∷ rs) n = cond (eqb (refusal_no r) n) r (pick rs n)
 
-pub refusalAt : ℕ → Refusal
-refusalAt n = pick refusals n
+pub refusal_at : ℕ → Refusal
+refusal_at n = pick refusals n
 
-pub refusal-at : (r : Refusal) → refusalAt (refusalNo r) ≡ r
-unfolding refusalAt refusals pick
-refusal-at NotWhole = refl
-refusal-at CounterFull = refl
-refusal-at BadPid = refl
-refusal-at TooLittle = refl
-refusal-at Malformed = refl
-refusal-at ShortForm = refl
-refusal-at BadNumber = refl
-refusal-at BadCrc = refl
-refusal-at NotEit = refl
-refusal-at Broken = refl
-refusal-at TooLong = refl
-refusal-at NoCell = refl
-refusal-at Conflict = refl
-refusal-at Range = refl
-refusal-at BadInput = refl
-refusal-at NoPid = refl
+pub refusal_at_lem : (r : Refusal) → refusal_at (refusal_no r) ≡ r
+unfolding refusal_at refusals pick
+refusal_at_lem NotWhole = refl
+refusal_at_lem CounterFull = refl
+refusal_at_lem BadPid = refl
+refusal_at_lem TooLittle = refl
+refusal_at_lem Malformed = refl
+refusal_at_lem ShortForm = refl
+refusal_at_lem BadNumber = refl
+refusal_at_lem BadCrc = refl
+refusal_at_lem NotEit = refl
+refusal_at_lem Broken = refl
+refusal_at_lem TooLong = refl
+refusal_at_lem NoCell = refl
+refusal_at_lem Conflict = refl
+refusal_at_lem Range = refl
+refusal_at_lem BadInput = refl
+refusal_at_lem NoPid = refl
 
-pub refusal-apart : (a b : Refusal) → refusalNo a ≡ refusalNo b → a ≡ b
-refusal-apart a b e = sym (refusal-at a) ∙ ap refusalAt e ∙ refusal-at b
+pub refusal_apart : (a b : Refusal) → refusal_no a ≡ refusal_no b → a ≡ b
+refusal_apart a b e = sym (refusal_at_lem a) ∙ ap refusal_at e ∙ refusal_at_lem b
 
 -- no refusal has a number below 10, which are those of what is not refused
-pub refused-from-10 : (r : Refusal) → ltb (refusalNo r) 10 ≡ false
-refused-from-10 NotWhole = refl
-refused-from-10 CounterFull = refl
-refused-from-10 BadPid = refl
-refused-from-10 TooLittle = refl
-refused-from-10 Malformed = refl
-refused-from-10 ShortForm = refl
-refused-from-10 BadNumber = refl
-refused-from-10 BadCrc = refl
-refused-from-10 NotEit = refl
-refused-from-10 Broken = refl
-refused-from-10 TooLong = refl
-refused-from-10 NoCell = refl
-refused-from-10 Conflict = refl
-refused-from-10 Range = refl
-refused-from-10 BadInput = refl
-refused-from-10 NoPid = refl
+pub refused_from_10 : (r : Refusal) → ltb (refusal_no r) 10 ≡ false
+refused_from_10 NotWhole = refl
+refused_from_10 CounterFull = refl
+refused_from_10 BadPid = refl
+refused_from_10 TooLittle = refl
+refused_from_10 Malformed = refl
+refused_from_10 ShortForm = refl
+refused_from_10 BadNumber = refl
+refused_from_10 BadCrc = refl
+refused_from_10 NotEit = refl
+refused_from_10 Broken = refl
+refused_from_10 TooLong = refl
+refused_from_10 NoCell = refl
+refused_from_10 Conflict = refl
+refused_from_10 Range = refl
+refused_from_10 BadInput = refl
+refused_from_10 NoPid = refl
 
 -- and none has 31, which is a section too short for its CRC
-pub refused-not-31 : (r : Refusal) → refusalNo r ≡ 31 → ⊥
-unfolding refusalAt refusals pick
-refused-not-31 r e = let q : r ≡ NotWhole = sym (refusal-at r) ∙ ap refusalAt e in omega (arith, ap refusalNo (sym q) ∙ e)
+pub refused_not_31 : (r : Refusal) → refusal_no r ≡ 31 → ⊥
+unfolding refusal_at refusals pick
+refused_not_31 r e = let q : r ≡ NotWhole = sym (refusal_at_lem r) ∙ ap refusal_at e in omega (arith, ap refusal_no (sym q) ∙ e)
 
 -- an answer of which one case has no refusal's number
-outcomeAt : ℕ → Outcome
-outcomeAt n = cond (ltb n 10) outcome.Done (outcome.Refused (refusalAt n))
+outcome_at : ℕ → Outcome
+outcome_at n = cond (ltb n 10) outcome.Done (outcome.Refused (refusal_at n))
 
-outcome-at : (a : Outcome) → outcomeAt (outcomeNo a) ≡ a
-unfolding outcomeAt
-outcome-at outcome.Done = refl
-outcome-at (outcome.Refused r) =
-    ap (λ b. cond b outcome.Done (outcome.Refused (refusalAt (refusalNo r)))) (refused-from-10 r) ∙ ap outcome.Refused (refusal-at r)
+outcome_at_lem : (a : Outcome) → outcome_at (outcome_no a) ≡ a
+unfolding outcome_at
+outcome_at_lem outcome.Done = refl
+outcome_at_lem (outcome.Refused r) =
+    ap (λ b. cond b outcome.Done (outcome.Refused (refusal_at (refusal_no r)))) (refused_from_10 r) ∙ ap outcome.Refused (refusal_at_lem r)
 
-pub outcome-apart : (a b : Outcome) → outcomeNo a ≡ outcomeNo b → a ≡ b
-outcome-apart a b e = sym (outcome-at a) ∙ ap outcomeAt e ∙ outcome-at b
+pub outcome_apart : (a b : Outcome) → outcome_no a ≡ outcome_no b → a ≡ b
+outcome_apart a b e = sym (outcome_at_lem a) ∙ ap outcome_at e ∙ outcome_at_lem b
 
-replyAt : ℕ → Reply
-replyAt n = cond (ltb n 10) (cond (eqb n 8) reply.Yes reply.No) (reply.Refused (refusalAt n))
+reply_at : ℕ → Reply
+reply_at n = cond (ltb n 10) (cond (eqb n 8) reply.Yes reply.No) (reply.Refused (refusal_at n))
 
-reply-at : (a : Reply) → replyAt (replyNo a) ≡ a
-unfolding replyAt
-reply-at reply.Yes = refl
-reply-at reply.No = refl
-reply-at (reply.Refused r) =
-    ap (λ b. cond b (cond (eqb (refusalNo r) 8) reply.Yes reply.No) (reply.Refused (refusalAt (refusalNo r)))) (refused-from-10 r) ∙ ap reply.Refused (refusal-at r)
+reply_at_lem : (a : Reply) → reply_at (reply_no a) ≡ a
+unfolding reply_at
+reply_at_lem reply.Yes = refl
+reply_at_lem reply.No = refl
+reply_at_lem (reply.Refused r) =
+    ap (λ b. cond b (cond (eqb (refusal_no r) 8) reply.Yes reply.No) (reply.Refused (refusal_at (refusal_no r)))) (refused_from_10 r) ∙ ap reply.Refused (refusal_at_lem r)
 
-pub reply-apart : (a b : Reply) → replyNo a ≡ replyNo b → a ≡ b
-reply-apart a b e = sym (reply-at a) ∙ ap replyAt e ∙ reply-at b
+pub reply_apart : (a b : Reply) → reply_no a ≡ reply_no b → a ≡ b
+reply_apart a b e = sym (reply_at_lem a) ∙ ap reply_at e ∙ reply_at_lem b

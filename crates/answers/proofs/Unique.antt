@@ -2,16 +2,16 @@
 -- Assumes nothing.
 use mathlib.Core.Path.{◌≡◌, sym, ◌∙◌}
 use Prim.Native.Nat.{ℕ}
-use Rattle.answers.specs.Answers.{refusalNo, outcomeNo, replyNo}
+use Rattle.answers.specs.Answers.{refusal_no, outcome_no, reply_no}
 use Rattle.answers.specs.declared.Refusal.{Refusal}
 use Rattle.answers.specs.declared.Outcome.{Outcome}
 use Rattle.answers.specs.declared.Reply.{Reply}
 
-pub unique-refusal-number : (a : Refusal) (r q : ℕ) → r ≡ refusalNo a → q ≡ refusalNo a → r ≡ q
-unique-refusal-number a r q e f = e ∙ sym f
+pub unique_refusal_number : (a : Refusal) (r q : ℕ) → r ≡ refusal_no a → q ≡ refusal_no a → r ≡ q
+unique_refusal_number a r q e f = e ∙ sym f
 
-pub unique-outcome-number : (a : Outcome) (r q : ℕ) → r ≡ outcomeNo a → q ≡ outcomeNo a → r ≡ q
-unique-outcome-number a r q e f = e ∙ sym f
+pub unique_outcome_number : (a : Outcome) (r q : ℕ) → r ≡ outcome_no a → q ≡ outcome_no a → r ≡ q
+unique_outcome_number a r q e f = e ∙ sym f
 
-pub unique-reply-number : (a : Reply) (r q : ℕ) → r ≡ replyNo a → q ≡ replyNo a → r ≡ q
-unique-reply-number a r q e f = e ∙ sym f
+pub unique_reply_number : (a : Reply) (r q : ℕ) → r ≡ reply_no a → q ≡ reply_no a → r ≡ q
+unique_reply_number a r q e f = e ∙ sym f

@@ -1,7 +1,7 @@
 // The answers of the calls and their numbers (docs/RULES.md, "Answers"). A call's own answer has what only that call can say, and one case for
 // all refusals.
 ghost use Rattle.std.specs.Prelude.{◌≡◌};
-ghost use Rattle.answers.specs.Answers.{refusalNo, outcomeNo, replyNo};
+ghost use Rattle.answers.specs.Answers.{refusal_no, outcome_no, reply_no};
 
 // Why a call did not do what it was asked for.
 #[derive(Drop)]
@@ -41,7 +41,7 @@ pub enum Reply {
 
 impl Refusal {
     pub fn number(self) -> u8
-        ensures { result ≡ refusalNo self }
+        ensures { result ≡ refusal_no self }
     {
         match self {
             Refusal::NotWhole => 10,
@@ -66,7 +66,7 @@ impl Refusal {
 
 impl Outcome {
     pub fn number(self) -> u8
-        ensures { result ≡ outcomeNo self }
+        ensures { result ≡ outcome_no self }
     {
         match self {
             Outcome::Done => 7,
@@ -77,7 +77,7 @@ impl Outcome {
 
 impl Reply {
     pub fn number(self) -> u8
-        ensures { result ≡ replyNo self }
+        ensures { result ≡ reply_no self }
     {
         match self {
             Reply::Yes => 8,

@@ -6,10 +6,10 @@ use Prim.Native.Nat.{ℕ}
 use Rattle.section.specs.declared.ids.MaybePid.{MaybePid}
 use Rattle.arrivals.specs.declared.SetArrival.{SetArrival}
 use Rattle.arrivals.specs.declared.EitArrival.{EitArrival}
-use Rattle.arrivals.specs.Arrivals.{setArrival, eitArrival}
+use Rattle.arrivals.specs.Arrivals.{set_arrival, eit_arrival}
 
-pub unique-set : (input : ℕ) (pid : MaybePid) (bytes : List ℕ) (a b : SetArrival) → a ≡ setArrival input pid bytes → b ≡ setArrival input pid bytes → a ≡ b
-unique-set input pid bytes a b p q = p ∙ sym q
+pub unique_set : (input : ℕ) (pid : MaybePid) (bytes : List ℕ) (a b : SetArrival) → a ≡ set_arrival input pid bytes → b ≡ set_arrival input pid bytes → a ≡ b
+unique_set input pid bytes a b p q = p ∙ sym q
 
-pub unique-eit : (input : ℕ) (pid : MaybePid) (bytes : List ℕ) (a b : EitArrival) → a ≡ eitArrival input pid bytes → b ≡ eitArrival input pid bytes → a ≡ b
-unique-eit input pid bytes a b p q = p ∙ sym q
+pub unique_eit : (input : ℕ) (pid : MaybePid) (bytes : List ℕ) (a b : EitArrival) → a ≡ eit_arrival input pid bytes → b ≡ eit_arrival input pid bytes → a ≡ b
+unique_eit input pid bytes a b p q = p ∙ sym q

@@ -2,8 +2,8 @@
 use Rattle.std.specs.Prelude.{ℕ, ◌+◌, ◌≤◌, ◌<◌, List, Bool, cond, length}
 use Rattle.answers.specs.declared.Refusal.{Refusal}
 use Rattle.answers.specs.declared.Refusal.TheVariants as refusal
-use Rattle.section.specs.Ids.{originMade}
-use Rattle.section.specs.Judged.{collectedOf}
+use Rattle.section.specs.Ids.{origin_made}
+use Rattle.section.specs.Judged.{collected_of}
 use Rattle.section.specs.declared.header.Header.{Header}
 use Rattle.section.specs.declared.header.Collected.{Collected}
 use Rattle.section.specs.declared.header.Collected.TheVariants as collected
@@ -11,7 +11,7 @@ use Rattle.section.specs.declared.ids.OriginMade.{OriginMade}
 use Rattle.section.specs.declared.ids.OriginMade.TheVariants as origin
 use Rattle.section.specs.declared.ids.MaybePid.{MaybePid}
 use Rattle.section.specs.declared.ids.MaybePid.TheVariants as maybe
-use Rattle.eit_section.specs.Eit.{eitOf}
+use Rattle.eit_section.specs.Eit.{eit_of}
 use Rattle.eit_section.specs.declared.Eit.{Eit}
 use Rattle.eit_section.specs.declared.Kind.{Kind}
 use Rattle.eit_section.specs.declared.Kind.TheVariants as kind
@@ -31,22 +31,22 @@ use Rattle.arrivals.specs.declared.EitArrival.TheVariants as eit-arrival
 -- ---- the key
 
 -- a PID of 8192 or more is none (12), then an input of 16 or more (37)
-abbrev pub madeWords : OriginMade → OriginWords
-madeWords (origin.One o) = words.Are (record { input = o.input.0; pid = o.pid.0 })
-madeWords origin.BadPid = words.Refused refusal.BadPid
-madeWords origin.BadInput = words.Refused refusal.BadInput
+abbrev pub made_words : OriginMade → OriginWords
+made_words (origin.One o) = words.Are (record { input = o.input.0; pid = o.pid.0 })
+made_words origin.BadPid = words.Refused refusal.BadPid
+made_words origin.BadInput = words.Refused refusal.BadInput
 
 -- where a section came from, in the words of a key; 41 without a PID
-abbrev pub originWords : ℕ → MaybePid → OriginWords
-originWords input maybe.None = words.Refused refusal.NoPid
-originWords input (maybe.Some v) = madeWords (originMade input v)
+abbrev pub origin_words : ℕ → MaybePid → OriginWords
+origin_words input maybe.None = words.Refused refusal.NoPid
+origin_words input (maybe.Some v) = made_words (origin_made input v)
 
 abbrev pub bit_of : Bool → ℕ
 bit_of b = cond b 1 0
 
 -- the set collector's key: PID, table_id, extension, current_next
-abbrev pub setKey : Origin → Header → Key
-setKey from h = record {
+abbrev pub set_key : Origin → Header → Key
+set_key from h = record {
   from = from;
   table_id = h.table_id;
   extension = h.extension;
@@ -56,8 +56,8 @@ setKey from h = record {
 }
 
 -- "EIT set key adds kind, transport_stream_id, original_network_id"; the kind follows from table_id, and the extension is service_id
-abbrev pub eitKey : Origin → Header → Eit → Key
-eitKey from h f = record {
+abbrev pub eit_key : Origin → Header → Eit → Key
+eit_key from h f = record {
   from = from;
   table_id = h.table_id;
   extension = f.service_id.0;
@@ -72,16 +72,16 @@ abbrev pub entry_of : Key → Header → Entry
 entry_of key h = record { key = key; version = h.version; last = h.last; number = h.number }
 
 -- the kinds by number
-abbrev pub kindNumber : Kind → ℕ
-kindNumber kind.PresentFollowingActual = 0
-kindNumber kind.PresentFollowingOther = 1
-kindNumber kind.ScheduleActual = 2
-kindNumber kind.ScheduleOther = 3
+abbrev pub kind_number : Kind → ℕ
+kind_number kind.PresentFollowingActual = 0
+kind_number kind.PresentFollowingOther = 1
+kind_number kind.ScheduleActual = 2
+kind_number kind.ScheduleOther = 3
 
-abbrev pub arrivalOf : Origin → Header → Eit → Arrival
-arrivalOf from h f = record {
-  entry = entry_of (eitKey from h f) h;
-  kind = kindNumber f.kind;
+abbrev pub arrival_of : Origin → Header → Eit → Arrival
+arrival_of from h f = record {
+  entry = entry_of (eit_key from h f) h;
+  kind = kind_number f.kind;
   segment = f.segment_last_section_number + 1;
   tables = f.last_table_id;
 }
@@ -89,44 +89,44 @@ arrivalOf from h f = record {
 -- ---- the set collector
 
 -- 14 to 17
-abbrev pub setRead : Origin → Collected → SetArrival
-setRead from collected.Malformed = set-arrival.Refused refusal.Malformed
-setRead from collected.ShortForm = set-arrival.Refused refusal.ShortForm
-setRead from collected.BadNumber = set-arrival.Refused refusal.BadNumber
-setRead from collected.BadCrc = set-arrival.Refused refusal.BadCrc
-setRead from (collected.Good h) = set-arrival.Arrived (entry_of (setKey from h) h)
+abbrev pub set_read : Origin → Collected → SetArrival
+set_read from collected.Malformed = set_arrival.Refused refusal.Malformed
+set_read from collected.ShortForm = set_arrival.Refused refusal.ShortForm
+set_read from collected.BadNumber = set_arrival.Refused refusal.BadNumber
+set_read from collected.BadCrc = set_arrival.Refused refusal.BadCrc
+set_read from (collected.Good h) = set_arrival.Arrived (entry_of (set_key from h) h)
 
 -- 12, then 37
-abbrev pub setJudged : OriginWords → List ℕ → SetArrival
-setJudged (words.Refused r) bytes = set-arrival.Refused r
-setJudged (words.Are from) bytes = setRead from (collectedOf bytes)
+abbrev pub set_judged : OriginWords → List ℕ → SetArrival
+set_judged (words.Refused r) bytes = set_arrival.Refused r
+set_judged (words.Are from) bytes = set_read from (collected_of bytes)
 
-unfoldable pub setArrival : (input : ℕ) → MaybePid → List ℕ → SetArrival
-setArrival input pid bytes = setJudged (originWords input pid) bytes
+unfoldable pub set_arrival : (input : ℕ) → MaybePid → List ℕ → SetArrival
+set_arrival input pid bytes = set_judged (origin_words input pid) bytes
 
 -- ---- the EIT collector
 
 -- 18, 19
-abbrev pub eitFields : Origin → Header → Reading → EitArrival
-eitFields from h reading.NotEit = eit-arrival.Refused refusal.NotEit
-eitFields from h reading.Broken = eit-arrival.Refused refusal.Broken
-eitFields from h (reading.Good f) = eit-arrival.Arrived (arrivalOf from h f)
+abbrev pub eit_fields : Origin → Header → Reading → EitArrival
+eit_fields from h reading.NotEit = eit_arrival.Refused refusal.NotEit
+eit_fields from h reading.Broken = eit_arrival.Refused refusal.Broken
+eit_fields from h (reading.Good f) = eit_arrival.Arrived (arrival_of from h f)
 
 -- 14 to 17
-abbrev pub eitRead : Origin → List ℕ → Collected → EitArrival
-eitRead from bytes collected.Malformed = eit-arrival.Refused refusal.Malformed
-eitRead from bytes collected.ShortForm = eit-arrival.Refused refusal.ShortForm
-eitRead from bytes collected.BadNumber = eit-arrival.Refused refusal.BadNumber
-eitRead from bytes collected.BadCrc = eit-arrival.Refused refusal.BadCrc
-eitRead from bytes (collected.Good h) = eitFields from h (eitOf bytes)
+abbrev pub eit_read : Origin → List ℕ → Collected → EitArrival
+eit_read from bytes collected.Malformed = eit_arrival.Refused refusal.Malformed
+eit_read from bytes collected.ShortForm = eit_arrival.Refused refusal.ShortForm
+eit_read from bytes collected.BadNumber = eit_arrival.Refused refusal.BadNumber
+eit_read from bytes collected.BadCrc = eit_arrival.Refused refusal.BadCrc
+eit_read from bytes (collected.Good h) = eit_fields from h (eit_of bytes)
 
 -- 12, then 37
-abbrev pub eitJudged : OriginWords → List ℕ → EitArrival
-eitJudged (words.Refused r) bytes = eit-arrival.Refused r
-eitJudged (words.Are from) bytes = eitRead from bytes (collectedOf bytes)
+abbrev pub eit_judged : OriginWords → List ℕ → EitArrival
+eit_judged (words.Refused r) bytes = eit_arrival.Refused r
+eit_judged (words.Are from) bytes = eit_read from bytes (collected_of bytes)
 
-unfoldable pub eitArrival : (input : ℕ) → MaybePid → List ℕ → EitArrival
-eitArrival input pid bytes = eitJudged (originWords input pid) bytes
+unfoldable pub eit_arrival : (input : ℕ) → MaybePid → List ℕ → EitArrival
+eit_arrival input pid bytes = eit_judged (origin_words input pid) bytes
 
 -- ---- what holds of a section that arrived
 
@@ -141,9 +141,9 @@ pub record Taken (bytes : List ℕ) (e : Entry) : Type 0 where
   pub long : 12 ≤ length bytes
 
 abbrev pub SetTaken : List ℕ → SetArrival → Type 0
-SetTaken bytes (set-arrival.Refused r) = Unit {0}
-SetTaken bytes (set-arrival.Arrived e) = Taken bytes e
+SetTaken bytes (set_arrival.Refused r) = Unit {0}
+SetTaken bytes (set_arrival.Arrived e) = Taken bytes e
 
 abbrev pub EitTaken : List ℕ → EitArrival → Type 0
-EitTaken bytes (eit-arrival.Refused r) = Unit {0}
-EitTaken bytes (eit-arrival.Arrived a) = Taken bytes a.entry
+EitTaken bytes (eit_arrival.Refused r) = Unit {0}
+EitTaken bytes (eit_arrival.Arrived a) = Taken bytes a.entry

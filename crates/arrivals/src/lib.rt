@@ -1,10 +1,10 @@
 // What a section's bytes and where it came from say to a collector (docs/RULES.md, "Collectors" and "Answers"): a refusal (41, 12, 37, 14 to 17, for the EIT collector
 // also 18 and 19), or what arrived. No store is looked at.
 ghost use Rattle.std.specs.Prelude.{◌≡◌};
-ghost use Rattle.section.specs.Judged.{collectedOf};
-ghost use Rattle.eit_section.specs.Eit.{eitOf};
-ghost use Rattle.arrivals.specs.Arrivals.{madeWords, originWords, bit_of, setKey, eitKey, entry_of, kindNumber, arrivalOf};
-ghost use Rattle.arrivals.specs.Arrivals.{setRead, setArrival, eitFields, eitRead, eitArrival, SetTaken, EitTaken};
+ghost use Rattle.section.specs.Judged.{collected_of};
+ghost use Rattle.eit_section.specs.Eit.{eit_of};
+ghost use Rattle.arrivals.specs.Arrivals.{made_words, origin_words, bit_of, set_key, eit_key, entry_of, kind_number, arrival_of};
+ghost use Rattle.arrivals.specs.Arrivals.{set_read, set_arrival, eit_fields, eit_read, eit_arrival, SetTaken, EitTaken};
 
 use answers::Refusal;
 use eit_section::{Eit, Kind, Reading};
@@ -44,7 +44,7 @@ pub enum EitArrival {
 
 // 41, then 12, then 37, then 14 to 17.
 pub fn set_arrival(input: u8, pid: MaybePid, bytes: &[u8]) -> SetArrival
-    ensures value { result ≡ setArrival input pid bytes.now }
+    ensures value { result ≡ set_arrival input pid bytes.now }
     ensures set_taken { SetTaken bytes.now result }
 {
     match origin_words(input, pid) {
@@ -55,7 +55,7 @@ pub fn set_arrival(input: u8, pid: MaybePid, bytes: &[u8]) -> SetArrival
 
 // 41, then 12, then 37, then 14 to 19.
 pub fn eit_arrival(input: u8, pid: MaybePid, bytes: &[u8]) -> EitArrival
-    ensures value { result ≡ eitArrival input pid bytes.now }
+    ensures value { result ≡ eit_arrival input pid bytes.now }
     ensures eit_taken { EitTaken bytes.now result }
 {
     match origin_words(input, pid) {
@@ -66,7 +66,7 @@ pub fn eit_arrival(input: u8, pid: MaybePid, bytes: &[u8]) -> EitArrival
 
 // Where a section came from, in the words of a key: no PID is refused (41), then a PID of 8192 or more (12), then an input of 16 or more (37).
 pub fn origin_words(input: u8, pid: MaybePid) -> OriginWords
-    ensures { result ≡ originWords input pid }
+    ensures { result ≡ origin_words input pid }
 {
     match pid {
         MaybePid::None => OriginWords::Refused(Refusal::NoPid),
@@ -75,7 +75,7 @@ pub fn origin_words(input: u8, pid: MaybePid) -> OriginWords
 }
 
 fn made_words(m: OriginMade) -> OriginWords
-    ensures { result ≡ madeWords m }
+    ensures { result ≡ made_words m }
 {
     match m {
         OriginMade::One(o) => {
@@ -99,7 +99,7 @@ fn bit(b: bool) -> u64
 }
 
 fn set_key(from: Origin, h: Header) -> Key
-    ensures { result ≡ setKey from h }
+    ensures { result ≡ set_key from h }
 {
     Key {
         from,
@@ -112,7 +112,7 @@ fn set_key(from: Origin, h: Header) -> Key
 }
 
 fn eit_key(from: Origin, h: Header, f: Eit) -> Key
-    ensures { result ≡ eitKey from h f }
+    ensures { result ≡ eit_key from h f }
 {
     let service = f.service_id;
     Key {
@@ -137,7 +137,7 @@ fn entry_of(key: Key, h: Header) -> Entry
 }
 
 pub fn kind_number(kind: Kind) -> u64
-    ensures { result ≡ kindNumber kind }
+    ensures { result ≡ kind_number kind }
 {
     match kind {
         Kind::PresentFollowingActual => 0,
@@ -148,7 +148,7 @@ pub fn kind_number(kind: Kind) -> u64
 }
 
 fn arrival_of(from: Origin, h: Header, f: Eit) -> Arrival
-    ensures { result ≡ arrivalOf from h f }
+    ensures { result ≡ arrival_of from h f }
 {
     let entry = entry_of(eit_key(from, h, f), h);
     let kind = f.kind;
@@ -162,7 +162,7 @@ fn arrival_of(from: Origin, h: Header, f: Eit) -> Arrival
 
 // 14 to 17, then what the header says.
 pub fn set_read(from: Origin, bytes: &[u8]) -> SetArrival
-    ensures { result ≡ setRead from (collectedOf bytes.now) }
+    ensures { result ≡ set_read from (collected_of bytes.now) }
 {
     match section::header::collect(bytes) {
         Collected::Malformed => SetArrival::Refused(Refusal::Malformed),
@@ -175,7 +175,7 @@ pub fn set_read(from: Origin, bytes: &[u8]) -> SetArrival
 
 // 14 to 17, then the rest.
 fn eit_read(from: Origin, bytes: &[u8]) -> EitArrival
-    ensures { result ≡ eitRead from bytes.now (collectedOf bytes.now) }
+    ensures { result ≡ eit_read from bytes.now (collected_of bytes.now) }
 {
     match section::header::collect(bytes) {
         Collected::Malformed => EitArrival::Refused(Refusal::Malformed),
@@ -188,7 +188,7 @@ fn eit_read(from: Origin, bytes: &[u8]) -> EitArrival
 
 // 18 and 19, then what the section says.
 fn eit_fields(from: Origin, h: Header, bytes: &[u8]) -> EitArrival
-    ensures { result ≡ eitFields from h (eitOf bytes.now) }
+    ensures { result ≡ eit_fields from h (eit_of bytes.now) }
 {
     match eit_section::read(bytes) {
         Reading::NotEit => EitArrival::Refused(Refusal::NotEit),

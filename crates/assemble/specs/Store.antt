@@ -6,7 +6,7 @@ use Rattle.transport.specs.Rules.{Bytes, gather, lacking, Packet, State, opened}
 use Rattle.packet.specs.declared.Load.{Load}
 use Rattle.payload.specs.declared.Span.{Span}
 use Rattle.payload.specs.declared.Parts.{Parts}
-use Rattle.payload.specs.Payload.{front, bytes_of, ended_of, goingOf, parts_of, part_of, placed, toldFrom}
+use Rattle.payload.specs.Payload.{front, bytes_of, ended_of, going_of, parts_of, part_of, placed, told_from}
 use Rattle.assemble.specs.declared.Words.{Words}
 use Rattle.assemble.specs.declared.Taken.{Taken}
 use Rattle.assemble.specs.declared.Stepped.{Stepped}
@@ -17,31 +17,31 @@ abbrev pub span : ℕ → ℕ → Span
 span first size = record { first = first; size = size }
 
 -- the bytes under way: those that words 2 and 3 name, where they lie in the buffer and are no whole section yet
-unfoldable pub spanIn : Words → Bytes → Span
-spanIn w buffer =
+unfoldable pub span_in : Words → Bytes → Span
+span_in w buffer =
     cond (leb w.size 4097 && leb (w.first + w.size) 4288 && lacking (take w.size (drop w.first buffer))) (span w.first w.size) (span 0 0)
 
-abbrev pub underIn : Words → Bytes → Bytes
-underIn w buffer = bytes_of buffer (spanIn w buffer)
+abbrev pub under_in : Words → Bytes → Bytes
+under_in w buffer = bytes_of buffer (span_in w buffer)
 
 -- fresh: the PID takes its buffer with this packet, and its words say nothing. Word 1 is read modulo 32
-unfoldable pub stateIn : Bool → Words → Bytes → State
-stateIn true w buffer = opened
-stateIn false w buffer = record { last = some (w.counter % 16); again = not (ltb (w.counter % 32) 16); under = underIn w buffer }
+unfoldable pub state_in : Bool → Words → Bytes → State
+state_in true w buffer = opened
+state_in false w buffer = record { last = some (w.counter % 16); again = not (ltb (w.counter % 32) 16); under = under_in w buffer }
 
-abbrev pub isRepeat : Bool → ℕ → ℕ → Bool
-isRepeat fresh last c = not fresh && eqb c (last % 16) && ltb (last % 32) 16
+abbrev pub is_repeat : Bool → ℕ → ℕ → Bool
+is_repeat fresh last c = not fresh && eqb c (last % 16) && ltb (last % 32) 16
 
-abbrev pub followsOn : Bool → ℕ → ℕ → Bool
-followsOn fresh last c = not fresh && eqb c ((last % 16 + 1) % 16)
+abbrev pub follows_on : Bool → ℕ → ℕ → Bool
+follows_on fresh last c = not fresh && eqb c ((last % 16 + 1) % 16)
 
 -- the bytes that a packet with counter c goes on with
-unfoldable pub spanBy : Bool → Words → Bytes → ℕ → Span
-spanBy fresh w buffer c = cond (followsOn fresh w.counter c) (spanIn w buffer) (span 0 0)
+unfoldable pub span_by : Bool → Words → Bytes → ℕ → Span
+span_by fresh w buffer c = cond (follows_on fresh w.counter c) (span_in w buffer) (span 0 0)
 
 -- the packet as the rules have it
-abbrev pub payloadOf : Load → Bytes → Packet
-payloadOf l packet = record { counter = l.counter; start = l.start; payload = drop l.from packet }
+abbrev pub payload_of : Load → Bytes → Packet
+payload_of l packet = record { counter = l.counter; start = l.start; payload = drop l.from packet }
 
 -- ---- what a payload gives
 
@@ -54,42 +54,42 @@ pub record Reading : Type 0 where
   pub under : Bytes
 
 -- without a start none begins, with one the section that was under way goes no further: one of the two that make up `under` is []
-abbrev pub readingIn : Bytes → Bool → Bytes → Parts → Reading
-readingIn u start packet p =
+abbrev pub reading_in : Bytes → Bool → Bytes → Parts → Reading
+reading_in u start packet p =
     record {
       ended = ended_of u (part_of packet p);
       begun = (gather true [] (drop p.begin packet)).sections;
       at = p.begin;
-      under = goingOf start u (part_of packet p) ++ (gather true [] (drop p.begin packet)).under;
+      under = going_of start u (part_of packet p) ++ (gather true [] (drop p.begin packet)).under;
     }
 
 -- the payload of a packet, u being the bytes under way
 unfoldable pub reading : Bytes → Load → Bytes → Reading
-reading u l packet = readingIn u l.start packet (parts_of packet l.start l.from)
+reading u l packet = reading_in u l.start packet (parts_of packet l.start l.from)
 
-abbrev pub unlessNone : Bytes → List Bytes
-unlessNone [] = []
-unlessNone (b ∷ bs) = (b ∷ bs) ∷ []
+abbrev pub unless_none : Bytes → List Bytes
+unless_none [] = []
+unless_none (b ∷ bs) = (b ∷ bs) ∷ []
 
 -- the sections that it finishes, in order
-abbrev pub sectionsOf : Reading → List Bytes
-sectionsOf r = unlessNone r.ended ++ r.begun
+abbrev pub sections_of : Reading → List Bytes
+sections_of r = unless_none r.ended ++ r.begun
 
-abbrev pub endedCount : ℕ → ℕ
-endedCount size = cond (eqb size 0) 0 1
+abbrev pub ended_count : ℕ → ℕ
+ended_count size = cond (eqb size 0) 0 1
 
 abbrev pub taken_of : Reading → Taken
-taken_of r = record { ended = length r.ended; under = length r.under; count = endedCount (length r.ended) + length r.begun }
+taken_of r = record { ended = length r.ended; under = length r.under; count = ended_count (length r.ended) + length r.begun }
 
 -- ---- what is left
 
 -- the section that was under way stands at the front of its buffer
-abbrev pub endedTold : List ℕ → ℕ → ℕ → List ℕ
-endedTold places number size = cond (eqb size 0) places (placed places 0 1 (number * 4288) size)
+abbrev pub ended_told : List ℕ → ℕ → ℕ → List ℕ
+ended_told places number size = cond (eqb size 0) places (placed places 0 1 (number * 4288) size)
 
 -- every other lies in the packet
 abbrev pub places_of : List ℕ → ℕ → Reading → List ℕ
-places_of places number r = toldFrom (endedTold places number (length r.ended)) (endedCount (length r.ended)) r.at r.begun
+places_of places number r = told_from (ended_told places number (length r.ended)) (ended_count (length r.ended)) r.at r.begun
 
 abbrev pub words_of : ℕ → ℕ → Taken → Words
 words_of number c t = record { number = number + 1; counter = c; first = t.ended; size = t.under }
@@ -106,29 +106,29 @@ moved number c t = record { words = words_of number c t; count = t.count }
 
 -- what a packet gives that is no repeat
 abbrev pub read_by : Bool → Words → Bytes → Load → Bytes → Reading
-read_by fresh w buffer l packet = reading (bytes_of buffer (spanBy fresh w buffer l.counter)) l packet
+read_by fresh w buffer l packet = reading (bytes_of buffer (span_by fresh w buffer l.counter)) l packet
 
 -- the PID's words and how many sections were finished
-unfoldable pub steppedOf : Bool → Words → Bytes → ℕ → Load → Bytes → Stepped
-steppedOf fresh w buffer number l packet =
-    cond (isRepeat fresh w.counter l.counter) (repeated w l.counter) (moved number l.counter (taken_of (read_by fresh w buffer l packet)))
+unfoldable pub stepped_of : Bool → Words → Bytes → ℕ → Load → Bytes → Stepped
+stepped_of fresh w buffer number l packet =
+    cond (is_repeat fresh w.counter l.counter) (repeated w l.counter) (moved number l.counter (taken_of (read_by fresh w buffer l packet)))
 
 -- the buffer's front is replaced by the section that was under way and is finished, and the bytes under way then
-unfoldable pub bufferAfter : Bool → Words → Bytes → Load → Bytes → Bytes
-bufferAfter fresh w buffer l packet =
+unfoldable pub buffer_after : Bool → Words → Bytes → Load → Bytes → Bytes
+buffer_after fresh w buffer l packet =
     let r : Reading = read_by fresh w buffer l packet in
-    cond (isRepeat fresh w.counter l.counter) buffer (front (r.ended ++ r.under) buffer)
+    cond (is_repeat fresh w.counter l.counter) buffer (front (r.ended ++ r.under) buffer)
 
-unfoldable pub placesAfter : Bool → Words → Bytes → ℕ → Load → Bytes → List ℕ → List ℕ
-placesAfter fresh w buffer number l packet places = cond (isRepeat fresh w.counter l.counter) places (places_of places number (read_by fresh w buffer l packet))
+unfoldable pub places_after : Bool → Words → Bytes → ℕ → Load → Bytes → List ℕ → List ℕ
+places_after fresh w buffer number l packet places = cond (is_repeat fresh w.counter l.counter) places (places_of places number (read_by fresh w buffer l packet))
 
 -- the sections that a packet finishes
-unfoldable pub sectionsIn : Bool → Words → Bytes → Load → Bytes → List Bytes
-sectionsIn fresh w buffer l packet = cond (isRepeat fresh w.counter l.counter) [] (sectionsOf (read_by fresh w buffer l packet))
+unfoldable pub sections_in : Bool → Words → Bytes → Load → Bytes → List Bytes
+sections_in fresh w buffer l packet = cond (is_repeat fresh w.counter l.counter) [] (sections_of (read_by fresh w buffer l packet))
 
 -- the bytes that place k names, in the packet or in the buffers
-abbrev pub toldAt : Bytes → Bytes → List ℕ → ℕ → Bytes
-toldAt packet buffers places k =
+abbrev pub told_at : Bytes → Bytes → List ℕ → ℕ → Bytes
+told_at packet buffers places k =
     take (get_or places (k * 6 + 5) 0) (drop (get_or places (k * 6 + 4) 0) (cond (eqb (get_or places (k * 6 + 3) 0) 0) packet buffers))
 
 -- ---- what the functions ask

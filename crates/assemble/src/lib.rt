@@ -3,7 +3,7 @@
 // the beginning of the next is put behind it.
 ghost use Rattle.std.specs.Prelude.{◌≡◌, ◌++◌, ◌<◌, length};
 ghost use Rattle.payload.specs.Payload.{front, bytes_of};
-ghost use Rattle.assemble.specs.Store.{isRepeat, followsOn, marked, spanIn, spanBy, endedTold, endedCount, reading, taken_of, places_of, steppedOf, bufferAfter, placesAfter};
+ghost use Rattle.assemble.specs.Store.{is_repeat, follows_on, marked, span_in, span_by, ended_told, ended_count, reading, taken_of, places_of, stepped_of, buffer_after, places_after};
 ghost use Rattle.assemble.specs.Store.{Fits, Reads, HasFirst};
 
 use packet::Load;
@@ -45,13 +45,13 @@ const IN_BUFFERS: u64 = 1;
 
 // The counter is the last one, and that packet was not repeated yet.
 fn repeats(fresh: bool, last: u64, counter: u8) -> bool
-    ensures { result ≡ isRepeat fresh last counter }
+    ensures { result ≡ is_repeat fresh last counter }
 {
     !fresh & (counter as u64 == last % 16) & (last % 32 < 16)
 }
 
 fn follows(fresh: bool, last: u64, counter: u8) -> bool
-    ensures { result ≡ followsOn fresh last counter }
+    ensures { result ≡ follows_on fresh last counter }
 {
     !fresh & (counter as u64 == (last % 16 + 1) % 16)
 }
@@ -74,7 +74,7 @@ fn mark(words: Words, counter: u8) -> Words
 // The bytes under way, as the words name them: none where they name no bytes of the buffer, or a whole section.
 fn span_in(buffer: &[u8], words: Words) -> Span
     requires { length buffer.now ≡ 4288 }
-    ensures { result ≡ spanIn words buffer.now }
+    ensures { result ≡ span_in words buffer.now }
 {
     if words.size > MOST_UNDER {
         return Span { first: 0, size: 0 };
@@ -85,7 +85,7 @@ fn span_in(buffer: &[u8], words: Words) -> Span
     }
     let first = words.first as usize;
     let end = first + size;
-    if payload::whole_in(&buffer[first..end]) != 0 {
+    if payload::whole_in_lem(&buffer[first..end]) != 0 {
         return Span { first: 0, size: 0 };
     }
     Span { first, size }
@@ -94,7 +94,7 @@ fn span_in(buffer: &[u8], words: Words) -> Span
 // The bytes that a packet goes on with: none where packets are missing before it.
 fn span_by(buffer: &[u8], fresh: bool, words: Words, counter: u8) -> Span
     requires { length buffer.now ≡ 4288 }
-    ensures { result ≡ spanBy fresh words buffer.now counter }
+    ensures { result ≡ span_by fresh words buffer.now counter }
 {
     if follows(fresh, words.counter, counter) {
         return span_in(buffer, words);
@@ -107,8 +107,8 @@ fn span_by(buffer: &[u8], fresh: bool, words: Words, counter: u8) -> Span
 // The section that was under way, finished, is told in place 0: it stands at the front of its buffer. How many places are used then.
 fn tell_ended(places: &mut [u64], number: usize, ended: usize) -> usize
     requires { HasFirst places.old number }
-    ensures value { result ≡ endedCount ended }
-    ensures places_after { places.new ≡ endedTold places.old number ended }
+    ensures value { result ≡ ended_count ended }
+    ensures places_after { places.new ≡ ended_told places.old number ended }
 {
     if ended == 0 {
         return 0;
@@ -158,9 +158,9 @@ pub fn take(
     places: &mut [u64],
 ) -> Stepped
     requires { Fits buffer.old number load packet.now places.old }
-    ensures value { result ≡ steppedOf fresh words buffer.old number load packet.now }
-    ensures buffer_after { buffer.new ≡ bufferAfter fresh words buffer.old load packet.now }
-    ensures places_after { places.new ≡ placesAfter fresh words buffer.old number load packet.now places.old }
+    ensures value { result ≡ stepped_of fresh words buffer.old number load packet.now }
+    ensures buffer_after { buffer.new ≡ buffer_after fresh words buffer.old load packet.now }
+    ensures places_after { places.new ≡ places_after fresh words buffer.old number load packet.now places.old }
 {
     if repeats(fresh, words.counter, load.counter) {
         return Stepped {

@@ -49,7 +49,7 @@ fn expect(expected: &[u8], place: u64, buf: &mut [u8; 13]) -> Beside {
 fn same(expected: &[u8], place: u64, buf: &[u8], n: usize) -> Beside
     requires { (n ≤ 13) × (13 ≡ length buf.now) }
 {
-    if cells::same_bytes(&buf[0..n], expected) {
+    if cells::same_bytes_lem(&buf[0..n], expected) {
         return Beside {
             good: true,
             place: std::num::wrapping_add_u64(place, n as u64),

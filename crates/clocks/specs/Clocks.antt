@@ -2,7 +2,7 @@
 -- BCD digits). `cond test a b` is a where the test is true, else b.
 -- Assumes nothing.
 use Rattle.std.specs.Prelude.{ℕ, List, Bool, cond, false, ◌||◌, eqb, ltb, length, get_or}
-use Rattle.times.specs.Times.{timeOf, dayOf, dateOf}
+use Rattle.times.specs.Times.{time_of, day_of, date_of}
 use Rattle.times.specs.declared.Day.{Day}
 use Rattle.times.specs.declared.Time.{Time}
 use Rattle.times.specs.declared.Time.TheVariants as time
@@ -13,8 +13,8 @@ use Rattle.clocks.specs.declared.Clock.{Clock}
 use Rattle.clocks.specs.declared.Clock.TheVariants as clock
 
 -- a TDT or a TOT that has its time
-unfoldable pub isClock : List ℕ → Bool
-isClock s = cond (ltb (length s) 8) false (eqb (get_or s 0 0) 0x70 || eqb (get_or s 0 0) 0x73)
+unfoldable pub is_clock : List ℕ → Bool
+is_clock s = cond (ltb (length s) 8) false (eqb (get_or s 0 0) 0x70 || eqb (get_or s 0 0) 0x73)
 
 -- a digit above 9: no time
 abbrev pub timed : Time → Stamp → Clock
@@ -26,8 +26,8 @@ abbrev pub dated : Date → Clock → Clock
 dated (date.On c) k = k
 dated date.Before k = clock.None
 
-unfoldable pub stampedOf : Day → (hours minutes seconds : ℕ) → Clock
-stampedOf d hours minutes seconds = dated (dateOf d.0) (timed (timeOf hours minutes seconds) (record { day = d.0; hours = hours; minutes = minutes; seconds = seconds }))
+unfoldable pub stamped_of : Day → (hours minutes seconds : ℕ) → Clock
+stamped_of d hours minutes seconds = dated (date_of d.0) (timed (time_of hours minutes seconds) (record { day = d.0; hours = hours; minutes = minutes; seconds = seconds }))
 
-unfoldable pub clockOf : List ℕ → Clock
-clockOf s = cond (isClock s) (stampedOf (dayOf (get_or s 3 0) (get_or s 4 0)) (get_or s 5 0) (get_or s 6 0) (get_or s 7 0)) clock.None
+unfoldable pub clock_of : List ℕ → Clock
+clock_of s = cond (is_clock s) (stamped_of (day_of (get_or s 3 0) (get_or s 4 0)) (get_or s 5 0) (get_or s 6 0) (get_or s 7 0)) clock.None

@@ -1,6 +1,6 @@
 // The clock that a stream carries (EN 300 468, 5.2.5 and 5.2.6): the time of a TDT or TOT section, as a monitor prints it and as a number of seconds.
 ghost use Rattle.std.specs.Prelude.{◌≡◌, true, ◌≤◌, length};
-ghost use Rattle.clocks.specs.Clocks.{isClock, stampedOf, clockOf};
+ghost use Rattle.clocks.specs.Clocks.{is_clock, stamped_of, clock_of};
 
 use times::{Date, Day, Time};
 
@@ -27,7 +27,7 @@ const TOT: u8 = 0x73;
 const BEHIND: usize = 8;
 
 fn is_clock(section: &[u8]) -> bool
-    ensures value { result ≡ isClock section.now }
+    ensures value { result ≡ is_clock section.now }
     ensures in_bounds { result ≡ true → 8 ≤ length section.now }
 {
     if section.len() < BEHIND {
@@ -38,7 +38,7 @@ fn is_clock(section: &[u8]) -> bool
 
 // A day and six digits; none where a digit is above 9 or the day has no date.
 fn stamped(day: Day, hours: u8, minutes: u8, seconds: u8) -> Clock
-    ensures { result ≡ stampedOf day hours minutes seconds }
+    ensures { result ≡ stamped_of day hours minutes seconds }
 {
     match times::date_of(day) {
         Date::Before => Clock::None,
@@ -56,7 +56,7 @@ fn stamped(day: Day, hours: u8, minutes: u8, seconds: u8) -> Clock
 
 // The time that a TDT or TOT tells.
 pub fn read(section: &[u8]) -> Clock
-    ensures { result ≡ clockOf section.now }
+    ensures { result ≡ clock_of section.now }
 {
     if is_clock(section) {
         let day = times::day_of(section[3], section[4]);

@@ -1,8 +1,8 @@
 // A column of tags beside the rows of a collector, for one call: 16 bits of each row's key, one row after another. A search goes through 2 bytes a row, many
 // rows at a time, where the heads have 96 bytes a row; only a row with the key's tag is looked at itself. Nothing of it outlives the call.
 ghost use Rattle.std.specs.Prelude.{◌≡◌, Bool, ◌&&◌, ℕ, ◌+◌, ◌-◌, ◌*◌, ◌<◌, ◌≤◌, min, eqb, leb, ltb, length};
-ghost use Rattle.laws.specs.Lists.{any, firstFrom};
-ghost use Rattle.rows.specs.Rows.{key_at, sameKey, row_of};
+ghost use Rattle.laws.specs.Lists.{any, first_from};
+ghost use Rattle.rows.specs.Rows.{key_at, same_key, row_of};
 ghost use Rattle.columns.specs.Columns.{tag_of, Tells};
 
 use rows::Key;
@@ -73,19 +73,19 @@ fn any_tag(tags: &[u16], t: u16) -> bool
 fn row_is(tags: &[u16], heads: &[u64], key: Key, t: u16, i: usize) -> bool
     requires i_in_bounds { (i < length tags.now) × (i * 12 + 12 ≤ length heads.now) × (t ≡ tag_of key) }
     requires tells { Tells tags.now heads.now (i + 1) }
-    ensures { result ≡ sameKey (key_at heads.now i) key }
+    ensures { result ≡ same_key (key_at heads.now i) key }
 {
     if tags[i] != t {
         return false;
     }
-    rows::same_key(rows::key_at(heads, i), key)
+    rows::same_key_lem(rows::key_at(heads, i), key)
 }
 
 // Of the rows from a to before e the first that has the key, or e.
 fn find_among(tags: &[u16], heads: &[u64], key: Key, t: u16, a: usize, e: usize) -> usize
     requires a_le_e { (a ≤ e) × (e ≤ length tags.now) × (e * 12 ≤ length heads.now) × (t ≡ tag_of key) }
     requires tells { Tells tags.now heads.now e }
-    ensures { result ≡ firstFrom (λ (k : ℕ). sameKey (key_at heads.now k) key) (e - a) a }
+    ensures { result ≡ first_from (λ (k : ℕ). same_key (key_at heads.now k) key) (e - a) a }
 {
     let mut i = a;
     while i < e {
@@ -101,7 +101,7 @@ fn find_among(tags: &[u16], heads: &[u64], key: Key, t: u16, a: usize, e: usize)
 fn find_block(tags: &[u16], heads: &[u64], key: Key, t: u16, a: usize, e: usize) -> usize
     requires a_le_e { (a ≤ e) × (e ≤ length tags.now) × (e * 12 ≤ length heads.now) × (t ≡ tag_of key) }
     requires tells { Tells tags.now heads.now e }
-    ensures { result ≡ firstFrom (λ (k : ℕ). sameKey (key_at heads.now k) key) (e - a) a }
+    ensures { result ≡ first_from (λ (k : ℕ). same_key (key_at heads.now k) key) (e - a) a }
 {
     if any_tag(&tags[a..e], t) {
         return find_among(tags, heads, key, t, a, e);

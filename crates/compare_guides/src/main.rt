@@ -37,10 +37,10 @@ enum File {
 // ---- the arguments
 
 fn mode_of(text: &[u8]) -> Mode {
-    if cells::same_bytes(text, b"set") {
+    if cells::same_bytes_lem(text, b"set") {
         return Mode::Set;
     }
-    if cells::same_bytes(text, b"schedule") {
+    if cells::same_bytes_lem(text, b"schedule") {
         return Mode::Schedule;
     }
     Mode::Neither

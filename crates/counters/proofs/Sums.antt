@@ -6,9 +6,9 @@ use mathlib.Core.List.{List, [], ◌∷◌}
 use mathlib.Core.Bool.{Bool, true, false, cond}
 use native.Mathlib.Omega.{arith}
 use lib.Dec.{eqb}
-use Rattle.laws.specs.Runs.{answers, storeAfter}
-use Rattle.counters.specs.Counters.{zeroes, countedOf, failedOf}
-use Rattle.counters.specs.Rules.{count_of, judgedIn, Sums, Counts}
+use Rattle.laws.specs.Runs.{answers, store_after}
+use Rattle.counters.specs.Counters.{zeroes, counted_of, failed_of}
+use Rattle.counters.specs.Rules.{count_of, judged_in, Sums, Counts}
 use Rattle.counters.specs.declared.Counters.{Counters}
 
 -- what is neither 1 nor 2 nor 3 nor 31 counts nothing
@@ -16,19 +16,19 @@ pub kept : (c : Counters) (a : ℕ) → count_of 1 (a ∷ []) ≡ 0 → count_of
 kept c a x y z w =
     record { emitted = omega arith; suppressed = omega arith; short = omega arith; mismatches = omega arith; failures = omega arith; completed = omega arith }
 
-pub failed : (c : Counters) (short : Bool) → Counts (cond short 31 3) c (failedOf c short)
+pub failed : (c : Counters) (short : Bool) → Counts (cond short 31 3) c (failed_of c short)
 failed c true = record { emitted = omega arith; suppressed = omega arith; short = refl; mismatches = omega arith; failures = refl; completed = refl }
 failed c false = record { emitted = omega arith; suppressed = omega arith; short = omega arith; mismatches = refl; failures = refl; completed = refl }
 
-pub counted : (c : Counters) (emits evicted : Bool) → Counts (cond emits 1 2) c (countedOf c emits evicted)
+pub counted : (c : Counters) (emits evicted : Bool) → Counts (cond emits 1 2) c (counted_of c emits evicted)
 counted c true evicted =
     record { emitted = refl; suppressed = omega arith; short = omega arith; mismatches = omega arith; failures = omega arith; completed = refl }
 counted c false evicted =
     record { emitted = omega arith; suppressed = refl; short = omega arith; mismatches = omega arith; failures = omega arith; completed = refl }
 
 -- one answer before others
-count-cons : (n a : ℕ) (as' : List ℕ) → count_of n (a ∷ as') ≡ count_of n (a ∷ []) + count_of n as'
-count-cons n a as' = go (eqb a n)
+count_cons : (n a : ℕ) (as' : List ℕ) → count_of n (a ∷ as') ≡ count_of n (a ∷ []) + count_of n as'
+count_cons n a as' = go (eqb a n)
   where
     go : (b : Bool) → cond b (suc (count_of n as')) (count_of n as') ≡ cond b 1 0 + count_of n as'
     go true = omega arith
@@ -36,22 +36,22 @@ count-cons n a as' = go (eqb a n)
 
 -- a store S that tells the numbers of its answers and holds counters somewhere
 module _ {S I : Type 0} (tells : S → I → ℕ) (acts : S → I → S) (held : S → Counters) (each : (s : S) (i : I) → Counts (tells s i) (held s) (held (acts s i))) where
-  pub all-sums : (s : S) (is : List I) → Sums (answers tells acts s is) (held s) (held (storeAfter acts s is))
-  unfolding answers storeAfter
-  all-sums s [] =
+  pub all_sums : (s : S) (is : List I) → Sums (answers tells acts s is) (held s) (held (store_after acts s is))
+  unfolding answers store_after
+  all_sums s [] =
       record { emitted = omega arith; suppressed = omega arith; short = omega arith; mismatches = omega arith; failures = omega arith; completed = omega arith }
-  all-sums s (i ∷ is) =
+  all_sums s (i ∷ is) =
       let h = each s i in
-      let t = all-sums (acts s i) is in
+      let t = all_sums (acts s i) is in
       let a : ℕ = tells s i in
       let r : List ℕ = answers tells acts (acts s i) is in
       record {
-        emitted = omega (arith, h.emitted, t.emitted, count-cons 1 a r);
-        suppressed = omega (arith, h.suppressed, t.suppressed, count-cons 2 a r);
-        short = omega (arith, h.short, t.short, count-cons 31 a r);
-        mismatches = omega (arith, h.mismatches, t.mismatches, count-cons 3 a r);
-        failures = omega (arith, h.failures, t.failures, count-cons 31 a r, count-cons 3 a r);
-        completed = omega (arith, h.completed, t.completed, count-cons 1 a r, count-cons 2 a r, count-cons 31 a r, count-cons 3 a r);
+        emitted = omega (arith, h.emitted, t.emitted, count_cons 1 a r);
+        suppressed = omega (arith, h.suppressed, t.suppressed, count_cons 2 a r);
+        short = omega (arith, h.short, t.short, count_cons 31 a r);
+        mismatches = omega (arith, h.mismatches, t.mismatches, count_cons 3 a r);
+        failures = omega (arith, h.failures, t.failures, count_cons 31 a r, count_cons 3 a r);
+        completed = omega (arith, h.completed, t.completed, count_cons 1 a r, count_cons 2 a r, count_cons 31 a r, count_cons 3 a r);
       }
 
 -- from a fresh record: both sums

@@ -19,14 +19,14 @@ counts completed emitted suppressed failures short mismatches evictions =
 abbrev pub zeroes : Counters
 zeroes = counts 0 0 0 0 0 0 0
 
-abbrev pub isFull : ℕ → Bool
-isFull n = eqb n 18446744073709551615
+abbrev pub is_full : ℕ → Bool
+is_full n = eqb n 18446744073709551615
 
 -- 11: a counter is at 2^64 - 1
-abbrev pub anyFull : Counters → Bool
-anyFull c =
-    isFull c.completed || isFull c.emitted || isFull c.suppressed || isFull c.crc_failures || isFull c.short_sections
-    || isFull c.crc_mismatches || isFull c.evictions
+abbrev pub any_full : Counters → Bool
+any_full c =
+    is_full c.completed || is_full c.emitted || is_full c.suppressed || is_full c.crc_failures || is_full c.short_sections
+    || is_full c.crc_mismatches || is_full c.evictions
 
 -- one more of each fits
 pub record CanCount (c : Counters) : Type 0 where
@@ -39,17 +39,17 @@ pub record CanCount (c : Counters) : Type 0 where
   pub evictions : c.evictions + 1 < 2 ^ 64
 
 -- one more where the test is true
-abbrev pub plusOf : ℕ → Bool → ℕ
-plusOf n more = cond more (n + 1) n
+abbrev pub plus_of : ℕ → Bool → ℕ
+plus_of n more = cond more (n + 1) n
 
 -- after a section that passed its CRC
-abbrev pub countedOf : Counters → Bool → Bool → Counters
-countedOf c emitted evicted =
-    counts (plusOf c.completed true) (plusOf c.emitted emitted) (plusOf c.suppressed (not emitted)) c.crc_failures
-    c.short_sections c.crc_mismatches (plusOf c.evictions evicted)
+abbrev pub counted_of : Counters → Bool → Bool → Counters
+counted_of c emitted evicted =
+    counts (plus_of c.completed true) (plus_of c.emitted emitted) (plus_of c.suppressed (not emitted)) c.crc_failures
+    c.short_sections c.crc_mismatches (plus_of c.evictions evicted)
 
 -- after a section that did not: completed, CRC failures and, of these, too short or mismatches; and nothing else
-abbrev pub failedOf : Counters → (short : Bool) → Counters
-failedOf c short =
-    counts (plusOf c.completed true) c.emitted c.suppressed (plusOf c.crc_failures true)
-    (plusOf c.short_sections short) (plusOf c.crc_mismatches (not short)) c.evictions
+abbrev pub failed_of : Counters → (short : Bool) → Counters
+failed_of c short =
+    counts (plus_of c.completed true) c.emitted c.suppressed (plus_of c.crc_failures true)
+    (plus_of c.short_sections short) (plus_of c.crc_mismatches (not short)) c.evictions

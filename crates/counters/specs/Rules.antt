@@ -9,12 +9,12 @@ count_of n [] = 0
 count_of n (a ∷ as') = cond (eqb a n) (suc (count_of n as')) (count_of n as')
 
 -- how many sections failed their CRC
-abbrev pub failuresIn : List ℕ → ℕ
-failuresIn as' = count_of 31 as' + count_of 3 as'
+abbrev pub failures_in : List ℕ → ℕ
+failures_in as' = count_of 31 as' + count_of 3 as'
 
 -- how many sections were judged
-abbrev pub judgedIn : List ℕ → ℕ
-judgedIn as' = count_of 1 as' + count_of 2 as' + failuresIn as'
+abbrev pub judged_in : List ℕ → ℕ
+judged_in as' = count_of 1 as' + count_of 2 as' + failures_in as'
 
 -- from the record c, calls with these answers lead to the record d
 pub record Sums (as' : List ℕ) (c d : Counters) : Type 0 where
@@ -22,8 +22,8 @@ pub record Sums (as' : List ℕ) (c d : Counters) : Type 0 where
   pub suppressed : d.suppressed ≡ c.suppressed + count_of 2 as'
   pub short : d.short_sections ≡ c.short_sections + count_of 31 as'
   pub mismatches : d.crc_mismatches ≡ c.crc_mismatches + count_of 3 as'
-  pub failures : d.crc_failures ≡ c.crc_failures + failuresIn as'
-  pub completed : d.completed ≡ c.completed + judgedIn as'
+  pub failures : d.crc_failures ≡ c.crc_failures + failures_in as'
+  pub completed : d.completed ≡ c.completed + judged_in as'
 
 -- one call with this answer
 abbrev pub Counts : ℕ → Counters → Counters → Type 0

@@ -1,7 +1,7 @@
 // The gate's counters (docs/RULES.md, "Gate"): one record that each offer which is judged counts up. Its fields have no end of their own: a call
 // refuses a section while one of them is at its largest number.
 ghost use Rattle.std.specs.Prelude.{◌≡◌, Bool, false, ◌+◌, ◌<◌, ◌^◌};
-ghost use Rattle.counters.specs.Counters.{zeroes, anyFull, CanCount, plusOf, countedOf, failedOf};
+ghost use Rattle.counters.specs.Counters.{zeroes, any_full, CanCount, plus_of, counted_of, failed_of};
 
 const LAST: u64 = 18446744073709551615;
 
@@ -33,7 +33,7 @@ pub fn fresh() -> Counters
 
 // 11: whether one of them is at its end. Where none is, one more of each fits.
 pub fn any_full(c: Counters) -> bool
-    ensures value { result ≡ anyFull c }
+    ensures value { result ≡ any_full c }
     ensures can_count { result ≡ false → CanCount c }
 {
     (c.completed == LAST)
@@ -48,7 +48,7 @@ pub fn any_full(c: Counters) -> bool
 // One more section that passed its CRC, emitted or suppressed, and one key that left where `evicted`.
 pub fn counted(c: Counters, emitted: bool, evicted: bool) -> Counters
     requires { CanCount c }
-    ensures { result ≡ countedOf c emitted evicted }
+    ensures { result ≡ counted_of c emitted evicted }
 {
     Counters {
         completed: plus(c.completed, true),
@@ -64,7 +64,7 @@ pub fn counted(c: Counters, emitted: bool, evicted: bool) -> Counters
 // One more section that did not, too short or with another CRC, and nothing else.
 pub fn failed(c: Counters, short: bool) -> Counters
     requires { CanCount c }
-    ensures { result ≡ failedOf c short }
+    ensures { result ≡ failed_of c short }
 {
     Counters {
         completed: plus(c.completed, true),
@@ -80,7 +80,7 @@ pub fn failed(c: Counters, short: bool) -> Counters
 // One more where the test is true.
 fn plus(n: u64, more: bool) -> u64
     requires { n + 1 < 2 ^ 64 }
-    ensures { result ≡ plusOf n more }
+    ensures { result ≡ plus_of n more }
 {
     if more { n + 1 } else { n }
 }

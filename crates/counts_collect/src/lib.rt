@@ -1,8 +1,8 @@
 // The collectors of `counts`: a section that the gate answered 1 or 2 goes to one of them, and what it answers is counted.
 ghost use Rattle.std.specs.Prelude.{◌≡◌};
-ghost use Rattle.store.specs.Store as sets-memory;
-ghost use Rattle.eit_state.specs.State as eit-memory;
-ghost use Rattle.counts_collect.specs.Collected.{setSide, eitSide, held, setCounted, eitCounted, isEit, collected};
+ghost use Rattle.store.specs.Store as sets_memory;
+ghost use Rattle.eit_state.specs.State as eit_memory;
+ghost use Rattle.counts_collect.specs.Collected.{set_side, eit_side, held, set_counted, eit_counted, is_eit, collected};
 
 use eit_state::Eit;
 use section::ids::MaybePid;
@@ -17,7 +17,7 @@ pub struct Collectors {
 
 // Whether a section has the table_id of an EIT.
 fn is_eit(section: &[u8]) -> bool
-    ensures { result ≡ isEit section.now }
+    ensures { result ≡ is_eit section.now }
 {
     if section.len() == 0 {
         return false;
@@ -35,7 +35,7 @@ fn push_set(
     pid: u16,
     section: &[u8],
 ) -> Sets
-    ensures { setSide (sets-memory.store result heads.new slots.new cells.new) tally.new ≡ setCounted (setSide (sets-memory.store sets heads.old slots.old cells.old) tally.old) pid section.now }
+    ensures { set_side (sets-memory.store result heads.new slots.new cells.new) tally.new ≡ set_counted (set_side (sets-memory.store sets heads.old slots.old cells.old) tally.old) pid section.now }
 {
     let pushed = sets::push(sets, heads, slots, cells, 0, MaybePid::Some(pid), section);
     let answer = pushed.answer;
@@ -55,7 +55,7 @@ fn push_eit(
     pid: u16,
     section: &[u8],
 ) -> Eit
-    ensures { eitSide (eit-memory.store result heads.new slots.new cells.new schedule_heads.new units.new) tally.new ≡ eitCounted (eitSide (eit-memory.store eit heads.old slots.old cells.old schedule_heads.old units.old) tally.old) pid section.now }
+    ensures { eit_side (eit-memory.store result heads.new slots.new cells.new schedule_heads.new units.new) tally.new ≡ eit_counted (eit_side (eit-memory.store eit heads.old slots.old cells.old schedule_heads.old units.old) tally.old) pid section.now }
 {
     let pushed = eit::push(
         eit,

@@ -1,7 +1,7 @@
 // The lines of `counts`: the names of the columns, a time or `end` with the numbers behind it, tab-separated.
 ghost use Rattle.std.specs.Prelude.{◌≡◌, ◌+◌, ◌*◌, ◌≤◌, length, ◌∷◌, ◌++◌};
 ghost use Rattle.text.specs.Text.{decimal, Wrote};
-ghost use Rattle.counts_lines.specs.Lines.{numbersOf, dateText, clockText, stampText, tabbed, rest_of};
+ghost use Rattle.counts_lines.specs.Lines.{numbers_of, date_text, clock_text, stamp_text, tabbed, rest_of};
 
 use clocks::Stamp;
 use counters::Counters;
@@ -21,7 +21,7 @@ pub fn numbers(
     sets: Sets,
     eit: Eit,
 ) -> [u64; 21]
-    ensures { result ≡ numbersOf streams counters tally.now sets eit }
+    ensures { result ≡ numbers_of streams counters tally.now sets eit }
 {
     let eit_sets = eit.sets;
     [
@@ -50,7 +50,7 @@ pub fn numbers(
 }
 
 fn date_text(c: Calendar) -> [u8; 11]
-    ensures { result ≡ dateText c }
+    ensures { result ≡ date_text c }
 {
     [
         b'0' + (c.year / 1000 % 10) as u8,
@@ -68,7 +68,7 @@ fn date_text(c: Calendar) -> [u8; 11]
 }
 
 fn clock_text(hours: u8, minutes: u8, seconds: u8) -> [u8; 8]
-    ensures { result ≡ clockText hours minutes seconds }
+    ensures { result ≡ clock_text hours minutes seconds }
 {
     [
         b'0' + hours / 16,
@@ -84,7 +84,7 @@ fn clock_text(hours: u8, minutes: u8, seconds: u8) -> [u8; 8]
 
 // A date and a time at the start of a line.
 fn put_dated(line: &mut [u8; 512], c: Calendar, hours: u8, minutes: u8, seconds: u8) -> usize
-    ensures wrote { Wrote line.old 0 (dateText c ++ clockText hours minutes seconds) line.new result }
+    ensures wrote { Wrote line.old 0 (date_text c ++ clock_text hours minutes seconds) line.new result }
     ensures upper_bound { result ≤ 19 }
 {
     let date = date_text(c);
@@ -95,7 +95,7 @@ fn put_dated(line: &mut [u8; 512], c: Calendar, hours: u8, minutes: u8, seconds:
 
 // A time alone.
 fn put_undated(line: &mut [u8; 512], hours: u8, minutes: u8, seconds: u8) -> usize
-    ensures wrote { Wrote line.old 0 (clockText hours minutes seconds) line.new result }
+    ensures wrote { Wrote line.old 0 (clock_text hours minutes seconds) line.new result }
     ensures upper_bound { result ≤ 19 }
 {
     let clock = clock_text(hours, minutes, seconds);
@@ -104,7 +104,7 @@ fn put_undated(line: &mut [u8; 512], hours: u8, minutes: u8, seconds: u8) -> usi
 
 // What a clock tells, at the start of a line. A day before 1900-03-01 has no date, and no clock tells one.
 pub fn put_stamp(line: &mut [u8; 512], stamp: Stamp) -> usize
-    ensures wrote { Wrote line.old 0 (stampText stamp) line.new result }
+    ensures wrote { Wrote line.old 0 (stamp_text stamp) line.new result }
     ensures upper_bound { result ≤ 19 }
 {
     match times::date_of(Day(stamp.day)) {

@@ -2,19 +2,19 @@
 -- true, else b.
 -- Assumes nothing.
 use Rattle.std.specs.Prelude.{ℕ, zero, suc, ◌+◌, ◌*◌, List, Bool, cond, ◌||◌, eqb, get_or}
-use Rattle.demux_places.specs.Places.{placeAt, bytes_at}
+use Rattle.demux_places.specs.Places.{place_at, bytes_at}
 use Rattle.counts_collect.specs.Collected.{Held, collected}
 
 -- emitted or suppressed
-abbrev pub isSound : (answer : ℕ) → Bool
-isSound answer = eqb answer 1 || eqb answer 2
+abbrev pub is_sound : (answer : ℕ) → Bool
+is_sound answer = eqb answer 1 || eqb answer 2
 
 module _ (places packet buffers : List ℕ) (pid : ℕ) where
   -- that of place k
-  unfoldable pub collectedAt : ℕ → Held → Held
-  collectedAt k h = cond (isSound (get_or places (k * 6) 0)) (collected h pid (bytes_at packet buffers (placeAt places k))) h
+  unfoldable pub collected_at : ℕ → Held → Held
+  collected_at k h = cond (is_sound (get_or places (k * 6) 0)) (collected h pid (bytes_at packet buffers (place_at places k))) h
 
   -- those of n places from place k on
-  unfoldable pub collectedFrom : (n k : ℕ) → Held → Held
-  collectedFrom zero k h = h
-  collectedFrom (suc n) k h = collectedFrom n (k + 1) (collectedAt k h)
+  unfoldable pub collected_from : (n k : ℕ) → Held → Held
+  collected_from zero k h = h
+  collected_from (suc n) k h = collected_from n (k + 1) (collected_at k h)

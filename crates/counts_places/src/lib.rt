@@ -1,15 +1,15 @@
 // The sections that a packet finished, one after another through the collectors of `counts`.
 ghost use Rattle.std.specs.Prelude.{◌≡◌, ◌+◌, ◌*◌, ◌≤◌, ◌<◌, length};
-ghost use Rattle.store.specs.Store as sets-memory;
-ghost use Rattle.eit_state.specs.State as eit-memory;
+ghost use Rattle.store.specs.Store as sets_memory;
+ghost use Rattle.eit_state.specs.State as eit_memory;
 ghost use Rattle.counts_collect.specs.Collected.{held};
-ghost use Rattle.counts_places.specs.Collected.{isSound, collectedAt, collectedFrom};
+ghost use Rattle.counts_places.specs.Collected.{is_sound, collected_at, collected_from};
 
 use counts_collect::Collectors;
 
 // Emitted or suppressed.
 fn is_sound(answer: u64) -> bool
-    ensures { result ≡ isSound answer }
+    ensures { result ≡ is_sound answer }
 {
     (answer == 1) | (answer == 2)
 }
@@ -33,10 +33,10 @@ fn collect_at<'a>(
     buffers: &'a [u8],
 ) -> Collectors
     requires { k * 6 + 5 < length places.now }
-    ensures { held (sets-memory.store result.sets heads.new slots.new cells.new) (eit-memory.store result.eit eit_heads.new eit_slots.new eit_cells.new schedule_heads.new units.new) tally.new ≡ collectedAt places.now packet.now buffers.now pid k (held (sets-memory.store c.sets heads.old slots.old cells.old) (eit-memory.store c.eit eit_heads.old eit_slots.old eit_cells.old schedule_heads.old units.old) tally.old) }
+    ensures { held (sets-memory.store result.sets heads.new slots.new cells.new) (eit-memory.store result.eit eit_heads.new eit_slots.new eit_cells.new schedule_heads.new units.new) tally.new ≡ collected_at places.now packet.now buffers.now pid k (held (sets-memory.store c.sets heads.old slots.old cells.old) (eit-memory.store c.eit eit_heads.old eit_slots.old eit_cells.old schedule_heads.old units.old) tally.old) }
 {
     if is_sound(places[k * 6]) {
-        let place = demux_places::place_at(places, k);
+        let place = demux_places::place_at_lem(places, k);
         return counts_collect::collect(
             c,
             heads,
@@ -74,7 +74,7 @@ pub fn collect_all<'a>(
     buffers: &'a [u8],
 ) -> Collectors
     requires { count * 6 ≤ length places.now }
-    ensures { held (sets-memory.store result.sets heads.new slots.new cells.new) (eit-memory.store result.eit eit_heads.new eit_slots.new eit_cells.new schedule_heads.new units.new) tally.new ≡ collectedFrom places.now packet.now buffers.now pid count 0 (held (sets-memory.store c.sets heads.old slots.old cells.old) (eit-memory.store c.eit eit_heads.old eit_slots.old eit_cells.old schedule_heads.old units.old) tally.old) }
+    ensures { held (sets-memory.store result.sets heads.new slots.new cells.new) (eit-memory.store result.eit eit_heads.new eit_slots.new eit_cells.new schedule_heads.new units.new) tally.new ≡ collected_from places.now packet.now buffers.now pid count 0 (held (sets-memory.store c.sets heads.old slots.old cells.old) (eit-memory.store c.eit eit_heads.old eit_slots.old eit_cells.old schedule_heads.old units.old) tally.old) }
 {
     let mut held = c;
     let mut k = 0;

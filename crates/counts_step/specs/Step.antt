@@ -3,7 +3,7 @@
 use Rattle.std.specs.Prelude.{List, cond, ℕ, eqb}
 use Rattle.demux_state.specs.State.{said_of, number_of}
 use Rattle.demux_state.specs.declared.Answer.{Answer}
-use Rattle.tallies.specs.Columns.{countedIn}
+use Rattle.tallies.specs.Columns.{counted_in}
 
-unfoldable pub noBufferCounted : List ℕ → Answer → List ℕ
-noBufferCounted tally answer = cond (eqb (number_of (said_of answer)) 43) (countedIn tally 0) tally
+unfoldable pub no_buffer_counted : List ℕ → Answer → List ℕ
+no_buffer_counted tally answer = cond (eqb (number_of (said_of answer)) 43) (counted_in tally 0) tally

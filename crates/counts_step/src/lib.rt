@@ -2,7 +2,7 @@
 // written where the stream tells a time; or what is no packet is passed over, or more is read.
 ghost use Rattle.std.specs.Prelude.{◌≡◌, ◌+◌, ◌*◌, ◌-◌, ◌≤◌, length};
 ghost use Rattle.stream_cursor.specs.Cursor.{Inside};
-ghost use Rattle.counts_step.specs.Step.{noBufferCounted};
+ghost use Rattle.counts_step.specs.Step.{no_buffer_counted};
 
 use alignment::Next;
 use counters::Counters;
@@ -51,7 +51,7 @@ const NO_BUFFER: u8 = 43;
 
 // A packet that found no section buffer is counted.
 fn count_no_buffer(tally: &mut [u64; 10], answer: Answer)
-    ensures { tally.new ≡ noBufferCounted tally.old answer }
+    ensures { tally.new ≡ no_buffer_counted tally.old answer }
 {
     if answer.number() == NO_BUFFER {
         tallies::count(tally, tallies::NO_BUFFER);

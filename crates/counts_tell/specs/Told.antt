@@ -2,19 +2,19 @@
 -- `cond test a b` is a where the test is true, else b.
 -- Assumes nothing.
 use Rattle.std.specs.Prelude.{ℕ, List, cond, true}
-use Rattle.clocks.specs.Clocks.{clockOf}
+use Rattle.clocks.specs.Clocks.{clock_of}
 use Rattle.clocks.specs.declared.Stamp.{Stamp}
 use Rattle.clocks.specs.declared.Clock.{Clock}
 use Rattle.clocks.specs.declared.Clock.TheVariants as clock
-use Rattle.counts_times.specs.Due.{momentOf, isDue, last_at}
+use Rattle.counts_times.specs.Due.{moment_of, is_due, last_at}
 use Rattle.counts_times.specs.declared.Last.{Last}
 
-unfoldable pub lastTold : Last → (interval : ℕ) → Stamp → Last
-lastTold last interval stamp = cond (isDue last (momentOf stamp) interval) (last_at (momentOf stamp)) last
+unfoldable pub last_told : Last → (interval : ℕ) → Stamp → Last
+last_told last interval stamp = cond (is_due last (moment_of stamp) interval) (last_at (moment_of stamp)) last
 
-abbrev pub lastAfter : Last → (interval : ℕ) → Clock → Last
-lastAfter last interval clock.None = last
-lastAfter last interval (clock.At stamp) = lastTold last interval stamp
+abbrev pub last_after : Last → (interval : ℕ) → Clock → Last
+last_after last interval clock.None = last
+last_after last interval (clock.At stamp) = last_told last interval stamp
 
-unfoldable pub lastRead : Last → (interval : ℕ) → (section : List ℕ) → Last
-lastRead last interval section = lastAfter last interval (clockOf section)
+unfoldable pub last_read : Last → (interval : ℕ) → (section : List ℕ) → Last
+last_read last interval section = last_after last interval (clock_of section)

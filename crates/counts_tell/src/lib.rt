@@ -1,6 +1,6 @@
 // What `counts` writes: the names of the columns, a line when the stream tells a time at which one is due, and `end`. Each line is written out at once.
 ghost use Rattle.std.specs.Prelude.{◌≡◌, ◌+◌, ◌*◌, ◌≤◌, ◌<◌, length};
-ghost use Rattle.counts_tell.specs.Told.{lastTold, lastRead};
+ghost use Rattle.counts_tell.specs.Told.{last_told, last_read};
 
 use clocks::{Clock, Stamp};
 use counts_times::Last;
@@ -39,7 +39,7 @@ pub fn say_end(numbers: &[u64; 21]) {
 
 // A time that the stream tells: a line where one is due. What is left is the time of the last line.
 fn tell_time(last: Last, interval: u64, numbers: &[u64; 21], stamp: Stamp) -> Last
-    ensures { result ≡ lastTold last interval stamp }
+    ensures { result ≡ last_told last interval stamp }
 {
     let second = counts_times::moment(stamp);
     if counts_times::is_due(last, second, interval) {
@@ -51,7 +51,7 @@ fn tell_time(last: Last, interval: u64, numbers: &[u64; 21], stamp: Stamp) -> La
 
 // A section that was emitted.
 fn tell_section(last: Last, interval: u64, numbers: &[u64; 21], section: &[u8]) -> Last
-    ensures { result ≡ lastRead last interval section.now }
+    ensures { result ≡ last_read last interval section.now }
 {
     match clocks::read(section) {
         Clock::None => last,
@@ -72,7 +72,7 @@ fn tell_at<'a>(
     requires { k * 6 + 5 < length places.now }
 {
     if places[k * 6] == EMITTED {
-        let place = demux_places::place_at(places, k);
+        let place = demux_places::place_at_lem(places, k);
         return tell_section(
             last,
             interval,

@@ -5,32 +5,32 @@ use mathlib.Core.Bool.{Bool, true, false, cond, not}
 use Prim.Native.Nat.{ℕ, ◌-◌, ◌≤◌, ◌<◌}
 use borrow.Author.Tests.{lt-ltb, le-ltb}
 use lib.Dec.{leb, ltb}
-use Rattle.times.specs.Times.{timeOf}
+use Rattle.times.specs.Times.{time_of}
 use Rattle.times.specs.declared.Seconds.{Seconds}
 use Rattle.times.specs.declared.Time.{Time}
 use Rattle.times.specs.declared.Time.TheVariants as time
 use Rattle.counts_times.specs.declared.Last.{Last}
-use Rattle.counts_times.specs.Due.{secondsAt, momentOf, isDue}
+use Rattle.counts_times.specs.Due.{seconds_at, moment_of, is_due}
 
-module _ (h m s : ℕ) (t : Time) (e : t ≡ timeOf h m s) where
-  pub is-time : (n : Seconds) → t ≡ time.At n → n.0 ≡ secondsAt h m s
-  is-time n q = rw (← e, q)
+module _ (h m s : ℕ) (t : Time) (e : t ≡ time_of h m s) where
+  pub is_time : (n : Seconds) → t ≡ time.At n → n.0 ≡ seconds_at h m s
+  is_time n q = rw (← e, q)
 
-  pub no-time : t ≡ time.Undefined → 0 ≡ secondsAt h m s
-  no-time q = rw (← e, q)
+  pub no_time : t ≡ time.Undefined → 0 ≡ seconds_at h m s
+  no_time q = rw (← e, q)
 
 module _ (l : Last) (n k : ℕ) where
-  pub first : l.any ≡ false → true ≡ isDue l n k
+  pub first : l.any ≡ false → true ≡ is_due l n k
   first e = rw e
 
   module _ (e : l.any ≡ true) where
-    pub backwards : n < l.at → true ≡ isDue l n k
+    pub backwards : n < l.at → true ≡ is_due l n k
     backwards h = rw (e, lt-ltb n l.at h)
 
-    pub forwards : l.at ≤ n → leb k (n - l.at) ≡ isDue l n k
+    pub forwards : l.at ≤ n → leb k (n - l.at) ≡ is_due l n k
     forwards h = rw (e, le-ltb n l.at h)
 
 -- 1993-10-13, 12:45:00 (EN 300 468, 5.2.5, the example of UTC_time)
-pub example : momentOf (record { day = 49273; hours = 0x12; minutes = 0x45; seconds = 0 }) ≡ 4257233100
-unfolding timeOf
+pub example : moment_of (record { day = 49273; hours = 0x12; minutes = 0x45; seconds = 0 }) ≡ 4257233100
+unfolding time_of
 example = refl

@@ -3,28 +3,28 @@
 -- the test is true, else b.
 -- Assumes nothing.
 use Rattle.std.specs.Prelude.{ℕ, ◌+◌, ◌*◌, ◌-◌, Bool, cond, true, false, leb, ltb}
-use Rattle.times.specs.Times.{timeOf}
+use Rattle.times.specs.Times.{time_of}
 use Rattle.times.specs.declared.Seconds.{Seconds}
 use Rattle.times.specs.declared.Time.{Time}
 use Rattle.times.specs.declared.Time.TheVariants as time
 use Rattle.clocks.specs.declared.Stamp.{Stamp}
 use Rattle.counts_times.specs.declared.Last.{Last}
 
-abbrev pub inSeconds : Time → ℕ
-inSeconds (time.At s) = s.0
-inSeconds time.Undefined = 0
+abbrev pub in_seconds : Time → ℕ
+in_seconds (time.At s) = s.0
+in_seconds time.Undefined = 0
 
-abbrev pub secondsAt : (hours minutes seconds : ℕ) → ℕ
-secondsAt hours minutes seconds = inSeconds (timeOf hours minutes seconds)
+abbrev pub seconds_at : (hours minutes seconds : ℕ) → ℕ
+seconds_at hours minutes seconds = in_seconds (time_of hours minutes seconds)
 
-abbrev pub momentOf : Stamp → ℕ
-momentOf s = s.day * 86400 + secondsAt s.hours s.minutes s.seconds
+abbrev pub moment_of : Stamp → ℕ
+moment_of s = s.day * 86400 + seconds_at s.hours s.minutes s.seconds
 
-abbrev pub noLine : Last
-noLine = record { any = false; at = 0 }
+abbrev pub no_line : Last
+no_line = record { any = false; at = 0 }
 
 abbrev pub last_at : (second : ℕ) → Last
 last_at second = record { any = true; at = second }
 
-abbrev pub isDue : Last → (second interval : ℕ) → Bool
-isDue last second interval = cond last.any (cond (ltb second last.at) true (leb interval (second - last.at))) true
+abbrev pub is_due : Last → (second interval : ℕ) → Bool
+is_due last second interval = cond last.any (cond (ltb second last.at) true (leb interval (second - last.at))) true

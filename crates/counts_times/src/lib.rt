@@ -1,7 +1,7 @@
 // When `counts` writes a line: at the first time that the stream tells, at one that lies an interval or more behind that of the last line, and at one that goes
 // backwards.
 ghost use Rattle.std.specs.Prelude.{◌≡◌};
-ghost use Rattle.counts_times.specs.Due.{secondsAt, momentOf, noLine, last_at, isDue};
+ghost use Rattle.counts_times.specs.Due.{seconds_at, moment_of, no_line, last_at, is_due};
 
 use clocks::Stamp;
 use times::{Seconds, Time};
@@ -15,7 +15,7 @@ pub struct Last {
 
 // No line yet.
 pub fn none() -> Last
-    ensures { result ≡ noLine }
+    ensures { result ≡ no_line }
 {
     Last { any: false, at: 0 }
 }
@@ -31,7 +31,7 @@ pub fn at(second: u64) -> Last
 
 // The seconds of a day that six digits tell; 0 where one is above 9.
 fn seconds(hours: u8, minutes: u8, seconds: u8) -> u32
-    ensures { result ≡ secondsAt hours minutes seconds }
+    ensures { result ≡ seconds_at hours minutes seconds }
 {
     match times::time_of(hours, minutes, seconds) {
         Time::At(s) => s.0,
@@ -41,14 +41,14 @@ fn seconds(hours: u8, minutes: u8, seconds: u8) -> u32
 
 // The second that a time is.
 pub fn moment(stamp: Stamp) -> u64
-    ensures { result ≡ momentOf stamp }
+    ensures { result ≡ moment_of stamp }
 {
     stamp.day as u64 * 86400 + seconds(stamp.hours, stamp.minutes, stamp.seconds) as u64
 }
 
 // Whether a line is due at a second.
 pub fn is_due(last: Last, second: u64, interval: u64) -> bool
-    ensures { result ≡ isDue last second interval }
+    ensures { result ≡ is_due last second interval }
 {
     if last.any {
         if second < last.at {

@@ -44,12 +44,12 @@ abbrev gives : ℕ → Body
 gives v = assign (place 2 []) (rv_opd (constant v))
 
 -- the m arms from y on
-abbrev pub armsFrom : (ℕ → ℕ) → ℕ → ℕ → Arms
-armsFrom f zero y = no_default
-armsFrom f (suc m) y = arm (y ∷ []) (gives (f y)) (armsFrom f m (suc y))
+abbrev pub arms_from : (ℕ → ℕ) → ℕ → ℕ → Arms
+arms_from f zero y = no_default
+arms_from f (suc m) y = arm (y ∷ []) (gives (f y)) (arms_from f m (suc y))
 
 abbrev the_match : (ℕ → ℕ) → Body
-the_match f = switch (copy (place 1 [])) (armsFrom f 256 0)
+the_match f = switch (copy (place 1 [])) (arms_from f 256 0)
 
 abbrev the_rest : Body
 the_rest = seq (assign (place 0 []) (rv_opd (copy (place 2 [])))) return
@@ -89,7 +89,7 @@ module _ {M : Type 1} (𝓤 : Ura M) (H : Heap 𝓤) where
   branched false p q = q tt
 
   module _ (C : Calls 𝓤 H) (Λ : Loops 𝓤 H) (E : Env 𝓤 H) (f : ℕ → ℕ) (Q : Out → SProp 𝓤) where
-    picks : (m y x : ℕ) → y ≤ x → x < y + m → WpArms 𝓤 H C Λ E (armsFrom f m y) x Q ≡ Wp 𝓤 H C Λ E (gives (f x)) Q
+    picks : (m y x : ℕ) → y ≤ x → x < y + m → WpArms 𝓤 H C Λ E (arms_from f m y) x Q ≡ Wp 𝓤 H C Λ E (gives (f x)) Q
     picks zero y x low high = absurd (omega arith)
     picks (suc m) y x low high =
         branched (has_key (y ∷ []) x)

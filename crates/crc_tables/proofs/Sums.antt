@@ -9,7 +9,7 @@ use lib.Pow.{pow_mono, shl_lt}
 use lib.Bits.{bit_xor, xor_comm, xor_lt}
 use Rattle.crc_zeros.specs.Zeros.{zeros}
 use Rattle.crc_tables.specs.Entries.{entry}
-use Rattle.crc_zeros.proofs.Linear.{zeros-lt, zeros-xor, zeros-low, joined, summed}
+use Rattle.crc_zeros.proofs.Linear.{zeros_lt, zeros_xor, zeros_low, joined, summed}
 
 -- what the m bits from bit k on make, the lowest first
 unfoldable pub basis : ℕ → ℕ → ℕ → List ℕ
@@ -24,7 +24,7 @@ sum_of (v ∷ vs) b = bit_xor (b % 2 * v) (sum_of vs (b / 2))
 nothing : (n k : ℕ) → zeros n (0 * 2 ^ k) ≡ 0
 nothing n k =
     let h : 0 * 2 ^ n < 2 ^ 32 = subst (λ (x : ℕ). x < 2 ^ 32) (sym (zero-mul (2 ^ n))) (omega arith) in
-    ap (zeros n) (zero-mul (2 ^ k)) ∙ zeros-low n 0 h ∙ zero-mul (2 ^ n)
+    ap (zeros n) (zero-mul (2 ^ k)) ∙ zeros_low n 0 h ∙ zero-mul (2 ^ n)
 
 digit : (n k t : ℕ) → t < 2 → t * zeros n (2 ^ k) ≡ zeros n (t * 2 ^ k)
 digit n k zero h = zero-mul (zeros n (2 ^ k)) ∙ sym (nothing n k)
@@ -41,7 +41,7 @@ sum_zeros (suc m) n k b room h =
     let hb : b % 2 * 2 ^ k < 2 ^ 32 = omega (arith, summed b k) in
     ap₂ bit_xor (digit n k (b % 2) (mod-lt b (zero-lt-suc 1))) (sum_zeros m n (suc k) (b / 2) (omega arith) (omega arith))
     ∙ xor_comm (zeros n (b % 2 * 2 ^ k)) (zeros n (b / 2 * 2 ^ suc k))
-    ∙ sym (zeros-xor n (b / 2 * 2 ^ suc k) (b % 2 * 2 ^ k) ha hb)
+    ∙ sym (zeros_xor n (b / 2 * 2 ^ suc k) (b % 2 * 2 ^ k) ha hb)
     ∙ ap (zeros n) (joined b k)
 
 -- ---- the entries of a byte's table
@@ -52,11 +52,11 @@ made n k b = sum_of (basis n k 8) (bit_xor b 128)
 turned_lt : (b : ℕ) → b < 256 → bit_xor b 128 < 256
 turned_lt b h = xor_lt 8 b 128 h (omega arith)
 
-pub made-entry : (n k : ℕ) → 8 + k ≤ 32 → (b : ℕ) → b < 256 → made n k b ≡ entry n k b
-made-entry n k room b h = sum_zeros 8 n k (bit_xor b 128) room (turned_lt b h)
+pub made_entry : (n k : ℕ) → 8 + k ≤ 32 → (b : ℕ) → b < 256 → made n k b ≡ entry n k b
+made_entry n k room b h = sum_zeros 8 n k (bit_xor b 128) room (turned_lt b h)
 
 pub entry_lt : (n k : ℕ) → 8 + k ≤ 32 → (b : ℕ) → b < 256 → entry n k b < 2 ^ 32
-entry_lt n k room b h = zeros-lt n (bit_xor b 128 * 2 ^ k) (lt_of_lt_of_le (shl_lt 8 k (turned_lt b h)) (pow_mono {i = 8 + k} {j = 32} room))
+entry_lt n k room b h = zeros_lt n (bit_xor b 128 * 2 ^ k) (lt_of_lt_of_le (shl_lt 8 k (turned_lt b h)) (pow_mono {i = 8 + k} {j = 32} room))
 
-pub made-lt : (n k : ℕ) → 8 + k ≤ 32 → (b : ℕ) → b < 256 → made n k b < 2 ^ 32
-made-lt n k room b h = subst (λ (x : ℕ). x < 2 ^ 32) (sym (made-entry n k room b h)) (entry_lt n k room b h)
+pub made_lt : (n k : ℕ) → 8 + k ≤ 32 → (b : ℕ) → b < 256 → made n k b < 2 ^ 32
+made_lt n k room b h = subst (λ (x : ℕ). x < 2 ^ 32) (sym (made_entry n k room b h)) (entry_lt n k room b h)

@@ -6,7 +6,7 @@ use native.Mathlib.Omega.{arith}
 use lib.Pow.{pow_pos, pow_mono, shl_lt, mod-pow-add}
 use lib.Bits.{bit_xor, xor_comm, xor_shifted}
 use Rattle.crc_zeros.specs.Zeros.{zeros}
-use Rattle.crc_zeros.proofs.Linear.{zeros-xor}
+use Rattle.crc_zeros.proofs.Linear.{zeros_xor}
 
 -- the lowest group
 pub lowest : (w n x : ℕ) {y : ℕ} → y ≡ zeros n (x % 2 ^ w * 2 ^ 0) → y ≡ zeros n (x % 2 ^ w)
@@ -26,7 +26,7 @@ more w n k x room h e =
     let here : x / 2 ^ k % 2 ^ w * 2 ^ k < 2 ^ 32 =
     lt_of_lt_of_le (shl_lt w k (mod-lt (x / 2 ^ k) (pow_pos w))) (pow_mono {i = w + k} {j = 32} room) in
     ap₂ bit_xor h e
-    ∙ sym (zeros-xor n (x % 2 ^ k) (x / 2 ^ k % 2 ^ w * 2 ^ k) below here)
+    ∙ sym (zeros_xor n (x % 2 ^ k) (x / 2 ^ k % 2 ^ w * 2 ^ k) below here)
     ∙ ap (zeros n) (parted w x k)
 
 -- all of them

@@ -5,7 +5,7 @@ use native.Mathlib.Nat.{mod-lt, zero-lt-suc, mul-one, mul_assoc, add-mul, suc-ad
 use native.Mathlib.Omega.{arith}
 use lib.Pow.{pow_pos}
 use lib.Bits.{bit_xor, xor_shr, xor_mod, xor_zero_r, xor_lt, xor_shifted}
-use Rattle.laws.proofs.Xor.{xor-four, xor-shl}
+use Rattle.laws.proofs.Xor.{xor_four, xor_shl}
 use Rattle.crc_zeros.specs.Zeros.{polynomial, up, zeros}
 
 -- ---- one zero
@@ -14,7 +14,7 @@ pub top : (r : ℕ) → r < 2 ^ 32 → r / 2 ^ 31 < 2
 top r h = omega arith
 
 pub doubled : (a b : ℕ) → bit_xor a b * 2 % 2 ^ 32 ≡ bit_xor (a * 2 % 2 ^ 32) (b * 2 % 2 ^ 32)
-doubled a b = ap (λ (x : ℕ). x % 2 ^ 32) (sym (xor-shl a b 1)) ∙ xor_mod (a * 2) (b * 2) 32
+doubled a b = ap (λ (x : ℕ). x % 2 ^ 32) (sym (xor_shl a b 1)) ∙ xor_mod (a * 2) (b * 2) 32
 
 feedback : (t u : ℕ) → t < 2 → u < 2 → bit_xor t u * polynomial ≡ bit_xor (t * polynomial) (u * polynomial)
 feedback zero u p q = refl
@@ -23,16 +23,16 @@ feedback (suc zero) (suc zero) p q = refl
 feedback (suc zero) (suc (suc u)) p q = absurd (omega arith)
 feedback (suc (suc t)) u p q = absurd (omega arith)
 
-up-xor : (a b : ℕ) → a < 2 ^ 32 → b < 2 ^ 32 → up (bit_xor a b) ≡ bit_xor (up a) (up b)
+up_xor : (a b : ℕ) → a < 2 ^ 32 → b < 2 ^ 32 → up (bit_xor a b) ≡ bit_xor (up a) (up b)
 unfolding up
-up-xor a b p q =
+up_xor a b p q =
     ap₂ bit_xor (doubled a b)
     (ap (λ (x : ℕ). x * polynomial) (xor_shr a b 31) ∙ feedback (a / 2 ^ 31) (b / 2 ^ 31) (top a p) (top b q))
-    ∙ xor-four (a * 2 % 2 ^ 32) (b * 2 % 2 ^ 32) (a / 2 ^ 31 * polynomial) (b / 2 ^ 31 * polynomial)
+    ∙ xor_four (a * 2 % 2 ^ 32) (b * 2 % 2 ^ 32) (a / 2 ^ 31 * polynomial) (b / 2 ^ 31 * polynomial)
 
-up-low : (y : ℕ) → y * 2 < 2 ^ 32 → up y ≡ y * 2
+up_low : (y : ℕ) → y * 2 < 2 ^ 32 → up y ≡ y * 2
 unfolding up
-up-low y h =
+up_low y h =
     let z : y / 2 ^ 31 ≡ 0 = omega arith in
     ap₂ (λ (x t : ℕ). bit_xor x (t * polynomial)) (mod-eq_of_lt h) z ∙ xor_zero_r (y * 2)
 
@@ -44,46 +44,46 @@ up_lt r h =
 
 -- ---- any number of them
 
-pub zeros-lt : (n r : ℕ) → r < 2 ^ 32 → zeros n r < 2 ^ 32
+pub zeros_lt : (n r : ℕ) → r < 2 ^ 32 → zeros n r < 2 ^ 32
 unfolding zeros
-zeros-lt zero r h = h
-zeros-lt (suc n) r h = up_lt (zeros n r) (zeros-lt n r h)
+zeros_lt zero r h = h
+zeros_lt (suc n) r h = up_lt (zeros n r) (zeros_lt n r h)
 
-pub zeros-xor : (n a b : ℕ) → a < 2 ^ 32 → b < 2 ^ 32 → zeros n (bit_xor a b) ≡ bit_xor (zeros n a) (zeros n b)
+pub zeros_xor : (n a b : ℕ) → a < 2 ^ 32 → b < 2 ^ 32 → zeros n (bit_xor a b) ≡ bit_xor (zeros n a) (zeros n b)
 unfolding zeros
-zeros-xor zero a b p q = refl
-zeros-xor (suc n) a b p q = ap up (zeros-xor n a b p q) ∙ up-xor (zeros n a) (zeros n b) (zeros-lt n a p) (zeros-lt n b q)
+zeros_xor zero a b p q = refl
+zeros_xor (suc n) a b p q = ap up (zeros_xor n a b p q) ∙ up_xor (zeros n a) (zeros n b) (zeros_lt n a p) (zeros_lt n b q)
 
-pub zeros-zeros : (m n r : ℕ) → zeros m (zeros n r) ≡ zeros (m + n) r
+pub zeros_zeros : (m n r : ℕ) → zeros m (zeros n r) ≡ zeros (m + n) r
 unfolding zeros
-zeros-zeros zero n r = ap (λ (k : ℕ). zeros k r) (sym (zero-add n))
-zeros-zeros (suc m) n r = ap up (zeros-zeros m n r) ∙ ap (λ (k : ℕ). zeros k r) (sym (suc-add m n))
+zeros_zeros zero n r = ap (λ (k : ℕ). zeros k r) (sym (zero-add n))
+zeros_zeros (suc m) n r = ap up (zeros_zeros m n r) ∙ ap (λ (k : ℕ). zeros k r) (sym (suc-add m n))
 
-shl-suc : (a k : ℕ) → a * 2 ^ suc k ≡ a * 2 ^ k * 2
-shl-suc a k = ap (λ (x : ℕ). a * x) (pow-suc 2 k) ∙ sym (mul_assoc a (2 ^ k) 2)
+shl_suc : (a k : ℕ) → a * 2 ^ suc k ≡ a * 2 ^ k * 2
+shl_suc a k = ap (λ (x : ℕ). a * x) (pow-suc 2 k) ∙ sym (mul_assoc a (2 ^ k) 2)
 
 -- a number that stays below the top only moves
-pub zeros-low : (n y : ℕ) → y * 2 ^ n < 2 ^ 32 → zeros n y ≡ y * 2 ^ n
+pub zeros_low : (n y : ℕ) → y * 2 ^ n < 2 ^ 32 → zeros n y ≡ y * 2 ^ n
 unfolding zeros
-zeros-low zero y h = sym (mul-one y)
-zeros-low (suc n) y h =
-    let e : y * 2 ^ suc n ≡ y * 2 ^ n * 2 = shl-suc y n in
+zeros_low zero y h = sym (mul-one y)
+zeros_low (suc n) y h =
+    let e : y * 2 ^ suc n ≡ y * 2 ^ n * 2 = shl_suc y n in
     let g : y * 2 ^ n * 2 < 2 ^ 32 = subst (λ (x : ℕ). x < 2 ^ 32) e h in
-    ap up (zeros-low n y (omega arith)) ∙ up-low (y * 2 ^ n) g ∙ sym e
+    ap up (zeros_low n y (omega arith)) ∙ up_low (y * 2 ^ n) g ∙ sym e
 
 -- ---- a number is its lowest digit and the others
 
-shl-suc' : (a k : ℕ) → a * 2 ^ suc k ≡ a * 2 * 2 ^ k
-shl-suc' a k = ap (λ (x : ℕ). a * x) (pow-succ' 2 k) ∙ sym (mul_assoc a 2 (2 ^ k))
+shl_suc' : (a k : ℕ) → a * 2 ^ suc k ≡ a * 2 * 2 ^ k
+shl_suc' a k = ap (λ (x : ℕ). a * x) (pow-succ' 2 k) ∙ sym (mul_assoc a 2 (2 ^ k))
 
 pub joined : (v k : ℕ) → bit_xor (v / 2 * 2 ^ suc k) (v % 2 * 2 ^ k) ≡ v * 2 ^ k
 joined v k =
-    ap (λ (x : ℕ). bit_xor x (v % 2 * 2 ^ k)) (shl-suc' (v / 2) k)
-    ∙ xor-shl (v / 2 * 2) (v % 2) k
+    ap (λ (x : ℕ). bit_xor x (v % 2 * 2 ^ k)) (shl_suc' (v / 2) k)
+    ∙ xor_shl (v / 2 * 2) (v % 2) k
     ∙ ap (λ (x : ℕ). x * 2 ^ k) (xor_shifted (v / 2) 1 (v % 2) (mod-lt v (zero-lt-suc 1)) ∙ div-add-mod' v 2)
 
 pub summed : (v k : ℕ) → v / 2 * 2 ^ suc k + v % 2 * 2 ^ k ≡ v * 2 ^ k
 summed v k =
-    ap (λ (x : ℕ). x + v % 2 * 2 ^ k) (shl-suc' (v / 2) k)
+    ap (λ (x : ℕ). x + v % 2 * 2 ^ k) (shl_suc' (v / 2) k)
     ∙ sym (add-mul (v / 2 * 2) (v % 2) (2 ^ k))
     ∙ ap (λ (x : ℕ). x * 2 ^ k) (div-add-mod' v 2)

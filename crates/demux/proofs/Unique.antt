@@ -3,19 +3,19 @@
 use Prim.Native.Nat.{ℕ}
 use mathlib.Core.Path.{◌≡◌, ap}
 use mathlib.Core.List.{List}
-use Rattle.laws.proofs.Unique.{one-result}
+use Rattle.laws.proofs.Unique.{one_result}
 use Rattle.pats.specs.Store.{Record}
 use Rattle.demux_state.specs.declared.Fed.{Fed}
-use Rattle.demux_state.proofs.Unique.{answer-one}
-use Rattle.demux_store.specs.Store.{Store, Left, fedBy, fed}
+use Rattle.demux_state.proofs.Unique.{answer_one}
+use Rattle.demux_store.specs.Store.{Store, Left, fed_by, fed}
 
-pub feed-unique :
+pub feed_unique :
     (s : Store) (input : ℕ) (packet : List ℕ) (a b : Fed) (ks ls ms ns : List ℕ) (v w : Record) (ps qs bs cs xs ys : List ℕ) →
-    fedBy a ks ms v ps bs xs ≡ fed s input packet → fedBy b ls ns w qs cs ys ≡ fed s input packet →
+    fed_by a ks ms v ps bs xs ≡ fed s input packet → fed_by b ls ns w qs cs ys ≡ fed s input packet →
     (a ≡ b) × (ks ≡ ls) × (ms ≡ ns) × (v ≡ w) × (ps ≡ qs) × (bs ≡ cs) × (xs ≡ ys)
-feed-unique s input packet a b ks ls ms ns v w ps qs bs cs xs ys p q =
-    let e : fedBy a ks ms v ps bs xs ≡ fedBy b ls ns w qs cs ys = one-result (fed s input packet) p q in
-    let n = answer-one a.answer b.answer (ap (λ (l : Left). l.answer) e) in
+feed_unique s input packet a b ks ls ms ns v w ps qs bs cs xs ys p q =
+    let e : fed_by a ks ms v ps bs xs ≡ fed_by b ls ns w qs cs ys = one_result (fed s input packet) p q in
+    let n = answer_one a.answer b.answer (ap (λ (l : Left). l.answer) e) in
     let g = ap (λ (l : Left). l.store.gate.gate) e in
     let c = ap (λ (l : Left). l.store.gate.counters) e in
     let t = ap (λ (l : Left). l.store.streams) e in (

@@ -1,9 +1,9 @@
 // The transport stream: packets in, the sections that they finish through the gate (docs/RULES.md, "Packets"). What is small goes in by value and comes back in
 // the answer; the rows of the gate, the watch record and the PID words and section buffers of an input are lent, and the places that tell of the sections.
 ghost use Rattle.std.specs.Prelude.{◌≡◌};
-ghost use Rattle.pats.specs.Store.{recordOf};
-ghost use Rattle.gate_pats.specs.Store.{keptOf};
-ghost use Rattle.demux_store.specs.Store.{store_of, fedBy, plannedIn, fed, TakesOk};
+ghost use Rattle.pats.specs.Store.{record_of};
+ghost use Rattle.gate_pats.specs.Store.{kept_of};
+ghost use Rattle.demux_store.specs.Store.{store_of, fed_by, planned_in, fed, TakesOk};
 
 use counters::Counters;
 use demux_judge::Verdict;
@@ -29,8 +29,8 @@ fn take(
     places: &mut [u64],
     plan: Plan,
 ) -> Fed
-    requires { TakesOk (store_of (keptOf gate counters keys.old changes.old (recordOf words.old pat_slots.old pat_cells.old)) streams pids.old buffers.old places.old) packet.now plan }
-    ensures { fedBy result keys.new changes.new (recordOf words.new pat_slots.new pat_cells.new) pids.new buffers.new places.new ≡ plannedIn (store_of (keptOf gate counters keys.old changes.old (recordOf words.old pat_slots.old pat_cells.old)) streams pids.old buffers.old places.old) input packet.now plan }
+    requires { TakesOk (store_of (kept_of gate counters keys.old changes.old (record_of words.old pat_slots.old pat_cells.old)) streams pids.old buffers.old places.old) packet.now plan }
+    ensures { fed_by result keys.new changes.new (record_of words.new pat_slots.new pat_cells.new) pids.new buffers.new places.new ≡ planned_in (store_of (kept_of gate counters keys.old changes.old (record_of words.old pat_slots.old pat_cells.old)) streams pids.old buffers.old places.old) input packet.now plan }
 {
     match plan {
         Plan::Malformed => Fed {
@@ -84,7 +84,7 @@ pub fn feed(
     packet: &[u8],
     places: &mut [u64],
 ) -> Fed
-    ensures { fedBy result keys.new changes.new (recordOf words.new pat_slots.new pat_cells.new) pids.new buffers.new places.new ≡ fed (store_of (keptOf gate counters keys.old changes.old (recordOf words.old pat_slots.old pat_cells.old)) streams pids.old buffers.old places.old) input packet.now }
+    ensures { fed_by result keys.new changes.new (record_of words.new pat_slots.new pat_cells.new) pids.new buffers.new places.new ≡ fed (store_of (kept_of gate counters keys.old changes.old (record_of words.old pat_slots.old pat_cells.old)) streams pids.old buffers.old places.old) input packet.now }
 {
     match demux_judge::judge(
         gate,

@@ -1,10 +1,10 @@
 // The transport stream through the gate with an index over its rows (docs/RULES.md, "Packets"): as without an index (crate demux), and a section's key is
 // looked up, held and given up in a time that does not grow with the capacity.
 ghost use Rattle.std.specs.Prelude.{◌≡◌};
-ghost use Rattle.pats.specs.Store.{recordOf};
+ghost use Rattle.pats.specs.Store.{record_of};
 ghost use Rattle.ring_index.specs.Store.{index_of};
-ghost use Rattle.gate_pats_indexed.specs.Store.{keptBy};
-ghost use Rattle.demux_indexed_store.specs.Carried.{store_of, fedBy};
+ghost use Rattle.gate_pats_indexed.specs.Store.{kept_by};
+ghost use Rattle.demux_indexed_store.specs.Carried.{store_of, fed_by};
 ghost use Rattle.demux_indexed_store.specs.Store.{fed};
 
 use counters::Counters;
@@ -32,7 +32,7 @@ pub fn feed(
     packet: &[u8],
     places: &mut [u64],
 ) -> Fed
-    ensures { fedBy result keys.new changes.new (index_of buckets.new links.new) (recordOf words.new pat_slots.new pat_cells.new) pids.new buffers.new places.new ≡ fed (store_of (keptBy gate counters keys.old changes.old (index_of buckets.old links.old) (recordOf words.old pat_slots.old pat_cells.old)) streams pids.old buffers.old places.old) input packet.now }
+    ensures { fed_by result keys.new changes.new (index_of buckets.new links.new) (record_of words.new pat_slots.new pat_cells.new) pids.new buffers.new places.new ≡ fed (store_of (kept_by gate counters keys.old changes.old (index_of buckets.old links.old) (record_of words.old pat_slots.old pat_cells.old)) streams pids.old buffers.old places.old) input packet.now }
 {
     match demux_indexed_judge::judge(
         gate,

@@ -1,9 +1,9 @@
 // A packet that is counted, over slices that the caller has judged, where the gate's rows have an index.
 ghost use Rattle.std.specs.Prelude.{◌≡◌};
-ghost use Rattle.pats.specs.Store.{recordOf};
+ghost use Rattle.pats.specs.Store.{record_of};
 ghost use Rattle.ring_index.specs.Store.{index_of};
-ghost use Rattle.gate_pats_indexed.specs.Store.{keptBy};
-ghost use Rattle.demux_indexed_store.specs.Carried.{store_of, fedBy, plannedIn, TakesOk};
+ghost use Rattle.gate_pats_indexed.specs.Store.{kept_by};
+ghost use Rattle.demux_indexed_store.specs.Carried.{store_of, fed_by, planned_in, TakesOk};
 
 use counters::Counters;
 use demux_packets::Plan;
@@ -30,8 +30,8 @@ pub fn take(
     places: &mut [u64],
     plan: Plan,
 ) -> Fed
-    requires { TakesOk (store_of (keptBy gate counters keys.old changes.old (index_of buckets.old links.old) (recordOf words.old pat_slots.old pat_cells.old)) streams pids.old buffers.old places.old) packet.now plan }
-    ensures { fedBy result keys.new changes.new (index_of buckets.new links.new) (recordOf words.new pat_slots.new pat_cells.new) pids.new buffers.new places.new ≡ plannedIn (store_of (keptBy gate counters keys.old changes.old (index_of buckets.old links.old) (recordOf words.old pat_slots.old pat_cells.old)) streams pids.old buffers.old places.old) input packet.now plan }
+    requires { TakesOk (store_of (kept_by gate counters keys.old changes.old (index_of buckets.old links.old) (record_of words.old pat_slots.old pat_cells.old)) streams pids.old buffers.old places.old) packet.now plan }
+    ensures { fed_by result keys.new changes.new (index_of buckets.new links.new) (record_of words.new pat_slots.new pat_cells.new) pids.new buffers.new places.new ≡ planned_in (store_of (kept_by gate counters keys.old changes.old (index_of buckets.old links.old) (record_of words.old pat_slots.old pat_cells.old)) streams pids.old buffers.old places.old) input packet.now plan }
 {
     match plan {
         Plan::Malformed => Fed {

@@ -9,36 +9,36 @@ use lib.ListN.{length}
 use Rattle.answers.specs.declared.Refusal.TheVariants.{NotWhole}
 use Rattle.counters.specs.declared.Counters.{Counters}
 use Rattle.gate_state.specs.declared.Gate.{Gate}
-use Rattle.gate_indexed.specs.Store.{wholeBy}
+use Rattle.gate_indexed.specs.Store.{whole_by}
 use Rattle.pats.specs.Store.{Record}
 use Rattle.streams.specs.declared.Streams.{Streams}
 use Rattle.demux_packets.specs.declared.Plan.{Plan}
 use Rattle.demux_judge.specs.declared.Verdict.{Verdict}
 use Rattle.demux_judge.specs.declared.Verdict.TheVariants.{Refused, Goes}
-use Rattle.demux_judge.specs.Verdicts.{verdictOf}
-use Rattle.demux_indexed_judge.specs.Verdicts.{verdictBy}
+use Rattle.demux_judge.specs.Verdicts.{verdict_of}
+use Rattle.demux_indexed_judge.specs.Verdicts.{verdict_by}
 
 module _ (g : Gate) (c : Counters) (s : Streams) (keys changes buckets links : ℕ) (r : Record) (pids : List ℕ) (bytes input : ℕ) (packet : List ℕ) (places : ℕ) (w : Bool)
-    (e : w ≡ wholeBy g keys changes buckets links (length r.words)) where
-  pub judge-whole : (v : Verdict) → w ≡ true → v ≡ verdictOf g c s keys changes r pids bytes input packet places → v ≡ verdictBy g c s keys changes buckets links r pids bytes input packet places
-  unfolding verdictBy
-  judge-whole v h q = rw (← e, h) q
+    (e : w ≡ whole_by g keys changes buckets links (length r.words)) where
+  pub judge_whole : (v : Verdict) → w ≡ true → v ≡ verdict_of g c s keys changes r pids bytes input packet places → v ≡ verdict_by g c s keys changes buckets links r pids bytes input packet places
+  unfolding verdict_by
+  judge_whole v h q = rw (← e, h) q
 
-  pub judge-not : w ≡ false → Refused NotWhole ≡ verdictBy g c s keys changes buckets links r pids bytes input packet places
-  unfolding verdictBy
-  judge-not h = rw (← e, h) refl
+  pub judge_not : w ≡ false → Refused NotWhole ≡ verdict_by g c s keys changes buckets links r pids bytes input packet places
+  unfolding verdict_by
+  judge_not h = rw (← e, h) refl
 
 -- what goes has its buckets and links, and goes without an index too
 pub record GoesBy (g : Gate) (c : Counters) (s : Streams) (keys changes buckets links : ℕ) (r : Record) (pids : List ℕ) (bytes input : ℕ) (packet : List ℕ) (places : ℕ) (p : Plan) : Type 0 where
-  pub whole : wholeBy g keys changes buckets links (length r.words) ≡ true
-  pub goes : verdictOf g c s keys changes r pids bytes input packet places ≡ Goes p
+  pub whole : whole_by g keys changes buckets links (length r.words) ≡ true
+  pub goes : verdict_of g c s keys changes r pids bytes input packet places ≡ Goes p
 
 pub goes_by : (g : Gate) (c : Counters) (s : Streams) (keys changes buckets links : ℕ) (r : Record) (pids : List ℕ) (bytes input : ℕ) (packet : List ℕ) (places : ℕ) (p : Plan)
-    → verdictBy g c s keys changes buckets links r pids bytes input packet places ≡ Goes p → GoesBy g c s keys changes buckets links r pids bytes input packet places p
-unfolding verdictBy
-goes_by g c s keys changes buckets links r pids bytes input packet places p = go (wholeBy g keys changes buckets links (length r.words)) refl
+    → verdict_by g c s keys changes buckets links r pids bytes input packet places ≡ Goes p → GoesBy g c s keys changes buckets links r pids bytes input packet places p
+unfolding verdict_by
+goes_by g c s keys changes buckets links r pids bytes input packet places p = go (whole_by g keys changes buckets links (length r.words)) refl
   where
-    go : (b : Bool) → wholeBy g keys changes buckets links (length r.words) ≡ b
-        → cond b (verdictOf g c s keys changes r pids bytes input packet places) (Refused NotWhole) ≡ Goes p → GoesBy g c s keys changes buckets links r pids bytes input packet places p
+    go : (b : Bool) → whole_by g keys changes buckets links (length r.words) ≡ b
+        → cond b (verdict_of g c s keys changes r pids bytes input packet places) (Refused NotWhole) ≡ Goes p → GoesBy g c s keys changes buckets links r pids bytes input packet places p
     go true w e = record { whole = w; goes = e }
     go false w e = let q : ◌≡◌ {A = ℕ} 0 1 = cc in absurd (omega arith)

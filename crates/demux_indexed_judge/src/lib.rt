@@ -1,7 +1,7 @@
 // What a packet comes to before anything is written, where the gate's rows have an index (docs/RULES.md, "Packets").
 ghost use Rattle.std.specs.Prelude.{◌≡◌};
-ghost use Rattle.pats.specs.Store.{recordOf};
-ghost use Rattle.demux_indexed_judge.specs.Verdicts.{verdictBy};
+ghost use Rattle.pats.specs.Store.{record_of};
+ghost use Rattle.demux_indexed_judge.specs.Verdicts.{verdict_by};
 
 use answers::Refusal;
 use counters::Counters;
@@ -27,7 +27,7 @@ pub fn judge(
     packet: &[u8],
     places: usize,
 ) -> Verdict
-    ensures { result ≡ verdictBy gate counters streams keys changes buckets links (recordOf words.now pat_slots.now pat_cells.now) pids.now buffers input packet.now places }
+    ensures { result ≡ verdict_by gate counters streams keys changes buckets links (record_of words.now pat_slots.now pat_cells.now) pids.now buffers input packet.now places }
 {
     if gate_indexed::inner::is_whole(gate, keys, changes, buckets, links, words.len()) {
         return demux_judge::judge(

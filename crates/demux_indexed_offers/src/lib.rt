@@ -1,9 +1,9 @@
 // The sections that a packet finished, offered one after another to the gate with an index over its rows: as without an index (crate demux_offers).
 ghost use Rattle.std.specs.Prelude.{◌≡◌};
 ghost use Rattle.ring_index.specs.Store.{index_of};
-ghost use Rattle.pats.specs.Store.{recordOf};
+ghost use Rattle.pats.specs.Store.{record_of};
 ghost use Rattle.demux_turns.specs.Offers.{TurnOk};
-ghost use Rattle.demux_indexed_turns.specs.Offers.{heldBy, turned, offersFrom, Turns};
+ghost use Rattle.demux_indexed_turns.specs.Offers.{held_by, turned, offers_from, Turns};
 
 use demux_turns::Held;
 
@@ -25,10 +25,10 @@ fn turn<'a>(
     places: &mut [u64],
     k: usize,
 ) -> Held
-    requires { TurnOk held.gate (recordOf words.old pat_slots.old pat_cells.old) pids.old places.old k }
-    ensures { heldBy result keys.new changes.new (index_of buckets.new links.new) (recordOf words.new pat_slots.new pat_cells.new) pids.new places.new ≡ turned packet.now buffers.now input pid k (heldBy held keys.old changes.old (index_of buckets.old links.old) (recordOf words.old pat_slots.old pat_cells.old) pids.old places.old) }
+    requires { TurnOk held.gate (record_of words.old pat_slots.old pat_cells.old) pids.old places.old k }
+    ensures { held_by result keys.new changes.new (index_of buckets.new links.new) (record_of words.new pat_slots.new pat_cells.new) pids.new places.new ≡ turned packet.now buffers.now input pid k (held_by held keys.old changes.old (index_of buckets.old links.old) (record_of words.old pat_slots.old pat_cells.old) pids.old places.old) }
 {
-    let place = demux_places::place_at(places, k);
+    let place = demux_places::place_at_lem(places, k);
     let offered = demux_indexed_section::offer(
         held.gate,
         held.counters,
@@ -69,8 +69,8 @@ pub fn offers<'a>(
     places: &mut [u64],
     count: usize,
 ) -> Held
-    requires { Turns (heldBy held keys.old changes.old (index_of buckets.old links.old) (recordOf words.old pat_slots.old pat_cells.old) pids.old places.old) count }
-    ensures { heldBy result keys.new changes.new (index_of buckets.new links.new) (recordOf words.new pat_slots.new pat_cells.new) pids.new places.new ≡ offersFrom packet.now buffers.now input pid count 0 (heldBy held keys.old changes.old (index_of buckets.old links.old) (recordOf words.old pat_slots.old pat_cells.old) pids.old places.old) }
+    requires { Turns (held_by held keys.old changes.old (index_of buckets.old links.old) (record_of words.old pat_slots.old pat_cells.old) pids.old places.old) count }
+    ensures { held_by result keys.new changes.new (index_of buckets.new links.new) (record_of words.new pat_slots.new pat_cells.new) pids.new places.new ≡ offers_from packet.now buffers.now input pid count 0 (held_by held keys.old changes.old (index_of buckets.old links.old) (record_of words.old pat_slots.old pat_cells.old) pids.old places.old) }
 {
     let mut now = held;
     let mut k = 0;

@@ -2,9 +2,9 @@
 use Rattle.std.specs.Prelude.{List, ℕ}
 use Rattle.gate_pats_indexed.specs.Store.{KeptBy}
 use Rattle.demux_indexed_store.specs.Carried.{Store, store_of}
-use Rattle.demux_indexed_store.specs.Store.{verdictIn, fed}
+use Rattle.demux_indexed_store.specs.Store.{verdict_in, fed}
 use Rattle.demux_pass.specs.declared.Passed.{Passed}
-use Rattle.demux_pass.specs.Passing.{PassingOf, gone, passingBy}
+use Rattle.demux_pass.specs.Passing.{PassingOf, gone, passing_by}
 
 abbrev pub Passing : Type 0
 Passing = PassingOf KeptBy
@@ -14,4 +14,4 @@ passed_by r kept pids buffers places = gone r.number (store_of kept r.streams pi
 
 -- of the first `most` packets those before the first that is not passed over, each fed
 abbrev pub passing : (most : ℕ) → Store → (input : ℕ) → List ℕ → Passing
-passing most s input packets = passingBy verdictIn fed most s input packets
+passing most s input packets = passing_by verdict_in fed most s input packets

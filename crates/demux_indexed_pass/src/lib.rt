@@ -1,8 +1,8 @@
 // Many packets at once through the gate with an index over its rows (docs/RULES.md, "Packets"): as without an index (crate demux_pass).
 ghost use Rattle.std.specs.Prelude.{◌≡◌, ◌/◌, length};
-ghost use Rattle.pats.specs.Store.{recordOf};
+ghost use Rattle.pats.specs.Store.{record_of};
 ghost use Rattle.ring_index.specs.Store.{index_of};
-ghost use Rattle.gate_pats_indexed.specs.Store.{keptBy};
+ghost use Rattle.gate_pats_indexed.specs.Store.{kept_by};
 ghost use Rattle.demux_indexed_store.specs.Carried.{store_of};
 ghost use Rattle.demux_indexed_pass.specs.Store.{passed_by, passing};
 
@@ -30,7 +30,7 @@ pub fn pass(
     packets: &[u8],
     places: &[u64],
 ) -> Passed
-    ensures { passed_by result (keptBy gate counters keys.now changes.now (index_of buckets.now links.now) (recordOf words.now pat_slots.now pat_cells.now)) pids.new buffers.now places.now ≡ passing (length packets.now / 188) (store_of (keptBy gate counters keys.now changes.now (index_of buckets.now links.now) (recordOf words.now pat_slots.now pat_cells.now)) streams pids.old buffers.now places.now) input packets.now }
+    ensures { passed_by result (kept_by gate counters keys.now changes.now (index_of buckets.now links.now) (record_of words.now pat_slots.now pat_cells.now)) pids.new buffers.now places.now ≡ passing (length packets.now / 188) (store_of (kept_by gate counters keys.now changes.now (index_of buckets.now links.now) (record_of words.now pat_slots.now pat_cells.now)) streams pids.old buffers.now places.now) input packets.now }
 {
     // What refuses a packet does not look at it.
     match demux_indexed_judge::judge(

@@ -1,9 +1,9 @@
 // A payload over slices that the caller has judged, where the gate's rows have an index: as without an index (crate demux_read).
 ghost use Rattle.std.specs.Prelude.{◌≡◌};
-ghost use Rattle.pats.specs.Store.{recordOf};
+ghost use Rattle.pats.specs.Store.{record_of};
 ghost use Rattle.ring_index.specs.Store.{index_of};
-ghost use Rattle.gate_pats_indexed.specs.Store.{keptBy};
-ghost use Rattle.demux_indexed_store.specs.Carried.{store_of, fedBy, readIn, ReadsOk};
+ghost use Rattle.gate_pats_indexed.specs.Store.{kept_by};
+ghost use Rattle.demux_indexed_store.specs.Carried.{store_of, fed_by, read_in, ReadsOk};
 
 use counters::Counters;
 use demux_packets::Reading;
@@ -31,8 +31,8 @@ pub fn read(
     places: &mut [u64],
     reading: Reading,
 ) -> Fed
-    requires { ReadsOk (store_of (keptBy gate counters keys.old changes.old (index_of buckets.old links.old) (recordOf words.old pat_slots.old pat_cells.old)) streams pids.old buffers.old places.old) packet.now reading }
-    ensures { fedBy result keys.new changes.new (index_of buckets.new links.new) (recordOf words.new pat_slots.new pat_cells.new) pids.new buffers.new places.new ≡ readIn (store_of (keptBy gate counters keys.old changes.old (index_of buckets.old links.old) (recordOf words.old pat_slots.old pat_cells.old)) streams pids.old buffers.old places.old) input packet.now reading }
+    requires { ReadsOk (store_of (kept_by gate counters keys.old changes.old (index_of buckets.old links.old) (record_of words.old pat_slots.old pat_cells.old)) streams pids.old buffers.old places.old) packet.now reading }
+    ensures { fed_by result keys.new changes.new (index_of buckets.new links.new) (record_of words.new pat_slots.new pat_cells.new) pids.new buffers.new places.new ≡ read_in (store_of (kept_by gate counters keys.old changes.old (index_of buckets.old links.old) (record_of words.old pat_slots.old pat_cells.old)) streams pids.old buffers.old places.old) input packet.now reading }
 {
     let load = reading.load;
     let pid = load.pid;

@@ -2,9 +2,9 @@
 // give their buffers back.
 ghost use Rattle.std.specs.Prelude.{◌≡◌};
 ghost use Rattle.ring_index.specs.Store.{index_of};
-ghost use Rattle.streams.specs.Store.{left_of, givenBack};
-ghost use Rattle.pats.specs.Store.{recordOf};
-ghost use Rattle.gate_pats_indexed.specs.Store.{keptBy, leftWith, takenBy};
+ghost use Rattle.streams.specs.Store.{left_of, given_back};
+ghost use Rattle.pats.specs.Store.{record_of};
+ghost use Rattle.gate_pats_indexed.specs.Store.{kept_by, left_with, taken_by};
 ghost use Rattle.demux_turns.specs.Offers.{OfferOk};
 
 use counters::Counters;
@@ -26,9 +26,9 @@ fn offer_pat(
     pid: u16,
     section: &[u8],
 ) -> Offered
-    requires { OfferOk gate (recordOf words.old pat_slots.old pat_cells.old) pids.old }
-    ensures pat_cells_after { leftWith result keys.new changes.new (index_of buckets.new links.new) (recordOf words.new pat_slots.new pat_cells.new) ≡ takenBy (keptBy gate counters keys.old changes.old (index_of buckets.old links.old) (recordOf words.old pat_slots.old pat_cells.old)) input pid section.now }
-    ensures pids_after { pids.new ≡ givenBack (left_of words.old words.new) 8192 pids.old }
+    requires { OfferOk gate (record_of words.old pat_slots.old pat_cells.old) pids.old }
+    ensures pat_cells_after { left_with result keys.new changes.new (index_of buckets.new links.new) (record_of words.new pat_slots.new pat_cells.new) ≡ taken_by (kept_by gate counters keys.old changes.old (index_of buckets.old links.old) (record_of words.old pat_slots.old pat_cells.old)) input pid section.now }
+    ensures pids_after { pids.new ≡ given_back (left_of words.old words.new) 8192 pids.old }
 {
     let mut before = [0u64; 128];
     demux_offer::copy_set(&mut before, words);
@@ -56,9 +56,9 @@ pub fn offer(
     pid: u16,
     section: &[u8],
 ) -> Offered
-    requires { OfferOk gate (recordOf words.old pat_slots.old pat_cells.old) pids.old }
-    ensures pat_cells_after { leftWith result keys.new changes.new (index_of buckets.new links.new) (recordOf words.new pat_slots.new pat_cells.new) ≡ takenBy (keptBy gate counters keys.old changes.old (index_of buckets.old links.old) (recordOf words.old pat_slots.old pat_cells.old)) input pid section.now }
-    ensures pids_after { pids.new ≡ givenBack (left_of words.old words.new) 8192 pids.old }
+    requires { OfferOk gate (record_of words.old pat_slots.old pat_cells.old) pids.old }
+    ensures pat_cells_after { left_with result keys.new changes.new (index_of buckets.new links.new) (record_of words.new pat_slots.new pat_cells.new) ≡ taken_by (kept_by gate counters keys.old changes.old (index_of buckets.old links.old) (record_of words.old pat_slots.old pat_cells.old)) input pid section.now }
+    ensures pids_after { pids.new ≡ given_back (left_of words.old words.new) 8192 pids.old }
 {
     if pat::is_readable(section) {
         return offer_pat(

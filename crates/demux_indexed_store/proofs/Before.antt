@@ -6,15 +6,15 @@ use Prim.Native.Nat.{ℕ}
 use Rattle.demux_state.specs.State.{number_of}
 use Rattle.demux_judge.specs.declared.Verdict.{Verdict}
 use Rattle.demux_judge.specs.declared.Verdict.TheVariants.{Refused, Goes}
-use Rattle.demux_store.proofs.Before.{Before, refused-before, planned-before}
-use Rattle.demux_indexed_turns.specs.Acts.{wordsBy, tellsBy, actsBy}
+use Rattle.demux_store.proofs.Before.{Before, refused_before, planned_before}
+use Rattle.demux_indexed_turns.specs.Acts.{words_by, tells_by, acts_by}
 use Rattle.demux_indexed_store.specs.Carried.{Store}
-use Rattle.demux_indexed_store.specs.Store.{judgedIn, verdictIn, fed}
+use Rattle.demux_indexed_store.specs.Store.{judged_in, verdict_in, fed}
 
-pub as_before : (s : Store) (input : ℕ) (packet : List ℕ) → (number_of (fed s input packet).answer ≡ 29 → ⊥) → Before s (fed s input packet)
-unfolding fed judgedIn
-as_before s input packet = go (verdictIn s input packet)
+pub as_before_lem : (s : Store) (input : ℕ) (packet : List ℕ) → (number_of (fed s input packet).answer ≡ 29 → ⊥) → Before s (fed s input packet)
+unfolding fed judged_in
+as_before_lem s input packet = go (verdict_in s input packet)
   where
-    go : (v : Verdict) → (number_of (judgedIn s input packet v).answer ≡ 29 → ⊥) → Before s (judgedIn s input packet v)
-    go (Refused r) h = refused-before s r
-    go (Goes p) h = planned-before s wordsBy tellsBy actsBy input packet p h
+    go : (v : Verdict) → (number_of (judged_in s input packet v).answer ≡ 29 → ⊥) → Before s (judged_in s input packet v)
+    go (Refused r) h = refused_before s r
+    go (Goes p) h = planned_before s words_by tells_by acts_by input packet p h

@@ -2,15 +2,15 @@
 use Rattle.std.specs.Prelude.{List, ℕ}
 use Rattle.ring_index.specs.Store.{Index}
 use Rattle.pats.specs.Store.{Record}
-use Rattle.gate_pats_indexed.specs.Store.{KeptBy, keptBy}
+use Rattle.gate_pats_indexed.specs.Store.{KeptBy, kept_by}
 use Rattle.streams.specs.declared.Streams.{Streams}
 use Rattle.demux_state.specs.State.{said_of}
 use Rattle.demux_state.specs.declared.Fed.{Fed}
 use Rattle.demux_packets.specs.declared.Reading.{Reading}
 use Rattle.demux_packets.specs.declared.Plan.{Plan}
-use Rattle.demux_store.specs.Carried.{StoreOf, LeftOf, left, read_by, plannedBy, ReadsWith, TakesWith}
+use Rattle.demux_store.specs.Carried.{StoreOf, LeftOf, left, read_by, planned_by, ReadsWith, TakesWith}
 use Rattle.demux_store.specs.Carried as carried
-use Rattle.demux_indexed_turns.specs.Acts.{wordsBy, tellsBy, actsBy}
+use Rattle.demux_indexed_turns.specs.Acts.{words_by, tells_by, acts_by}
 use Rattle.demux_indexed_turns.specs.Offers.{SteadyBy}
 
 abbrev pub Store : Type 0
@@ -23,14 +23,14 @@ abbrev pub store_of : KeptBy → Streams → List ℕ → List ℕ → List ℕ 
 store_of g s pids buffers places = carried.store_of g s pids buffers places
 
 -- what a call handed back, with the slices as it left them
-abbrev pub fedBy : Fed → List ℕ → List ℕ → Index → Record → List ℕ → List ℕ → List ℕ → Left
-fedBy r keys changes x record' pids buffers places = left (said_of r.answer) (store_of (keptBy r.gate r.counters keys changes x record') r.streams pids buffers places)
+abbrev pub fed_by : Fed → List ℕ → List ℕ → Index → Record → List ℕ → List ℕ → List ℕ → Left
+fed_by r keys changes x record' pids buffers places = left (said_of r.answer) (store_of (kept_by r.gate r.counters keys changes x record') r.streams pids buffers places)
 
-abbrev pub readIn : Store → (input : ℕ) → List ℕ → Reading → Left
-readIn s input packet r = read_by wordsBy tellsBy actsBy s input packet r
+abbrev pub read_in : Store → (input : ℕ) → List ℕ → Reading → Left
+read_in s input packet r = read_by words_by tells_by acts_by s input packet r
 
-abbrev pub plannedIn : Store → (input : ℕ) → List ℕ → Plan → Left
-plannedIn s input packet p = plannedBy wordsBy tellsBy actsBy s input packet p
+abbrev pub planned_in : Store → (input : ℕ) → List ℕ → Plan → Left
+planned_in s input packet p = planned_by words_by tells_by acts_by s input packet p
 
 -- ---- what the functions ask
 

@@ -6,44 +6,44 @@ use mathlib.Core.List.{List}
 use Prim.Native.Nat.{ℕ, ◌≤◌}
 use lib.ListN.{length}
 use Rattle.pat.specs.Pat.{readable}
-use Rattle.offers.specs.Offers.{verdictOf}
+use Rattle.offers.specs.Offers.{verdict_of}
 use Rattle.offers.specs.declared.Verdict.{Verdict}
 use Rattle.offers.specs.declared.Verdict.TheVariants as verdict
 use Rattle.counters.specs.declared.Counters.{Counters}
-use Rattle.ring.specs.Store.{stampOf}
+use Rattle.ring.specs.Store.{stamp_of}
 use Rattle.ring.specs.declared.Seen.{Seen}
-use Rattle.ring_index.specs.Store.{Index, seenBy}
-use Rattle.gate_state.specs.State.{bySections}
+use Rattle.ring_index.specs.Store.{Index, seen_by}
+use Rattle.gate_state.specs.State.{by_sections}
 use Rattle.gate_state.specs.declared.Gate.{Gate}
 use Rattle.gate_state.specs.declared.Offered.{Offered}
-use Rattle.gate_indexed.specs.Store.{isWholeBy, admittedBy, carriedBy, offeredBy}
-use Rattle.pats.specs.Store.{Record, recordOf}
-use Rattle.gate_pats_indexed.specs.Store.{KeptBy, keptBy, sectionsBy, Offering, leftWith, takenBy}
-use Rattle.streams.specs.Store.{left_of, givenBack}
-use Rattle.demux_turns.proofs.Laws.{same-followed, same-record, stayed-back}
-use Rattle.demux_indexed_turns.specs.Acts.{wordsBy, actsBy}
+use Rattle.gate_indexed.specs.Store.{is_whole_by, admitted_by, carried_by, offered_by}
+use Rattle.pats.specs.Store.{Record, record_of}
+use Rattle.gate_pats_indexed.specs.Store.{KeptBy, kept_by, sections_by, Offering, left_with, taken_by}
+use Rattle.streams.specs.Store.{left_of, given_back}
+use Rattle.demux_turns.proofs.Laws.{same_followed, same_record, stayed_back}
+use Rattle.demux_indexed_turns.specs.Acts.{words_by, acts_by}
 
 module _ (s : KeptBy) (input pid : ℕ) (section : List ℕ) (e : readable section ≡ false) where
-  same-sections : (v : Verdict) → (carriedBy (sectionsBy s) section v).left.store.words ≡ wordsBy s
-  unfolding carriedBy admittedBy
-  same-sections (verdict.Refused r) = refl
-  same-sections (verdict.Failed f) = refl
-  same-sections (verdict.Arrived a) =
-      let seen : Seen = seenBy s.kept.gate.ring s.kept.keys s.kept.changes s.index a.key (stampOf a.version a.change) in
-      same-followed section e (seen.changed && bySections s.kept.gate.follow) (wordsBy s)
+  same_sections : (v : Verdict) → (carried_by (sections_by s) section v).left.store.words ≡ words_by s
+  unfolding carried_by admitted_by
+  same_sections (verdict.Refused r) = refl
+  same_sections (verdict.Failed f) = refl
+  same_sections (verdict.Arrived a) =
+      let seen : Seen = seen_by s.kept.gate.ring s.kept.keys s.kept.changes s.index a.key (stamp_of a.version a.change) in
+      same_followed section e (seen.changed && by_sections s.kept.gate.follow) (words_by s)
 
-  same-words : (offeredBy (sectionsBy s) input pid section).left.store.words ≡ wordsBy s
-  unfolding offeredBy
-  same-words = same-sections (verdictOf (isWholeBy (sectionsBy s)) s.kept.counters s.kept.gate.change_rule input pid section)
+  same_words : (offered_by (sections_by s) input pid section).left.store.words ≡ words_by s
+  unfolding offered_by
+  same_words = same_sections (verdict_of (is_whole_by (sections_by s)) s.kept.counters s.kept.gate.change_rule input pid section)
 
-  same-watch : wordsBy (actsBy s input pid section) ≡ wordsBy s
-  unfolding takenBy
-  same-watch =
-      let x = offeredBy (sectionsBy s) input pid section in
-      ap (λ (r : Record). r.words) (same-record section e s.kept.gate.follow x.answer input pid (recordOf x.left.store.words s.kept.watch.slots s.kept.watch.cells)) ∙ same-words
+  same_watch : words_by (acts_by s input pid section) ≡ words_by s
+  unfolding taken_by
+  same_watch =
+      let x = offered_by (sections_by s) input pid section in
+      ap (λ (r : Record). r.words) (same_record section e s.kept.gate.follow x.answer input pid (record_of x.left.store.words s.kept.watch.slots s.kept.watch.cells)) ∙ same_words
 
 module _ (g : Gate) (c : Counters) (keys changes : List ℕ) (x : Index) (words slots cells : List ℕ) (input pid : ℕ) (section : List ℕ) where
-  pub no-pat-back : (b : Bool) (o : Offered) (ks ms : List ℕ) (y : Index) (ws ss cs pids : List ℕ) → b ≡ readable section → b ≡ false → 128 ≤ length words
-      → leftWith o ks ms y (recordOf ws ss cs) ≡ takenBy (keptBy g c keys changes x (recordOf words slots cells)) input pid section → pids ≡ givenBack (left_of words ws) 8192 pids
-  no-pat-back b o ks ms y ws ss cs pids e f h q =
-      stayed-back words ws pids (ap (λ (l : Offering). l.left.kept.watch.words) q ∙ same-watch (keptBy g c keys changes x (recordOf words slots cells)) input pid section (sym e ∙ f)) h
+  pub no_pat_back : (b : Bool) (o : Offered) (ks ms : List ℕ) (y : Index) (ws ss cs pids : List ℕ) → b ≡ readable section → b ≡ false → 128 ≤ length words
+      → left_with o ks ms y (record_of ws ss cs) ≡ taken_by (kept_by g c keys changes x (record_of words slots cells)) input pid section → pids ≡ given_back (left_of words ws) 8192 pids
+  no_pat_back b o ks ms y ws ss cs pids e f h q =
+      stayed_back words ws pids (ap (λ (l : Offering). l.left.kept.watch.words) q ∙ same_watch (kept_by g c keys changes x (record_of words slots cells)) input pid section (sym e ∙ f)) h

@@ -2,23 +2,23 @@
 use Rattle.std.specs.Prelude.{List, ℕ, length}
 use Rattle.ring_index.specs.Store.{Index, Covers}
 use Rattle.pats.specs.Store.{Record}
-use Rattle.gate_pats_indexed.specs.Store.{KeptBy, keptBy}
+use Rattle.gate_pats_indexed.specs.Store.{KeptBy, kept_by}
 use Rattle.demux_steady.specs.Steady.{Steady}
-use Rattle.demux_indexed_turns.specs.Acts.{wordsBy, tellsBy, actsBy}
+use Rattle.demux_indexed_turns.specs.Acts.{words_by, tells_by, acts_by}
 use Rattle.demux_turns.specs.declared.Held.{Held}
-use Rattle.demux_turns.specs.Turns.{OffersOf, offersWith, turnedBy, turnsBy, TurnsOf}
+use Rattle.demux_turns.specs.Turns.{OffersOf, offers_with, turned_by, turns_by, TurnsOf}
 
 abbrev pub Offers : Type 0
 Offers = OffersOf KeptBy
 
-abbrev pub heldBy : Held → List ℕ → List ℕ → Index → Record → List ℕ → List ℕ → Offers
-heldBy h keys changes x r pids places = offersWith (keptBy h.gate h.counters keys changes x r) pids places
+abbrev pub held_by : Held → List ℕ → List ℕ → Index → Record → List ℕ → List ℕ → Offers
+held_by h keys changes x r pids places = offers_with (kept_by h.gate h.counters keys changes x r) pids places
 
 abbrev pub turned : (packet buffers : List ℕ) → (input pid k : ℕ) → Offers → Offers
-turned packet buffers input pid k o = turnedBy wordsBy tellsBy actsBy packet buffers input pid k o
+turned packet buffers input pid k o = turned_by words_by tells_by acts_by packet buffers input pid k o
 
-abbrev pub offersFrom : (packet buffers : List ℕ) → (input pid n k : ℕ) → Offers → Offers
-offersFrom packet buffers input pid n k o = turnsBy wordsBy tellsBy actsBy packet buffers input pid n k o
+abbrev pub offers_from : (packet buffers : List ℕ) → (input pid n k : ℕ) → Offers → Offers
+offers_from packet buffers input pid n k o = turns_by words_by tells_by acts_by packet buffers input pid n k o
 
 -- n more sections can be judged, and each row has a bucket and a link
 pub record SteadyBy (n : ℕ) (s : KeptBy) : Type 0 where

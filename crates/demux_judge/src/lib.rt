@@ -1,7 +1,7 @@
 // What a packet comes to before anything is written (docs/RULES.md, "Packets"): 10, 11, 37, then what its bytes, the watched PIDs and the words of the PIDs say.
 ghost use Rattle.std.specs.Prelude.{◌≡◌, length, max};
-ghost use Rattle.pats.specs.Store.{recordOf};
-ghost use Rattle.demux_judge.specs.Verdicts.{recordWhole, patCount, lentWhole, wholeWith, verdictOf, HasCount};
+ghost use Rattle.pats.specs.Store.{record_of};
+ghost use Rattle.demux_judge.specs.Verdicts.{record_whole, pat_count, lent_whole, whole_with, verdict_of, HasCount};
 
 use answers::Refusal;
 use counters::Counters;
@@ -29,7 +29,7 @@ const INPUTS: u8 = 16;
 
 // The watch record: the PAT store is looked at only where complete PATs are followed.
 fn is_record_whole(follow: Follow, words: &[u64], pat_slots: &[u32], pat_cells: &[u8]) -> bool
-    ensures { result ≡ recordWhole follow (recordOf words.now pat_slots.now pat_cells.now) }
+    ensures { result ≡ record_whole follow (record_of words.now pat_slots.now pat_cells.now) }
 {
     if follow.by_tables() {
         return pats::is_whole(words, pat_slots, pat_cells);
@@ -39,7 +39,7 @@ fn is_record_whole(follow: Follow, words: &[u64], pat_slots: &[u32], pat_cells: 
 
 // What is lent for the streams and the places.
 fn is_lent_whole(streams: Streams, pids: usize, buffers: usize, places: usize) -> bool
-    ensures { result ≡ lentWhole streams pids buffers places }
+    ensures { result ≡ lent_whole streams pids buffers places }
 {
     streams::inner::are_enough(streams.count, pids, buffers) & (PLACES_WORDS <= places)
 }
@@ -56,7 +56,7 @@ fn is_whole(
     buffers: usize,
     places: usize,
 ) -> bool
-    ensures { result ≡ wholeWith gate streams keys changes (recordOf words.now pat_slots.now pat_cells.now) pids buffers places }
+    ensures { result ≡ whole_with gate streams keys changes (record_of words.now pat_slots.now pat_cells.now) pids buffers places }
 {
     let follow = gate.follow;
     gate::inner::is_whole(gate, keys, changes, words.len())
@@ -75,7 +75,7 @@ fn larger(a: u64, b: u64) -> u64
 // The larger of the PAT store's evictions and its clock, 0 where complete PATs are not followed.
 fn pat_count(follow: Follow, words: &[u64]) -> u64
     requires { HasCount follow words.now }
-    ensures { result ≡ patCount follow words.now }
+    ensures { result ≡ pat_count follow words.now }
 {
     if follow.by_tables() {
         return larger(words[PAT_EVICTIONS], pats::clock_of(words));
@@ -100,7 +100,7 @@ pub fn judge(
     packet: &[u8],
     places: usize,
 ) -> Verdict
-    ensures { result ≡ verdictOf gate counters streams keys changes (recordOf words.now pat_slots.now pat_cells.now) pids.now buffers input packet.now places }
+    ensures { result ≡ verdict_of gate counters streams keys changes (record_of words.now pat_slots.now pat_cells.now) pids.now buffers input packet.now places }
 {
     if !is_whole(
         gate,

@@ -1,8 +1,8 @@
 // A section of a packet, offered to the gate (docs/RULES.md, "Packets"): PIDs that leave the watch by it give their buffers back.
 ghost use Rattle.std.specs.Prelude.{◌≡◌, ◌≤◌, length, take};
-ghost use Rattle.streams.specs.Store.{left_of, givenBack};
-ghost use Rattle.pats.specs.Store.{recordOf};
-ghost use Rattle.gate_pats.specs.Store.{keptOf, leftWith, takenWith};
+ghost use Rattle.streams.specs.Store.{left_of, given_back};
+ghost use Rattle.pats.specs.Store.{record_of};
+ghost use Rattle.gate_pats.specs.Store.{kept_of, left_with, taken_with};
 ghost use Rattle.demux_turns.specs.Offers.{OfferOk};
 
 use counters::Counters;
@@ -36,9 +36,9 @@ fn offer_pat(
     pid: u16,
     section: &[u8],
 ) -> Offered
-    requires { OfferOk gate (recordOf words.old pat_slots.old pat_cells.old) pids.old }
-    ensures pat_cells_after { leftWith result keys.new changes.new (recordOf words.new pat_slots.new pat_cells.new) ≡ takenWith (keptOf gate counters keys.old changes.old (recordOf words.old pat_slots.old pat_cells.old)) input pid section.now }
-    ensures pids_after { pids.new ≡ givenBack (left_of words.old words.new) 8192 pids.old }
+    requires { OfferOk gate (record_of words.old pat_slots.old pat_cells.old) pids.old }
+    ensures pat_cells_after { left_with result keys.new changes.new (record_of words.new pat_slots.new pat_cells.new) ≡ taken_with (kept_of gate counters keys.old changes.old (record_of words.old pat_slots.old pat_cells.old)) input pid section.now }
+    ensures pids_after { pids.new ≡ given_back (left_of words.old words.new) 8192 pids.old }
 {
     let mut before = [0u64; 128];
     copy_set(&mut before, words);
@@ -63,9 +63,9 @@ pub fn offer(
     pid: u16,
     section: &[u8],
 ) -> Offered
-    requires { OfferOk gate (recordOf words.old pat_slots.old pat_cells.old) pids.old }
-    ensures pat_cells_after { leftWith result keys.new changes.new (recordOf words.new pat_slots.new pat_cells.new) ≡ takenWith (keptOf gate counters keys.old changes.old (recordOf words.old pat_slots.old pat_cells.old)) input pid section.now }
-    ensures pids_after { pids.new ≡ givenBack (left_of words.old words.new) 8192 pids.old }
+    requires { OfferOk gate (record_of words.old pat_slots.old pat_cells.old) pids.old }
+    ensures pat_cells_after { left_with result keys.new changes.new (record_of words.new pat_slots.new pat_cells.new) ≡ taken_with (kept_of gate counters keys.old changes.old (record_of words.old pat_slots.old pat_cells.old)) input pid section.now }
+    ensures pids_after { pids.new ≡ given_back (left_of words.old words.new) 8192 pids.old }
 {
     if pat::is_readable(section) {
         return offer_pat(

@@ -1,8 +1,8 @@
 // The sections that a packet finished, offered to the gate one after another (docs/RULES.md, "Packets"): each place tells one, and is told the answer. After
 // each, PIDs that left the watch give their buffers back.
 ghost use Rattle.std.specs.Prelude.{◌≡◌};
-ghost use Rattle.pats.specs.Store.{recordOf};
-ghost use Rattle.demux_turns.specs.Offers.{held_of, turned, offersFrom, TurnOk, Turns};
+ghost use Rattle.pats.specs.Store.{record_of};
+ghost use Rattle.demux_turns.specs.Offers.{held_of, turned, offers_from, TurnOk, Turns};
 
 use demux_turns::Held;
 
@@ -22,10 +22,10 @@ fn turn<'a>(
     places: &mut [u64],
     k: usize,
 ) -> Held
-    requires { TurnOk held.gate (recordOf words.old pat_slots.old pat_cells.old) pids.old places.old k }
-    ensures { held_of result keys.new changes.new (recordOf words.new pat_slots.new pat_cells.new) pids.new places.new ≡ turned packet.now buffers.now input pid k (held_of held keys.old changes.old (recordOf words.old pat_slots.old pat_cells.old) pids.old places.old) }
+    requires { TurnOk held.gate (record_of words.old pat_slots.old pat_cells.old) pids.old places.old k }
+    ensures { held_of result keys.new changes.new (record_of words.new pat_slots.new pat_cells.new) pids.new places.new ≡ turned packet.now buffers.now input pid k (held_of held keys.old changes.old (record_of words.old pat_slots.old pat_cells.old) pids.old places.old) }
 {
-    let place = demux_places::place_at(places, k);
+    let place = demux_places::place_at_lem(places, k);
     let offered = demux_offer::offer(
         held.gate,
         held.counters,
@@ -62,8 +62,8 @@ pub fn offers<'a>(
     places: &mut [u64],
     count: usize,
 ) -> Held
-    requires { Turns (held_of held keys.old changes.old (recordOf words.old pat_slots.old pat_cells.old) pids.old places.old) count }
-    ensures { held_of result keys.new changes.new (recordOf words.new pat_slots.new pat_cells.new) pids.new places.new ≡ offersFrom packet.now buffers.now input pid count 0 (held_of held keys.old changes.old (recordOf words.old pat_slots.old pat_cells.old) pids.old places.old) }
+    requires { Turns (held_of held keys.old changes.old (record_of words.old pat_slots.old pat_cells.old) pids.old places.old) count }
+    ensures { held_of result keys.new changes.new (record_of words.new pat_slots.new pat_cells.new) pids.new places.new ≡ offers_from packet.now buffers.now input pid count 0 (held_of held keys.old changes.old (record_of words.old pat_slots.old pat_cells.old) pids.old places.old) }
 {
     let mut now = held;
     let mut k = 0;

@@ -1,7 +1,7 @@
 // One packet over the words of the PIDs and the section buffers, without the gate: what it comes to, and its payload read (docs/RULES.md, "Packets").
 ghost use Rattle.std.specs.Prelude.{◌≡◌, ◌<◌, ◌≤◌, length};
-ghost use Rattle.streams.specs.Store.{with_words, pidsRead, buffersRead, placesRead, countRead, InWords};
-ghost use Rattle.demux_packets.specs.Plans.{plan_of, load_plan, bufferPlan, noWords, Lent, Reads};
+ghost use Rattle.streams.specs.Store.{with_words, pids_read, buffers_read, places_read, count_read, InWords};
+ghost use Rattle.demux_packets.specs.Plans.{plan_of, load_plan, buffer_plan, no_words, Lent, Reads};
 
 use assemble::Words;
 use packet::{Load, Packet};
@@ -59,7 +59,7 @@ fn judge_load(load: Load, words: &[u64], pids: &[u64], count: usize) -> Plan
 fn judge_buffer(load: Load, pids: &[u64], count: usize) -> Plan
     requires in_bounds { (32768 ≤ length pids.now) × (count ≤ 8192) }
     requires pid_bound { load.pid.0 < 8192 }
-    ensures { result ≡ bufferPlan count pids.now load }
+    ensures { result ≡ buffer_plan count pids.now load }
 {
     let own = streams::inner::words(pids, load.pid);
     let number = streams::inner::buffer(own.number, count);
@@ -86,7 +86,7 @@ fn judge_buffer(load: Load, pids: &[u64], count: usize) -> Plan
 // The words of a PID that is not watched become 0.
 pub fn forget(pids: &mut [u64], pid: Pid)
     requires { InWords pids.old pid }
-    ensures { pids.new ≡ with_words pids.old pid noWords }
+    ensures { pids.new ≡ with_words pids.old pid no_words }
 {
     streams::inner::put(
         pids,
@@ -109,10 +109,10 @@ pub fn read(
     packet: &[u8],
 ) -> usize
     requires { Reads pids.old buffers.old places.old reading packet.now }
-    ensures value { result ≡ countRead reading.number reading.fresh pids.old buffers.old reading.load packet.now }
-    ensures pids_after { pids.new ≡ pidsRead reading.number reading.fresh pids.old buffers.old reading.load packet.now }
-    ensures buffers_after { buffers.new ≡ buffersRead reading.number reading.fresh pids.old buffers.old reading.load packet.now }
-    ensures places_after { places.new ≡ placesRead reading.number reading.fresh pids.old buffers.old reading.load packet.now places.old }
+    ensures value { result ≡ count_read reading.number reading.fresh pids.old buffers.old reading.load packet.now }
+    ensures pids_after { pids.new ≡ pids_read reading.number reading.fresh pids.old buffers.old reading.load packet.now }
+    ensures buffers_after { buffers.new ≡ buffers_read reading.number reading.fresh pids.old buffers.old reading.load packet.now }
+    ensures places_after { places.new ≡ places_read reading.number reading.fresh pids.old buffers.old reading.load packet.now places.old }
 {
     let load = reading.load;
     let number = reading.number;

@@ -1,9 +1,9 @@
 -- Packets passed over, over the gate without an index: how many, and the one content that is left, whatever is given (docs/RULES.md, "Packets").
 use Rattle.std.specs.Prelude.{List, ℕ}
 use Rattle.gate_pats.specs.Store.{Kept}
-use Rattle.demux_store.specs.Store.{Store, store_of, verdictIn, fed}
+use Rattle.demux_store.specs.Store.{Store, store_of, verdict_in, fed}
 use Rattle.demux_pass.specs.declared.Passed.{Passed}
-use Rattle.demux_pass.specs.Passing.{PassingOf, gone, passingBy}
+use Rattle.demux_pass.specs.Passing.{PassingOf, gone, passing_by}
 
 abbrev pub Passing : Type 0
 Passing = PassingOf Kept
@@ -13,4 +13,4 @@ passed_by r kept pids buffers places = gone r.number (store_of kept r.streams pi
 
 -- of the first `most` packets those before the first that is not passed over, each fed
 abbrev pub passing : (most : ℕ) → Store → (input : ℕ) → List ℕ → Passing
-passing most s input packets = passingBy verdictIn fed most s input packets
+passing most s input packets = passing_by verdict_in fed most s input packets

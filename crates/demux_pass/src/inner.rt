@@ -1,7 +1,7 @@
 // Behind the checks, the same for both forms of the gate.
 ghost use Rattle.std.specs.Prelude.{◌≡◌, ◌<◌, length};
 ghost use Rattle.passing.specs.Passing.{Looks};
-ghost use Rattle.demux_pass.specs.Passing.{most_of, wentBy, overFrom, CanPass};
+ghost use Rattle.demux_pass.specs.Passing.{most_of, went_by, over_from, CanPass};
 
 use crate::Passed;
 use streams::Streams;
@@ -24,7 +24,7 @@ fn most(counted: u64, there: usize) -> usize
 // Passes over what can be passed over, and counts it.
 pub fn pass(streams: Streams, words: &[u64], pids: &mut [u64], packets: &[u8]) -> Passed
     requires { CanPass streams words.now pids.old }
-    ensures { wentBy result pids.new ≡ overFrom streams words.now packets.now pids.old }
+    ensures { went_by result pids.new ≡ over_from streams words.now packets.now pids.old }
 {
     let all = most(streams.packets, packets.len() / packet::PACKET_BYTES);
     let number = passing::pass_over(words, pids, packets, all);

@@ -1,8 +1,8 @@
 // Many packets at once (docs/RULES.md, "Packets"): those at the front that a feed would pass over one by one are counted by one call, which looks at the gate,
 // the record and the counters once. The next packet is for `demux::feed`.
 ghost use Rattle.std.specs.Prelude.{◌≡◌, ◌/◌, length};
-ghost use Rattle.pats.specs.Store.{recordOf};
-ghost use Rattle.gate_pats.specs.Store.{keptOf};
+ghost use Rattle.pats.specs.Store.{record_of};
+ghost use Rattle.gate_pats.specs.Store.{kept_of};
 ghost use Rattle.demux_store.specs.Store.{store_of};
 ghost use Rattle.demux_pass.specs.Store.{passed_by, passing};
 
@@ -36,7 +36,7 @@ pub fn pass(
     packets: &[u8],
     places: &[u64],
 ) -> Passed
-    ensures { passed_by result (keptOf gate counters keys.now changes.now (recordOf words.now pat_slots.now pat_cells.now)) pids.new buffers.now places.now ≡ passing (length packets.now / 188) (store_of (keptOf gate counters keys.now changes.now (recordOf words.now pat_slots.now pat_cells.now)) streams pids.old buffers.now places.now) input packets.now }
+    ensures { passed_by result (kept_of gate counters keys.now changes.now (record_of words.now pat_slots.now pat_cells.now)) pids.new buffers.now places.now ≡ passing (length packets.now / 188) (store_of (kept_of gate counters keys.now changes.now (record_of words.now pat_slots.now pat_cells.now)) streams pids.old buffers.now places.now) input packets.now }
 {
     // What refuses a packet does not look at it.
     match demux_judge::judge(

@@ -1,8 +1,8 @@
 // The places, 6 words each, that tell of the sections which a packet finished (docs/RULES.md, "Packets"): words 3 to 5, where the bytes are, are read; words 0
 // to 2, what the gate answered, are written.
 ghost use Rattle.std.specs.Prelude.{◌≡◌, ◌+◌, ◌*◌, ◌<◌, length, take, drop};
-ghost use Rattle.gate_state.specs.State.{said_of, failureSaid};
-ghost use Rattle.demux_places.specs.Places.{placeAt, bytes_at, outcomeOf, answered};
+ghost use Rattle.gate_state.specs.State.{said_of, failure_said};
+ghost use Rattle.demux_places.specs.Places.{place_at, bytes_at, outcome_of, answered};
 
 use gate_state::Answer;
 use offers::Failure;
@@ -29,9 +29,9 @@ const IN_PACKET: u64 = 0;
 
 // ---- where a section is
 
-pub fn place_at(places: &[u64], k: usize) -> Place
+pub fn place_at_lem(places: &[u64], k: usize) -> Place
     requires { k * 6 + 5 < length places.now }
-    ensures { result ≡ placeAt places.now k }
+    ensures { result ≡ place_at places.now k }
 {
     let at = k * PLACE_WORDS;
     Place {
@@ -69,7 +69,7 @@ pub fn section_at<'a>(packet: &'a [u8], buffers: &'a [u8], place: Place) -> &'a 
 // ---- what the gate answered
 
 fn failed(failure: Failure) -> Outcome
-    ensures { result ≡ outcomeOf (failureSaid failure) }
+    ensures { result ≡ outcome_of (failure_said failure) }
 {
     match failure {
         Failure::TooShort(_) => Outcome {
@@ -86,7 +86,7 @@ fn failed(failure: Failure) -> Outcome
 }
 
 fn outcome_of(answer: Answer) -> Outcome
-    ensures { result ≡ outcomeOf (said_of answer) }
+    ensures { result ≡ outcome_of (said_of answer) }
 {
     match answer {
         Answer::Emitted => Outcome {

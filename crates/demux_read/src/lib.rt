@@ -1,8 +1,8 @@
 // A payload over slices that the caller has judged (docs/RULES.md, "Packets").
 ghost use Rattle.std.specs.Prelude.{◌≡◌};
-ghost use Rattle.pats.specs.Store.{recordOf};
-ghost use Rattle.gate_pats.specs.Store.{keptOf};
-ghost use Rattle.demux_store.specs.Store.{store_of, fedBy, readIn, ReadsOk};
+ghost use Rattle.pats.specs.Store.{record_of};
+ghost use Rattle.gate_pats.specs.Store.{kept_of};
+ghost use Rattle.demux_store.specs.Store.{store_of, fed_by, read_in, ReadsOk};
 
 use counters::Counters;
 use demux_packets::Reading;
@@ -28,8 +28,8 @@ pub fn read(
     places: &mut [u64],
     reading: Reading,
 ) -> Fed
-    requires { ReadsOk (store_of (keptOf gate counters keys.old changes.old (recordOf words.old pat_slots.old pat_cells.old)) streams pids.old buffers.old places.old) packet.now reading }
-    ensures { fedBy result keys.new changes.new (recordOf words.new pat_slots.new pat_cells.new) pids.new buffers.new places.new ≡ readIn (store_of (keptOf gate counters keys.old changes.old (recordOf words.old pat_slots.old pat_cells.old)) streams pids.old buffers.old places.old) input packet.now reading }
+    requires { ReadsOk (store_of (kept_of gate counters keys.old changes.old (record_of words.old pat_slots.old pat_cells.old)) streams pids.old buffers.old places.old) packet.now reading }
+    ensures { fed_by result keys.new changes.new (record_of words.new pat_slots.new pat_cells.new) pids.new buffers.new places.new ≡ read_in (store_of (kept_of gate counters keys.old changes.old (record_of words.old pat_slots.old pat_cells.old)) streams pids.old buffers.old places.old) input packet.now reading }
 {
     let load = reading.load;
     let pid = load.pid;

@@ -1,6 +1,6 @@
 -- What the packet layer has and answers without its slices (docs/RULES.md, "Packets" and "Answers"). `cond test a b` is a where the test is true, else b.
 use Rattle.std.specs.Prelude.{ℕ, ◌+◌, ◌^◌, ◌<◌, Bool, ◌||◌, leb}
-use Rattle.answers.specs.Answers.{refusalNo}
+use Rattle.answers.specs.Answers.{refusal_no}
 use Rattle.counters.specs.declared.Counters.{Counters}
 use Rattle.gate_state.specs.declared.Gate.{Gate}
 use Rattle.streams.specs.declared.Streams.{Streams}
@@ -18,34 +18,34 @@ abbrev pub number_of : Said → ℕ
 number_of (plain n) = n
 number_of (finished n) = 29
 
-abbrev pub finishedOf : Said → ℕ
-finishedOf (plain n) = 0
-finishedOf (finished n) = n
+abbrev pub finished_of : Said → ℕ
+finished_of (plain n) = 0
+finished_of (finished n) = n
 
 abbrev pub said_of : Answer → Said
 said_of (Taken n) = finished n
 said_of Malformed = plain 30
 said_of NoBuffer = plain 43
-said_of (Refused r) = plain (refusalNo r)
+said_of (Refused r) = plain (refusal_no r)
 
-abbrev pub fedWith : Answer → Gate → Counters → Streams → Fed
-fedWith a g c s = record { answer = a; gate = g; counters = c; streams = s }
+abbrev pub fed_with : Answer → Gate → Counters → Streams → Fed
+fed_with a g c s = record { answer = a; gate = g; counters = c; streams = s }
 
 -- ---- 11
 
 -- within 64 of the end: 2^64 - 1 less the number is at most 64
-abbrev pub isNear : ℕ → Bool
-isNear n = leb 18446744073709551551 n
+abbrev pub is_near : ℕ → Bool
+is_near n = leb 18446744073709551551 n
 
 -- of the gate's counters
-abbrev pub anyNear : Counters → Bool
-anyNear c =
-    isNear c.completed || isNear c.emitted || isNear c.suppressed || isNear c.crc_failures || isNear c.short_sections
-    || isNear c.crc_mismatches || isNear c.evictions
+abbrev pub any_near : Counters → Bool
+any_near c =
+    is_near c.completed || is_near c.emitted || is_near c.suppressed || is_near c.crc_failures || is_near c.short_sections
+    || is_near c.crc_mismatches || is_near c.evictions
 
 -- these, the two of the streams, and that of the PAT store
-abbrev pub nearEnd : Counters → Streams → (pats : ℕ) → Bool
-nearEnd c s pats = anyNear c || isNear s.packets || isNear s.malformed || isNear pats
+abbrev pub near_end : Counters → Streams → (pats : ℕ) → Bool
+near_end c s pats = any_near c || is_near s.packets || is_near s.malformed || is_near pats
 
 -- k more of each of the gate's counters fit
 pub record Spare (k : ℕ) (c : Counters) : Type 0 where
@@ -69,8 +69,8 @@ pub record Spares (c : Counters) (s : Streams) (pats : ℕ) : Type 0 where
 
 -- ---- the counts of a packet
 
-abbrev pub packetCounted : Streams → Streams
-packetCounted s = record { count = s.count; packets = s.packets + 1; malformed = s.malformed }
+abbrev pub packet_counted : Streams → Streams
+packet_counted s = record { count = s.count; packets = s.packets + 1; malformed = s.malformed }
 
-abbrev pub malformedCounted : Streams → Streams
-malformedCounted s = record { count = s.count; packets = s.packets + 1; malformed = s.malformed + 1 }
+abbrev pub malformed_counted : Streams → Streams
+malformed_counted s = record { count = s.count; packets = s.packets + 1; malformed = s.malformed + 1 }

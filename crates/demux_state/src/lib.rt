@@ -1,7 +1,7 @@
 // The packet layer without its slices (docs/RULES.md, "Packets"): what a packet answers, the record of an answer with what it leaves by value, the counts that a
 // packet moves, and whether a counter is near its end. No slice is lent here.
 ghost use Rattle.std.specs.Prelude.{◌≡◌, false};
-ghost use Rattle.demux_state.specs.State.{said_of, number_of, finishedOf, anyNear, nearEnd, Spares, packetCounted, malformedCounted, CanFeed};
+ghost use Rattle.demux_state.specs.State.{said_of, number_of, finished_of, any_near, near_end, Spares, packet_counted, malformed_counted, CanFeed};
 
 use answers::Refusal;
 use counters::Counters;
@@ -32,7 +32,7 @@ impl Answer {
 
     // How many sections the packet finished: as many places tell of one.
     pub fn finished(self) -> usize
-        ensures { result ≡ finishedOf (said_of self) }
+        ensures { result ≡ finished_of (said_of self) }
     {
         match self {
             Answer::Taken(n) => n,
@@ -58,7 +58,7 @@ const NEAR: u64 = 18446744073709551551;
 
 // One of the gate's counters.
 fn any_near(c: Counters) -> bool
-    ensures { result ≡ anyNear c }
+    ensures { result ≡ any_near c }
 {
     (NEAR <= c.completed)
         | (NEAR <= c.emitted)
@@ -72,7 +72,7 @@ fn any_near(c: Counters) -> bool
 // One of the gate's, the streams' two, or `pats`, the count of PAT sets that left their store; 0 where none are collected. Where none is near its end, each has
 // room for 64 more.
 pub fn near_end(c: Counters, s: Streams, pats: u64) -> bool
-    ensures value { result ≡ nearEnd c s pats }
+    ensures value { result ≡ near_end c s pats }
     ensures spares { result ≡ false → Spares c s pats }
 {
     any_near(c) | (NEAR <= s.packets) | (NEAR <= s.malformed) | (NEAR <= pats)
@@ -83,7 +83,7 @@ pub fn near_end(c: Counters, s: Streams, pats: u64) -> bool
 // One more packet.
 pub fn count(s: Streams) -> Streams
     requires { CanFeed s }
-    ensures { result ≡ packetCounted s }
+    ensures { result ≡ packet_counted s }
 {
     Streams {
         count: s.count,
@@ -95,7 +95,7 @@ pub fn count(s: Streams) -> Streams
 // One more, and it is malformed.
 pub fn count_malformed(s: Streams) -> Streams
     requires { CanFeed s }
-    ensures { result ≡ malformedCounted s }
+    ensures { result ≡ malformed_counted s }
 {
     Streams {
         count: s.count,

@@ -2,15 +2,15 @@
 -- watch, and what it answers and keeps after a section. `cond test a b` is a where the test is true, else b.
 use Rattle.std.specs.Prelude.{cond, List, ℕ, eqb}
 use Rattle.gate_state.specs.State.{Said}
-use Rattle.streams.specs.Store.{with_words, pidsRead, buffersRead, placesRead, countRead, InWords}
+use Rattle.streams.specs.Store.{with_words, pids_read, buffers_read, places_read, count_read, InWords}
 use Rattle.streams.specs.declared.Streams.{Streams}
 use Rattle.demux_state.specs.State as feeding
-use Rattle.demux_state.specs.State.{plain, finished, packetCounted, malformedCounted, CanFeed}
+use Rattle.demux_state.specs.State.{plain, finished, packet_counted, malformed_counted, CanFeed}
 use Rattle.demux_packets.specs.declared.Reading.{Reading}
 use Rattle.demux_packets.specs.declared.Plan.{Plan}
 use Rattle.demux_packets.specs.declared.Plan.TheVariants.{Malformed, Nothing, Unwatched, NoBuffer, Read}
-use Rattle.demux_packets.specs.Plans.{noWords, Reads}
-use Rattle.demux_turns.specs.Turns.{OffersOf, offersWith, turnsBy}
+use Rattle.demux_packets.specs.Plans.{no_words, Reads}
+use Rattle.demux_turns.specs.Turns.{OffersOf, offers_with, turns_by}
 
 -- the gate, and of one input its streams, the words of its PIDs, its buffers; and the places
 pub record StoreOf (S : Type 0) : Type 0 where
@@ -32,36 +32,36 @@ abbrev pub left : {S : Type 0} → feeding.Said → StoreOf S → LeftOf S
 left a s = record { answer = a; store = s }
 
 -- what only counts
-abbrev pub withStreams : {S : Type 0} → StoreOf S → Streams → StoreOf S
-withStreams s t = store_of s.gate t s.pids s.buffers s.places
+abbrev pub with_streams : {S : Type 0} → StoreOf S → Streams → StoreOf S
+with_streams s t = store_of s.gate t s.pids s.buffers s.places
 
 -- the words of a PID that is not watched become 0
 abbrev pub forgotten : {S : Type 0} → StoreOf S → List ℕ → StoreOf S
-forgotten s pids = store_of s.gate (packetCounted s.streams) pids s.buffers s.places
+forgotten s pids = store_of s.gate (packet_counted s.streams) pids s.buffers s.places
 
 -- what an answer other than 29 counts: 30 packets and malformed, 43 packets, every other nothing
-abbrev pub countedBy : (answer : ℕ) → Streams → Streams
-countedBy answer s = cond (eqb answer 30) (malformedCounted s) (cond (eqb answer 43) (packetCounted s) s)
+abbrev pub counted_by : (answer : ℕ) → Streams → Streams
+counted_by answer s = cond (eqb answer 30) (malformed_counted s) (cond (eqb answer 43) (packet_counted s) s)
 
 module _ {S : Type 0} (words_in : S → List ℕ) (tells : S → (input pid : ℕ) → List ℕ → Said) (acts : S → (input pid : ℕ) → List ℕ → S) where
   -- the payload is read whole, then each section that it finished is offered
   unfoldable pub read_by : StoreOf S → (input : ℕ) → List ℕ → Reading → LeftOf S
   read_by s input packet r =
-      let n : ℕ = countRead r.number r.fresh s.pids s.buffers r.load packet in
-      let buffers : List ℕ = buffersRead r.number r.fresh s.pids s.buffers r.load packet in
+      let n : ℕ = count_read r.number r.fresh s.pids s.buffers r.load packet in
+      let buffers : List ℕ = buffers_read r.number r.fresh s.pids s.buffers r.load packet in
       let start : OffersOf S =
-      offersWith s.gate (pidsRead r.number r.fresh s.pids s.buffers r.load packet)
-      (placesRead r.number r.fresh s.pids s.buffers r.load packet s.places) in
-      let o : OffersOf S = turnsBy words_in tells acts packet buffers input r.load.pid.0 n 0 start in
-      left (finished n) (store_of o.gate (packetCounted s.streams) o.pids buffers o.places)
+      offers_with s.gate (pids_read r.number r.fresh s.pids s.buffers r.load packet)
+      (places_read r.number r.fresh s.pids s.buffers r.load packet s.places) in
+      let o : OffersOf S = turns_by words_in tells acts packet buffers input r.load.pid.0 n 0 start in
+      left (finished n) (store_of o.gate (packet_counted s.streams) o.pids buffers o.places)
 
   -- 30, 29 with 0, 43, or 29 with the sections that were finished
-  unfoldable pub plannedBy : StoreOf S → (input : ℕ) → List ℕ → Plan → LeftOf S
-  plannedBy s input packet Malformed = left (plain 30) (withStreams s (malformedCounted s.streams))
-  plannedBy s input packet Nothing = left (finished 0) (withStreams s (packetCounted s.streams))
-  plannedBy s input packet (Unwatched pid) = left (finished 0) (forgotten s (with_words s.pids pid noWords))
-  plannedBy s input packet NoBuffer = left (plain 43) (withStreams s (packetCounted s.streams))
-  plannedBy s input packet (Read r) = read_by s input packet r
+  unfoldable pub planned_by : StoreOf S → (input : ℕ) → List ℕ → Plan → LeftOf S
+  planned_by s input packet Malformed = left (plain 30) (with_streams s (malformed_counted s.streams))
+  planned_by s input packet Nothing = left (finished 0) (with_streams s (packet_counted s.streams))
+  planned_by s input packet (Unwatched pid) = left (finished 0) (forgotten s (with_words s.pids pid no_words))
+  planned_by s input packet NoBuffer = left (plain 43) (with_streams s (packet_counted s.streams))
+  planned_by s input packet (Read r) = read_by s input packet r
 
 -- ---- what the functions ask; of the gate, that it is ready for the sections of a packet
 

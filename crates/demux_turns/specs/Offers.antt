@@ -2,22 +2,22 @@
 use Rattle.std.specs.Prelude.{List, ℕ, ◌+◌, ◌*◌, ◌≤◌, ◌<◌, length}
 use Rattle.gate_state.specs.declared.Gate.{Gate}
 use Rattle.pats.specs.Store.{Record}
-use Rattle.gate_pats.specs.Store.{Kept, keptOf, RecordReady}
+use Rattle.gate_pats.specs.Store.{Kept, kept_of, RecordReady}
 use Rattle.demux_steady.specs.Steady.{words_in, tells, acts, Steady}
 use Rattle.demux_turns.specs.declared.Held.{Held}
-use Rattle.demux_turns.specs.Turns.{OffersOf, offersWith, turnedBy, turnsBy, TurnsOf}
+use Rattle.demux_turns.specs.Turns.{OffersOf, offers_with, turned_by, turns_by, TurnsOf}
 
 abbrev pub Offers : Type 0
 Offers = OffersOf Kept
 
 abbrev pub held_of : Held → List ℕ → List ℕ → Record → List ℕ → List ℕ → Offers
-held_of h keys changes r pids places = offersWith (keptOf h.gate h.counters keys changes r) pids places
+held_of h keys changes r pids places = offers_with (kept_of h.gate h.counters keys changes r) pids places
 
 abbrev pub turned : (packet buffers : List ℕ) → (input pid k : ℕ) → Offers → Offers
-turned packet buffers input pid k o = turnedBy words_in tells acts packet buffers input pid k o
+turned packet buffers input pid k o = turned_by words_in tells acts packet buffers input pid k o
 
-abbrev pub offersFrom : (packet buffers : List ℕ) → (input pid n k : ℕ) → Offers → Offers
-offersFrom packet buffers input pid n k o = turnsBy words_in tells acts packet buffers input pid n k o
+abbrev pub offers_from : (packet buffers : List ℕ) → (input pid n k : ℕ) → Offers → Offers
+offers_from packet buffers input pid n k o = turns_by words_in tells acts packet buffers input pid n k o
 
 -- ---- what the functions ask
 

@@ -2,10 +2,10 @@
 // sections by rising table_id and number in lent bytes. These are the parts of `guides`, which has made sure that both sides are laid so.
 ghost use Rattle.std.specs.Prelude.{◌≡◌, cond, ◌+◌, ◌≤◌, ◌<◌, min, length, set};
 ghost use Rattle.std.proofs.lemmas.List.Edits.{sets};
-ghost use Rattle.laid.specs.Laid.{sectionsIn};
+ghost use Rattle.laid.specs.Laid.{sections_in};
 ghost use Rattle.laid.specs.Walk.{Sectioned};
-ghost use Rattle.differences.specs.Rules.{firstPlace, tableWord, tableWords};
-ghost use Rattle.differences.specs.Walk.{SameTo, onlyOf, differenceOf, entryWords, Ranked, allDifferences, allWords, Tabled};
+ghost use Rattle.differences.specs.Rules.{first_place, table_word, table_words};
+ghost use Rattle.differences.specs.Walk.{SameTo, only_of, difference_of, entry_words, Ranked, all_differences, all_words, Tabled};
 
 // How two sections of one table and number differ: the kind of the entry (0: they do not), and the first differing place.
 #[derive(Drop)]
@@ -41,7 +41,7 @@ fn same_blocks(x: &[u8], y: &[u8]) -> usize
     let n = shorter(x.len(), y.len());
     let mut i = 0;
     while BLOCK <= n - i {
-        if !cells::same_bytes(&x[i..i + BLOCK], &y[i..i + BLOCK]) {
+        if !cells::same_bytes_lem(&x[i..i + BLOCK], &y[i..i + BLOCK]) {
             return i;
         }
         i += BLOCK;
@@ -51,7 +51,7 @@ fn same_blocks(x: &[u8], y: &[u8]) -> usize
 
 // The first byte at which the two differ, the shorter length where there is none.
 fn first_place(x: &[u8], y: &[u8]) -> usize
-    ensures { (result ≡ firstPlace x.now y.now) × (result ≤ length x.now) }
+    ensures { (result ≡ first_place x.now y.now) × (result ≤ length x.now) }
 {
     let n = shorter(x.len(), y.len());
     let mut i = same_blocks(x, y);
@@ -65,7 +65,7 @@ fn first_place(x: &[u8], y: &[u8]) -> usize
 }
 
 fn only(kind: u32) -> Difference
-    ensures { result ≡ onlyOf kind }
+    ensures { result ≡ only_of kind }
 {
     Difference { kind, place: 0 }
 }
@@ -73,7 +73,7 @@ fn only(kind: u32) -> Difference
 // How two sections of one rank differ; an empty part stands for a section that is not there.
 fn compare_sections(x: &[u8], y: &[u8]) -> Difference
     requires { length x.now ≤ 4098 }
-    ensures { result ≡ differenceOf x.now y.now }
+    ensures { result ≡ difference_of x.now y.now }
 {
     if x.len() == 0 {
         if y.len() == 0 {
@@ -108,8 +108,8 @@ fn put(list: &mut [u32], k: usize, v: u32)
 // The four words of an entry go in at `at`, none of kind 0. What the list has no room for is left out: a pass that only counts is lent none.
 fn put_entry(list: &mut [u32], at: usize, rank: usize, d: Difference) -> usize
     requires { (at < 18446744073709551000) × (rank < 65536) }
-    ensures value { (result ≡ at + length (entryWords rank d)) × (result ≤ at + 4) }
-    ensures list_after { list.new ≡ sets list.old at (entryWords rank d) }
+    ensures value { (result ≡ at + length (entry_words rank d)) × (result ≤ at + 4) }
+    ensures list_after { list.new ≡ sets list.old at (entry_words rank d) }
 {
     if d.kind == 0 {
         return at;
@@ -126,8 +126,8 @@ fn put_entry(list: &mut [u32], at: usize, rank: usize, d: Difference) -> usize
 pub fn list_differences(first: &[u8], second: &[u8], list: &mut [u32]) -> usize
     requires ranked { Ranked first.now }
     requires ranked_2 { Ranked second.now }
-    ensures value { result ≡ length (allWords first.now second.now) }
-    ensures list_after { list.new ≡ sets list.old 0 (allWords first.now second.now) }
+    ensures value { result ≡ length (all_words first.now second.now) }
+    ensures list_after { list.new ≡ sets list.old 0 (all_words first.now second.now) }
 {
     let mut i = 0;
     let mut j = 0;
@@ -147,7 +147,7 @@ pub fn list_differences(first: &[u8], second: &[u8], list: &mut [u32]) -> usize
 pub fn count(first: &[u8], second: &[u8]) -> usize
     requires ranked { Ranked first.now }
     requires ranked_2 { Ranked second.now }
-    ensures { result ≡ length (allDifferences (sectionsIn first.now) (sectionsIn second.now)) }
+    ensures { result ≡ length (all_differences (sections_in first.now) (sections_in second.now)) }
 {
     let mut none = [0u32; 1];
     list_differences(first, second, &mut none[0..0]) / ENTRY_WORDS
@@ -165,7 +165,7 @@ fn unless(agree: bool, n: u32) -> u32
 fn table_word(x: &[u8], y: &[u8]) -> u32
     requires sectioned { Sectioned x.now }
     requires sectioned_2 { Sectioned y.now }
-    ensures { result ≡ tableWord x.now y.now }
+    ensures { result ≡ table_word x.now y.now }
 {
     if x.len() == 0 {
         if y.len() == 0 {
@@ -186,7 +186,7 @@ pub fn table_words(first: &[u8], second: &[u8], base: usize) -> [u32; 16]
     requires base_bound { base ≤ 240 }
     requires tabled { Tabled base first.now }
     requires tabled_2 { Tabled base second.now }
-    ensures { result ≡ tableWords base (sectionsIn first.now) (sectionsIn second.now) }
+    ensures { result ≡ table_words base (sections_in first.now) (sections_in second.now) }
 {
     let mut words = [0u32; 16];
     let mut i = 0;

@@ -13,40 +13,40 @@ use Rattle.eit_state.specs.declared.PushAnswer.{PushAnswer}
 use Rattle.eit_state.specs.declared.PushAnswer.TheVariants.{Nothing, Set, Schedule, Refused}
 use Rattle.eit_state.specs.State.{Store}
 use Rattle.eit_drop.specs.declared.Filter.{Filter}
-use Rattle.eit.specs.Store.{Told, done, nothing, a-set, a-schedule, refused, setOut, scheduleOut, After, answer_of, outcomeOf, turned, pushed, opened_of, pushedOf, clearedOf, droppedOf, next_of, nextInOf}
+use Rattle.eit.specs.Store.{Told, done, nothing, a_set, a_schedule, refused, set_out_lem, schedule_out, After, answer_of, outcome_of, turned, pushed, opened_of, pushed_of, cleared_of, dropped_of, next_of, next_in_of}
 
 -- the answer that is told
-abbrev toldAnswer : Told → PushAnswer
-toldAnswer done = Nothing
-toldAnswer nothing = Nothing
-toldAnswer (a-set x) = Set x.row
-toldAnswer (a-schedule x) = Schedule x.row
-toldAnswer (refused r) = Refused r
+abbrev told_answer : Told → PushAnswer
+told_answer done = Nothing
+told_answer nothing = Nothing
+told_answer (a_set x) = Set x.row
+told_answer (a_schedule x) = Schedule x.row
+told_answer (refused r) = Refused r
 
-answer_back : (a : PushAnswer) (s : Store) → toldAnswer (answer_of a s) ≡ a
-unfolding setOut scheduleOut
+answer_back : (a : PushAnswer) (s : Store) → told_answer (answer_of a s) ≡ a
+unfolding set_out_lem schedule_out
 answer_back Nothing s = refl
 answer_back (Set i) s = refl
 answer_back (Schedule k) s = refl
 answer_back (Refused r) s = refl
 
-abbrev toldOutcome : Told → Outcome
-toldOutcome done = outcome.Done
-toldOutcome nothing = outcome.Done
-toldOutcome (a-set x) = outcome.Done
-toldOutcome (a-schedule x) = outcome.Done
-toldOutcome (refused r) = outcome.Refused r
+abbrev told_outcome : Told → Outcome
+told_outcome done = outcome.Done
+told_outcome nothing = outcome.Done
+told_outcome (a_set x) = outcome.Done
+told_outcome (a_schedule x) = outcome.Done
+told_outcome (refused r) = outcome.Refused r
 
-outcome-back : (a : Outcome) → toldOutcome (outcomeOf a) ≡ a
-outcome-back outcome.Done = refl
-outcome-back (outcome.Refused r) = refl
+outcome_back : (a : Outcome) → told_outcome (outcome_of a) ≡ a
+outcome_back outcome.Done = refl
+outcome_back (outcome.Refused r) = refl
 
 -- the five slices are the same
 pub record Same (h l c t u h' l' c' t' u' : List ℕ) : Type 0 where
   pub heads : h ≡ h'
   pub slots : l ≡ l'
   pub cells : c ≡ c'
-  pub schedule-heads : t ≡ t'
+  pub schedule_heads : t ≡ t'
   pub units : u ≡ u'
 
 module _ (h l c t u h' l' c' t' u' : List ℕ) where
@@ -54,32 +54,32 @@ module _ (h l c t u h' l' c' t' u' : List ℕ) where
   turning d r r' p p' =
       let q : turned r h l c t u ≡ turned r' h' l' c' t' u' = p ∙ sym p' in
       let e : r.eit ≡ r'.eit = ap (λ (x : After). x.store.eit) q in
-      let a : r.answer ≡ r'.answer = sym (outcome-back r.answer) ∙ ap (λ (x : After). toldOutcome x.told) q ∙ outcome-back r'.answer in (
+      let a : r.answer ≡ r'.answer = sym (outcome_back r.answer) ∙ ap (λ (x : After). told_outcome x.told) q ∙ outcome_back r'.answer in (
         (λ i. record { answer = a i; eit = e i }),
-        record { heads = ap (λ (x : After). x.store.heads) q; slots = ap (λ (x : After). x.store.slots) q; cells = ap (λ (x : After). x.store.cells) q; schedule-heads = ap (λ (x : After). x.store.schedule-heads) q; units = ap (λ (x : After). x.store.units) q },
+        record { heads = ap (λ (x : After). x.store.heads) q; slots = ap (λ (x : After). x.store.slots) q; cells = ap (λ (x : After). x.store.cells) q; schedule_heads = ap (λ (x : After). x.store.schedule_heads) q; units = ap (λ (x : After). x.store.units) q },
       )
 
   pub opening : (s : Store) (r r' : Turned) → turned r h l c t u ≡ opened_of s → turned r' h' l' c' t' u' ≡ opened_of s → (r ≡ r') × Same h l c t u h' l' c' t' u'
   opening s = turning (opened_of s)
 
-  pub clearing : (s : Store) (r r' : Turned) → turned r h l c t u ≡ clearedOf s → turned r' h' l' c' t' u' ≡ clearedOf s → (r ≡ r') × Same h l c t u h' l' c' t' u'
-  clearing s = turning (clearedOf s)
+  pub clearing : (s : Store) (r r' : Turned) → turned r h l c t u ≡ cleared_of s → turned r' h' l' c' t' u' ≡ cleared_of s → (r ≡ r') × Same h l c t u h' l' c' t' u'
+  clearing s = turning (cleared_of s)
 
-  pub dropping : (s : Store) (f : Filter) (r r' : Turned) → turned r h l c t u ≡ droppedOf s f → turned r' h' l' c' t' u' ≡ droppedOf s f → (r ≡ r') × Same h l c t u h' l' c' t' u'
-  dropping s f = turning (droppedOf s f)
+  pub dropping : (s : Store) (f : Filter) (r r' : Turned) → turned r h l c t u ≡ dropped_of s f → turned r' h' l' c' t' u' ≡ dropped_of s f → (r ≡ r') × Same h l c t u h' l' c' t' u'
+  dropping s f = turning (dropped_of s f)
 
-  pub pushing : (s : Store) (input : ℕ) (pid : MaybePid) (bytes : List ℕ) (r r' : Pushed) → pushed r h l c t u ≡ pushedOf s input pid bytes → pushed r' h' l' c' t' u' ≡ pushedOf s input pid bytes → (r ≡ r') × Same h l c t u h' l' c' t' u'
+  pub pushing : (s : Store) (input : ℕ) (pid : MaybePid) (bytes : List ℕ) (r r' : Pushed) → pushed r h l c t u ≡ pushed_of s input pid bytes → pushed r' h' l' c' t' u' ≡ pushed_of s input pid bytes → (r ≡ r') × Same h l c t u h' l' c' t' u'
   pushing s input pid bytes r r' p p' =
       let q : pushed r h l c t u ≡ pushed r' h' l' c' t' u' = p ∙ sym p' in
       let e : r.eit ≡ r'.eit = ap (λ (x : After). x.store.eit) q in
-      let a : r.answer ≡ r'.answer = sym (answer_back r.answer _) ∙ ap (λ (x : After). toldAnswer x.told) q ∙ answer_back r'.answer _ in (
+      let a : r.answer ≡ r'.answer = sym (answer_back r.answer _) ∙ ap (λ (x : After). told_answer x.told) q ∙ answer_back r'.answer _ in (
         (λ i. record { answer = a i; eit = e i }),
-        record { heads = ap (λ (x : After). x.store.heads) q; slots = ap (λ (x : After). x.store.slots) q; cells = ap (λ (x : After). x.store.cells) q; schedule-heads = ap (λ (x : After). x.store.schedule-heads) q; units = ap (λ (x : After). x.store.units) q },
+        record { heads = ap (λ (x : After). x.store.heads) q; slots = ap (λ (x : After). x.store.slots) q; cells = ap (λ (x : After). x.store.cells) q; schedule_heads = ap (λ (x : After). x.store.schedule_heads) q; units = ap (λ (x : After). x.store.units) q },
       )
 
 -- a question leaves everything as it was: one answer
-pub next-section : (s : Store) (row from : ℕ) (r r' : Next) → r ≡ next_of s row from → r' ≡ next_of s row from → r ≡ r'
-next-section s row from r r' p p' = p ∙ sym p'
+pub next_section : (s : Store) (row from : ℕ) (r r' : Next) → r ≡ next_of s row from → r' ≡ next_of s row from → r ≡ r'
+next_section s row from r r' p p' = p ∙ sym p'
 
-pub next-in-schedule : (s : Store) (row table from : ℕ) (r r' : Next) → r ≡ nextInOf s row table from → r' ≡ nextInOf s row table from → r ≡ r'
-next-in-schedule s row table from r r' p p' = p ∙ sym p'
+pub next_in_schedule : (s : Store) (row table from : ℕ) (r r' : Next) → r ≡ next_in_of s row table from → r' ≡ next_in_of s row table from → r ≡ r'
+next_in_schedule s row table from r r' p p' = p ∙ sym p'

@@ -4,7 +4,7 @@
 // refusal leaves them as they were, but 22, which touches the key, and 23, which keeps the section.
 ghost use Rattle.std.specs.Prelude.{◌≡◌};
 ghost use Rattle.eit_state.specs.State.{store, asked};
-ghost use Rattle.eit.specs.Store.{turned, pushed, opened_of, clearedOf, droppedOf, pushedOf, next_of, nextInOf};
+ghost use Rattle.eit.specs.Store.{turned, pushed, opened_of, cleared_of, dropped_of, pushed_of, next_of, next_in_of};
 
 use answers::{Outcome, Refusal, Reply};
 use arrivals::EitArrival;
@@ -50,7 +50,7 @@ pub fn push(
     pid: MaybePid,
     bytes: &[u8],
 ) -> Pushed
-    ensures { pushed result heads.new slots.new cells.new schedule_heads.new units.new ≡ pushedOf (store eit heads.old slots.old cells.old schedule_heads.old units.old) input pid bytes.now }
+    ensures { pushed result heads.new slots.new cells.new schedule_heads.new units.new ≡ pushed_of (store eit heads.old slots.old cells.old schedule_heads.old units.old) input pid bytes.now }
 {
     match eit_admit::admit(
         eit,
@@ -82,7 +82,7 @@ pub fn clear(
     schedule_heads: &[u64],
     units: &[u32],
 ) -> Turned
-    ensures { turned result heads.now slots.now cells.now schedule_heads.now units.now ≡ clearedOf (store eit heads.now slots.now cells.now schedule_heads.now units.now) }
+    ensures { turned result heads.now slots.now cells.now schedule_heads.now units.now ≡ cleared_of (store eit heads.now slots.now cells.now schedule_heads.now units.now) }
 {
     if eit_state::is_whole(eit, heads, slots, cells, schedule_heads, units) {
         if eit_pids::any_row_without_pid(eit, heads, schedule_heads) {
@@ -106,7 +106,7 @@ pub fn drop(
     units: &mut [u32],
     filter: Filter,
 ) -> Turned
-    ensures { turned result heads.new slots.new cells.now schedule_heads.new units.new ≡ droppedOf (store eit heads.old slots.old cells.now schedule_heads.old units.old) filter }
+    ensures { turned result heads.new slots.new cells.now schedule_heads.new units.new ≡ dropped_of (store eit heads.old slots.old cells.now schedule_heads.old units.old) filter }
 {
     match eit_admit::admit_filter(eit, heads, slots, cells, schedule_heads, units, filter) {
         Drop::Refuse(refusal) => Turned {
@@ -158,7 +158,7 @@ pub fn next_in_schedule(
     table: usize,
     from: usize,
 ) -> Next
-    ensures { result ≡ nextInOf (store eit heads.now slots.now cells.now schedule_heads.now units.now) row table from }
+    ensures { result ≡ next_in_of (store eit heads.now slots.now cells.now schedule_heads.now units.now) row table from }
 {
     let sets = eit.sets;
     if eit_state::is_whole(eit, heads, slots, cells, schedule_heads, units) {

@@ -6,57 +6,57 @@ use mathlib.Core.Bool.{Bool, true, false}
 use Prim.Native.Nat.{ℕ, ◌<◌}
 use Rattle.answers.specs.declared.Refusal.TheVariants as refusal
 use Rattle.section.specs.declared.ids.MaybePid.{MaybePid}
-use Rattle.arrivals.specs.Arrivals.{eitArrival, EitTaken}
+use Rattle.arrivals.specs.Arrivals.{eit_arrival, EitTaken}
 use Rattle.arrivals.specs.declared.EitArrival.{EitArrival}
 use Rattle.arrivals.specs.declared.EitArrival.TheVariants as arrival
 use Rattle.eit_state.specs.declared.Eit.{Eit}
-use Rattle.eit_state.specs.State.{store, whole_of, countersFull}
-use Rattle.eit_state.proofs.Whole.{whole-store, can-count}
-use Rattle.eit_pids.specs.Rows.{anyWithout}
+use Rattle.eit_state.specs.State.{store, whole_of, counters_full}
+use Rattle.eit_state.proofs.Whole.{whole_store, can_count}
+use Rattle.eit_pids.specs.Rows.{any_without}
 use Rattle.eit_drop.specs.declared.Filter.{Filter}
 use Rattle.eit_drop.specs.declared.Drop.{Drop}
 use Rattle.eit_drop.specs.declared.Drop.TheVariants as drop
-use Rattle.eit_drop.specs.Drop.{dropWanted}
-use Rattle.eit_admit.specs.Admitting.{admitted, Admitted, dropOf, DropOk}
+use Rattle.eit_drop.specs.Drop.{drop_wanted}
+use Rattle.eit_admit.specs.Admitting.{admitted, Admitted, drop_of, DropOk}
 
-module _ (e : Eit) (heads slots cells schedule-heads units : List ℕ) (input : ℕ) (pid : MaybePid) (bytes : List ℕ) (b : Bool) (q : b ≡ whole_of (store e heads slots cells schedule-heads units)) where
-  pub admit-broken : b ≡ false → arrival.Refused refusal.NotWhole ≡ admitted (store e heads slots cells schedule-heads units) input pid bytes
+module _ (e : Eit) (heads slots cells schedule_heads units : List ℕ) (input : ℕ) (pid : MaybePid) (bytes : List ℕ) (b : Bool) (q : b ≡ whole_of (store e heads slots cells schedule_heads units)) where
+  pub admit_broken : b ≡ false → arrival.Refused refusal.NotWhole ≡ admitted (store e heads slots cells schedule_heads units) input pid bytes
   unfolding admitted
-  admit-broken t = rw (← q, t)
+  admit_broken t = rw (← q, t)
 
-  module _ (t : b ≡ true) (full : Bool) (g : full ≡ countersFull e) where
-    pub admit-full : full ≡ true → arrival.Refused refusal.CounterFull ≡ admitted (store e heads slots cells schedule-heads units) input pid bytes
+  module _ (t : b ≡ true) (full : Bool) (g : full ≡ counters_full e) where
+    pub admit_full : full ≡ true → arrival.Refused refusal.CounterFull ≡ admitted (store e heads slots cells schedule_heads units) input pid bytes
     unfolding admitted
-    admit-full h = rw (← q, t, ← g, h)
+    admit_full h = rw (← q, t, ← g, h)
 
-    module _ (h : full ≡ false) (w : Bool) (o : w ≡ anyWithout e heads schedule-heads) where
-      pub admit-without : w ≡ true → arrival.Refused refusal.NoPid ≡ admitted (store e heads slots cells schedule-heads units) input pid bytes
+    module _ (h : full ≡ false) (w : Bool) (o : w ≡ any_without e heads schedule_heads) where
+      pub admit_without : w ≡ true → arrival.Refused refusal.NoPid ≡ admitted (store e heads slots cells schedule_heads units) input pid bytes
       unfolding admitted
-      admit-without v = rw (← q, t, ← g, h, ← o, v)
+      admit_without v = rw (← q, t, ← g, h, ← o, v)
 
-      pub admit-read : (a : EitArrival) → w ≡ false → a ≡ eitArrival input pid bytes → a ≡ admitted (store e heads slots cells schedule-heads units) input pid bytes
+      pub admit_read : (a : EitArrival) → w ≡ false → a ≡ eit_arrival input pid bytes → a ≡ admitted (store e heads slots cells schedule_heads units) input pid bytes
       unfolding admitted
-      admit-read a v k = rw (← q, t, ← g, h, ← o, v) k
+      admit_read a v k = rw (← q, t, ← g, h, ← o, v) k
 
-    pub admit-may : (a : EitArrival) → full ≡ false → e.sets.evictions < 18446744073709551616 → e.schedule_evictions < 18446744073709551616 → EitTaken bytes a
-        → Admitted (store e heads slots cells schedule-heads units) a
-    admit-may (arrival.Refused r) h m n o = tt
-    admit-may (arrival.Arrived a) h m n o = record { whole = whole-store (store e heads slots cells schedule-heads units) (sym q ∙ t); numbered = o.numbered; counts = can-count e full g h m n }
+    pub admit_may : (a : EitArrival) → full ≡ false → e.sets.evictions < 18446744073709551616 → e.schedule_evictions < 18446744073709551616 → EitTaken bytes a
+        → Admitted (store e heads slots cells schedule_heads units) a
+    admit_may (arrival.Refused r) h m n o = tt
+    admit_may (arrival.Arrived a) h m n o = record { whole = whole_store (store e heads slots cells schedule_heads units) (sym q ∙ t); numbered = o.numbered; counts = can_count e full g h m n }
 
-module _ (e : Eit) (heads slots cells schedule-heads units : List ℕ) (f : Filter) (b : Bool) (q : b ≡ whole_of (store e heads slots cells schedule-heads units)) where
-  pub drop-broken : b ≡ false → drop.Refuse refusal.NotWhole ≡ dropOf (store e heads slots cells schedule-heads units) f
-  unfolding dropOf
-  drop-broken t = rw (← q, t)
+module _ (e : Eit) (heads slots cells schedule_heads units : List ℕ) (f : Filter) (b : Bool) (q : b ≡ whole_of (store e heads slots cells schedule_heads units)) where
+  pub drop_broken : b ≡ false → drop.Refuse refusal.NotWhole ≡ drop_of (store e heads slots cells schedule_heads units) f
+  unfolding drop_of
+  drop_broken t = rw (← q, t)
 
-  module _ (t : b ≡ true) (w : Bool) (o : w ≡ anyWithout e heads schedule-heads) where
-    pub drop-without : w ≡ true → drop.Refuse refusal.NoPid ≡ dropOf (store e heads slots cells schedule-heads units) f
-    unfolding dropOf
-    drop-without v = rw (← q, t, ← o, v)
+  module _ (t : b ≡ true) (w : Bool) (o : w ≡ any_without e heads schedule_heads) where
+    pub drop_without : w ≡ true → drop.Refuse refusal.NoPid ≡ drop_of (store e heads slots cells schedule_heads units) f
+    unfolding drop_of
+    drop_without v = rw (← q, t, ← o, v)
 
-    pub drop-read : (d : Drop) → w ≡ false → d ≡ dropWanted f → d ≡ dropOf (store e heads slots cells schedule-heads units) f
-    unfolding dropOf
-    drop-read d v g = rw (← q, t, ← o, v) g
+    pub drop_read : (d : Drop) → w ≡ false → d ≡ drop_wanted f → d ≡ drop_of (store e heads slots cells schedule_heads units) f
+    unfolding drop_of
+    drop_read d v g = rw (← q, t, ← o, v) g
 
-  pub drop-may : (d : Drop) → b ≡ true → DropOk (store e heads slots cells schedule-heads units) d
-  drop-may (drop.Refuse r) t = tt
-  drop-may (drop.Matching x) t = whole-store (store e heads slots cells schedule-heads units) (sym q ∙ t)
+  pub drop_may : (d : Drop) → b ≡ true → DropOk (store e heads slots cells schedule_heads units) d
+  drop_may (drop.Refuse r) t = tt
+  drop_may (drop.Matching x) t = whole_store (store e heads slots cells schedule_heads units) (sym q ∙ t)

@@ -2,7 +2,7 @@
 // is written.
 ghost use Rattle.std.specs.Prelude.{◌≡◌};
 ghost use Rattle.eit_state.specs.State.{store};
-ghost use Rattle.eit_admit.specs.Admitting.{admitted, Admitted, dropOf, DropOk};
+ghost use Rattle.eit_admit.specs.Admitting.{admitted, Admitted, drop_of, DropOk};
 
 use answers::Refusal;
 use arrivals::EitArrival;
@@ -48,7 +48,7 @@ pub fn admit_filter(
     units: &[u32],
     filter: Filter,
 ) -> Drop
-    ensures value { result ≡ dropOf (store eit heads.now slots.now cells.now schedule_heads.now units.now) filter }
+    ensures value { result ≡ drop_of (store eit heads.now slots.now cells.now schedule_heads.now units.now) filter }
     ensures drop_ok { DropOk (store eit heads.now slots.now cells.now schedule_heads.now units.now) result }
 {
     if eit_state::is_whole(eit, heads, slots, cells, schedule_heads, units) {

@@ -2,9 +2,9 @@
 // one section after another is pushed, until one answers something else than 4. Answer and memory are those of pushing them one by one.
 ghost use Rattle.std.specs.Prelude.{◌≡◌};
 ghost use Rattle.eit_state.specs.State.{store};
-ghost use Rattle.log_list.specs.List.{givensFrom, WholeFrom};
-ghost use Rattle.eit_each.specs.Each.{afterAll};
-ghost use Rattle.eit_all.specs.All.{pushedAll, pushedSections};
+ghost use Rattle.log_list.specs.List.{givens_from, WholeFrom};
+ghost use Rattle.eit_each.specs.Each.{after_all};
+ghost use Rattle.eit_all.specs.All.{pushed_all, pushed_sections};
 
 use answers::Refusal;
 use eit_each::{AllAnswer, AllPushed};
@@ -33,7 +33,7 @@ fn push_listed(
     list: &[u8],
 ) -> AllPushed
     requires { WholeFrom list.now 0 }
-    ensures { afterAll result heads.new slots.new cells.new schedule_heads.new units.new ≡ pushedSections (store eit heads.old slots.old cells.old schedule_heads.old units.old) (givensFrom list.now 0) }
+    ensures { after_all result heads.new slots.new cells.new schedule_heads.new units.new ≡ pushed_sections (store eit heads.old slots.old cells.old schedule_heads.old units.old) (givens_from list.now 0) }
 {
     let seen = eit_state::look(eit, heads, slots, cells, schedule_heads, units);
     if seen.whole {
@@ -75,7 +75,7 @@ pub fn push_all(
     units: &mut [u32],
     list: &[u8],
 ) -> AllPushed
-    ensures { afterAll result heads.new slots.new cells.new schedule_heads.new units.new ≡ pushedAll (store eit heads.old slots.old cells.old schedule_heads.old units.old) list.now }
+    ensures { after_all result heads.new slots.new cells.new schedule_heads.new units.new ≡ pushed_all (store eit heads.old slots.old cells.old schedule_heads.old units.old) list.now }
 {
     match log_list::judge(list) {
         Judged::Whole => push_listed(eit, heads, slots, cells, schedule_heads, units, list),

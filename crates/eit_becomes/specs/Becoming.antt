@@ -2,26 +2,26 @@
 use Rattle.std.specs.Prelude.{ℕ, List, Bool, true, false, cond, ◌&&◌, ltb, eqb}
 use Rattle.rows.specs.Rows.{mark_of}
 use Rattle.arrivals.specs.declared.Arrival.{Arrival}
-use Rattle.segments.specs.Segments.{setComplete}
+use Rattle.segments.specs.Segments.{set_complete}
 use Rattle.eit_becomes.specs.declared.Becomes.{Becomes}
 use Rattle.eit_becomes.specs.declared.Becomes.TheVariants as becomes
 
 -- the table_id of an arrival
-abbrev pub ownTable : Arrival → ℕ
-ownTable a = a.entry.key.table_id
+abbrev pub own_table : Arrival → ℕ
+own_table a = a.entry.key.table_id
 
 -- of the set in row i: where it is complete and not marked, a present/following set goes out at once, one of a schedule kind "whose table_id
 -- exceeds the arriving section's last_table_id is refused (23)", and any other enters its schedule
-unfoldable pub becomesOf : (heads slots : List ℕ) → Arrival → ℕ → Becomes
-becomesOf heads slots a i =
-    cond (eqb (mark_of heads i) 0 && setComplete heads slots i)
+unfoldable pub becomes_of : (heads slots : List ℕ) → Arrival → ℕ → Becomes
+becomes_of heads slots a i =
+    cond (eqb (mark_of heads i) 0 && set_complete heads slots i)
     (cond (ltb a.kind 2) becomes.GoesOut
-    (cond (ltb a.tables (ownTable a)) becomes.OutOfRange becomes.Enters))
+    (cond (ltb a.tables (own_table a)) becomes.OutOfRange becomes.Enters))
     becomes.Stays
 
 -- a set that goes out or enters its schedule is marked; 23 leaves "the mark clear"
-abbrev pub isMarked : Becomes → Bool
-isMarked becomes.Stays = false
-isMarked becomes.GoesOut = true
-isMarked becomes.OutOfRange = false
-isMarked becomes.Enters = true
+abbrev pub is_marked : Becomes → Bool
+is_marked becomes.Stays = false
+is_marked becomes.GoesOut = true
+is_marked becomes.OutOfRange = false
+is_marked becomes.Enters = true

@@ -1,6 +1,6 @@
 // What becomes of a set once its row is the newest: it stays, goes out, is refused, or enters its schedule (docs/RULES.md, "Collectors").
 ghost use Rattle.std.specs.Prelude.{◌≡◌, ◌+◌, ◌*◌, ◌≤◌, length};
-ghost use Rattle.eit_becomes.specs.Becoming.{ownTable, becomesOf, isMarked};
+ghost use Rattle.eit_becomes.specs.Becoming.{own_table, becomes_of, is_marked};
 
 use arrivals::Arrival;
 
@@ -15,7 +15,7 @@ pub enum Becomes {
 
 // The table_id of an arrival.
 pub fn own_table(a: Arrival) -> u64
-    ensures { result ≡ ownTable a }
+    ensures { result ≡ own_table a }
 {
     let entry = a.entry;
     let key = entry.key;
@@ -25,7 +25,7 @@ pub fn own_table(a: Arrival) -> u64
 // Of the set in row i.
 pub fn becomes_of(heads: &[u64], slots: &[u32], a: Arrival, i: usize) -> Becomes
     requires { (i * 12 + 12 ≤ length heads.now) × (i * 288 + 288 ≤ length slots.now) }
-    ensures { result ≡ becomesOf heads.now slots.now a i }
+    ensures { result ≡ becomes_of heads.now slots.now a i }
 {
     if rows::mark(heads, i) != 0 {
         return Becomes::Stays;
@@ -44,7 +44,7 @@ pub fn becomes_of(heads: &[u64], slots: &[u32], a: Arrival, i: usize) -> Becomes
 
 // A set that goes out or enters its schedule is marked.
 pub fn is_marked(b: Becomes) -> bool
-    ensures { result ≡ isMarked b }
+    ensures { result ≡ is_marked b }
 {
     match b {
         Becomes::Stays => false,

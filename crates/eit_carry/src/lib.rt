@@ -3,7 +3,7 @@ ghost use Rattle.std.specs.Prelude.{◌≡◌};
 ghost use Rattle.arrivals.specs.Arrivals.{Numbered};
 ghost use Rattle.eit_state.specs.State.{store, Whole, CanCount};
 ghost use Rattle.eit_plan.specs.Plan.{KeepOk, PlanOk};
-ghost use Rattle.eit_carry.specs.Carried.{step, keptAndSettled, carried, pushedWhole};
+ghost use Rattle.eit_carry.specs.Carried.{step, kept_and_settled, carried, pushed_whole};
 
 use arrivals::Arrival;
 use eit_plan::{Keeping, Plan};
@@ -21,7 +21,7 @@ fn keep_section(
     k: Keeping,
 ) -> Pushed
     requires { KeepOk (store eit heads.old slots.old cells.old schedule_heads.old units.old) bytes.now k }
-    ensures { step result heads.new slots.new cells.new schedule_heads.new units.new ≡ keptAndSettled (store eit heads.old slots.old cells.old schedule_heads.old units.old) bytes.now k }
+    ensures { step result heads.new slots.new cells.new schedule_heads.new units.new ≡ kept_and_settled (store eit heads.old slots.old cells.old schedule_heads.old units.old) bytes.now k }
 {
     let sets = eit.sets;
     eit_keep::keep(sets.size, heads, slots, cells, bytes, k);
@@ -87,7 +87,7 @@ pub fn push_whole(
     requires whole { Whole (store eit heads.old slots.old cells.old schedule_heads.old units.old) }
     requires numbered { Numbered a.entry }
     requires can_count { CanCount eit }
-    ensures { step result heads.new slots.new cells.new schedule_heads.new units.new ≡ pushedWhole (store eit heads.old slots.old cells.old schedule_heads.old units.old) bytes.now a }
+    ensures { step result heads.new slots.new cells.new schedule_heads.new units.new ≡ pushed_whole (store eit heads.old slots.old cells.old schedule_heads.old units.old) bytes.now a }
 {
     let plan = eit_plan::plan_section(eit, heads, slots, cells, schedule_heads, units, bytes, a);
     carry(eit, heads, slots, cells, schedule_heads, units, bytes, plan)

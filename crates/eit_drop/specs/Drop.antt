@@ -1,7 +1,7 @@
 -- A drop by filter (docs/RULES.md, "Collectors"), for every content of the lent memory.
 use Rattle.std.specs.Prelude.{ℕ, ◌*◌, ◌≤◌, List, cond, ltb}
 use Rattle.answers.specs.declared.Refusal.TheVariants as refusal
-use Rattle.section.specs.Ids.{pidMade}
+use Rattle.section.specs.Ids.{pid_made}
 use Rattle.section.specs.declared.ids.Made.{Made}
 use Rattle.section.specs.declared.ids.Made.TheVariants as made
 use Rattle.filter.specs.declared.Wanted.{Wanted}
@@ -9,8 +9,8 @@ use Rattle.filter.specs.declared.Wanted.TheVariants as wanted
 use Rattle.filter.specs.declared.WantedOrigin.{WantedOrigin}
 use Rattle.filter.specs.declared.Fields.{Fields}
 use Rattle.filter.specs.declared.Of.TheVariants as of
-use Rattle.filter.specs.Drops.{Rest, rest, droppedRows}
-use Rattle.eit_state.specs.State.{Rows, rows, withSets, withSchedules}
+use Rattle.filter.specs.Drops.{Rest, rest, dropped_rows}
+use Rattle.eit_state.specs.State.{Rows, rows, with_sets, with_schedules}
 use Rattle.eit_drop.specs.declared.WantedPid.{WantedPid}
 use Rattle.eit_drop.specs.declared.WantedPid.TheVariants as wanted-pid
 use Rattle.eit_drop.specs.declared.Filter.{Filter}
@@ -20,20 +20,20 @@ use Rattle.eit_drop.specs.declared.Drop.{Drop}
 use Rattle.eit_drop.specs.declared.Drop.TheVariants as drop
 
 -- an exact input of 16 or more is refused (37)
-abbrev pub inputWanted : (input pid : Wanted) → OriginWanted
-inputWanted wanted.Any pid = origin-wanted.Is (record { input = wanted.Any; pid = pid })
-inputWanted (wanted.Exactly v) pid = cond (ltb v 16) (origin-wanted.Is (record { input = wanted.Exactly v; pid = pid })) (origin-wanted.Refused refusal.BadInput)
+abbrev pub input_wanted : (input pid : Wanted) → OriginWanted
+input_wanted wanted.Any pid = origin_wanted.Is (record { input = wanted.Any; pid = pid })
+input_wanted (wanted.Exactly v) pid = cond (ltb v 16) (origin_wanted.Is (record { input = wanted.Exactly v; pid = pid })) (origin_wanted.Refused refusal.BadInput)
 
 -- "an exact PID of 8192 or more" is refused (12)
-abbrev pub madeWanted : (input : Wanted) → Made → OriginWanted
-madeWanted input (made.One p) = inputWanted input (wanted.Exactly p.0)
-madeWanted input made.TooLarge = origin-wanted.Refused refusal.BadPid
+abbrev pub made_wanted : (input : Wanted) → Made → OriginWanted
+made_wanted input (made.One p) = input_wanted input (wanted.Exactly p.0)
+made_wanted input made.TooLarge = origin_wanted.Refused refusal.BadPid
 
 -- the PID is free or exactly p; exactly none is refused (41)
-abbrev pub wantedOrigin : (input : Wanted) → WantedPid → OriginWanted
-wantedOrigin input wanted-pid.Any = inputWanted input wanted.Any
-wantedOrigin input wanted-pid.Without = origin-wanted.Refused refusal.NoPid
-wantedOrigin input (wanted-pid.Exactly v) = madeWanted input (pidMade v)
+abbrev pub wanted_origin : (input : Wanted) → WantedPid → OriginWanted
+wanted_origin input wanted_pid.Any = input_wanted input wanted.Any
+wanted_origin input wanted_pid.Without = origin_wanted.Refused refusal.NoPid
+wanted_origin input (wanted_pid.Exactly v) = made_wanted input (pid_made v)
 
 -- the filter in the words of a head
 abbrev pub fields_of : WantedOrigin → Filter → Fields
@@ -47,16 +47,16 @@ fields_of from f = record {
 }
 
 -- 41, then 12, then 37
-abbrev pub dropFrom : Filter → OriginWanted → Drop
-dropFrom f (origin-wanted.Refused r) = drop.Refuse r
-dropFrom f (origin-wanted.Is w) = drop.Matching (fields_of w f)
+abbrev pub drop_from : Filter → OriginWanted → Drop
+drop_from f (origin_wanted.Refused r) = drop.Refuse r
+drop_from f (origin_wanted.Is w) = drop.Matching (fields_of w f)
 
-abbrev pub dropWanted : Filter → Drop
-dropWanted f = dropFrom f (wantedOrigin f.input f.pid)
+abbrev pub drop_wanted : Filter → Drop
+drop_wanted f = drop_from f (wanted_origin f.input f.pid)
 
 -- "sets and schedules that match go"; no eviction is counted
-unfoldable pub matchingGone : Rows → Fields → Rows
-matchingGone r f =
-    let a : Rest = droppedRows of.Sets f r.eit.sets.used (rest r.heads r.slots r.eit.sets.used) in
-    let b : Rest = droppedRows of.Schedules f r.eit.schedules (rest r.schedule-heads r.units r.eit.schedules) in
-    rows (withSchedules (withSets r.eit a.used r.eit.sets.evictions) b.used r.eit.schedule_evictions) a.heads a.words b.heads b.words
+unfoldable pub matching_gone : Rows → Fields → Rows
+matching_gone r f =
+    let a : Rest = dropped_rows of.Sets f r.eit.sets.used (rest r.heads r.slots r.eit.sets.used) in
+    let b : Rest = dropped_rows of.Schedules f r.eit.schedules (rest r.schedule_heads r.units r.eit.schedules) in
+    rows (with_schedules (with_sets r.eit a.used r.eit.sets.evictions) b.used r.eit.schedule_evictions) a.heads a.words b.heads b.words

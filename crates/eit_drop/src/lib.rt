@@ -1,7 +1,7 @@
 // A drop by filter: what is wanted of each field, and the sets and schedules that match leave (docs/RULES.md, "Collectors").
 ghost use Rattle.std.specs.Prelude.{◌≡◌};
 ghost use Rattle.eit_state.specs.State.{rows, RowsFit};
-ghost use Rattle.eit_drop.specs.Drop.{inputWanted, madeWanted, wantedOrigin, fields_of, dropWanted, matchingGone};
+ghost use Rattle.eit_drop.specs.Drop.{input_wanted, made_wanted, wanted_origin, fields_of, drop_wanted, matching_gone};
 
 use answers::Refusal;
 use eit_state::Eit;
@@ -45,7 +45,7 @@ pub enum Drop {
 
 // What a filter wants of the input: an input of 16 or more is refused (37).
 fn input_wanted(input: Wanted, pid: Wanted) -> OriginWanted
-    ensures { result ≡ inputWanted input pid }
+    ensures { result ≡ input_wanted input pid }
 {
     match input {
         Wanted::Any => OriginWanted::Is(WantedOrigin { input, pid }),
@@ -59,7 +59,7 @@ fn input_wanted(input: Wanted, pid: Wanted) -> OriginWanted
 }
 
 fn made_wanted(input: Wanted, m: Made) -> OriginWanted
-    ensures { result ≡ madeWanted input m }
+    ensures { result ≡ made_wanted input m }
 {
     match m {
         Made::One(p) => input_wanted(input, Wanted::Exactly(p.0 as u64)),
@@ -69,7 +69,7 @@ fn made_wanted(input: Wanted, m: Made) -> OriginWanted
 
 // What a filter wants of where sections came from: exactly none is refused (41), then a PID of 8192 or more (12), then an input of 16 or more (37).
 fn wanted_origin(input: Wanted, pid: WantedPid) -> OriginWanted
-    ensures { result ≡ wantedOrigin input pid }
+    ensures { result ≡ wanted_origin input pid }
 {
     match pid {
         WantedPid::Any => input_wanted(input, Wanted::Any),
@@ -99,7 +99,7 @@ fn fields_of(from: WantedOrigin, filter: Filter) -> Fields
 
 // 41, then 12, then 37, then what is to leave.
 pub fn read_filter(filter: Filter) -> Drop
-    ensures { result ≡ dropWanted filter }
+    ensures { result ≡ drop_wanted filter }
 {
     let input = filter.input;
     let pid = filter.pid;
@@ -119,7 +119,7 @@ pub fn drop_matching(
     f: Fields,
 ) -> Eit
     requires { RowsFit (rows eit heads.old slots.old schedule_heads.old units.old) }
-    ensures { rows result heads.new slots.new schedule_heads.new units.new ≡ matchingGone (rows eit heads.old slots.old schedule_heads.old units.old) f }
+    ensures { rows result heads.new slots.new schedule_heads.new units.new ≡ matching_gone (rows eit heads.old slots.old schedule_heads.old units.old) f }
 {
     let sets = eit.sets;
     let used = filter::drop_rows(Of::Sets, f, heads, slots, sets.used);

@@ -3,8 +3,8 @@
 -- Assumes nothing.
 use Rattle.std.specs.Prelude.{ℕ, ◌+◌, List, [], ◌∷◌, Bool, true, false, cond, length}
 use Rattle.section.specs.declared.ids.MaybePid.TheVariants as maybe
-use Rattle.eit_state.specs.State.{Store, store, pushNumber}
-use Rattle.eit.specs.Store.{Told, done, nothing, a-set, a-schedule, refused, After, answer_of, pushedOf}
+use Rattle.eit_state.specs.State.{Store, store, push_number}
+use Rattle.eit.specs.Store.{Told, done, nothing, a_set, a_schedule, refused, After, answer_of, pushed_of}
 use Rattle.rules_logs.specs.Sections.{Given}
 use Rattle.eit_each.specs.declared.AllAnswer.{AllAnswer}
 use Rattle.eit_each.specs.declared.AllAnswer.TheVariants as answer
@@ -15,9 +15,9 @@ pub data AllTold : Type 0 where
   of : Told → AllTold
   overlong : AllTold
 
-abbrev pub allNo : AllAnswer → ℕ
-allNo (answer.Pushed a) = pushNumber a
-allNo answer.TooLong = 42
+abbrev pub all_no : AllAnswer → ℕ
+all_no (answer.Pushed a) = push_number a
+all_no answer.TooLong = 42
 
 -- what a call told, the store that it left, and how many bytes of the list it took
 pub record AllAfter : Type 0 where
@@ -25,36 +25,36 @@ pub record AllAfter : Type 0 where
   pub store : Store
   pub taken : ℕ
 
-abbrev pub allAfter : AllTold → Store → ℕ → AllAfter
-allAfter t s n = record { told = t; store = s; taken = n }
+abbrev pub all_after : AllTold → Store → ℕ → AllAfter
+all_after t s n = record { told = t; store = s; taken = n }
 
 -- 4
-abbrev pub isNothing : Told → Bool
-isNothing done = false
-isNothing nothing = true
-isNothing (a-set x) = false
-isNothing (a-schedule x) = false
-isNothing (refused r) = false
+abbrev pub is_nothing : Told → Bool
+is_nothing done = false
+is_nothing nothing = true
+is_nothing (a_set x) = false
+is_nothing (a_schedule x) = false
+is_nothing (refused r) = false
 
 -- one section of a list is pushed, with its PID
-abbrev pub pushedGiven : Store → Given → After
-pushedGiven s g = pushedOf s g.input (maybe.Some g.pid) g.section
+abbrev pub pushed_given : Store → Given → After
+pushed_given s g = pushed_of s g.input (maybe.Some g.pid) g.section
 
 -- one by one, until one answers something else than 4; n bytes of the list were taken before
-unfoldable pub pushedEach : (n : ℕ) → Store → List Given → AllAfter
-pushedEach n s [] = allAfter (of nothing) s n
-pushedEach n s (g ∷ gs) =
-    let l : After = pushedGiven s g in
+unfoldable pub pushed_each : (n : ℕ) → Store → List Given → AllAfter
+pushed_each n s [] = all_after (of nothing) s n
+pushed_each n s (g ∷ gs) =
+    let l : After = pushed_given s g in
     let m : ℕ = n + (5 + length g.section) in
-    cond (isNothing l.told) (pushedEach m l.store gs) (allAfter (of l.told) l.store m)
+    cond (is_nothing l.told) (pushed_each m l.store gs) (all_after (of l.told) l.store m)
 
 -- ---- what the call handed back
 
-abbrev pub toldBy : AllAnswer → Store → AllTold
-toldBy (answer.Pushed a) s = of (answer_of a s)
-toldBy answer.TooLong s = overlong
+abbrev pub told_by : AllAnswer → Store → AllTold
+told_by (answer.Pushed a) s = of (answer_of a s)
+told_by answer.TooLong s = overlong
 
-abbrev pub afterAll : AllPushed → (heads slots cells schedule-heads units : List ℕ) → AllAfter
-afterAll r heads slots cells schedule-heads units =
-    let s : Store = store r.eit heads slots cells schedule-heads units in
-    allAfter (toldBy r.answer s) s r.taken
+abbrev pub after_all : AllPushed → (heads slots cells schedule_heads units : List ℕ) → AllAfter
+after_all r heads slots cells schedule_heads units =
+    let s : Store = store r.eit heads slots cells schedule_heads units in
+    all_after (told_by r.answer s) s r.taken

@@ -4,8 +4,8 @@ ghost use Rattle.std.specs.Prelude.{◌≡◌, ◌+◌, ◌≤◌, length};
 ghost use Rattle.eit_state.specs.State.{store};
 ghost use Rattle.eit.specs.Store.{pushed};
 ghost use Rattle.eit_ready.specs.Ready.{Pushable};
-ghost use Rattle.log_list.specs.List.{givenAt, givensFrom, WholeFrom};
-ghost use Rattle.eit_each.specs.Each.{allNo, afterAll, pushedGiven, pushedEach};
+ghost use Rattle.log_list.specs.List.{given_at, givens_from, WholeFrom};
+ghost use Rattle.eit_each.specs.Each.{all_no, after_all, pushed_given, pushed_each};
 
 use eit_state::{Eit, PushAnswer, Pushed};
 use log_list::Place;
@@ -20,7 +20,7 @@ pub enum AllAnswer {
 
 impl AllAnswer {
     pub fn number(self) -> u8
-        ensures { result ≡ allNo self }
+        ensures { result ≡ all_no self }
     {
         match self {
             AllAnswer::Pushed(answer) => answer.number(),
@@ -50,7 +50,7 @@ fn push_at(
 ) -> Pushed
     requires pushable { Pushable (store eit heads.old slots.old cells.old schedule_heads.old units.old) }
     requires length_in_bounds { place.start + place.length ≤ length list.now }
-    ensures units_after { pushed result heads.new slots.new cells.new schedule_heads.new units.new ≡ pushedGiven (store eit heads.old slots.old cells.old schedule_heads.old units.old) (givenAt list.now place) }
+    ensures units_after { pushed result heads.new slots.new cells.new schedule_heads.new units.new ≡ pushed_given (store eit heads.old slots.old cells.old schedule_heads.old units.old) (given_at list.now place) }
     ensures pushable_2 { Pushable (store result.eit heads.new slots.new cells.new schedule_heads.new units.new) }
 {
     let start = place.start;
@@ -81,7 +81,7 @@ pub fn push_each(
 ) -> AllPushed
     requires pushable { Pushable (store eit heads.old slots.old cells.old schedule_heads.old units.old) }
     requires whole_from { WholeFrom list.now from }
-    ensures { afterAll result heads.new slots.new cells.new schedule_heads.new units.new ≡ pushedEach from (store eit heads.old slots.old cells.old schedule_heads.old units.old) (givensFrom list.now from) }
+    ensures { after_all result heads.new slots.new cells.new schedule_heads.new units.new ≡ pushed_each from (store eit heads.old slots.old cells.old schedule_heads.old units.old) (givens_from list.now from) }
 {
     let mut held = eit;
     let mut at = from;

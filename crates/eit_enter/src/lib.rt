@@ -2,7 +2,7 @@
 // "Collectors").
 ghost use Rattle.std.specs.Prelude.{◌≡◌};
 ghost use Rattle.eit_state.specs.State.{rows};
-ghost use Rattle.eit_enter.specs.Entering.{scheduleEntry, enteredAnswer, answered, entered, SettleOk};
+ghost use Rattle.eit_enter.specs.Entering.{schedule_entry, entered_answer, answered, entered, SettleOk};
 
 use arrivals::Arrival;
 use eit_state::{Eit, PushAnswer, Pushed};
@@ -10,7 +10,7 @@ use rows::Entry;
 
 // The schedule of an arrival: the kind in the place of table_id, last_table_id in the place of last_section_number.
 fn schedule_entry(a: Arrival) -> Entry
-    ensures { result ≡ scheduleEntry a }
+    ensures { result ≡ schedule_entry a }
 {
     let entry = a.entry;
     let key = units::with_table(entry.key, a.kind);
@@ -23,7 +23,7 @@ fn schedule_entry(a: Arrival) -> Entry
 }
 
 fn entered_answer(all: bool, row: usize) -> PushAnswer
-    ensures { result ≡ enteredAnswer all row }
+    ensures { result ≡ entered_answer all row }
 {
     if all {
         PushAnswer::Schedule(row)

@@ -8,11 +8,11 @@ use mir.Val.{Fits}
 use mir.Syntax.{w64}
 use Rattle.rows.specs.declared.Entry.{Entry}
 use Rattle.rows.specs.declared.Room.{Room as RoomFound}
-use Rattle.store.proofs.Whole.{product-fits}
-use Rattle.segments.specs.Segments.{keptSection}
+use Rattle.store.proofs.Whole.{product_fits}
+use Rattle.segments.specs.Segments.{kept_section}
 
-pub cell-bytes : (k size n : ℕ) → k < 65535 → size ≤ 4096 → Fits w64 (k * size)
-cell-bytes k size n h l = product-fits k size (omega arith) l
+pub cell_bytes : (k size n : ℕ) → k < 65535 → size ≤ 4096 → Fits w64 (k * size)
+cell_bytes k size n h l = product_fits k size (omega arith) l
 
-pub word_kept : (r : RoomFound) (e : Entry) (n w x : ℕ) (l l' : List ℕ) → w ≡ x → l' ≡ keptSection r e n w l → l' ≡ keptSection r e n x l
+pub word_kept : (r : RoomFound) (e : Entry) (n w x : ℕ) (l l' : List ℕ) → w ≡ x → l' ≡ kept_section r e n w l → l' ≡ kept_section r e n x l
 word_kept r e n w x l l' p q = rw (← p) q

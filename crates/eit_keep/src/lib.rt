@@ -1,9 +1,9 @@
 // A section is kept (docs/RULES.md, "Collectors").
 ghost use Rattle.std.specs.Prelude.{◌≡◌, ◌*◌, length};
 ghost use Rattle.std.proofs.Math.Seq.{paste};
-ghost use Rattle.cells.specs.Cells.{slotWord};
-ghost use Rattle.rows.specs.Rows.{keptHeads};
-ghost use Rattle.segments.specs.Segments.{keptSection};
+ghost use Rattle.cells.specs.Cells.{slot_word};
+ghost use Rattle.rows.specs.Rows.{kept_heads};
+ghost use Rattle.segments.specs.Segments.{kept_section};
 ghost use Rattle.eit_keep.specs.Kept.{CellOk};
 
 use eit_plan::Keeping;
@@ -18,8 +18,8 @@ pub fn keep(
     k: Keeping,
 )
     requires { CellOk size heads.old slots.old cells.old bytes.now k }
-    ensures heads_after { heads.new ≡ keptHeads k.room k.arrival.entry heads.old }
-    ensures slots_after { slots.new ≡ keptSection k.room k.arrival.entry k.arrival.segment (slotWord (length bytes.now) k.cell) slots.old }
+    ensures heads_after { heads.new ≡ kept_heads k.room k.arrival.entry heads.old }
+    ensures slots_after { slots.new ≡ kept_section k.room k.arrival.entry k.arrival.segment (slot_word (length bytes.now) k.cell) slots.old }
     ensures cells_after { cells.new ≡ paste cells.old (k.cell * size) bytes.now (length bytes.now) }
 {
     let a = k.arrival;

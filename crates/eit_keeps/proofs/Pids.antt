@@ -15,122 +15,122 @@ use Rattle.section.specs.declared.ids.MaybePid.{MaybePid}
 use Rattle.section.specs.declared.ids.MaybePid.TheVariants as maybe
 use Rattle.section.specs.declared.ids.OriginMade.TheVariants as made
 use Rattle.section.specs.Ids.{origin_of}
-use Rattle.section.specs.Judged.{collectedOf}
+use Rattle.section.specs.Judged.{collected_of}
 use Rattle.section.specs.declared.header.Header.{Header}
 use Rattle.section.specs.declared.header.Collected.{Collected}
 use Rattle.section.specs.declared.header.Collected.TheVariants as collected
-use Rattle.eit_section.specs.Eit.{eitOf}
+use Rattle.eit_section.specs.Eit.{eit_of}
 use Rattle.eit_section.specs.declared.Reading.{Reading}
 use Rattle.eit_section.specs.declared.Reading.TheVariants as reading
-use Rattle.laws.proofs.Tests.{or-false}
-use Rattle.rows.specs.Rows.{word, touched, keptHeads}
+use Rattle.laws.proofs.Tests.{or_false}
+use Rattle.rows.specs.Rows.{word, touched, kept_heads}
 use Rattle.rows.specs.declared.Entry.{Entry}
 use Rattle.rows.specs.declared.Room.{Room}
-use Rattle.rows.proofs.Words.{touched-not, kept_row, kept_fresh, kept-known}
-use Rattle.without_pid.specs.Pids.{withoutPid}
-use Rattle.without_pid.proofs.Rows.{one-without}
-use Rattle.arrivals.specs.Arrivals.{Numbered, madeWords, arrivalOf, eitFields, eitRead, eitJudged, eitArrival, EitTaken}
-use Rattle.arrivals.proofs.Facts.{eit-taken}
+use Rattle.rows.proofs.Words.{touched_not, kept_row, kept_fresh, kept_known}
+use Rattle.without_pid.specs.Pids.{without_pid}
+use Rattle.without_pid.proofs.Rows.{one_without}
+use Rattle.arrivals.specs.Arrivals.{Numbered, made_words, arrival_of, eit_fields, eit_read, eit_judged, eit_arrival, EitTaken}
+use Rattle.arrivals.proofs.Facts.{eit_taken}
 use Rattle.arrivals.specs.declared.Arrival.{Arrival}
 use Rattle.arrivals.specs.declared.EitArrival.{EitArrival}
 use Rattle.arrivals.specs.declared.EitArrival.TheVariants as arrival
 use Rattle.placing.specs.Places.{place_of}
 use Rattle.placing.specs.declared.Place.{Place}
 use Rattle.placing.specs.declared.Place.TheVariants as place
-use Rattle.schedules.specs.Schedules.{scheduledHeads}
+use Rattle.schedules.specs.Schedules.{scheduled_heads}
 use Rattle.eit_state.specs.declared.PushAnswer.TheVariants as answer
-use Rattle.eit_state.specs.State.{Store, Rows, rows, rows_of, risenRows, setStore, RowsFit, whole_of, countersFull}
+use Rattle.eit_state.specs.State.{Store, Rows, rows, rows_of, risen_rows, set_store, RowsFit, whole_of, counters_full}
 use Rattle.eit_state.proofs.Whole.{whole_room}
-use Rattle.eit_pids.specs.Rows.{anyWithout}
-use Rattle.eit_pids.proofs.Heads.{each-with}
+use Rattle.eit_pids.specs.Rows.{any_without}
+use Rattle.eit_pids.proofs.Heads.{each_with}
 use Rattle.eit_plan.specs.declared.Keeping.{Keeping}
 use Rattle.eit_plan.specs.declared.Plan.{Plan}
 use Rattle.eit_plan.specs.declared.Plan.TheVariants as plan
-use Rattle.eit_plan.specs.Plan.{freeCell, planPlaced, plan_of}
+use Rattle.eit_plan.specs.Plan.{free_cell, plan_placed, plan_of}
 use Rattle.eit_becomes.specs.declared.Becomes.{Becomes}
 use Rattle.eit_becomes.specs.declared.Becomes.TheVariants as becomes
-use Rattle.eit_becomes.specs.Becoming.{becomesOf, isMarked}
-use Rattle.eit_enter.specs.Entering.{scheduleEntry, entered_in, entered}
-use Rattle.eit_settle.specs.Settle.{markedHeads, settledAs, settled}
-use Rattle.eit_carry.specs.Carried.{keptAndSettled, carried, pushedWhole}
-use Rattle.eit_carry.proofs.Ways.{risen-fit}
+use Rattle.eit_becomes.specs.Becoming.{becomes_of, is_marked}
+use Rattle.eit_enter.specs.Entering.{schedule_entry, entered_in, entered}
+use Rattle.eit_settle.specs.Settle.{marked_heads, settled_as, settled}
+use Rattle.eit_carry.specs.Carried.{kept_and_settled, carried, pushed_whole}
+use Rattle.eit_carry.proofs.Ways.{risen_fit}
 use Rattle.eit_admit.specs.Admitting.{admitted}
-use Rattle.eit.specs.Store.{pushedAs, pushedOf}
+use Rattle.eit.specs.Store.{pushed_as, pushed_of}
 use Rattle.eit_keeps.specs.Keeps.{WholeStore, HasPids}
 use Rattle.eit_keeps.proofs.Schedules.{Found}
-use Rattle.eit_keeps.proofs.Stays.{means-store, marked-word, marked-length, room_for, found, KeepFits, PlanFits, keptRows, kept_whole, plan-fits}
+use Rattle.eit_keeps.proofs.Stays.{means_store, marked_word, marked_length, room_for, found, KeepFits, PlanFits, kept_rows, kept_whole, plan_fits}
 
 -- ---- the test for 41, both ways
 
-pub has-pids : (s : Store) → anyWithout s.eit s.heads s.schedule-heads ≡ false → HasPids s
-unfolding anyWithout
-has-pids s e =
-    let o = or-false (withoutPid s.heads s.eit.sets.used) (withoutPid s.schedule-heads s.eit.schedules) e in
+pub has_pids : (s : Store) → any_without s.eit s.heads s.schedule_heads ≡ false → HasPids s
+unfolding any_without
+has_pids s e =
+    let o = or_false (without_pid s.heads s.eit.sets.used) (without_pid s.schedule_heads s.eit.schedules) e in
     record {
-      sets = λ i h z. true≢false (sym (one-without s.heads s.eit.sets.used i h z) ∙ o.0);
-      schedules = λ k h z. true≢false (sym (one-without s.schedule-heads s.eit.schedules k h z) ∙ o.1);
+      sets = λ i h z. true≢false (sym (one_without s.heads s.eit.sets.used i h z) ∙ o.0);
+      schedules = λ k h z. true≢false (sym (one_without s.schedule_heads s.eit.schedules k h z) ∙ o.1);
     }
 
-pub none-without : (s : Store) → HasPids s → anyWithout s.eit s.heads s.schedule-heads ≡ false
-none-without s h = each-with s.eit s.heads s.schedule-heads h.sets h.schedules
+pub none_without : (s : Store) → HasPids s → any_without s.eit s.heads s.schedule_heads ≡ false
+none_without s h = each_with s.eit s.heads s.schedule_heads h.sets h.schedules
 
 -- the same of all but the cells
 record RowPids (r : Rows) : Type 0 where
   pub sets : (i : ℕ) → i < r.eit.sets.used → word r.heads i 0 ≢ 8192
-  pub schedules : (k : ℕ) → k < r.eit.schedules → word r.schedule-heads k 0 ≢ 8192
+  pub schedules : (k : ℕ) → k < r.eit.schedules → word r.schedule_heads k 0 ≢ 8192
 
 -- ---- a head is written: its row has its PID
 
 module _ (heads : List ℕ) (held : ℕ) (r : Room) (e : Entry) (room : r.row * 12 + 12 ≤ length heads) (next : r.row ≤ held) (all : r.used ≤ max held (r.row + 1)) (known : r.fresh ≡ false → r.row < held)
     (n : e.key.from.pid ≢ 8192) (h : (i : ℕ) → i < held → word heads i 0 ≢ 8192) where
-  own : (b : Bool) → r.fresh ≡ b → word (keptHeads r e heads) r.row 0 ≢ 8192
+  own : (b : Bool) → r.fresh ≡ b → word (kept_heads r e heads) r.row 0 ≢ 8192
   own true f z = n (sym (kept_fresh r e heads room f 0 (omega arith)) ∙ z)
-  own false f z = h r.row (known f) (sym (kept-known r e heads room f 0 (omega arith) (omega arith)) ∙ z)
+  own false f z = h r.row (known f) (sym (kept_known r e heads room f 0 (omega arith) (omega arith)) ∙ z)
 
-  kept-pid : (j : ℕ) → j < r.used → Dec (j ≡ r.row) → word (keptHeads r e heads) j 0 ≢ 8192
-  kept-pid j l (yes q) z = own r.fresh refl (subst (λ (x : ℕ). word (keptHeads r e heads) x 0 ≡ 8192) q z)
-  kept-pid j l (no d) z = let d' : j ≢ r.row = d in h j (omega (arith, next, all, l, d')) (sym (kept_row r e heads room j 0 d (omega arith)) ∙ z)
+  kept_pid : (j : ℕ) → j < r.used → Dec (j ≡ r.row) → word (kept_heads r e heads) j 0 ≢ 8192
+  kept_pid j l (yes q) z = own r.fresh refl (subst (λ (x : ℕ). word (kept_heads r e heads) x 0 ≡ 8192) q z)
+  kept_pid j l (no d) z = let d' : j ≢ r.row = d in h j (omega (arith, next, all, l, d')) (sym (kept_row r e heads room j 0 d (omega arith)) ∙ z)
 
 -- ---- a row is settled
 
 module _ (a : Arrival) (i : ℕ) (n : a.entry.key.from.pid ≢ 8192) where
-  entered-pids : (r : Rows) → RowsFit r → i < r.eit.sets.used → RowPids r → RowPids (entered r a i).rows
-  unfolding entered entered_in scheduledHeads
-  entered-pids r f h p = record { sets = p.sets; schedules = each }
+  entered_pids : (r : Rows) → RowsFit r → i < r.eit.sets.used → RowPids r → RowPids (entered r a i).rows
+  unfolding entered entered_in scheduled_heads
+  entered_pids r f h p = record { sets = p.sets; schedules = each }
     where
       o : Found r.eit.sets.limit r.eit.schedules (room_for a i r)
       o = found a i r f h
 
-      in-heads : (room_for a i r).room.row * 12 + 12 ≤ length r.schedule-heads
-      in-heads = let x = o.row in let y = o.room in let z = f.schedule-heads-long in omega arith
+      in_heads : (room_for a i r).room.row * 12 + 12 ≤ length r.schedule_heads
+      in_heads = let x = o.row in let y = o.room in let z = f.schedule_heads_long in omega arith
 
-      each : (k : ℕ) → k < (room_for a i r).room.used → word (touched r.eit.sets.clock (room_for a i r).room.row (keptHeads (room_for a i r).room (scheduleEntry a) r.schedule-heads)) k 0 ≢ 8192
+      each : (k : ℕ) → k < (room_for a i r).room.used → word (touched r.eit.sets.clock (room_for a i r).room.row (kept_heads (room_for a i r).room (schedule_entry a) r.schedule_heads)) k 0 ≢ 8192
       each k l z =
-          kept-pid r.schedule-heads r.eit.schedules (room_for a i r).room (scheduleEntry a) in-heads o.next o.all o.known n p.schedules k l (ℕ_discrete k (room_for a i r).room.row)
-          (sym (touched-not r.eit.sets.clock (room_for a i r).room.row (keptHeads (room_for a i r).room (scheduleEntry a) r.schedule-heads) k 0 (omega arith) (omega arith)) ∙ z)
+          kept_pid r.schedule_heads r.eit.schedules (room_for a i r).room (schedule_entry a) in_heads o.next o.all o.known n p.schedules k l (ℕ_discrete k (room_for a i r).room.row)
+          (sym (touched_not r.eit.sets.clock (room_for a i r).room.row (kept_heads (room_for a i r).room (schedule_entry a) r.schedule_heads) k 0 (omega arith) (omega arith)) ∙ z)
 
-  as-pids : (b : Becomes) (r : Rows) → RowsFit r → i < r.eit.sets.used → RowPids r → RowPids (settledAs b r a i).rows
-  as-pids becomes.Stays r f h p = p
-  as-pids becomes.GoesOut r f h p = p
-  as-pids becomes.OutOfRange r f h p = p
-  as-pids becomes.Enters r f h p = entered-pids r f h p
+  as_pids : (b : Becomes) (r : Rows) → RowsFit r → i < r.eit.sets.used → RowPids r → RowPids (settled_as b r a i).rows
+  as_pids becomes.Stays r f h p = p
+  as_pids becomes.GoesOut r f h p = p
+  as_pids becomes.OutOfRange r f h p = p
+  as_pids becomes.Enters r f h p = entered_pids r f h p
 
-  settled-pids : (r : Rows) → RowsFit r → i < r.eit.sets.used → RowPids r → RowPids (settled r a i).rows
+  settled_pids : (r : Rows) → RowsFit r → i < r.eit.sets.used → RowPids r → RowPids (settled r a i).rows
   unfolding settled
-  settled-pids r f h p =
+  settled_pids r f h p =
       let heads : List ℕ = touched r.eit.sets.clock i r.heads in
-      let b : Becomes = becomesOf heads r.slots a i in
-      let l : length (markedHeads (isMarked b) i heads) ≡ length r.heads = marked-length (isMarked b) r.eit.sets.clock i r.heads in
-      as-pids b (rows r.eit (markedHeads (isMarked b) i heads) r.slots r.schedule-heads r.units)
+      let b : Becomes = becomes_of heads r.slots a i in
+      let l : length (marked_heads (is_marked b) i heads) ≡ length r.heads = marked_length (is_marked b) r.eit.sets.clock i r.heads in
+      as_pids b (rows r.eit (marked_heads (is_marked b) i heads) r.slots r.schedule_heads r.units)
       (record {
         used = f.used;
-        heads-long = rw l f.heads-long;
-        slots-long = f.slots-long;
-        schedule-heads-long = f.schedule-heads-long;
-        units-long = f.units-long;
+        heads_long = rw l f.heads_long;
+        slots_long = f.slots_long;
+        schedule_heads_long = f.schedule_heads_long;
+        units_long = f.units_long;
         schedules = f.schedules;
       }) h
-      (record { sets = λ j k z. p.sets j k (sym (marked-word (isMarked b) r.eit.sets.clock i r.heads j 0 (omega arith) (omega arith) (omega arith)) ∙ z); schedules = p.schedules })
+      (record { sets = λ j k z. p.sets j k (sym (marked_word (is_marked b) r.eit.sets.clock i r.heads j 0 (omega arith) (omega arith) (omega arith)) ∙ z); schedules = p.schedules })
 
 -- ---- every plan
 
@@ -142,90 +142,90 @@ PlanPid (plan.Repeat x) = x.arrival.entry.key.from.pid ≢ 8192
 PlanPid (plan.Keep k) = k.arrival.entry.key.from.pid ≢ 8192
 
 module _ (s : Store) (bytes : List ℕ) (w : WholeStore s) (h : HasPids s) where
-  before : RowPids (risenRows (rows_of s))
+  before : RowPids (risen_rows (rows_of s))
   before = record { sets = h.sets; schedules = h.schedules }
 
-  kept-pids : (k : Keeping) → KeepFits s bytes k → k.arrival.entry.key.from.pid ≢ 8192 → RowPids (keptRows s bytes k)
-  kept-pids k o n = record {
-    sets = λ j l. kept-pid s.heads s.eit.sets.used k.room k.arrival.entry room o.room.next o.room.all o.room.known n h.sets j l (ℕ_discrete j k.room.row);
+  kept_pids : (k : Keeping) → KeepFits s bytes k → k.arrival.entry.key.from.pid ≢ 8192 → RowPids (kept_rows s bytes k)
+  kept_pids k o n = record {
+    sets = λ j l. kept_pid s.heads s.eit.sets.used k.room k.arrival.entry room o.room.next o.room.all o.room.known n h.sets j l (ℕ_discrete j k.room.row);
     schedules = h.schedules;
   }
     where
       room : k.room.row * 12 + 12 ≤ length s.heads
-      room = let a = w.fits.sets.heads-long in let b = o.room.room in let c = o.room.row in omega arith
+      room = let a = w.fits.sets.heads_long in let b = o.room.room in let c = o.room.row in omega arith
 
-  carried-pids : 12 ≤ length bytes → (p : Plan) → PlanFits s bytes p → PlanPid p → HasPids (carried s bytes p).store
-  unfolding keptAndSettled
-  carried-pids long (plan.Leave x) o n = h
-  carried-pids long (plan.Conflict i) o n = record { sets = λ j l z. h.sets j l (sym (touched-not (s.eit.sets.clock + 1) i s.heads j 0 (omega arith) (omega arith)) ∙ z); schedules = h.schedules }
-  carried-pids long (plan.Repeat x) o n = let p = settled-pids x.arrival x.row n (risenRows (rows_of s)) (risen-fit (rows_of s) (whole_room s w.fits)) o before in record { sets = p.sets; schedules = p.schedules }
-  carried-pids long (plan.Keep k) o n =
-      let p = settled-pids k.arrival k.room.row n (keptRows s bytes k) (kept_whole s bytes k w o long).fit o.room.row (kept-pids k o n) in
+  carried_pids : 12 ≤ length bytes → (p : Plan) → PlanFits s bytes p → PlanPid p → HasPids (carried s bytes p).store
+  unfolding kept_and_settled
+  carried_pids long (plan.Leave x) o n = h
+  carried_pids long (plan.Conflict i) o n = record { sets = λ j l z. h.sets j l (sym (touched_not (s.eit.sets.clock + 1) i s.heads j 0 (omega arith) (omega arith)) ∙ z); schedules = h.schedules }
+  carried_pids long (plan.Repeat x) o n = let p = settled_pids x.arrival x.row n (risen_rows (rows_of s)) (risen_fit (rows_of s) (whole_room s w.fits)) o before in record { sets = p.sets; schedules = p.schedules }
+  carried_pids long (plan.Keep k) o n =
+      let p = settled_pids k.arrival k.room.row n (kept_rows s bytes k) (kept_whole s bytes k w o long).fit o.room.row (kept_pids k o n) in
       record { sets = p.sets; schedules = p.schedules }
 
 -- what is planned for an arrival has the arrival's PID
 module _ (s : Store) (bytes : List ℕ) (a : Arrival) (n : a.entry.key.from.pid ≢ 8192) where
-  placed-pid : (p : Place) → PlanPid (planPlaced s a p)
-  placed-pid (place.Conflict i) = tt
-  placed-pid (place.Repeat i) = n
-  placed-pid (place.Goes r) = go (ltb (freeCell (rows_of s) (place.Goes r)) s.eit.sets.count)
+  placed_pid : (p : Place) → PlanPid (plan_placed s a p)
+  placed_pid (place.Conflict i) = tt
+  placed_pid (place.Repeat i) = n
+  placed_pid (place.Goes r) = go (ltb (free_cell (rows_of s) (place.Goes r)) s.eit.sets.count)
     where
-      go : (b : Bool) → PlanPid (cond b (plan.Keep (record { arrival = a; room = r; cell = freeCell (rows_of s) (place.Goes r) })) (plan.Leave (answer.Refused refusal.NoCell)))
+      go : (b : Bool) → PlanPid (cond b (plan.Keep (record { arrival = a; room = r; cell = free_cell (rows_of s) (place.Goes r) })) (plan.Leave (answer.Refused refusal.NoCell)))
       go true = n
       go false = tt
 
-  plan-pid : PlanPid (plan_of s bytes a)
+  plan_pid : PlanPid (plan_of s bytes a)
   unfolding plan_of
-  plan-pid = go (ltb s.eit.sets.size (length bytes)) (eqb s.eit.sets.limit 0)
+  plan_pid = go (ltb s.eit.sets.size (length bytes)) (eqb s.eit.sets.limit 0)
     where
-      go : (x y : Bool) → PlanPid (cond x (plan.Leave (answer.Refused refusal.TooLong)) (cond y (plan.Leave answer.Nothing) (planPlaced s a (place_of (setStore s) a.entry bytes))))
+      go : (x y : Bool) → PlanPid (cond x (plan.Leave (answer.Refused refusal.TooLong)) (cond y (plan.Leave answer.Nothing) (plan_placed s a (place_of (set_store s) a.entry bytes))))
       go true y = tt
       go false true = tt
-      go false false = placed-pid (place_of (setStore s) a.entry bytes)
+      go false false = placed_pid (place_of (set_store s) a.entry bytes)
 
 -- the part behind the refusals
-arrived-pids : (s : Store) (bytes : List ℕ) → WholeStore s → HasPids s → (a : Arrival) → 12 ≤ length bytes → Numbered a.entry → a.entry.key.from.pid ≢ 8192 → HasPids (pushedWhole s bytes a).store
-unfolding pushedWhole
-arrived-pids s bytes w h a l m n = carried-pids s bytes w h l (plan_of s bytes a) (plan-fits s bytes w a m) (plan-pid s bytes a n)
+arrived_pids : (s : Store) (bytes : List ℕ) → WholeStore s → HasPids s → (a : Arrival) → 12 ≤ length bytes → Numbered a.entry → a.entry.key.from.pid ≢ 8192 → HasPids (pushed_whole s bytes a).store
+unfolding pushed_whole
+arrived_pids s bytes w h a l m n = carried_pids s bytes w h l (plan_of s bytes a) (plan_fits s bytes w a m) (plan_pid s bytes a n)
 
 -- ---- a call
 
 -- a section that arrived has a PID
-arrived-pid : (input : ℕ) (pid : MaybePid) (bytes : List ℕ) (a : Arrival) → eitArrival input pid bytes ≡ arrival.Arrived a → a.entry.key.from.pid ≢ 8192
-unfolding eitArrival
-arrived-pid input maybe.None bytes a q z = let y : ◌≡◌ {A = ℕ} 0 1 = cc in omega arith
-arrived-pid input (maybe.Some v) bytes a q z = go (ltb v 8192) (ltb input 16) refl q
+arrived_pid : (input : ℕ) (pid : MaybePid) (bytes : List ℕ) (a : Arrival) → eit_arrival input pid bytes ≡ arrival.Arrived a → a.entry.key.from.pid ≢ 8192
+unfolding eit_arrival
+arrived_pid input maybe.None bytes a q z = let y : ◌≡◌ {A = ℕ} 0 1 = cc in omega arith
+arrived_pid input (maybe.Some v) bytes a q z = go (ltb v 8192) (ltb input 16) refl q
   where
-    fields : (h : Header) (c : Reading) → v < 8192 → eitFields (record { input = input; pid = v }) h c ≡ arrival.Arrived a → ⊥
+    fields : (h : Header) (c : Reading) → v < 8192 → eit_fields (record { input = input; pid = v }) h c ≡ arrival.Arrived a → ⊥
     fields h reading.NotEit l f = let y : ◌≡◌ {A = ℕ} 0 1 = cc in omega arith
     fields h reading.Broken l f = let y : ◌≡◌ {A = ℕ} 0 1 = cc in omega arith
     fields h (reading.Good g) l f =
-        let x : arrivalOf (record { input = input; pid = v }) h g ≡ a = cc in
+        let x : arrival_of (record { input = input; pid = v }) h g ≡ a = cc in
         let y : v ≡ a.entry.key.from.pid = ap (λ (t : Arrival). t.entry.key.from.pid) x in
         omega (arith, l, y, z)
 
-    read : (c : Collected) → v < 8192 → eitRead (record { input = input; pid = v }) bytes c ≡ arrival.Arrived a → ⊥
+    read : (c : Collected) → v < 8192 → eit_read (record { input = input; pid = v }) bytes c ≡ arrival.Arrived a → ⊥
     read collected.Malformed l f = let y : ◌≡◌ {A = ℕ} 0 1 = cc in omega arith
     read collected.ShortForm l f = let y : ◌≡◌ {A = ℕ} 0 1 = cc in omega arith
     read collected.BadNumber l f = let y : ◌≡◌ {A = ℕ} 0 1 = cc in omega arith
     read collected.BadCrc l f = let y : ◌≡◌ {A = ℕ} 0 1 = cc in omega arith
-    read (collected.Good h) l f = fields h (eitOf bytes) l f
+    read (collected.Good h) l f = fields h (eit_of bytes) l f
 
-    go : (b c : Bool) → ltb v 8192 ≡ b → eitJudged (madeWords (cond b (cond c (made.One (origin_of input v)) made.BadInput) made.BadPid)) bytes ≡ arrival.Arrived a → ⊥
-    go true true l f = read (collectedOf bytes) (ltb-true v 8192 l) f
+    go : (b c : Bool) → ltb v 8192 ≡ b → eit_judged (made_words (cond b (cond c (made.One (origin_of input v)) made.BadInput) made.BadPid)) bytes ≡ arrival.Arrived a → ⊥
+    go true true l f = read (collected_of bytes) (ltb-true v 8192 l) f
     go true false l f = let y : ◌≡◌ {A = ℕ} 0 1 = cc in omega arith
     go false c l f = let y : ◌≡◌ {A = ℕ} 0 1 = cc in omega arith
 
 -- of every store, whole or not
-pub push-pids : (s : Store) (input : ℕ) (pid : MaybePid) (bytes : List ℕ) → get_or bytes 7 0 < 256 → HasPids s → HasPids (pushedOf s input pid bytes).store
-unfolding pushedOf admitted
-push-pids s input pid bytes b h = rw (none-without s h) (go (whole_of s) (countersFull s.eit) refl)
+pub push_pids : (s : Store) (input : ℕ) (pid : MaybePid) (bytes : List ℕ) → get_or bytes 7 0 < 256 → HasPids s → HasPids (pushed_of s input pid bytes).store
+unfolding pushed_of admitted
+push_pids s input pid bytes b h = rw (none_without s h) (go (whole_of s) (counters_full s.eit) refl)
   where
-    arrived : WholeStore s → (v : EitArrival) → eitArrival input pid bytes ≡ v → EitTaken bytes v → HasPids (pushedAs s bytes v).store
+    arrived : WholeStore s → (v : EitArrival) → eit_arrival input pid bytes ≡ v → EitTaken bytes v → HasPids (pushed_as s bytes v).store
     arrived w (arrival.Refused r) q o = h
-    arrived w (arrival.Arrived a) q o = arrived-pids s bytes w h a o.long o.numbered (arrived-pid input pid bytes a q)
+    arrived w (arrival.Arrived a) q o = arrived_pids s bytes w h a o.long o.numbered (arrived_pid input pid bytes a q)
 
-    go : (w f : Bool) → whole_of s ≡ w → HasPids (pushedAs s bytes (cond w (cond f (arrival.Refused refusal.CounterFull) (eitArrival input pid bytes)) (arrival.Refused refusal.NotWhole))).store
+    go : (w f : Bool) → whole_of s ≡ w → HasPids (pushed_as s bytes (cond w (cond f (arrival.Refused refusal.CounterFull) (eit_arrival input pid bytes)) (arrival.Refused refusal.NotWhole))).store
     go false f q = h
     go true true q = h
-    go true false q = arrived (means-store s q) (eitArrival input pid bytes) refl (eit-taken bytes b input pid)
+    go true false q = arrived (means_store s q) (eit_arrival input pid bytes) refl (eit_taken bytes b input pid)

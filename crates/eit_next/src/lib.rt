@@ -1,6 +1,6 @@
 // The sections of a set, and of a table of a schedule, one after another, in a store that is whole (docs/RULES.md, "Collectors").
 ghost use Rattle.std.specs.Prelude.{◌≡◌, ◌+◌, ◌*◌, ◌≤◌, length};
-ghost use Rattle.eit_next.specs.Following.{rowNext, unitNext, scheduleNext};
+ghost use Rattle.eit_next.specs.Following.{row_next, unit_next, schedule_next};
 
 use answers::Reply;
 use readers::Next;
@@ -15,7 +15,7 @@ pub fn in_row(
     from: usize,
 ) -> Next
     requires { (used * 12 ≤ length heads.now) × (used * 288 ≤ length slots.now) × (size ≤ 4096) }
-    ensures { result ≡ rowNext heads.now slots.now used size row from }
+    ensures { result ≡ row_next heads.now slots.now used size row from }
 {
     if row < used {
         return readers::next_slot(rows::row_slots(heads, slots, row), size, from);
@@ -34,7 +34,7 @@ pub fn in_schedule(
     from: usize,
 ) -> Next
     requires { (schedules * 12 ≤ length schedule_heads.now) × (schedules * 4608 ≤ length units.now) × (size ≤ 4096) }
-    ensures { result ≡ scheduleNext schedule_heads.now units.now schedules size row table from }
+    ensures { result ≡ schedule_next schedule_heads.now units.now schedules size row table from }
 {
     if schedules <= row {
         return readers::no_section(Reply::No);
@@ -48,7 +48,7 @@ pub fn in_schedule(
 // The first filled slot at or after `from` of unit u, where the unit is present.
 fn in_unit(units: &[u32], size: usize, u: usize, from: usize) -> Next
     requires { (u * 288 + 288 ≤ length units.now) × (size ≤ 4096) }
-    ensures { result ≡ unitNext size units.now u from }
+    ensures { result ≡ unit_next size units.now u from }
 {
     if units::is_present(units, u) {
         return readers::next_slot(units::unit_slots(units, u), size, from);

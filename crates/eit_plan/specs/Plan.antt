@@ -2,26 +2,26 @@
 -- `cond test a b` is a where the test is true, else b.
 use Rattle.std.specs.Prelude.{ℕ, ◌≤◌, ◌<◌, List, Bool, cond, length, ltb, eqb}
 use Rattle.answers.specs.declared.Refusal.TheVariants as refusal
-use Rattle.cells.specs.Cells.{lowestFree}
-use Rattle.rows.specs.Rows.{goneRow}
+use Rattle.cells.specs.Cells.{lowest_free}
+use Rattle.rows.specs.Rows.{gone_row}
 use Rattle.arrivals.specs.Arrivals.{Numbered}
 use Rattle.arrivals.specs.declared.Arrival.{Arrival}
 use Rattle.placing.specs.Places.{place_of, RoomOk}
 use Rattle.placing.specs.declared.Place.{Place}
 use Rattle.placing.specs.declared.Place.TheVariants as place
-use Rattle.schedules.specs.Schedules.{takenAnywhere}
-use Rattle.eit_state.specs.State.{Store, Rows, rows_of, setStore, Whole, CanCount}
+use Rattle.schedules.specs.Schedules.{taken_anywhere}
+use Rattle.eit_state.specs.State.{Store, Rows, rows_of, set_store, Whole, CanCount}
 use Rattle.eit_state.specs.declared.PushAnswer.TheVariants as answer
 use Rattle.eit_plan.specs.declared.Keeping.{Keeping}
 use Rattle.eit_plan.specs.declared.Plan.{Plan}
 use Rattle.eit_plan.specs.declared.Plan.TheVariants as plan
 
 -- the cell of a section that is kept: the lowest that is free "after the set eviction or row emptying it would cause"; count where there is none
-abbrev pub freeCell : Rows → Place → ℕ
-freeCell r (place.Conflict i) = r.eit.sets.count
-freeCell r (place.Repeat i) = r.eit.sets.count
-freeCell r (place.Goes room) =
-    lowestFree (takenAnywhere r.heads r.slots r.schedule-heads r.units (goneRow room r.eit.sets.used) r.eit.sets.used r.eit.schedules) r.eit.sets.count
+abbrev pub free_cell : Rows → Place → ℕ
+free_cell r (place.Conflict i) = r.eit.sets.count
+free_cell r (place.Repeat i) = r.eit.sets.count
+free_cell r (place.Goes room) =
+    lowest_free (taken_anywhere r.heads r.slots r.schedule_heads r.units (gone_row room r.eit.sets.used) r.eit.sets.used r.eit.schedules) r.eit.sets.count
 
 -- 21 where a section would be kept and there is no cell
 abbrev pub plan_at : (count : ℕ) → Arrival → Place → (cell : ℕ) → Plan
@@ -30,15 +30,15 @@ plan_at count a (place.Repeat i) cell = plan.Repeat (record { arrival = a; row =
 plan_at count a (place.Goes room) cell =
     cond (ltb cell count) (plan.Keep (record { arrival = a; room = room; cell = cell })) (plan.Leave (answer.Refused refusal.NoCell))
 
-abbrev pub planPlaced : Store → Arrival → Place → Plan
-planPlaced s a p = plan_at s.eit.sets.count a p (freeCell (rows_of s) p)
+abbrev pub plan_placed : Store → Arrival → Place → Plan
+plan_placed s a p = plan_at s.eit.sets.count a p (free_cell (rows_of s) p)
 
 -- 20, then limit 0 ("an otherwise good section answers 4 and changes nothing"), then where the section goes
 unfoldable pub plan_of : Store → (bytes : List ℕ) → Arrival → Plan
 plan_of s bytes a =
     cond (ltb s.eit.sets.size (length bytes)) (plan.Leave (answer.Refused refusal.TooLong))
     (cond (eqb s.eit.sets.limit 0) (plan.Leave answer.Nothing)
-    (planPlaced s a (place_of (setStore s) a.entry bytes)))
+    (plan_placed s a (place_of (set_store s) a.entry bytes)))
 
 -- ---- what carrying out a plan asks
 

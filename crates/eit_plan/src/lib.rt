@@ -2,7 +2,7 @@
 ghost use Rattle.std.specs.Prelude.{◌≡◌, ◌≤◌};
 ghost use Rattle.arrivals.specs.Arrivals.{Numbered};
 ghost use Rattle.eit_state.specs.State.{store, rows, Whole, RowsFit, CanCount};
-ghost use Rattle.eit_plan.specs.Plan.{freeCell, plan_at, plan_of};
+ghost use Rattle.eit_plan.specs.Plan.{free_cell, plan_at, plan_of};
 
 use answers::Refusal;
 use arrivals::Arrival;
@@ -45,7 +45,7 @@ fn free_cell(
 ) -> usize
     requires rows_fit { RowsFit (rows eit heads.now slots.now schedule_heads.now units.now) }
     requires count_bound { eit.sets.count ≤ 65535 }
-    ensures { result ≡ freeCell (rows eit heads.now slots.now schedule_heads.now units.now) place }
+    ensures { result ≡ free_cell (rows eit heads.now slots.now schedule_heads.now units.now) place }
 {
     let sets = eit.sets;
     match place {

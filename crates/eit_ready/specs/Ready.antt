@@ -2,10 +2,10 @@
 -- Assumes nothing.
 use Rattle.std.specs.Prelude.{◌≡◌, false}
 use Rattle.eit_state.specs.State.{Store}
-use Rattle.eit_pids.specs.Rows.{anyWithout}
+use Rattle.eit_pids.specs.Rows.{any_without}
 use Rattle.eit_keeps.specs.Keeps.{WholeStore}
 
 -- it is whole, and each set and each schedule in use has a PID
 pub record Pushable (s : Store) : Type 0 where
   pub whole : WholeStore s
-  pub pids : anyWithout s.eit s.heads s.schedule-heads ≡ false
+  pub pids : any_without s.eit s.heads s.schedule_heads ≡ false

@@ -2,7 +2,7 @@
 // look at the store. So a call that pushes many sections looks at the store once.
 ghost use Rattle.std.specs.Prelude.{◌≡◌};
 ghost use Rattle.eit_state.specs.State.{store};
-ghost use Rattle.eit.specs.Store.{pushed, pushedOf};
+ghost use Rattle.eit.specs.Store.{pushed, pushed_of};
 ghost use Rattle.eit_ready.specs.Ready.{Pushable};
 
 use answers::Refusal;
@@ -23,7 +23,7 @@ pub fn push_ready(
     bytes: &[u8],
 ) -> Pushed
     requires { Pushable (store eit heads.old slots.old cells.old schedule_heads.old units.old) }
-    ensures units_after { pushed result heads.new slots.new cells.new schedule_heads.new units.new ≡ pushedOf (store eit heads.old slots.old cells.old schedule_heads.old units.old) input pid bytes.now }
+    ensures units_after { pushed result heads.new slots.new cells.new schedule_heads.new units.new ≡ pushed_of (store eit heads.old slots.old cells.old schedule_heads.old units.old) input pid bytes.now }
     ensures pushable { Pushable (store result.eit heads.new slots.new cells.new schedule_heads.new units.new) }
 {
     if eit_state::counters_full(eit) {

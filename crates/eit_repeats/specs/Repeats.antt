@@ -6,20 +6,20 @@ use Rattle.section.specs.declared.ids.MaybePid.TheVariants as maybe
 use Rattle.columns.specs.Columns.{Tells}
 use Rattle.store.specs.Store as sets
 use Rattle.store.specs.declared.Sets.{Sets}
-use Rattle.arrivals.specs.Arrivals.{eitArrival}
+use Rattle.arrivals.specs.Arrivals.{eit_arrival}
 use Rattle.arrivals.specs.declared.Arrival.{Arrival}
 use Rattle.arrivals.specs.declared.EitArrival.TheVariants as arrival
 use Rattle.placing.specs.Places.{place_of}
 use Rattle.placing.specs.declared.Place.TheVariants as place
-use Rattle.eit_becomes.specs.Becoming.{becomesOf}
+use Rattle.eit_becomes.specs.Becoming.{becomes_of}
 use Rattle.eit_becomes.specs.declared.Becomes.TheVariants as becomes
-use Rattle.eit_state.specs.State.{store, countersFull}
+use Rattle.eit_state.specs.State.{store, counters_full}
 use Rattle.eit_state.specs.declared.Eit.{Eit}
 use Rattle.eit_ready.specs.Ready.{Pushable}
 use Rattle.rules_logs.specs.Records.{Bytes}
 use Rattle.rules_logs.specs.Sections.{Given}
-use Rattle.log_list.specs.List.{givensFrom, WholeFrom}
-use Rattle.eit_each.specs.Each.{pushedEach}
+use Rattle.log_list.specs.List.{givens_from, WholeFrom}
+use Rattle.eit_each.specs.Each.{pushed_each}
 
 -- the sets are whole, and a column has the tag of each that is in use
 pub record Searchable (s : Sets) (heads slots cells tags : List ℕ) : Type 0 where
@@ -32,13 +32,13 @@ pub record Known (s : Sets) (heads slots cells bytes : List ℕ) (a : Arrival) (
   pub row : i < s.used
   pub fits : length bytes ≤ s.size
   pub same : place.Repeat i ≡ place_of (sets.store s heads slots cells) a.entry bytes
-  pub stays : becomes.Stays ≡ becomesOf heads slots a i
+  pub stays : becomes.Stays ≡ becomes_of heads slots a i
 
 -- a section as it is offered only touches row i
 pub record Repeat (e : Eit) (heads slots cells : List ℕ) (input : ℕ) (pid : MaybePid) (bytes : List ℕ) (i : ℕ) : Type 0 where
-  pub counts : countersFull e ≡ false
+  pub counts : counters_full e ≡ false
   pub a : Arrival
-  pub arrived : eitArrival input pid bytes ≡ arrival.Arrived a
+  pub arrived : eit_arrival input pid bytes ≡ arrival.Arrived a
   pub byte : get_or bytes 7 0 < 256
   pub known : Known e.sets heads slots cells bytes a i
 
@@ -50,4 +50,4 @@ RepeatGiven e heads slots cells g i = Repeat e heads slots cells g.input (maybe.
 pub record Passed (list : Bytes) (slots cells : List ℕ) (e : Eit) (heads : List ℕ) (e' : Eit) (heads' : List ℕ) (p : ℕ) : Type 0 where
   pub behind : WholeFrom list p
   pub stays : (t u : List ℕ) → Pushable (store e heads slots cells t u) → Pushable (store e' heads' slots cells t u)
-  pub gives : (t u : List ℕ) → Pushable (store e heads slots cells t u) → pushedEach p (store e' heads' slots cells t u) (givensFrom list p) ≡ pushedEach 0 (store e heads slots cells t u) (givensFrom list 0)
+  pub gives : (t u : List ℕ) → Pushable (store e heads slots cells t u) → pushed_each p (store e' heads' slots cells t u) (givens_from list p) ≡ pushed_each 0 (store e heads slots cells t u) (givens_from list 0)

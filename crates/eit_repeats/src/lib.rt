@@ -3,7 +3,7 @@
 ghost use Rattle.std.specs.Prelude.{◌≡◌, ◌+◌, ◌≤◌, ◌<◌, length};
 ghost use Rattle.arrivals.specs.Arrivals.{Numbered};
 ghost use Rattle.store.specs.Store.{Whole};
-ghost use Rattle.log_list.specs.List.{givenAt, WholeFrom};
+ghost use Rattle.log_list.specs.List.{given_at, WholeFrom};
 ghost use Rattle.eit_repeats.specs.Repeats.{Searchable, Known, Repeat, RepeatGiven, Passed};
 
 use arrivals::{Arrival, EitArrival};
@@ -92,7 +92,7 @@ fn row_at(
 ) -> usize
     requires searchable { Searchable eit.sets heads.now slots.now cells.now tags.now }
     requires length_in_bounds { place.start + place.length ≤ length list.now }
-    ensures { result < eit.sets.used → RepeatGiven eit heads.now slots.now cells.now (givenAt list.now place) result }
+    ensures { result < eit.sets.used → RepeatGiven eit heads.now slots.now cells.now (given_at list.now place) result }
 {
     let start = place.start;
     let end = start + place.length;

@@ -8,8 +8,8 @@ use mathlib.Core.Bool.{Bool, true, false, not, cond}
 use lib.ListN.{length, take, drop}
 use lib.Dec.{leb, eqb}
 use borrow.Author.Tests.{eq-eqb, ne_eqb, le-leb, lt-leb, leb-true, not-true, not-false}
-use Rattle.laws.proofs.Tests.{and-true}
-use Rattle.laws.specs.Entries.{wholeEntries}
+use Rattle.laws.proofs.Tests.{and_true}
+use Rattle.laws.specs.Entries.{whole_entries}
 use Rattle.section.specs.Header.{byte_at}
 use Rattle.eit_section.specs.declared.Kind.{Kind}
 use Rattle.eit_section.specs.declared.Kind.TheVariants.{PresentFollowingActual, PresentFollowingOther, ScheduleActual, ScheduleOther}
@@ -18,20 +18,20 @@ use Rattle.eit_section.specs.declared.MaybeKind.TheVariants as maybe
 use Rattle.eit_section.specs.declared.Eit.{Eit}
 use Rattle.eit_section.specs.declared.Reading.{Reading}
 use Rattle.eit_section.specs.declared.Reading.TheVariants.{NotEit, Broken, Good}
-use Rattle.eit_section.specs.Eit.{within, kind_of, fields_of, layoutGood, eitAs, eitOf}
+use Rattle.eit_section.specs.Eit.{within, kind_of, fields_of, layout_good, eit_as, eit_of}
 
 module _ (t : ℕ) where
-  pub following-actual : t ≡ 0x4E → kind_of t ≡ maybe.Some PresentFollowingActual
-  following-actual e = simp (eq-eqb t 0x4E e)
+  pub following_actual : t ≡ 0x4E → kind_of t ≡ maybe.Some PresentFollowingActual
+  following_actual e = simp (eq-eqb t 0x4E e)
 
-  pub following-other : t ≡ 0x4F → kind_of t ≡ maybe.Some PresentFollowingOther
-  following-other e = simp (ne_eqb t 0x4E (omega arith), eq-eqb t 0x4F e)
+  pub following_other : t ≡ 0x4F → kind_of t ≡ maybe.Some PresentFollowingOther
+  following_other e = simp (ne_eqb t 0x4E (omega arith), eq-eqb t 0x4F e)
 
-  pub schedule-actual : 0x50 ≤ t → t ≤ 0x5F → kind_of t ≡ maybe.Some ScheduleActual
-  schedule-actual a b = simp (ne_eqb t 0x4E (omega arith), ne_eqb t 0x4F (omega arith), le-leb 0x50 t a, le-leb t 0x5F b)
+  pub schedule_actual : 0x50 ≤ t → t ≤ 0x5F → kind_of t ≡ maybe.Some ScheduleActual
+  schedule_actual a b = simp (ne_eqb t 0x4E (omega arith), ne_eqb t 0x4F (omega arith), le-leb 0x50 t a, le-leb t 0x5F b)
 
-  pub schedule-other : 0x60 ≤ t → t ≤ 0x6F → kind_of t ≡ maybe.Some ScheduleOther
-  schedule-other a b =
+  pub schedule_other : 0x60 ≤ t → t ≤ 0x6F → kind_of t ≡ maybe.Some ScheduleOther
+  schedule_other a b =
       let c : 0x50 ≤ t = omega arith in
       simp (ne_eqb t 0x4E (omega arith), ne_eqb t 0x4F (omega arith), le-leb 0x50 t c, lt-leb t 0x5F (omega arith), le-leb 0x60 t a, le-leb t 0x6F b)
 
@@ -51,72 +51,72 @@ module _ (a b c d : Bool) where
       cond a (maybe.Some PresentFollowingActual)
       (cond b (maybe.Some PresentFollowingOther) (cond c (maybe.Some ScheduleActual) (cond d (maybe.Some ScheduleOther) maybe.None)))
 
-picked-actual : (a b c d : Bool) → picked a b c d ≡ maybe.Some ScheduleActual → c ≡ true
-picked-actual true b c d e = cc
-picked-actual false true c d e = cc
-picked-actual false false true d e = refl
-picked-actual false false false true e = cc
-picked-actual false false false false e = cc
+picked_actual : (a b c d : Bool) → picked a b c d ≡ maybe.Some ScheduleActual → c ≡ true
+picked_actual true b c d e = cc
+picked_actual false true c d e = cc
+picked_actual false false true d e = refl
+picked_actual false false false true e = cc
+picked_actual false false false false e = cc
 
-picked-other : (a b c d : Bool) → picked a b c d ≡ maybe.Some ScheduleOther → d ≡ true
-picked-other true b c d e = cc
-picked-other false true c d e = cc
-picked-other false false true d e = cc
-picked-other false false false true e = refl
-picked-other false false false false e = cc
+picked_other : (a b c d : Bool) → picked a b c d ≡ maybe.Some ScheduleOther → d ≡ true
+picked_other true b c d e = cc
+picked_other false true c d e = cc
+picked_other false false true d e = cc
+picked_other false false false true e = refl
+picked_other false false false false e = cc
 
-in-range : (low high t : ℕ) → within low high t ≡ true → (low ≤ t) × (t ≤ high)
-in-range low high t e = let h = and-true (leb low t) (leb t high) e in (leb-true low t h.0, leb-true t high h.1)
+in_range : (low high t : ℕ) → within low high t ≡ true → (low ≤ t) × (t ≤ high)
+in_range low high t e = let h = and_true (leb low t) (leb t high) e in (leb-true low t h.0, leb-true t high h.1)
 
-pub schedule-actual-range : (t : ℕ) → kind_of t ≡ maybe.Some ScheduleActual → (0x50 ≤ t) × (t ≤ 0x5F)
-schedule-actual-range t e = in-range 0x50 0x5F t (picked-actual (eqb t 0x4E) (eqb t 0x4F) (within 0x50 0x5F t) (within 0x60 0x6F t) e)
+pub schedule_actual_range : (t : ℕ) → kind_of t ≡ maybe.Some ScheduleActual → (0x50 ≤ t) × (t ≤ 0x5F)
+schedule_actual_range t e = in_range 0x50 0x5F t (picked_actual (eqb t 0x4E) (eqb t 0x4F) (within 0x50 0x5F t) (within 0x60 0x6F t) e)
 
-pub schedule-other-range : (t : ℕ) → kind_of t ≡ maybe.Some ScheduleOther → (0x60 ≤ t) × (t ≤ 0x6F)
-schedule-other-range t e = in-range 0x60 0x6F t (picked-other (eqb t 0x4E) (eqb t 0x4F) (within 0x50 0x5F t) (within 0x60 0x6F t) e)
+pub schedule_other_range : (t : ℕ) → kind_of t ≡ maybe.Some ScheduleOther → (0x60 ≤ t) × (t ≤ 0x6F)
+schedule_other_range t e = in_range 0x60 0x6F t (picked_other (eqb t 0x4E) (eqb t 0x4F) (within 0x50 0x5F t) (within 0x60 0x6F t) e)
 
 -- under 18 bytes there is no room for the fields
-pub layout-short : (s : List ℕ) → length s < 18 → false ≡ layoutGood s
-layout-short s h = rw (lt-leb 18 (length s) h)
+pub layout_short : (s : List ℕ) → length s < 18 → false ≡ layout_good s
+layout_short s h = rw (lt-leb 18 (length s) h)
 
 -- else the events decide, which the code has as the part from 14 to 4 before the end
-pub layout-events : (s : List ℕ) (w : Bool) → 18 ≤ length s → w ≡ wholeEntries 12 (take (length s - 4 - 14) (drop 14 s)) → w ≡ layoutGood s
-layout-events s w h e = let l : length s - 4 - 14 ≡ length s - 18 = omega arith in rw (le-leb 18 (length s) h, ← l) e
+pub layout_events : (s : List ℕ) (w : Bool) → 18 ≤ length s → w ≡ whole_entries 12 (take (length s - 4 - 14) (drop 14 s)) → w ≡ layout_good s
+layout_events s w h e = let l : length s - 4 - 14 ≡ length s - 18 = omega arith in rw (le-leb 18 (length s) h, ← l) e
 
-pub layout-long : (s : List ℕ) (w : Bool) → w ≡ layoutGood s → not w ≡ false → 18 ≤ length s
-layout-long s w e h = leb-true 18 (length s) (and-true (leb 18 (length s)) _ (sym e ∙ not-false w h)).0
+pub layout_long : (s : List ℕ) (w : Bool) → w ≡ layout_good s → not w ≡ false → 18 ≤ length s
+layout_long s w e h = leb-true 18 (length s) (and_true (leb 18 (length s)) _ (sym e ∙ not-false w h)).0
 
 -- the ways out of reading a section of a kind: w whether the layout is good
-module _ (s : List ℕ) (k : Kind) (w : Bool) (ew : w ≡ layoutGood s) where
-  pub read-broken : not w ≡ true → Broken ≡ eitAs s k
-  unfolding eitAs
-  read-broken v = rw (← ew, not-true w v)
+module _ (s : List ℕ) (k : Kind) (w : Bool) (ew : w ≡ layout_good s) where
+  pub read_broken : not w ≡ true → Broken ≡ eit_as s k
+  unfolding eit_as
+  read_broken v = rw (← ew, not-true w v)
 
-  pub read-good : (e : Eit) → not w ≡ false → e ≡ fields_of s k → Good e ≡ eitAs s k
-  unfolding eitAs
-  read-good e v ee = rw (← ew, not-false w v, ee)
+  pub read_good : (e : Eit) → not w ≡ false → e ≡ fields_of s k → Good e ≡ eit_as s k
+  unfolding eit_as
+  read_good e v ee = rw (← ew, not-false w v, ee)
 
 -- of reading any section: t its table_id, m what that says
 module _ (s : List ℕ) (t : ℕ) (m : MaybeKind) (et : t ≡ byte_at s 0) (em : m ≡ kind_of t) where
-  kind-here : kind_of (byte_at s 0) ≡ m
-  kind-here = rw (em, et)
+  kind_here : kind_of (byte_at s 0) ≡ m
+  kind_here = rw (em, et)
 
-  pub read_none : m ≡ maybe.None → NotEit ≡ eitOf s
-  unfolding eitOf
-  read_none h = rw (kind-here, h)
+  pub read_none : m ≡ maybe.None → NotEit ≡ eit_of s
+  unfolding eit_of
+  read_none h = rw (kind_here, h)
 
-  pub read_some : (k : Kind) (r : Reading) → m ≡ maybe.Some k → r ≡ eitAs s k → r ≡ eitOf s
-  unfolding eitOf
-  read_some k r h e = rw (kind-here, h) e
+  pub read_some : (k : Kind) (r : Reading) → m ≡ maybe.Some k → r ≡ eit_as s k → r ≡ eit_of s
+  unfolding eit_of
+  read_some k r h e = rw (kind_here, h) e
 
 -- 18 by table_id alone, 19 where the table_id is an EIT's and the layout is broken, and no refusal else
-pub refused-18 : (s : List ℕ) → kind_of (byte_at s 0) ≡ maybe.None → eitOf s ≡ NotEit
-unfolding eitOf
-refused-18 s h = rw h
+pub refused_18 : (s : List ℕ) → kind_of (byte_at s 0) ≡ maybe.None → eit_of s ≡ NotEit
+unfolding eit_of
+refused_18 s h = rw h
 
-pub refused-19 : (s : List ℕ) (k : Kind) → kind_of (byte_at s 0) ≡ maybe.Some k → layoutGood s ≡ false → eitOf s ≡ Broken
-unfolding eitOf eitAs
-refused-19 s k h l = rw (h, l)
+pub refused_19 : (s : List ℕ) (k : Kind) → kind_of (byte_at s 0) ≡ maybe.Some k → layout_good s ≡ false → eit_of s ≡ Broken
+unfolding eit_of eit_as
+refused_19 s k h l = rw (h, l)
 
-pub read-well : (s : List ℕ) (k : Kind) → kind_of (byte_at s 0) ≡ maybe.Some k → layoutGood s ≡ true → eitOf s ≡ Good (fields_of s k)
-unfolding eitOf eitAs
-read-well s k h l = rw (h, l)
+pub read_well : (s : List ℕ) (k : Kind) → kind_of (byte_at s 0) ≡ maybe.Some k → layout_good s ≡ true → eit_of s ≡ Good (fields_of s k)
+unfolding eit_of eit_as
+read_well s k h l = rw (h, l)

@@ -3,45 +3,45 @@
 use mathlib.Core.Path.{◌≡◌, refl}
 use Prim.Native.Nat.{ℕ, ◌+◌, ◌/◌, ◌%◌, ◌≤◌, ◌<◌}
 use native.Mathlib.Omega.{arith}
-use Rattle.eit_section.specs.Segment.{segmentEnd}
+use Rattle.eit_section.specs.Segment.{segment_end}
 
 module _ (start number last : ℕ) where
-  pub end-within-last : segmentEnd start number last ≤ last
-  unfolding segmentEnd
-  end-within-last = omega arith
+  pub end_within_last : segment_end start number last ≤ last
+  unfolding segment_end
+  end_within_last = omega arith
 
-  pub end-from-start : start ≤ last → start ≤ segmentEnd start number last
-  unfolding segmentEnd
-  end-from-start h = omega arith
+  pub end_from_start : start ≤ last → start ≤ segment_end start number last
+  unfolding segment_end
+  end_from_start h = omega arith
 
   -- at most eight section numbers
-  pub end-near : segmentEnd start number last < start + 8
-  unfolding segmentEnd
-  end-near = omega arith
+  pub end_near : segment_end start number last < start + 8
+  unfolding segment_end
+  end_near = omega arith
 
   -- a segment ends in itself
-  pub end-in-segment : start % 8 ≡ 0 → start ≤ last → segmentEnd start number last / 8 ≡ start / 8
-  unfolding segmentEnd
-  end-in-segment z h = omega arith
+  pub end_in_segment : start % 8 ≡ 0 → start ≤ last → segment_end start number last / 8 ≡ start / 8
+  unfolding segment_end
+  end_in_segment z h = omega arith
 
   -- a number of the segment that is no later than the last section is the end
-  pub end-as-sent : start % 8 ≡ 0 → start ≤ number → number < start + 8 → number ≤ last → segmentEnd start number last ≡ number
-  unfolding segmentEnd
-  end-as-sent z h l m = omega arith
+  pub end_as_sent : start % 8 ≡ 0 → start ≤ number → number < start + 8 → number ≤ last → segment_end start number last ≡ number
+  unfolding segment_end
+  end_as_sent z h l m = omega arith
 
 -- docs/RULES.md, "Examples": segment end (start, number, last)
-pub as-sent : segmentEnd 8 11 20 ≡ 11
-unfolding segmentEnd
-as-sent = refl
+pub as_sent : segment_end 8 11 20 ≡ 11
+unfolding segment_end
+as_sent = refl
 
-pub counted-within : segmentEnd 8 3 20 ≡ 11
-unfolding segmentEnd
-counted-within = refl
+pub counted_within : segment_end 8 3 20 ≡ 11
+unfolding segment_end
+counted_within = refl
 
-pub past-last : segmentEnd 16 23 17 ≡ 17
-unfolding segmentEnd
-past-last = refl
+pub past_last : segment_end 16 23 17 ≡ 17
+unfolding segment_end
+past_last = refl
 
-pub no_wrap : segmentEnd 248 255 255 ≡ 255
-unfolding segmentEnd
+pub no_wrap : segment_end 248 255 255 ≡ 255
+unfolding segment_end
 no_wrap = refl

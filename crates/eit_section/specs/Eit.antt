@@ -1,7 +1,7 @@
 -- The event information section, EN 300 468 5.2.4: byte 0 table_id, 3 and 4 service_id (the table_id_extension), 8 and 9 transport_stream_id,
 -- 10 and 11 original_network_id, 12 segment_last_section_number, 13 last_table_id, then events to the CRC, the last four bytes.
 use Rattle.std.specs.Prelude.{ℕ, ◌-◌, List, Bool, cond, ◌&&◌, length, take, drop, leb, eqb}
-use Rattle.laws.specs.Entries.{wholeEntries}
+use Rattle.laws.specs.Entries.{whole_entries}
 use Rattle.section.specs.Header.{byte_at, word16}
 use Rattle.eit_section.specs.declared.Kind.{Kind}
 use Rattle.eit_section.specs.declared.Kind.TheVariants.{PresentFollowingActual, PresentFollowingOther, ScheduleActual, ScheduleOther}
@@ -36,17 +36,17 @@ fields_of s kind =
     }
 
 -- at least 18 bytes, and from byte 14 to the CRC whole events: 12 bytes each and the descriptors that their last 12 bits count
-abbrev pub layoutGood : List ℕ → Bool
-layoutGood s = leb 18 (length s) && wholeEntries 12 (take (length s - 18) (drop 14 s))
+abbrev pub layout_good : List ℕ → Bool
+layout_good s = leb 18 (length s) && whole_entries 12 (take (length s - 18) (drop 14 s))
 
 -- a section of this kind, read as an EIT
-unfoldable pub eitAs : List ℕ → Kind → Reading
-eitAs s kind = cond (layoutGood s) (Good (fields_of s kind)) Broken
+unfoldable pub eit_as : List ℕ → Kind → Reading
+eit_as s kind = cond (layout_good s) (Good (fields_of s kind)) Broken
 
-abbrev pub eitBy : List ℕ → MaybeKind → Reading
-eitBy s (maybe.Some kind) = eitAs s kind
-eitBy s maybe.None = NotEit
+abbrev pub eit_by : List ℕ → MaybeKind → Reading
+eit_by s (maybe.Some kind) = eit_as s kind
+eit_by s maybe.None = NotEit
 
 -- a section read as an EIT
-unfoldable pub eitOf : List ℕ → Reading
-eitOf s = eitBy s (kind_of (byte_at s 0))
+unfoldable pub eit_of : List ℕ → Reading
+eit_of s = eit_by s (kind_of (byte_at s 0))

@@ -1,9 +1,9 @@
 // The event information table, EN 300 468 5.2.4: its kinds, its layout and the end of a segment.
 ghost use Rattle.std.specs.Prelude.{◌≡◌, ◌≤◌, length};
-ghost use Rattle.laws.specs.Entries.{entrySize, wholeEntries};
+ghost use Rattle.laws.specs.Entries.{entry_size, whole_entries};
 ghost use Rattle.section.specs.Header.{byte_at};
-ghost use Rattle.eit_section.specs.Eit.{kind_of, fields_of, layoutGood, eitAs, eitOf};
-ghost use Rattle.eit_section.specs.Segment.{segmentEnd};
+ghost use Rattle.eit_section.specs.Eit.{kind_of, fields_of, layout_good, eit_as, eit_of};
+ghost use Rattle.eit_section.specs.Segment.{segment_end};
 
 use section::bytes::{wide, word};
 use section::ids::ServiceId;
@@ -60,17 +60,17 @@ pub enum Reading {
 
 // Reads a section as an EIT. Its length, form and CRC are judged elsewhere: any bytes get an answer here.
 pub fn read(s: &[u8]) -> Reading
-    ensures { result ≡ eitOf s.now }
+    ensures { result ≡ eit_of s.now }
 {
     match Kind::from_table_id(table_id(s)) {
         MaybeKind::None => Reading::NotEit,
-        MaybeKind::Some(kind) => read_as(s, kind),
+        MaybeKind::Some(kind) => read_as_lem(s, kind),
     }
 }
 
 // The same of a section whose table_id is one of this kind.
-fn read_as(s: &[u8], kind: Kind) -> Reading
-    ensures { result ≡ eitAs s.now kind }
+fn read_as_lem(s: &[u8], kind: Kind) -> Reading
+    ensures { result ≡ eit_as s.now kind }
 {
     if !is_laid_out(s) {
         return Reading::Broken;
@@ -90,7 +90,7 @@ pub fn segment_end(
     segment_last_section_number: u8,
     last_section_number: u8,
 ) -> u8
-    ensures { result ≡ segmentEnd first_section_number segment_last_section_number last_section_number }
+    ensures { result ≡ segment_end first_section_number segment_last_section_number last_section_number }
 {
     let number_within_segment = wide(segment_last_section_number) % SECTIONS_PER_SEGMENT;
     let end = wide(first_section_number) + number_within_segment;
@@ -125,7 +125,7 @@ fn fields(s: &[u8], kind: Kind) -> Eit
 
 // Whether there is room for the 14 bytes before the events and the CRC's four, and what stands between them is events.
 fn is_laid_out(s: &[u8]) -> bool
-    ensures { result ≡ layoutGood s.now }
+    ensures { result ≡ layout_good s.now }
 {
     if s.len() < 18 {
         return false;
@@ -137,14 +137,14 @@ fn is_laid_out(s: &[u8]) -> bool
 // The bytes of the event that s starts with: 12, and the descriptor bytes that the last 12 bits of these count.
 fn event_size(s: &[u8]) -> usize
     requires { 12 ≤ length s.now }
-    ensures { result ≡ entrySize 12 s.now }
+    ensures { result ≡ entry_size 12 s.now }
 {
     12 + (wide(s[10]) % 16 * 256 + wide(s[11]))
 }
 
 // Whether the bytes are events to the last: one event, and then the rest by the same rule.
 fn events(s: &[u8]) -> bool
-    ensures { result ≡ wholeEntries 12 s.now }
+    ensures { result ≡ whole_entries 12 s.now }
 {
     if s.len() == 0 {
         return true;

@@ -3,7 +3,7 @@ ghost use Rattle.std.specs.Prelude.{◌≡◌, ◌+◌, ◌*◌, ◌<◌, ◌≤
 ghost use Rattle.rows.specs.Rows.{touched};
 ghost use Rattle.eit_state.specs.State.{rows};
 ghost use Rattle.eit_enter.specs.Entering.{answered, SettleOk};
-ghost use Rattle.eit_settle.specs.Settle.{conflicting, markedHeads, settledAs, settled};
+ghost use Rattle.eit_settle.specs.Settle.{conflicting, marked_heads, settled_as, settled};
 
 use answers::Refusal;
 use arrivals::Arrival;
@@ -23,7 +23,7 @@ pub fn conflict(heads: &mut [u64], i: usize, clock: u64) -> PushAnswer
 // A set that goes out or enters its schedule is marked.
 fn mark_where(heads: &mut [u64], b: bool, i: usize)
     requires { i * 12 + 12 ≤ length heads.old }
-    ensures { heads.new ≡ markedHeads b i heads.old }
+    ensures { heads.new ≡ marked_heads b i heads.old }
 {
     if b {
         rows::set_mark(heads, i, 1);
@@ -42,7 +42,7 @@ fn settle_as(
     b: Becomes,
 ) -> Pushed
     requires { SettleOk (rows eit heads.now slots.now schedule_heads.old units.old) i }
-    ensures { answered result heads.now slots.now schedule_heads.new units.new ≡ settledAs b (rows eit heads.now slots.now schedule_heads.old units.old) a i }
+    ensures { answered result heads.now slots.now schedule_heads.new units.new ≡ settled_as b (rows eit heads.now slots.now schedule_heads.old units.old) a i }
 {
     match b {
         Becomes::Stays => Pushed {

@@ -3,7 +3,7 @@
 use mathlib.Core.Path.{◌≡◌, sym, ◌∙◌}
 use Prim.Native.Nat.{ℕ}
 use Rattle.eit_state.specs.declared.PushAnswer.{PushAnswer}
-use Rattle.eit_state.specs.State.{pushNumber}
+use Rattle.eit_state.specs.State.{push_number}
 
-pub unique-push-number : (a : PushAnswer) (r q : ℕ) → r ≡ pushNumber a → q ≡ pushNumber a → r ≡ q
-unique-push-number a r q e f = e ∙ sym f
+pub unique_push_number : (a : PushAnswer) (r q : ℕ) → r ≡ push_number a → q ≡ push_number a → r ≡ q
+unique_push_number a r q e f = e ∙ sym f

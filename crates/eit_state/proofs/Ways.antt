@@ -6,25 +6,25 @@ use Prim.Native.Nat.{ℕ}
 use Rattle.answers.specs.declared.Refusal.TheVariants as refusal
 use Rattle.answers.specs.declared.Outcome.TheVariants as outcome
 use Rattle.store.specs.declared.Sets.{Sets}
-use Rattle.store.specs.Store.{risenSets}
+use Rattle.store.specs.Store.{risen_sets}
 use Rattle.eit_state.specs.declared.Eit.{Eit}
 use Rattle.eit_state.specs.declared.Turned.{Turned}
-use Rattle.eit_state.specs.State.{withSets, risenEit, withSchedules, settingsFit, openedAs, clearedAs}
+use Rattle.eit_state.specs.State.{with_sets, risen_eit, with_schedules, settings_fit, opened_as, cleared_as}
 
-module _ (b : Bool) (e : Eit) (heads slots cells schedule-heads units : ℕ) (q : b ≡ settingsFit e heads slots cells schedule-heads units) where
-  pub opened-yes : b ≡ true → ◌≡◌ {A = Turned} (record { answer = outcome.Done; eit = e }) (openedAs (settingsFit e heads slots cells schedule-heads units) e)
-  opened-yes t = rw (← q, t)
+module _ (b : Bool) (e : Eit) (heads slots cells schedule_heads units : ℕ) (q : b ≡ settings_fit e heads slots cells schedule_heads units) where
+  pub opened_yes : b ≡ true → ◌≡◌ {A = Turned} (record { answer = outcome.Done; eit = e }) (opened_as (settings_fit e heads slots cells schedule_heads units) e)
+  opened_yes t = rw (← q, t)
 
-  pub opened-no : b ≡ false → ◌≡◌ {A = Turned} (record { answer = outcome.Refused refusal.TooLittle; eit = e }) (openedAs (settingsFit e heads slots cells schedule-heads units) e)
-  opened-no t = rw (← q, t)
+  pub opened_no : b ≡ false → ◌≡◌ {A = Turned} (record { answer = outcome.Refused refusal.TooLittle; eit = e }) (opened_as (settings_fit e heads slots cells schedule_heads units) e)
+  opened_no t = rw (← q, t)
 
 module _ (b : Bool) (e : Eit) where
-  pub cleared-yes : (e' e'' : Eit) → b ≡ true → e' ≡ withSets e 0 e.sets.evictions → e'' ≡ withSchedules e' 0 e.schedule_evictions
-      → ◌≡◌ {A = Turned} (record { answer = outcome.Done; eit = e'' }) (clearedAs b e)
-  cleared-yes e' e'' t f g = rw (t, g, f)
+  pub cleared_yes : (e' e'' : Eit) → b ≡ true → e' ≡ with_sets e 0 e.sets.evictions → e'' ≡ with_schedules e' 0 e.schedule_evictions
+      → ◌≡◌ {A = Turned} (record { answer = outcome.Done; eit = e'' }) (cleared_as b e)
+  cleared_yes e' e'' t f g = rw (t, g, f)
 
-  pub cleared-no : b ≡ false → ◌≡◌ {A = Turned} (record { answer = outcome.Refused refusal.NotWhole; eit = e }) (clearedAs b e)
-  cleared-no t = rw t
+  pub cleared_no : b ≡ false → ◌≡◌ {A = Turned} (record { answer = outcome.Refused refusal.NotWhole; eit = e }) (cleared_as b e)
+  cleared_no t = rw t
 
-pub rises : (e : Eit) (s : Sets) → s ≡ risenSets e.sets → ◌≡◌ {A = Eit} (record { sets = s; schedules = e.schedules; schedule_evictions = e.schedule_evictions }) (risenEit e)
+pub rises : (e : Eit) (s : Sets) → s ≡ risen_sets e.sets → ◌≡◌ {A = Eit} (record { sets = s; schedules = e.schedules; schedule_evictions = e.schedule_evictions }) (risen_eit e)
 rises e s q = rw q

@@ -1,8 +1,8 @@
 // The EIT collector's settings and counts, and when they and the memory lent beside them are whole (docs/RULES.md, "Layouts" and "Answers", 10
 // and 13): what every other part of the collector stands on.
 ghost use Rattle.std.specs.Prelude.{◌≡◌, true, ◌≢◌};
-ghost use Rattle.without_pid.specs.Pids.{withoutPid};
-ghost use Rattle.eit_state.specs.State.{store, schedulesFit, settingsFit, whole_of, countersFull, withSets, risenEit, withSchedules, pushNumber, asked, openedAs, clearedAs};
+ghost use Rattle.without_pid.specs.Pids.{without_pid};
+ghost use Rattle.eit_state.specs.State.{store, schedules_fit, settings_fit, whole_of, counters_full, with_sets, risen_eit, with_schedules, push_number, asked, opened_as, cleared_as};
 
 use answers::{Outcome, Refusal};
 use store::Sets;
@@ -33,7 +33,7 @@ pub enum PushAnswer {
 
 impl PushAnswer {
     pub fn number(self) -> u8
-        ensures { result ≡ pushNumber self }
+        ensures { result ≡ push_number self }
     {
         match self {
             PushAnswer::Nothing => 4,
@@ -59,7 +59,7 @@ pub struct Turned {
 
 // Whether the lent slices have the limit's schedules, and no more are in use.
 fn schedules_fit(eit: Eit, schedule_heads: usize, units: usize) -> bool
-    ensures { result ≡ schedulesFit eit schedule_heads units }
+    ensures { result ≡ schedules_fit eit schedule_heads units }
 {
     let sets = eit.sets;
     (sets.limit <= schedule_heads / rows::HEAD_WORDS)
@@ -76,7 +76,7 @@ pub fn settings_fit(
     schedule_heads: usize,
     units: usize,
 ) -> bool
-    ensures { result ≡ settingsFit eit heads slots cells schedule_heads units }
+    ensures { result ≡ settings_fit eit heads slots cells schedule_heads units }
 {
     let sets = eit.sets;
     store::settings_fit(sets, heads, slots, cells) & schedules_fit(eit, schedule_heads, units)
@@ -92,7 +92,7 @@ pub fn look(
     units: &[u32],
 ) -> Looked
     ensures whole_value { result.whole ≡ whole_of (store eit heads.now slots.now cells.now schedule_heads.now units.now) }
-    ensures without_value { result.whole ≡ true → result.without ≡ withoutPid heads.now eit.sets.used }
+    ensures without_value { result.whole ≡ true → result.without ≡ without_pid heads.now eit.sets.used }
 {
     let sets = eit.sets;
     let seen = store::look(sets, heads, slots, cells);
@@ -134,7 +134,7 @@ pub fn is_whole(
 
 // Whether one of the two counts of evictions, or the clock, is at its end.
 pub fn counters_full(eit: Eit) -> bool
-    ensures { result ≡ countersFull eit }
+    ensures { result ≡ counters_full eit }
 {
     let sets = eit.sets;
     store::counters_full(sets) | (eit.schedule_evictions == u64::MAX)
@@ -142,7 +142,7 @@ pub fn counters_full(eit: Eit) -> bool
 
 // The sets in use and their evictions become those.
 pub fn with_sets(eit: Eit, used: usize, evictions: u64) -> Eit
-    ensures { result ≡ withSets eit used evictions }
+    ensures { result ≡ with_sets eit used evictions }
 {
     let was = eit.sets;
     let sets = Sets {
@@ -162,7 +162,7 @@ pub fn with_sets(eit: Eit, used: usize, evictions: u64) -> Eit
 
 // So the schedules.
 pub fn with_schedules(eit: Eit, schedules: usize, schedule_evictions: u64) -> Eit
-    ensures { result ≡ withSchedules eit schedules schedule_evictions }
+    ensures { result ≡ with_schedules eit schedules schedule_evictions }
 {
     let sets = eit.sets;
     Eit {
@@ -175,7 +175,7 @@ pub fn with_schedules(eit: Eit, schedules: usize, schedule_evictions: u64) -> Ei
 // One touch more: the clock is that of the sets and of the schedules.
 pub fn risen(eit: Eit) -> Eit
     requires { eit.sets.clock ≢ 18446744073709551615 }
-    ensures { result ≡ risenEit eit }
+    ensures { result ≡ risen_eit eit }
 {
     let sets = eit.sets;
     Eit {
@@ -196,7 +196,7 @@ pub fn opened(
     schedule_heads: usize,
     units: usize,
 ) -> Turned
-    ensures { result ≡ openedAs (settingsFit (asked limit size count) heads slots cells schedule_heads units) (asked limit size count) }
+    ensures { result ≡ opened_as (settings_fit (asked limit size count) heads slots cells schedule_heads units) (asked limit size count) }
 {
     let sets = Sets {
         limit,
@@ -225,7 +225,7 @@ pub fn opened(
 
 // A collector as it is cleared: every set and every schedule leaves, and the counts of evictions and the clock stay; 10 where the store is not whole.
 pub fn cleared(eit: Eit, whole: bool) -> Turned
-    ensures { result ≡ clearedAs whole eit }
+    ensures { result ≡ cleared_as whole eit }
 {
     if whole {
         let sets = eit.sets;

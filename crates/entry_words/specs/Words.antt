@@ -4,58 +4,58 @@
 use Rattle.std.specs.Prelude.{ℕ, ◌/◌, ◌%◌, List, [], ◌∷◌, Bool, cond, length, eqb}
 use Rattle.laws.specs.Entries.{counted}
 use Rattle.section.specs.Header.{byte_at, word16}
-use Rattle.times.specs.Times.{timeOf, dayOf}
+use Rattle.times.specs.Times.{time_of, day_of}
 use Rattle.times.specs.declared.Time.{Time}
 use Rattle.times.specs.declared.Time.TheVariants.{At, Undefined}
 use Rattle.entry_words.specs.declared.Event.{Event}
 
 -- the twelve bytes of an event's header (EN 300 468, 5.2.4): 0 and 1 event_id, 2 and 3 the day and 4 to 6 the time of start_time, 7 to 9 duration, then 3 bits
 -- running_status, 1 bit free_CA_mode and 12 bits descriptors_loop_length
-unfoldable pub eventOf : (header : List ℕ) → Event
-eventOf header = record {
+unfoldable pub event_of : (header : List ℕ) → Event
+event_of header = record {
   event_id = word16 (byte_at header 0) (byte_at header 1);
-  day = dayOf (byte_at header 2) (byte_at header 3);
-  time = timeOf (byte_at header 4) (byte_at header 5) (byte_at header 6);
-  duration = timeOf (byte_at header 7) (byte_at header 8) (byte_at header 9);
+  day = day_of (byte_at header 2) (byte_at header 3);
+  time = time_of (byte_at header 4) (byte_at header 5) (byte_at header 6);
+  duration = time_of (byte_at header 7) (byte_at header 8) (byte_at header 9);
   running_status = byte_at header 10 / 32;
   free_ca_mode = eqb (byte_at header 10 / 16 % 2) 1;
   descriptors = counted 12 header;
 }
 
 -- a second count; 2^32 - 1 where the time is undefined
-abbrev pub secondsWord : Time → ℕ
-secondsWord (At seconds) = seconds.0
-secondsWord Undefined = 4294967295
+abbrev pub seconds_word : Time → ℕ
+seconds_word (At seconds) = seconds.0
+seconds_word Undefined = 4294967295
 
-abbrev pub flagWord : Bool → ℕ
-flagWord flag = cond flag 1 0
+abbrev pub flag_word : Bool → ℕ
+flag_word flag = cond flag 1 0
 
-unfoldable pub eventWords : (number at : ℕ) → Event → List ℕ
-eventWords number at e =
-    1 ∷ number ∷ at ∷ e.event_id ∷ e.descriptors ∷ 0 ∷ e.day.0 ∷ secondsWord e.time ∷ secondsWord e.duration ∷ e.running_status ∷ flagWord e.free_ca_mode ∷ 0 ∷ []
+unfoldable pub event_words : (number at : ℕ) → Event → List ℕ
+event_words number at e =
+    1 ∷ number ∷ at ∷ e.event_id ∷ e.descriptors ∷ 0 ∷ e.day.0 ∷ seconds_word e.time ∷ seconds_word e.duration ∷ e.running_status ∷ flag_word e.free_ca_mode ∷ 0 ∷ []
 
 -- an entry of a loop of which nothing else is known: the 16 bits that it begins with, and how many bytes follow its header
-unfoldable pub plainWords : (number at : ℕ) → (header : List ℕ) → List ℕ
-plainWords number at header = 0 ∷ number ∷ at ∷ word16 (byte_at header 0) (byte_at header 1) ∷ counted (length header) header ∷ 0 ∷ 0 ∷ 0 ∷ 0 ∷ 0 ∷ 0 ∷ 0 ∷ []
+unfoldable pub plain_words : (number at : ℕ) → (header : List ℕ) → List ℕ
+plain_words number at header = 0 ∷ number ∷ at ∷ word16 (byte_at header 0) (byte_at header 1) ∷ counted (length header) header ∷ 0 ∷ 0 ∷ 0 ∷ 0 ∷ 0 ∷ 0 ∷ 0 ∷ []
 
 -- the six bytes of a transport stream's header (EN 300 468, 5.2.1 and 5.2.2): transport_stream_id, original_network_id, 4 bits, transport_descriptors_length
-unfoldable pub streamWords : (number at : ℕ) → (header : List ℕ) → List ℕ
-streamWords number at header =
+unfoldable pub stream_words : (number at : ℕ) → (header : List ℕ) → List ℕ
+stream_words number at header =
     3 ∷ number ∷ at ∷ word16 (byte_at header 0) (byte_at header 1) ∷ counted 6 header ∷ word16 (byte_at header 2) (byte_at header 3) ∷ 0 ∷ 0 ∷ 0 ∷ 0 ∷ 0 ∷ 0 ∷ []
 
 -- the five bytes of a service's header (EN 300 468, 5.2.3): service_id, 6 bits, EIT_schedule_flag, EIT_present_following_flag, 3 bits running_status, 1 bit free_CA_mode,
 -- descriptors_loop_length; `network` is the original_network_id of its section
-unfoldable pub serviceWords : (network number at : ℕ) → (header : List ℕ) → List ℕ
-serviceWords network number at header =
+unfoldable pub service_words : (network number at : ℕ) → (header : List ℕ) → List ℕ
+service_words network number at header =
     4 ∷ number ∷ at ∷ word16 (byte_at header 0) (byte_at header 1) ∷ counted 5 header ∷ network ∷ 0 ∷ 0 ∷ 0 ∷ byte_at header 3 / 32 ∷ byte_at header 3 / 16 % 2 ∷ byte_at header 2 % 4 ∷ []
 
 -- an entry, by the length of its header
-unfoldable pub entryWords : (network number at : ℕ) → (header : List ℕ) → List ℕ
-entryWords network number at header =
-    cond (eqb (length header) 12) (eventWords number at (eventOf header))
-    (cond (eqb (length header) 6) (streamWords number at header)
-    (cond (eqb (length header) 5) (serviceWords network number at header)
-    (plainWords number at header)))
+unfoldable pub entry_words : (network number at : ℕ) → (header : List ℕ) → List ℕ
+entry_words network number at header =
+    cond (eqb (length header) 12) (event_words number at (event_of header))
+    (cond (eqb (length header) 6) (stream_words number at header)
+    (cond (eqb (length header) 5) (service_words network number at header)
+    (plain_words number at header)))
 
-unfoldable pub descriptorWords : (number at tag size : ℕ) → List ℕ
-descriptorWords number at tag size = 2 ∷ number ∷ at ∷ tag ∷ size ∷ 0 ∷ 0 ∷ 0 ∷ 0 ∷ 0 ∷ 0 ∷ 0 ∷ []
+unfoldable pub descriptor_words : (number at tag size : ℕ) → List ℕ
+descriptor_words number at tag size = 2 ∷ number ∷ at ∷ tag ∷ size ∷ 0 ∷ 0 ∷ 0 ∷ 0 ∷ 0 ∷ 0 ∷ 0 ∷ []

@@ -2,7 +2,7 @@
 // (EN 300 468, 5.2.4), tag and length of a descriptor (6.1).
 ghost use Rattle.std.specs.Prelude.{◌≡◌, ◌≤◌, ◌<◌, length};
 ghost use Rattle.laws.specs.Entries.{counted};
-ghost use Rattle.entry_words.specs.Words.{eventOf, secondsWord, flagWord, eventWords, plainWords, streamWords, serviceWords, entryWords, descriptorWords};
+ghost use Rattle.entry_words.specs.Words.{event_of, seconds_word, flag_word, event_words, plain_words, stream_words, service_words, entry_words, descriptor_words};
 
 use section::bytes::{wide, word};
 use times::{Day, Time};
@@ -45,7 +45,7 @@ pub fn count(header: &[u8]) -> usize
 // The event whose header's bytes these are.
 pub fn event_of(header: &[u8]) -> Event
     requires { length header.now ≡ 12 }
-    ensures { (result ≡ eventOf header.now) × (result.descriptors < 4096) }
+    ensures { (result ≡ event_of header.now) × (result.descriptors < 4096) }
 {
     Event {
         event_id: word(header, 0),
@@ -59,7 +59,7 @@ pub fn event_of(header: &[u8]) -> Event
 }
 
 fn seconds_word(time: Time) -> u32
-    ensures { result ≡ secondsWord time }
+    ensures { result ≡ seconds_word time }
 {
     match time {
         Time::At(seconds) => seconds.0,
@@ -68,7 +68,7 @@ fn seconds_word(time: Time) -> u32
 }
 
 fn flag_word(flag: bool) -> u32
-    ensures { result ≡ flagWord flag }
+    ensures { result ≡ flag_word flag }
 {
     if flag { 1 } else { 0 }
 }
@@ -82,7 +82,7 @@ fn byte_word(x: u8) -> u32
 // The one place where a day and a second count become numbers.
 fn event_words(event: Event, number: u32, at: u32) -> [u32; 12]
     requires { event.descriptors < 4096 }
-    ensures { result ≡ eventWords number at event }
+    ensures { result ≡ event_words number at event }
 {
     let day = event.day;
     let time = event.time;
@@ -106,7 +106,7 @@ fn event_words(event: Event, number: u32, at: u32) -> [u32; 12]
 // Of an entry of another loop: what every loop's entries have.
 fn plain_words(header: &[u8], number: u32, at: u32) -> [u32; 12]
     requires { 4 ≤ length header.now }
-    ensures { result ≡ plainWords number at header.now }
+    ensures { result ≡ plain_words number at header.now }
 {
     [
         0,
@@ -126,7 +126,7 @@ fn plain_words(header: &[u8], number: u32, at: u32) -> [u32; 12]
 
 fn stream_words(header: &[u8], number: u32, at: u32) -> [u32; 12]
     requires { length header.now ≡ 6 }
-    ensures { result ≡ streamWords number at header.now }
+    ensures { result ≡ stream_words number at header.now }
 {
     [
         3,
@@ -146,7 +146,7 @@ fn stream_words(header: &[u8], number: u32, at: u32) -> [u32; 12]
 
 fn service_words(header: &[u8], network: u32, number: u32, at: u32) -> [u32; 12]
     requires { length header.now ≡ 5 }
-    ensures { result ≡ serviceWords network number at header.now }
+    ensures { result ≡ service_words network number at header.now }
 {
     [
         4,
@@ -168,7 +168,7 @@ fn service_words(header: &[u8], network: u32, number: u32, at: u32) -> [u32; 12]
 // services share one.
 pub fn entry_words(header: &[u8], network: u32, number: u32, at: u32) -> [u32; 12]
     requires { 4 ≤ length header.now }
-    ensures { result ≡ entryWords network number at header.now }
+    ensures { result ≡ entry_words network number at header.now }
 {
     if header.len() == EVENT_HEADER {
         return event_words(event_of(header), number, at);
@@ -184,7 +184,7 @@ pub fn entry_words(header: &[u8], network: u32, number: u32, at: u32) -> [u32; 1
 
 // Of a descriptor, by its tag and its length.
 pub fn descriptor_words(tag: u8, size: u8, number: u32, at: u32) -> [u32; 12]
-    ensures { result ≡ descriptorWords number at tag size }
+    ensures { result ≡ descriptor_words number at tag size }
 {
     [2, number, at, tag as u32, size as u32, 0, 0, 0, 0, 0, 0, 0]
 }

@@ -1,12 +1,12 @@
 // A row's sections, read out by a reader.
 ghost use Rattle.std.specs.Prelude.{◌≡◌};
-ghost use Rattle.readers.specs.Reader.{held, movedOn};
+ghost use Rattle.readers.specs.Reader.{held, moved_on};
 
 use readers::SetReader;
 
 // The next section is said, and the reader stands behind it.
 fn say_next<'a>(r: SetReader<'a>, row: &'a [u32], size: usize) -> SetReader<'a>
-    ensures { held result ≡ movedOn size row.now (held r.entry) }
+    ensures { held result ≡ moved_on size row.now (held r.entry) }
 {
     let then = readers::next_part(r, row, size);
     crate::lines::say_part(then.next, then.part);

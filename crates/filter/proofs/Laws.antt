@@ -10,12 +10,12 @@ use borrow.Author.Tests.{lt-ltb, le-ltb, ne_eqb, le-leb, lt-leb}
 use lib.Dec.{eqb}
 use lib.ListN.{length, get_or, take, drop, set, length-drop}
 use lib.Seq.{paste, get_or-take, get_or-drop, length-take-le}
-use Rattle.laws.proofs.Lists.{paste-past, paste-turn, paste-end}
+use Rattle.laws.proofs.Lists.{paste_past, paste_turn, paste_end}
 use Rattle.eit_section.specs.Eit.{kind_of}
 use Rattle.eit_section.specs.declared.Kind.{Kind}
 use Rattle.eit_section.specs.declared.MaybeKind.{MaybeKind}
 use Rattle.eit_section.specs.declared.MaybeKind.TheVariants as maybe
-use Rattle.arrivals.specs.Arrivals.{kindNumber}
+use Rattle.arrivals.specs.Arrivals.{kind_number}
 use Rattle.rows.specs.declared.Origin.{Origin}
 use Rattle.rows.specs.declared.Key.{Key}
 use Rattle.rows.specs.Rows.{key_at}
@@ -25,42 +25,42 @@ use Rattle.filter.specs.declared.WantedOrigin.{WantedOrigin}
 use Rattle.filter.specs.declared.Fields.{Fields}
 use Rattle.filter.specs.declared.Of.{Of}
 use Rattle.filter.specs.declared.Of.TheVariants as of
-use Rattle.filter.specs.Drops.{matches, wants, wantsOrigin, kindTold, kindWord, kindIn, width_of, moved_to, removedHeads, removedWords, Rest, rest, droppedRow, droppedRows, Fits}
+use Rattle.filter.specs.Drops.{matches, wants, wants_origin, kind_told, kind_word, kind_in, width_of, moved_to, removed_heads, removed_words, Rest, rest, dropped_row, dropped_rows, Fits}
 
 before : (n : ℕ) → 0 < n → n ≡ suc (n - 1)
 before n h = omega arith
 
 -- ---- which rows match
 
-pub told-some : (m : MaybeKind) (k : Kind) (r : ℕ) → m ≡ maybe.Some k → r ≡ kindNumber k → r ≡ kindTold m
-told-some m k r e f = rw e f
+pub told_some : (m : MaybeKind) (k : Kind) (r : ℕ) → m ≡ maybe.Some k → r ≡ kind_number k → r ≡ kind_told m
+told_some m k r e f = rw e f
 
-pub told_none : (m : MaybeKind) → m ≡ maybe.None → 4 ≡ kindTold m
+pub told_none : (m : MaybeKind) → m ≡ maybe.None → 4 ≡ kind_told m
 told_none m e = rw e
 
-pub kind-byte : (t r : ℕ) (m : MaybeKind) → m ≡ kind_of t → r ≡ kindTold m → r ≡ kindWord t
-kind-byte t r m e f = f ∙ ap kindTold e
+pub kind_byte : (t r : ℕ) (m : MaybeKind) → m ≡ kind_of t → r ≡ kind_told m → r ≡ kind_word t
+kind_byte t r m e f = f ∙ ap kind_told e
 
-pub kind-past : (t : ℕ) → 256 ≤ t → 4 ≡ kindWord t
-kind-past t a =
+pub kind_past : (t : ℕ) → 256 ≤ t → 4 ≡ kind_word t
+kind_past t a =
     let c : 0x50 ≤ t = omega arith in
     let d : 0x60 ≤ t = omega arith in
     simp (ne_eqb t 0x4E (omega arith), ne_eqb t 0x4F (omega arith), le-leb 0x50 t c, lt-leb t 0x5F (omega arith), le-leb 0x60 t d, lt-leb t 0x6F (omega arith))
 
-pub origin-fits : (w : WantedOrigin) (o : Origin) (a b : Bool) → a ≡ wants w.input o.input → b ≡ wants w.pid o.pid → (a && b) ≡ wantsOrigin w o
-origin-fits w o a b p q = rw (← p, ← q)
+pub origin_fits : (w : WantedOrigin) (o : Origin) (a b : Bool) → a ≡ wants w.input o.input → b ≡ wants w.pid o.pid → (a && b) ≡ wants_origin w o
+origin_fits w o a b p q = rw (← p, ← q)
 
-pub all-match : (o : Of) (f : Fields) (k : Key) (kind : ℕ) (p q r s t u : Bool) → p ≡ wantsOrigin f.from k.from → kind ≡ kindIn o k.table_id → q ≡ wants f.kind kind
+pub all_match : (o : Of) (f : Fields) (k : Key) (kind : ℕ) (p q r s t u : Bool) → p ≡ wants_origin f.from k.from → kind ≡ kind_in o k.table_id → q ≡ wants f.kind kind
     → r ≡ wants f.service_id k.extension → s ≡ wants f.transport_stream_id k.transport_stream_id
     → t ≡ wants f.original_network_id k.original_network_id → u ≡ wants f.current_next k.current_next → (p && q && r && s && t && u) ≡ matches o f k
 unfolding matches
-all-match o f k kind p q r s t u a b c d e g h = rw (← b, ← a, ← c, ← d, ← e, ← g, ← h)
+all_match o f k kind p q r s t u a b c d e g h = rw (← b, ← a, ← c, ← d, ← e, ← g, ← h)
 
-pub fits-exactly : (w : Wanted) (x v : ℕ) → w ≡ wanted.Exactly x → eqb v x ≡ wants w v
-fits-exactly w x v e = rw e
+pub fits_exactly : (w : Wanted) (x v : ℕ) → w ≡ wanted.Exactly x → eqb v x ≡ wants w v
+fits_exactly w x v e = rw e
 
-pub kind-of-set : (o : Of) (t r : ℕ) → o ≡ of.Sets → r ≡ kindWord t → r ≡ kindIn o t
-kind-of-set o t r e q = rw e q
+pub kind_of_set : (o : Of) (t r : ℕ) → o ≡ of.Sets → r ≡ kind_word t → r ≡ kind_in o t
+kind_of_set o t r e q = rw e q
 
 -- ---- words are moved
 
@@ -68,40 +68,40 @@ kind-of-set o t r e q = rw e q
 abbrev pub part : (from n : ℕ) → List ℕ → List ℕ
 part from n xs = take n (drop from xs)
 
-pub part-long : (from n : ℕ) (xs : List ℕ) → from + n ≤ length xs → length (part from n xs) ≡ n
-part-long from n xs h = length-take-le n (drop from xs) (rw (length-drop from xs) (omega arith))
+pub part_long : (from n : ℕ) (xs : List ℕ) → from + n ≤ length xs → length (part from n xs) ≡ n
+part_long from n xs h = length-take-le n (drop from xs) (rw (length-drop from xs) (omega arith))
 
 -- a word that is not moved yet is as it was
 still : (xs₀ : List ℕ) (to from n k : ℕ) → to ≤ from → from + n ≤ length xs₀ → k < n → get_or (paste xs₀ to (part from n xs₀) k) (from + k) 0 ≡ get_or (part from n xs₀) k 0
 still xs₀ to from n k h l m =
-    let e : length (part from n xs₀) ≡ n = part-long from n xs₀ l in
-    paste-past xs₀ to (part from n xs₀) k (from + k) 0 (omega arith) (omega arith) (omega arith)
+    let e : length (part from n xs₀) ≡ n = part_long from n xs₀ l in
+    paste_past xs₀ to (part from n xs₀) k (from + k) 0 (omega arith) (omega arith) (omega arith)
     ∙ sym (get_or-take n (drop from xs₀) k 0 m ∙ get_or-drop from xs₀ k 0)
 
-pub move-turn : (xs₀ xs : List ℕ) (to from n k : ℕ) → xs ≡ paste xs₀ to (part from n xs₀) k → to ≤ from → from + n ≤ length xs₀ → k < n
+pub move_turn : (xs₀ xs : List ℕ) (to from n k : ℕ) → xs ≡ paste xs₀ to (part from n xs₀) k → to ≤ from → from + n ≤ length xs₀ → k < n
     → set xs (to + k) (get_or xs (from + k) 0) ≡ paste xs₀ to (part from n xs₀) (k + 1)
-move-turn xs₀ xs to from n k q h l m =
-    let e : length (part from n xs₀) ≡ n = part-long from n xs₀ l in
+move_turn xs₀ xs to from n k q h l m =
+    let e : length (part from n xs₀) ≡ n = part_long from n xs₀ l in
     let v : get_or xs (from + k) 0 ≡ get_or (part from n xs₀) k 0 = ap (λ (x : List ℕ). get_or x (from + k) 0) q ∙ still xs₀ to from n k h l m in
-    ap (set xs (to + k)) v ∙ paste-turn xs₀ xs to (part from n xs₀) k 0 q (omega arith) (omega arith)
+    ap (set xs (to + k)) v ∙ paste_turn xs₀ xs to (part from n xs₀) k 0 q (omega arith) (omega arith)
 
-pub move-end : (xs₀ xs : List ℕ) (to from n k : ℕ) → xs ≡ paste xs₀ to (part from n xs₀) k → n ≤ k → k ≤ n → xs ≡ moved_to to from n xs₀
-move-end xs₀ xs to from n k q a b = paste-end xs₀ xs to (part from n xs₀) k n q (omega arith)
+pub move_end : (xs₀ xs : List ℕ) (to from n k : ℕ) → xs ≡ paste xs₀ to (part from n xs₀) k → n ≤ k → k ≤ n → xs ≡ moved_to to from n xs₀
+move_end xs₀ xs to from n k q a b = paste_end xs₀ xs to (part from n xs₀) k n q (omega arith)
 
 -- ---- a row leaves
 
-pub head-removed : (used i : ℕ) (h h' : List ℕ) → h' ≡ moved_to (i * 12) ((used - 1) * 12) 12 h → h' ≡ removedHeads used i h
-unfolding removedHeads
-head-removed used i h h' e = e
+pub head_removed : (used i : ℕ) (h h' : List ℕ) → h' ≡ moved_to (i * 12) ((used - 1) * 12) 12 h → h' ≡ removed_heads used i h
+unfolding removed_heads
+head_removed used i h h' e = e
 
-pub words-removed : (used i n : ℕ) (o : Of) (w w' : List ℕ) → n ≡ width_of o → w' ≡ moved_to (i * n) ((used - 1) * n) n w → w' ≡ removedWords o used i w
-unfolding removedWords
-words-removed used i n o w w' t e = rw (← t) e
+pub words_removed : (used i n : ℕ) (o : Of) (w w' : List ℕ) → n ≡ width_of o → w' ≡ moved_to (i * n) ((used - 1) * n) n w → w' ≡ removed_words o used i w
+unfolding removed_words
+words_removed used i n o w w' t e = rw (← t) e
 
 -- where the words are
 module _ (o : Of) (used i n : ℕ) (ws : List ℕ) (t : n ≡ width_of o) (h : i < used) (l : used * width_of o ≤ length ws) where
-  pub last-there : (used - 1) * n + n ≤ length ws
-  last-there =
+  pub last_there : (used - 1) * n + n ≤ length ws
+  last_there =
       let s : suc (used - 1) ≡ used = omega arith in
       let e : (used - 1) * n + n ≡ used * width_of o = sym (suc-mul (used - 1) n) ∙ ap (λ (k : ℕ). k * n) s ∙ ap (λ (k : ℕ). used * k) t in
       omega arith
@@ -112,26 +112,26 @@ module _ (o : Of) (used i n : ℕ) (ws : List ℕ) (t : n ≡ width_of o) (h : i
 -- ---- a row, and all rows in use
 
 module _ (o : Of) (f : Fields) (i used : ℕ) (h w : List ℕ) (k : Key) (b : Bool) (e : k ≡ key_at h i) (m : b ≡ matches o f k) where
-  pub row-leaves : (h' w' : List ℕ) → b ≡ true → h' ≡ removedHeads used i h → w' ≡ removedWords o used i w → rest h' w' (used - 1) ≡ droppedRow o f i (rest h w used)
-  unfolding droppedRow
-  row-leaves h' w' t p q = rw (← e, ← m, t, p, q)
+  pub row_leaves : (h' w' : List ℕ) → b ≡ true → h' ≡ removed_heads used i h → w' ≡ removed_words o used i w → rest h' w' (used - 1) ≡ dropped_row o f i (rest h w used)
+  unfolding dropped_row
+  row_leaves h' w' t p q = rw (← e, ← m, t, p, q)
 
-  pub row_stays : b ≡ false → rest h w used ≡ droppedRow o f i (rest h w used)
-  unfolding droppedRow
+  pub row_stays : b ≡ false → rest h w used ≡ dropped_row o f i (rest h w used)
+  unfolding dropped_row
   row_stays t = rw (← e, ← m, t)
 
 -- fewer rows fit too
-pub fewer-fit : (o : Of) (h h₀ w w₀ : List ℕ) (used left : ℕ) → Fits o h₀ w₀ used → length h ≡ length h₀ → length w ≡ length w₀ → left ≤ used → Fits o h w left
-fewer-fit o h h₀ w w₀ used left f p q l =
+pub fewer_fit : (o : Of) (h h₀ w w₀ : List ℕ) (used left : ℕ) → Fits o h₀ w₀ used → length h ≡ length h₀ → length w ≡ length w₀ → left ≤ used → Fits o h w left
+fewer_fit o h h₀ w w₀ used left f p q l =
     let m : left * width_of o ≤ used * width_of o = mul-le-mul_right (width_of o) l in
     let n = f.words_long in
-    record { heads-long = let k = f.heads-long in omega arith; words_long = omega arith }
+    record { heads_long = let k = f.heads_long in omega arith; words_long = omega arith }
 
-pub rows-turn : (o : Of) (f : Fields) (n i left left' : ℕ) (h h' w w' : List ℕ) (x : Rest) → 0 < i → rest h' w' left' ≡ droppedRow o f (i - 1) (rest h w left)
-    → droppedRows o f n x ≡ droppedRows o f i (rest h w left) → droppedRows o f n x ≡ droppedRows o f (i - 1) (rest h' w' left')
-unfolding droppedRows
-rows-turn o f n i left left' h h' w w' x p e q = q ∙ ap (λ (k : ℕ). droppedRows o f k (rest h w left)) (before i p) ∙ ap (droppedRows o f (i - 1)) (sym e)
+pub rows_turn : (o : Of) (f : Fields) (n i left left' : ℕ) (h h' w w' : List ℕ) (x : Rest) → 0 < i → rest h' w' left' ≡ dropped_row o f (i - 1) (rest h w left)
+    → dropped_rows o f n x ≡ dropped_rows o f i (rest h w left) → dropped_rows o f n x ≡ dropped_rows o f (i - 1) (rest h' w' left')
+unfolding dropped_rows
+rows_turn o f n i left left' h h' w w' x p e q = q ∙ ap (λ (k : ℕ). dropped_rows o f k (rest h w left)) (before i p) ∙ ap (dropped_rows o f (i - 1)) (sym e)
 
-pub rows_end : (o : Of) (f : Fields) (n i left : ℕ) (h w : List ℕ) (x : Rest) → i ≤ 0 → droppedRows o f n x ≡ droppedRows o f i (rest h w left) → rest h w left ≡ droppedRows o f n x
-unfolding droppedRows
+pub rows_end : (o : Of) (f : Fields) (n i left : ℕ) (h w : List ℕ) (x : Rest) → i ≤ 0 → dropped_rows o f n x ≡ dropped_rows o f i (rest h w left) → rest h w left ≡ dropped_rows o f n x
+unfolding dropped_rows
 rows_end o f n i left h w x p q = let s : i ≡ 0 = omega arith in sym (q ∙ rw s)

@@ -5,7 +5,7 @@ use Rattle.std.proofs.Math.Seq.{paste}
 use Rattle.eit_section.specs.Eit.{kind_of}
 use Rattle.eit_section.specs.declared.MaybeKind.{MaybeKind}
 use Rattle.eit_section.specs.declared.MaybeKind.TheVariants as maybe
-use Rattle.arrivals.specs.Arrivals.{kindNumber}
+use Rattle.arrivals.specs.Arrivals.{kind_number}
 use Rattle.rows.specs.declared.Origin.{Origin}
 use Rattle.rows.specs.declared.Key.{Key}
 use Rattle.rows.specs.Rows.{key_at}
@@ -23,27 +23,27 @@ abbrev pub wants : Wanted → ℕ → Bool
 wants wanted.Any v = true
 wants (wanted.Exactly x) v = eqb v x
 
-abbrev pub wantsOrigin : WantedOrigin → Origin → Bool
-wantsOrigin w o = wants w.input o.input && wants w.pid o.pid
+abbrev pub wants_origin : WantedOrigin → Origin → Bool
+wants_origin w o = wants w.input o.input && wants w.pid o.pid
 
 -- the number of what a table_id says: 4 is no kind's
-abbrev pub kindTold : MaybeKind → ℕ
-kindTold (maybe.Some k) = kindNumber k
-kindTold maybe.None = 4
+abbrev pub kind_told : MaybeKind → ℕ
+kind_told (maybe.Some k) = kind_number k
+kind_told maybe.None = 4
 
 -- the kind's number, by the table_id word in a set's head
-abbrev pub kindWord : ℕ → ℕ
-kindWord t = kindTold (kind_of t)
+abbrev pub kind_word : ℕ → ℕ
+kind_word t = kind_told (kind_of t)
 
 -- the kind, by word 1 of a head: of a set the table_id
-abbrev pub kindIn : Of → ℕ → ℕ
-kindIn of.Sets t = kindWord t
-kindIn of.Schedules k = k
+abbrev pub kind_in : Of → ℕ → ℕ
+kind_in of.Sets t = kind_word t
+kind_in of.Schedules k = k
 
 -- input, "PID, kind, service_id, transport_stream_id, original_network_id and current_next"
 unfoldable pub matches : Of → Fields → Key → Bool
 matches o f k =
-    wantsOrigin f.from k.from && wants f.kind (kindIn o k.table_id) && wants f.service_id k.extension
+    wants_origin f.from k.from && wants f.kind (kind_in o k.table_id) && wants f.service_id k.extension
     && wants f.transport_stream_id k.transport_stream_id && wants f.original_network_id k.original_network_id
     && wants f.current_next k.current_next
 
@@ -57,11 +57,11 @@ width_of of.Schedules = 4608
 abbrev pub moved_to : (to from n : ℕ) → List ℕ → List ℕ
 moved_to to from n words = paste words to (take n (drop from words)) n
 
-unfoldable pub removedHeads : (used i : ℕ) → List ℕ → List ℕ
-removedHeads used i heads = moved_to (i * 12) ((used - 1) * 12) 12 heads
+unfoldable pub removed_heads : (used i : ℕ) → List ℕ → List ℕ
+removed_heads used i heads = moved_to (i * 12) ((used - 1) * 12) 12 heads
 
-unfoldable pub removedWords : Of → (used i : ℕ) → List ℕ → List ℕ
-removedWords o used i words = moved_to (i * width_of o) ((used - 1) * width_of o) (width_of o) words
+unfoldable pub removed_words : Of → (used i : ℕ) → List ℕ → List ℕ
+removed_words o used i words = moved_to (i * width_of o) ((used - 1) * width_of o) (width_of o) words
 
 -- ---- all rows in use
 
@@ -76,18 +76,18 @@ rest heads words used = record { heads = heads; words = words; used = used }
 
 -- row i leaves
 abbrev pub removed : Of → (i : ℕ) → Rest → Rest
-removed o i r = rest (removedHeads r.used i r.heads) (removedWords o r.used i r.words) (r.used - 1)
+removed o i r = rest (removed_heads r.used i r.heads) (removed_words o r.used i r.words) (r.used - 1)
 
 -- .. where it matches
-unfoldable pub droppedRow : Of → Fields → (i : ℕ) → Rest → Rest
-droppedRow o f i r = cond (matches o f (key_at r.heads i)) (removed o i r) r
+unfoldable pub dropped_row : Of → Fields → (i : ℕ) → Rest → Rest
+dropped_row o f i r = cond (matches o f (key_at r.heads i)) (removed o i r) r
 
 -- so do the first n rows, from the last of them down
-unfoldable pub droppedRows : Of → Fields → (n : ℕ) → Rest → Rest
-droppedRows o f zero r = r
-droppedRows o f (suc n) r = droppedRows o f n (droppedRow o f n r)
+unfoldable pub dropped_rows : Of → Fields → (n : ℕ) → Rest → Rest
+dropped_rows o f zero r = r
+dropped_rows o f (suc n) r = dropped_rows o f n (dropped_row o f n r)
 
 -- what the functions ask: heads and words for the rows in use
 pub record Fits (o : Of) (heads words : List ℕ) (used : ℕ) : Type 0 where
-  pub heads-long : used * 12 ≤ length heads
+  pub heads_long : used * 12 ≤ length heads
   pub words_long : used * width_of o ≤ length words

@@ -2,8 +2,8 @@
 // go"). The rows in use are the first `used`. From the last down to the first, a row that matches leaves: the last row in use takes its place.
 // Words past the rows in use stay as they are, and nothing is counted.
 ghost use Rattle.std.specs.Prelude.{◌≡◌, Bool, true, false, ℕ, ◌+◌, ◌-◌, ◌*◌, ◌<◌, ◌≤◌, length};
-ghost use Rattle.filter.specs.Drops.{wants, wantsOrigin, kindTold, kindWord, kindIn, matches, width_of, moved_to, removedHeads, removedWords};
-ghost use Rattle.filter.specs.Drops.{Fits, rest, droppedRow, droppedRows};
+ghost use Rattle.filter.specs.Drops.{wants, wants_origin, kind_told, kind_word, kind_in, matches, width_of, moved_to, removed_heads, removed_words};
+ghost use Rattle.filter.specs.Drops.{Fits, rest, dropped_row, dropped_rows};
 
 use eit_section::{Kind, MaybeKind};
 use rows::{Key, Origin};
@@ -55,7 +55,7 @@ fn fits(w: Wanted, v: u64) -> bool
 }
 
 fn fits_origin(w: WantedOrigin, o: Origin) -> bool
-    ensures { result ≡ wantsOrigin w o }
+    ensures { result ≡ wants_origin w o }
 {
     let input = w.input;
     let pid = w.pid;
@@ -64,7 +64,7 @@ fn fits_origin(w: WantedOrigin, o: Origin) -> bool
 
 // The kind by the table_id word in a set's head, by its number.
 fn kind_word(table_id: u64) -> u64
-    ensures { result ≡ kindWord table_id }
+    ensures { result ≡ kind_word table_id }
 {
     if table_id < 256 {
         return kind_told(Kind::from_table_id(table_id as u8));
@@ -73,7 +73,7 @@ fn kind_word(table_id: u64) -> u64
 }
 
 fn kind_told(kind: MaybeKind) -> u64
-    ensures { result ≡ kindTold kind }
+    ensures { result ≡ kind_told kind }
 {
     match kind {
         MaybeKind::Some(k) => arrivals::kind_number(k),
@@ -82,7 +82,7 @@ fn kind_told(kind: MaybeKind) -> u64
 }
 
 fn kind_in(of: Of, word: u64) -> u64
-    ensures { result ≡ kindIn of word }
+    ensures { result ≡ kind_in of word }
 {
     match of {
         Of::Sets => kind_word(word),
@@ -147,7 +147,7 @@ fn move_words(words: &mut [u32], to: usize, from: usize, n: usize)
 // The head of row i leaves: the last row in use takes its place.
 fn remove_head(heads: &mut [u64], used: usize, i: usize)
     requires { (i < used) × (used * 12 ≤ length heads.old) }
-    ensures { heads.new ≡ removedHeads used i heads.old }
+    ensures { heads.new ≡ removed_heads used i heads.old }
 {
     let last = used - 1;
     move_head(heads, i * rows::HEAD_WORDS, last * rows::HEAD_WORDS);
@@ -156,7 +156,7 @@ fn remove_head(heads: &mut [u64], used: usize, i: usize)
 // So the words of row i.
 fn remove_words(of: Of, words: &mut [u32], used: usize, i: usize)
     requires { (i < used) × (used * width_of of ≤ length words.old) }
-    ensures { words.new ≡ removedWords of used i words.old }
+    ensures { words.new ≡ removed_words of used i words.old }
 {
     let w = width(of);
     let last = used - 1;
@@ -168,7 +168,7 @@ fn remove_words(of: Of, words: &mut [u32], used: usize, i: usize)
 // Row i leaves where it matches: the rows in use from then on.
 fn drop_row(of: Of, f: Fields, heads: &mut [u64], words: &mut [u32], used: usize, i: usize) -> usize
     requires { (i < used) × Fits of heads.old words.old used }
-    ensures { (rest heads.new words.new result ≡ droppedRow of f i (rest heads.old words.old used)) × (i ≤ result) × (result ≤ used) }
+    ensures { (rest heads.new words.new result ≡ dropped_row of f i (rest heads.old words.old used)) × (i ≤ result) × (result ≤ used) }
 {
     if matching(of, f, rows::key_at(heads, i)) {
         remove_head(heads, used, i);
@@ -181,7 +181,7 @@ fn drop_row(of: Of, f: Fields, heads: &mut [u64], words: &mut [u32], used: usize
 // Each row that matches leaves: the rows in use from then on.
 pub fn drop_rows(of: Of, f: Fields, heads: &mut [u64], words: &mut [u32], used: usize) -> usize
     requires { Fits of heads.old words.old used }
-    ensures { rest heads.new words.new result ≡ droppedRows of f used (rest heads.old words.old used) }
+    ensures { rest heads.new words.new result ≡ dropped_rows of f used (rest heads.old words.old used) }
 {
     let mut left = used;
     let mut i = used;

@@ -1,7 +1,7 @@
 // The gate: which sections are new and which repeat what was seen, counted, and which PIDs a changed PAT adds to the watch.
 // What is small goes in by value and comes back in the answer; the rows of the ring and the words of the watch are lent.
 ghost use Rattle.std.specs.Prelude.{◌≡◌, length};
-ghost use Rattle.gate.specs.Store.{begunBy, opened, store_of, leftBy, offered};
+ghost use Rattle.gate.specs.Store.{begun_by, opened, store_of, left_by, offered};
 
 use answers::{Outcome, Refusal};
 use counters::Counters;
@@ -19,7 +19,7 @@ pub fn open(
     changes: &[u64],
     words: &mut [u64],
 ) -> Opened
-    ensures { begunBy result words.new ≡ opened settings extra.now (length keys.now) (length changes.now) words.old }
+    ensures { begun_by result words.new ≡ opened settings extra.now (length keys.now) (length changes.now) words.old }
 {
     if !watched::inner::pids_good(extra) {
         return gate_state::begin(Outcome::Refused(Refusal::BadPid), settings);
@@ -42,7 +42,7 @@ pub fn offer(
     pid: u16,
     section: &[u8],
 ) -> Offered
-    ensures { leftBy result keys.new changes.new words.new ≡ offered (store_of gate counters keys.old changes.old words.old) input pid section.now }
+    ensures { left_by result keys.new changes.new words.new ≡ offered (store_of gate counters keys.old changes.old words.old) input pid section.now }
 {
     let whole = inner::is_whole(gate, keys.len(), changes.len(), words.len());
     match offers::judge(whole, counters, gate.change_rule, input, pid, section) {

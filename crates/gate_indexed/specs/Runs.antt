@@ -3,10 +3,10 @@ use Rattle.std.specs.Prelude.{ℕ}
 use Rattle.ring_index.specs.Store.{Index}
 use Rattle.gate_state.specs.State.{Said}
 use Rattle.gate.specs.Rules.{Offer}
-use Rattle.gate_indexed.specs.Store.{Indexed, offeredBy}
+use Rattle.gate_indexed.specs.Store.{Indexed, offered_by}
 
-unfoldable pub tellsBy : Indexed → Offer → Said
-tellsBy s o = (offeredBy s o.input o.pid o.section).answer
+unfoldable pub tells_by : Indexed → Offer → Said
+tells_by s o = (offered_by s o.input o.pid o.section).answer
 
-unfoldable pub actsBy : Indexed → Offer → Indexed
-actsBy s o = (offeredBy s o.input o.pid o.section).left
+unfoldable pub acts_by : Indexed → Offer → Indexed
+acts_by s o = (offered_by s o.input o.pid o.section).left

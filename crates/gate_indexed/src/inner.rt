@@ -1,9 +1,9 @@
 // The parts of the gate that know its index.
 ghost use Rattle.std.specs.Prelude.{◌≡◌, length};
-ghost use Rattle.section.specs.Header.{tableId};
+ghost use Rattle.section.specs.Header.{table_id_of};
 ghost use Rattle.ring_index.specs.Store.{index_of};
 ghost use Rattle.counters.specs.Counters.{CanCount};
-ghost use Rattle.gate_indexed.specs.Store.{canOpenBy, wholeBy, FitsBy, indexedOf, leftBy, admittedBy};
+ghost use Rattle.gate_indexed.specs.Store.{can_open_by, whole_by, FitsBy, indexed_of, left_by, admitted_by};
 
 use counters::Counters;
 use gate_state::{Gate, Offered, Settings};
@@ -18,7 +18,7 @@ pub fn is_whole(
     links: usize,
     words: usize,
 ) -> bool
-    ensures { result ≡ wholeBy gate keys changes buckets links words }
+    ensures { result ≡ whole_by gate keys changes buckets links words }
 {
     let ring = gate.ring;
     let room = ring::room(ring.capacity);
@@ -34,7 +34,7 @@ pub fn can_open(
     links: usize,
     words: usize,
 ) -> bool
-    ensures { result ≡ canOpenBy settings keys changes buckets links words }
+    ensures { result ≡ can_open_by settings keys changes buckets links words }
 {
     let room = ring::room(settings.capacity);
     gate::inner::can_open(settings, keys, changes, words) & (room <= buckets) & (room <= links)
@@ -54,8 +54,8 @@ pub fn admit(
 ) -> Offered
     requires can_count { CanCount counters }
     requires fits_by { FitsBy gate (length keys.old) (length changes.old) (length buckets.old) (length links.old) (length words.old) }
-    requires table_id_value { arrival.table_id ≡ tableId section.now }
-    ensures { leftBy result keys.new changes.new (index_of buckets.new links.new) words.new ≡ admittedBy (indexedOf gate counters keys.old changes.old (index_of buckets.old links.old) words.old) section.now arrival }
+    requires table_id_value { arrival.table_id ≡ table_id_of section.now }
+    ensures { left_by result keys.new changes.new (index_of buckets.new links.new) words.new ≡ admitted_by (indexed_of gate counters keys.old changes.old (index_of buckets.old links.old) words.old) section.now arrival }
 {
     let ring = gate.ring;
     let seen = ring_index::admit(

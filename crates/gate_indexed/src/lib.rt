@@ -2,7 +2,7 @@
 // it answers and leaves rows as the gate without an index. What is small goes in by value and comes back in the answer.
 ghost use Rattle.std.specs.Prelude.{◌≡◌, length};
 ghost use Rattle.ring_index.specs.Store.{index_of};
-ghost use Rattle.gate_indexed.specs.Store.{begunBy, openedBy, indexedOf, leftBy, offeredBy};
+ghost use Rattle.gate_indexed.specs.Store.{begun_by, opened_by, indexed_of, left_by, offered_by};
 
 use answers::{Outcome, Refusal};
 use counters::Counters;
@@ -22,7 +22,7 @@ pub fn open(
     links: &[u64],
     words: &mut [u64],
 ) -> Opened
-    ensures { begunBy result buckets.new words.new ≡ openedBy settings extra.now (length keys.now) (length changes.now) (length links.now) buckets.old words.old }
+    ensures { begun_by result buckets.new words.new ≡ opened_by settings extra.now (length keys.now) (length changes.now) (length links.now) buckets.old words.old }
 {
     if !watched::inner::pids_good(extra) {
         return gate_state::begin(Outcome::Refused(Refusal::BadPid), settings);
@@ -55,7 +55,7 @@ pub fn offer(
     pid: u16,
     section: &[u8],
 ) -> Offered
-    ensures { leftBy result keys.new changes.new (index_of buckets.new links.new) words.new ≡ offeredBy (indexedOf gate counters keys.old changes.old (index_of buckets.old links.old) words.old) input pid section.now }
+    ensures { left_by result keys.new changes.new (index_of buckets.new links.new) words.new ≡ offered_by (indexed_of gate counters keys.old changes.old (index_of buckets.old links.old) words.old) input pid section.now }
 {
     let whole = inner::is_whole(
         gate,

@@ -4,21 +4,21 @@
 use Prim.Native.Nat.{ℕ}
 use mathlib.Core.Path.{◌≡◌, ap}
 use mathlib.Core.List.{List}
-use Rattle.laws.proofs.Unique.{one-result}
-use Rattle.pats.specs.Store.{recordOf}
-use Rattle.gate_pats.specs.Store.{Kept, Offering, offeredWith}
+use Rattle.laws.proofs.Unique.{one_result}
+use Rattle.pats.specs.Store.{record_of}
+use Rattle.gate_pats.specs.Store.{Kept, Offering, offered_with}
 use Rattle.counters.specs.declared.Counters.{Counters}
-use Rattle.gate_state.proofs.Unique.{answer-one}
-use Rattle.gate_lent.specs.Told.{toldBy}
+use Rattle.gate_state.proofs.Unique.{answer_one}
+use Rattle.gate_lent.specs.Told.{told_by}
 use Rattle.gate_lent.specs.declared.Told.{Told}
 
-pub offer-unique :
+pub offer_unique :
     (s : Kept) (input pid : ℕ) (section : List ℕ) (t u : Told) (c d : Counters) (ks ls ms ns ws xs ps qs ys zs : List ℕ) →
-    toldBy t c ks ms (recordOf ws ps ys) ≡ offeredWith s input pid section → toldBy u d ls ns (recordOf xs qs zs) ≡ offeredWith s input pid section →
+    told_by t c ks ms (record_of ws ps ys) ≡ offered_with s input pid section → told_by u d ls ns (record_of xs qs zs) ≡ offered_with s input pid section →
     (t ≡ u) × (c ≡ d) × (ks ≡ ls) × (ms ≡ ns) × (ws ≡ xs) × (ps ≡ qs) × (ys ≡ zs)
-offer-unique s input pid section t u c d ks ls ms ns ws xs ps qs ys zs a b =
-    let e : toldBy t c ks ms (recordOf ws ps ys) ≡ toldBy u d ls ns (recordOf xs qs zs) = one-result (offeredWith s input pid section) a b in
-    let n : t.answer ≡ u.answer = answer-one t.answer u.answer (ap (λ (l : Offering). l.answer) e) in
+offer_unique s input pid section t u c d ks ls ms ns ws xs ps qs ys zs a b =
+    let e : told_by t c ks ms (record_of ws ps ys) ≡ told_by u d ls ns (record_of xs qs zs) = one_result (offered_with s input pid section) a b in
+    let n : t.answer ≡ u.answer = answer_one t.answer u.answer (ap (λ (l : Offering). l.answer) e) in
     let g = ap (λ (l : Offering). l.left.gate) e in (
       λ i. record { answer = n i; gate = g i },
       ap (λ (l : Offering). l.left.counters) e,

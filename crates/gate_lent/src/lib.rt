@@ -1,8 +1,8 @@
 // The gate with a watch record for a host that keeps one record of seven counters and lends it: they are counted up where they stand.
 ghost use Rattle.std.specs.Prelude.{◌≡◌};
-ghost use Rattle.pats.specs.Store.{recordOf};
-ghost use Rattle.gate_pats.specs.Store.{keptOf, offeredWith};
-ghost use Rattle.gate_lent.specs.Told.{toldBy};
+ghost use Rattle.pats.specs.Store.{record_of};
+ghost use Rattle.gate_pats.specs.Store.{kept_of, offered_with};
+ghost use Rattle.gate_lent.specs.Told.{told_by};
 
 use counters::Counters;
 use gate_state::{Answer, Gate};
@@ -27,7 +27,7 @@ pub fn offer(
     pid: u16,
     section: &[u8],
 ) -> Told
-    ensures { toldBy result counters.new keys.new changes.new (recordOf words.new pat_slots.new pat_cells.new) ≡ offeredWith (keptOf gate counters.old keys.old changes.old (recordOf words.old pat_slots.old pat_cells.old)) input pid section.now }
+    ensures { told_by result counters.new keys.new changes.new (record_of words.new pat_slots.new pat_cells.new) ≡ offered_with (kept_of gate counters.old keys.old changes.old (record_of words.old pat_slots.old pat_cells.old)) input pid section.now }
 {
     let r = gate_pats::offer(
         gate, *counters, keys, changes, words, pat_slots, pat_cells, input, pid, section,

@@ -1,9 +1,9 @@
 // What both forms of the gate do with a watch record: whether it is whole, its opening, and the PAT store behind an offer.
 ghost use Rattle.std.specs.Prelude.{◌≡◌, length};
-ghost use Rattle.answers.specs.Answers.{refusalNo, outcomeNo};
+ghost use Rattle.answers.specs.Answers.{refusal_no, outcome_no};
 ghost use Rattle.gate_state.specs.State.{said_of};
-ghost use Rattle.pats.specs.Store.{recordOf};
-ghost use Rattle.gate_pats.specs.Store.{roomWith, state_of, StateOk, RecordReady, BeginOk, wordsWith, refusedWith, fullNo, recordAfter, keptOf, leftWith, takenWith};
+ghost use Rattle.pats.specs.Store.{record_of};
+ghost use Rattle.gate_pats.specs.Store.{room_with, state_of, StateOk, RecordReady, BeginOk, words_with, refused_with, full_no, record_after, kept_of, left_with, taken_with};
 
 use answers::{Outcome, Refusal};
 use counters::Counters;
@@ -19,7 +19,7 @@ pub enum State {
 
 // Whether slices of these lengths are enough for the record.
 pub fn has_room(follow: Follow, words: usize, slots: usize, cells: usize) -> bool
-    ensures { result ≡ roomWith follow words slots cells }
+    ensures { result ≡ room_with follow words slots cells }
 {
     if follow.by_tables() {
         return pats::has_room(words, slots, cells);
@@ -29,7 +29,7 @@ pub fn has_room(follow: Follow, words: usize, slots: usize, cells: usize) -> boo
 
 // The refusal of an opening that has too little room: an extra PID that is none comes first.
 pub fn refusal(extra: &[u16]) -> Outcome
-    ensures { outcomeNo result ≡ refusedWith extra.now }
+    ensures { outcome_no result ≡ refused_with extra.now }
 {
     if watched::inner::pids_good(extra) {
         return Outcome::Refused(Refusal::TooLittle);
@@ -40,7 +40,7 @@ pub fn refusal(extra: &[u16]) -> Outcome
 // The PAT store of a record that was opened: no row, no eviction. A refused opening writes nothing.
 pub fn begin(follow: Follow, answer: Outcome, words: &mut [u64])
     requires { BeginOk follow (length words.old) }
-    ensures { words.new ≡ wordsWith follow (outcomeNo answer) words.old }
+    ensures { words.new ≡ words_with follow (outcome_no answer) words.old }
 {
     if follow.by_tables() & (answer.number() == 7) {
         pats::begin(words);
@@ -49,8 +49,8 @@ pub fn begin(follow: Follow, answer: Outcome, words: &mut [u64])
 
 // 10 and 11 of the record.
 pub fn state_of(follow: Follow, words: &[u64], slots: &[u32], cells: &[u8]) -> State
-    ensures value { result ≡ state_of follow (recordOf words.now slots.now cells.now) }
-    ensures state_ok { StateOk follow (recordOf words.now slots.now cells.now) result }
+    ensures value { result ≡ state_of follow (record_of words.now slots.now cells.now) }
+    ensures state_ok { StateOk follow (record_of words.now slots.now cells.now) result }
 {
     if follow.by_tables() {
         if pats::is_whole(words, slots, cells) {
@@ -66,7 +66,7 @@ pub fn state_of(follow: Follow, words: &[u64], slots: &[u32], cells: &[u8]) -> S
 
 // The refusal where the PAT store cannot count: a gate that is not whole comes first.
 pub fn full(whole: bool) -> Refusal
-    ensures { refusalNo result ≡ fullNo whole }
+    ensures { refusal_no result ≡ full_no whole }
 {
     if whole {
         return Refusal::CounterFull;
@@ -85,8 +85,8 @@ pub fn enter(
     pid: u16,
     section: &[u8],
 )
-    requires { RecordReady follow (recordOf words.old slots.old cells.old) }
-    ensures { recordOf words.new slots.new cells.new ≡ recordAfter follow (said_of answer) input pid section.now (recordOf words.old slots.old cells.old) }
+    requires { RecordReady follow (record_of words.old slots.old cells.old) }
+    ensures { record_of words.new slots.new cells.new ≡ record_after follow (said_of answer) input pid section.now (record_of words.old slots.old cells.old) }
 {
     if follow.by_tables() & answer.is_sound() & (pid == 0) {
         pats::enter(words, slots, cells, input, section);
@@ -106,8 +106,8 @@ pub fn take(
     pid: u16,
     section: &[u8],
 ) -> Offered
-    requires { RecordReady gate.follow (recordOf words.old pat_slots.old pat_cells.old) }
-    ensures { leftWith result keys.new changes.new (recordOf words.new pat_slots.new pat_cells.new) ≡ takenWith (keptOf gate counters keys.old changes.old (recordOf words.old pat_slots.old pat_cells.old)) input pid section.now }
+    requires { RecordReady gate.follow (record_of words.old pat_slots.old pat_cells.old) }
+    ensures { left_with result keys.new changes.new (record_of words.new pat_slots.new pat_cells.new) ≡ taken_with (kept_of gate counters keys.old changes.old (record_of words.old pat_slots.old pat_cells.old)) input pid section.now }
 {
     let follow = gate.follow;
     let offered = gate::offer(gate, counters, keys, changes, words, input, pid, section);

@@ -2,10 +2,10 @@
 // and which PIDs to look at, by each changed PAT section or by complete PATs. What is small goes in by value and comes back in the answer; the rows of
 // the ring and the three slices of the record are lent.
 ghost use Rattle.std.specs.Prelude.{◌≡◌, length};
-ghost use Rattle.watched.specs.Store.{openingBy};
-ghost use Rattle.gate.specs.Store.{begunBy};
-ghost use Rattle.pats.specs.Store.{recordOf};
-ghost use Rattle.gate_pats.specs.Store.{openedWith, recordOpened, keptOf, leftWith, offeredWith};
+ghost use Rattle.watched.specs.Store.{opening_by};
+ghost use Rattle.gate.specs.Store.{begun_by};
+ghost use Rattle.pats.specs.Store.{record_of};
+ghost use Rattle.gate_pats.specs.Store.{opened_with, record_opened, kept_of, left_with, offered_with};
 
 use answers::{Outcome, Refusal};
 use counters::Counters;
@@ -25,7 +25,7 @@ pub fn open(
     pat_slots: &[u32],
     pat_cells: &[u8],
 ) -> Opened
-    ensures { begunBy result words.new ≡ openedWith settings extra.now (length keys.now) (length changes.now) (length pat_slots.now) (length pat_cells.now) words.old }
+    ensures { begun_by result words.new ≡ opened_with settings extra.now (length keys.now) (length changes.now) (length pat_slots.now) (length pat_cells.now) words.old }
 {
     let follow = settings.follow;
     if inner::has_room(follow, words.len(), pat_slots.len(), pat_cells.len()) {
@@ -45,7 +45,7 @@ pub fn open_record(
     pat_slots: &[u32],
     pat_cells: &[u8],
 ) -> Outcome
-    ensures { openingBy result words.new ≡ recordOpened settings extra.now (length pat_slots.now) (length pat_cells.now) words.old }
+    ensures { opening_by result words.new ≡ record_opened settings extra.now (length pat_slots.now) (length pat_cells.now) words.old }
 {
     let follow = settings.follow;
     if inner::has_room(follow, words.len(), pat_slots.len(), pat_cells.len()) {
@@ -70,7 +70,7 @@ pub fn offer(
     pid: u16,
     section: &[u8],
 ) -> Offered
-    ensures { leftWith result keys.new changes.new (recordOf words.new pat_slots.new pat_cells.new) ≡ offeredWith (keptOf gate counters keys.old changes.old (recordOf words.old pat_slots.old pat_cells.old)) input pid section.now }
+    ensures { left_with result keys.new changes.new (record_of words.new pat_slots.new pat_cells.new) ≡ offered_with (kept_of gate counters keys.old changes.old (record_of words.old pat_slots.old pat_cells.old)) input pid section.now }
 {
     let follow = gate.follow;
     match inner::state_of(follow, words, pat_slots, pat_cells) {

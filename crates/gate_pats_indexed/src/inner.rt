@@ -1,9 +1,9 @@
 // An offer behind 10 and 11 of the record, where the gate's rows have an index.
 ghost use Rattle.std.specs.Prelude.{◌≡◌};
-ghost use Rattle.pats.specs.Store.{recordOf};
+ghost use Rattle.pats.specs.Store.{record_of};
 ghost use Rattle.ring_index.specs.Store.{index_of};
 ghost use Rattle.gate_pats.specs.Store.{RecordReady};
-ghost use Rattle.gate_pats_indexed.specs.Store.{keptBy, leftWith, takenBy};
+ghost use Rattle.gate_pats_indexed.specs.Store.{kept_by, left_with, taken_by};
 
 use counters::Counters;
 use gate_state::{Gate, Offered};
@@ -23,8 +23,8 @@ pub fn take(
     pid: u16,
     section: &[u8],
 ) -> Offered
-    requires { RecordReady gate.follow (recordOf words.old pat_slots.old pat_cells.old) }
-    ensures { leftWith result keys.new changes.new (index_of buckets.new links.new) (recordOf words.new pat_slots.new pat_cells.new) ≡ takenBy (keptBy gate counters keys.old changes.old (index_of buckets.old links.old) (recordOf words.old pat_slots.old pat_cells.old)) input pid section.now }
+    requires { RecordReady gate.follow (record_of words.old pat_slots.old pat_cells.old) }
+    ensures { left_with result keys.new changes.new (index_of buckets.new links.new) (record_of words.new pat_slots.new pat_cells.new) ≡ taken_by (kept_by gate counters keys.old changes.old (index_of buckets.old links.old) (record_of words.old pat_slots.old pat_cells.old)) input pid section.now }
 {
     let follow = gate.follow;
     let offered = gate_indexed::offer(

@@ -1,10 +1,10 @@
 // The gate with an index over its rows and a watch record of its input: as the gate with a record (crate gate_pats), and a key is looked up, held and
 // given up in a time that does not grow with the capacity.
 ghost use Rattle.std.specs.Prelude.{◌≡◌, length};
-ghost use Rattle.pats.specs.Store.{recordOf};
+ghost use Rattle.pats.specs.Store.{record_of};
 ghost use Rattle.ring_index.specs.Store.{index_of};
-ghost use Rattle.gate_indexed.specs.Store.{begunBy};
-ghost use Rattle.gate_pats_indexed.specs.Store.{openedWith, keptBy, leftWith, offeredWith};
+ghost use Rattle.gate_indexed.specs.Store.{begun_by};
+ghost use Rattle.gate_pats_indexed.specs.Store.{opened_with, kept_by, left_with, offered_with};
 
 use answers::Refusal;
 use counters::Counters;
@@ -26,7 +26,7 @@ pub fn open(
     pat_slots: &[u32],
     pat_cells: &[u8],
 ) -> Opened
-    ensures { begunBy result buckets.new words.new ≡ openedWith settings extra.now (length keys.now) (length changes.now) (length links.now) (length pat_slots.now) (length pat_cells.now) buckets.old words.old }
+    ensures { begun_by result buckets.new words.new ≡ opened_with settings extra.now (length keys.now) (length changes.now) (length links.now) (length pat_slots.now) (length pat_cells.now) buckets.old words.old }
 {
     let follow = settings.follow;
     if gate_pats::inner::has_room(follow, words.len(), pat_slots.len(), pat_cells.len()) {
@@ -54,7 +54,7 @@ pub fn offer(
     pid: u16,
     section: &[u8],
 ) -> Offered
-    ensures { leftWith result keys.new changes.new (index_of buckets.new links.new) (recordOf words.new pat_slots.new pat_cells.new) ≡ offeredWith (keptBy gate counters keys.old changes.old (index_of buckets.old links.old) (recordOf words.old pat_slots.old pat_cells.old)) input pid section.now }
+    ensures { left_with result keys.new changes.new (index_of buckets.new links.new) (record_of words.new pat_slots.new pat_cells.new) ≡ offered_with (kept_by gate counters keys.old changes.old (index_of buckets.old links.old) (record_of words.old pat_slots.old pat_cells.old)) input pid section.now }
 {
     let follow = gate.follow;
     match gate_pats::inner::state_of(follow, words, pat_slots, pat_cells) {

@@ -2,7 +2,7 @@
 // lent here.
 ghost use Rattle.std.specs.Prelude.{◌≡◌};
 ghost use Rattle.counters.specs.Counters.{CanCount};
-ghost use Rattle.gate_state.specs.State.{bySections, byTables, defaults, said_of, number_of, failureNo, isSound, begun, refused, failedBy, answer_of, seenBy};
+ghost use Rattle.gate_state.specs.State.{by_sections, by_tables, defaults, said_of, number_of, failure_no, is_sound, begun, refused, failed_by, answer_of, seen_by};
 
 use answers::{Outcome, Refusal};
 use counters::Counters;
@@ -21,7 +21,7 @@ pub enum Follow {
 impl Follow {
     // Whether each changed PAT section replaces the PIDs of the one before.
     pub fn by_sections(self) -> bool
-        ensures { result ≡ bySections self }
+        ensures { result ≡ by_sections self }
     {
         match self {
             Follow::Off => false,
@@ -32,7 +32,7 @@ impl Follow {
 
     // Whether PATs are collected, and a complete one replaces the PIDs of the one before.
     pub fn by_tables(self) -> bool
-        ensures { result ≡ byTables self }
+        ensures { result ≡ by_tables self }
     {
         match self {
             Follow::Off => false,
@@ -112,7 +112,7 @@ impl Answer {
 
     // 1 or 2: the section is sound.
     pub fn is_sound(self) -> bool
-        ensures { result ≡ isSound self }
+        ensures { result ≡ is_sound self }
     {
         match self {
             Answer::Emitted => true,
@@ -124,7 +124,7 @@ impl Answer {
 }
 
 fn failure_number(failure: Failure) -> u8
-    ensures { result ≡ failureNo failure }
+    ensures { result ≡ failure_no failure }
 {
     match failure {
         Failure::TooShort(_) => 31,
@@ -181,7 +181,7 @@ pub fn refuse(refusal: Refusal, gate: Gate, counters: Counters) -> Offered
 // 31 or 3: one more section and one more CRC failure of this kind, and nothing else.
 pub fn fail(failure: Failure, gate: Gate, counters: Counters) -> Offered
     requires { CanCount counters }
-    ensures { result ≡ failedBy failure gate counters }
+    ensures { result ≡ failed_by failure gate counters }
 {
     Offered {
         answer: Answer::Failed(failure),
@@ -203,7 +203,7 @@ fn answered(emits: bool) -> Answer
 // The answer to a section that the ring has seen: changed, or repeats on, is emitted.
 pub fn tell(gate: Gate, counters: Counters, seen: Seen) -> Offered
     requires { CanCount counters }
-    ensures { result ≡ seenBy gate counters seen }
+    ensures { result ≡ seen_by gate counters seen }
 {
     let emits = seen.changed | gate.repeats;
     let ring = seen.ring;

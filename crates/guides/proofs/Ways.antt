@@ -10,25 +10,25 @@ use lib.ListN.{length, take, drop, length-append}
 use lib.Seq.{sets, sets-eq, take-append_seam, drop-append-add}
 use lib.Dec.{leb, ltb, eqb}
 use borrow.Author.Tests.{eq-eqb, ne_eqb, lt-ltb, le-ltb, le-leb, eqb-true, eqb-false, not-true, not-false}
-use Rattle.laws.proofs.Tests.{and-true}
+use Rattle.laws.proofs.Tests.{and_true}
 use Rattle.section.specs.Facts.{Bytes}
-use Rattle.section.specs.Header.{tableId, sectionNumber}
+use Rattle.section.specs.Header.{table_id_of, section_number}
 use Rattle.section.specs.declared.ids.MaybePid.{MaybePid}
 use Rattle.cells.specs.Cells.{part_of}
 use Rattle.rows.specs.declared.Key.{Key}
-use Rattle.rows.specs.Rows.{sameKey}
-use Rattle.laid.specs.Laid.{pidWord}
+use Rattle.rows.specs.Rows.{same_key}
+use Rattle.laid.specs.Laid.{pid_word}
 use Rattle.laid.specs.declared.PidWord.{PidWord}
 use Rattle.laid.specs.declared.PidWord.TheVariants as pid
-use Rattle.laid.specs.Laid.{sectionsIn, laidOut, is_set, isSchedule, keyIn, scheduleKeyIn, kindFirst, sameVersion, sameLast, tableIn}
+use Rattle.laid.specs.Laid.{sections_in, laid_out, is_set, is_schedule, key_in, schedule_key_in, kind_first, same_version, same_last, table_in}
 use Rattle.laid.specs.Walk.{LaidFrom, from, head_of, EndAt, Placed, numbered, place_in}
-use Rattle.laid.proofs.Sections.{laid-empty, sections-all}
-use Rattle.laid.proofs.Agree.{set-run, schedule-run, opens, keys-table}
-use Rattle.differences.specs.Rules.{Entry, one_of, tableWords, versionsAgree, lastsAgree}
-use Rattle.differences.specs.Walk.{words_of, allDifferences}
-use Rattle.differences.proofs.Listing.{words-four}
-use Rattle.guides.specs.Store.{besideBad, sameSides, keyed, setSides, scheduleSides, told, refused, toldOf, comparedBy, written, listIf, listBy, tablesIf, tablesBy, setEntries, scheduleEntries, scheduleWords, compared, listed, comparedSchedules, listedSchedules, tables_of}
-use Rattle.guides.specs.Store.{setOrEmpty, heldNot, heldOne, heldFor, held_of, heldBy, sectionOf, tablePart, AlikeSets, AlikeSchedules, LaidSides}
+use Rattle.laid.proofs.Sections.{laid_empty, sections_all}
+use Rattle.laid.proofs.Agree.{set_run, schedule_run, opens, keys_table}
+use Rattle.differences.specs.Rules.{Entry, one_of, table_words, versions_agree, lasts_agree}
+use Rattle.differences.specs.Walk.{words_of, all_differences}
+use Rattle.differences.proofs.Listing.{words_four}
+use Rattle.guides.specs.Store.{beside_bad, same_sides, keyed, set_sides, schedule_sides, told, refused, told_of, compared_by, written, list_if, list_by, tables_if, tables_by, set_entries, schedule_entries, schedule_words, compared, listed, compared_schedules, listed_schedules, tables_of}
+use Rattle.guides.specs.Store.{set_or_empty, held_not, held_one, held_for, held_of, held_by, section_of, table_part, AlikeSets, AlikeSchedules, LaidSides}
 use Rattle.guides.specs.declared.CompareAnswer.TheVariants as answer
 use Rattle.guides.specs.declared.Compared.{Compared}
 use Rattle.guides.specs.declared.HeldAnswer.TheVariants as held-answer
@@ -39,165 +39,165 @@ use Rattle.guides.specs.declared.Sides.TheVariants as sides
 -- ---- the list, where there is room
 
 module _ (es : List Entry) (list : List ℕ) (count : ℕ) (v l : Bool) (e : count ≡ length es) where
-  pub list_full : (r : Compared) → length list / 4 < count → r ≡ told answer.NoRoom count v l → r ≡ toldOf (length list / 4) (length es) v l
+  pub list_full : (r : Compared) → length list / 4 < count → r ≡ told answer.NoRoom count v l → r ≡ told_of (length list / 4) (length es) v l
   list_full r h q = q ∙ rw (← e, lt-ltb (length list / 4) count h)
 
-  pub list_left : length list / 4 < count → list ≡ listIf es list
+  pub list_left : length list / 4 < count → list ≡ list_if es list
   list_left h = rw (← e, lt-ltb (length list / 4) count h)
 
-  pub list_same : (r : Compared) → count ≤ length list / 4 → count ≡ 0 → r ≡ told answer.Same count v l → r ≡ toldOf (length list / 4) (length es) v l
+  pub list_same : (r : Compared) → count ≤ length list / 4 → count ≡ 0 → r ≡ told answer.Same count v l → r ≡ told_of (length list / 4) (length es) v l
   list_same r h z q = q ∙ rw (← e, le-ltb (length list / 4) count h, eq-eqb count 0 z)
 
-  pub list_differ : (r : Compared) → count ≤ length list / 4 → (count ≡ 0 → ⊥) → r ≡ told answer.Differ count v l → r ≡ toldOf (length list / 4) (length es) v l
+  pub list_differ : (r : Compared) → count ≤ length list / 4 → (count ≡ 0 → ⊥) → r ≡ told answer.Differ count v l → r ≡ told_of (length list / 4) (length es) v l
   list_differ r h z q = q ∙ rw (← e, le-ltb (length list / 4) count h, ne_eqb count 0 z)
 
-  pub list_written : (list' : List ℕ) → count ≤ length list / 4 → list' ≡ sets list 0 (words_of es) → list' ≡ listIf es list
+  pub list_written : (list' : List ℕ) → count ≤ length list / 4 → list' ≡ sets list 0 (words_of es) → list' ≡ list_if es list
   list_written list' h q =
-      let n = words-four es in
+      let n = words_four es in
       let k : 0 + length (words_of es) ≤ length list = omega arith in
       q ∙ sets-eq (words_of es) list 0 k ∙ rw (← e, le-ltb (length list / 4) count h, zero-add (length (words_of es)))
 
-pub words-kept : (full : Bool) (tables words : List ℕ) → not full ≡ false → tables ≡ cond full tables words
-words-kept full tables words h = rw (not-false full h)
+pub words_kept : (full : Bool) (tables words : List ℕ) → not full ≡ false → tables ≡ cond full tables words
+words_kept full tables words h = rw (not-false full h)
 
-pub words-out : (full : Bool) (tables words : List ℕ) → not full ≡ true → words ≡ cond full tables words
-words-out full tables words h = rw (not-true full h)
+pub words_out : (full : Bool) (tables words : List ℕ) → not full ≡ true → words ≡ cond full tables words
+words_out full tables words h = rw (not-true full h)
 
 -- ---- what is asked of both sides
 
-pub alike-keys : (j k : Key) (b : Bool) → b ≡ sameKey j k → b ≡ true → sides.Alike ≡ sameSides j k
-alike-keys j k b e h = rw (← e, h)
+pub alike_keys : (j k : Key) (b : Bool) → b ≡ same_key j k → b ≡ true → sides.Alike ≡ same_sides j k
+alike_keys j k b e h = rw (← e, h)
 
-pub other_keys : (j k : Key) (b : Bool) → b ≡ sameKey j k → b ≡ false → sides.OtherKey ≡ sameSides j k
+pub other_keys : (j k : Key) (b : Bool) → b ≡ same_key j k → b ≡ false → sides.OtherKey ≡ same_sides j k
 other_keys j k b e h = rw (← e, h)
 
 module _ (a b : List ℕ) (p q : MaybePid) where
   module _ (x y : Bool) (ex : x ≡ is_set a) (ey : y ≡ is_set b) where
-    pub sets-not : not (x && y) ≡ true → sides.NotSets ≡ setSides a p b q
-    unfolding setSides
-    sets-not h = rw (← ex, ← ey, not-true (x && y) h)
+    pub sets_not : not (x && y) ≡ true → sides.NotSets ≡ set_sides a p b q
+    unfolding set_sides
+    sets_not h = rw (← ex, ← ey, not-true (x && y) h)
 
-    sets-good : not (x && y) ≡ false → (is_set a && is_set b) ≡ true
-    sets-good h = rw (← ex, ← ey) (not-false (x && y) h)
+    sets_good : not (x && y) ≡ false → (is_set a && is_set b) ≡ true
+    sets_good h = rw (← ex, ← ey) (not-false (x && y) h)
 
-    pub first-room : not (x && y) ≡ false → 12 ≤ length a
-    first-room h = let r = set-run a (and-true (is_set a) (is_set b) (sets-good h)).0 in (opens a r.laid r.some).room
+    pub first_room : not (x && y) ≡ false → 12 ≤ length a
+    first_room h = let r = set_run a (and_true (is_set a) (is_set b) (sets_good h)).0 in (opens a r.laid r.some).room
 
-    pub second-room : not (x && y) ≡ false → 12 ≤ length b
-    second-room h = let r = set-run b (and-true (is_set a) (is_set b) (sets-good h)).1 in (opens b r.laid r.some).room
+    pub second_room : not (x && y) ≡ false → 12 ≤ length b
+    second_room h = let r = set_run b (and_true (is_set a) (is_set b) (sets_good h)).1 in (opens b r.laid r.some).room
 
-    module _ (h : not (x && y) ≡ false) (u : PidWord) (eu : u ≡ pidWord p) where
-      pub sets-none : u ≡ pid.NoPid → sides.NoPid ≡ setSides a p b q
-      unfolding setSides
-      sets-none z = rw (sets-good h, ← eu, z)
+    module _ (h : not (x && y) ≡ false) (u : PidWord) (eu : u ≡ pid_word p) where
+      pub sets_none : u ≡ pid.NoPid → sides.NoPid ≡ set_sides a p b q
+      unfolding set_sides
+      sets_none z = rw (sets_good h, ← eu, z)
 
-      pub sets-pid : u ≡ pid.TooLarge → (w : PidWord) (s : Sides) → w ≡ pidWord q → s ≡ besideBad w → s ≡ setSides a p b q
-      unfolding setSides
-      sets-pid z w s ew es = rw (sets-good h, ← eu, z, ← ew) es
+      pub sets_pid : u ≡ pid.TooLarge → (w : PidWord) (s : Sides) → w ≡ pid_word q → s ≡ beside_bad w → s ≡ set_sides a p b q
+      unfolding set_sides
+      sets_pid z w s ew es = rw (sets_good h, ← eu, z, ← ew) es
 
-      module _ (i : ℕ) (z : u ≡ pid.Is i) (w : PidWord) (ew : w ≡ pidWord q) where
-        pub sets-second-none : w ≡ pid.NoPid → sides.NoPid ≡ setSides a p b q
-        unfolding setSides
-        sets-second-none y = rw (sets-good h, ← eu, ← ew, z, y)
+      module _ (i : ℕ) (z : u ≡ pid.Is i) (w : PidWord) (ew : w ≡ pid_word q) where
+        pub sets_second_none : w ≡ pid.NoPid → sides.NoPid ≡ set_sides a p b q
+        unfolding set_sides
+        sets_second_none y = rw (sets_good h, ← eu, ← ew, z, y)
 
-        pub sets-second : w ≡ pid.TooLarge → sides.BadPid ≡ setSides a p b q
-        unfolding setSides
-        sets-second y = rw (sets-good h, ← eu, ← ew, z, y)
+        pub sets_second : w ≡ pid.TooLarge → sides.BadPid ≡ set_sides a p b q
+        unfolding set_sides
+        sets_second y = rw (sets_good h, ← eu, ← ew, z, y)
 
-        pub sets-keyed : (j : ℕ) (k m : Key) (s : Sides) → w ≡ pid.Is j → k ≡ keyIn i a → m ≡ keyIn j b → s ≡ sameSides k m → s ≡ setSides a p b q
-        unfolding setSides
-        sets-keyed j k m s y ek em es = rw (sets-good h, ← eu, ← ew, z, y, ← ek, ← em) es
+        pub sets_keyed : (j : ℕ) (k m : Key) (s : Sides) → w ≡ pid.Is j → k ≡ key_in i a → m ≡ key_in j b → s ≡ same_sides k m → s ≡ set_sides a p b q
+        unfolding set_sides
+        sets_keyed j k m s y ek em es = rw (sets_good h, ← eu, ← ew, z, y, ← ek, ← em) es
 
-  module _ (x y : Bool) (ex : x ≡ isSchedule a) (ey : y ≡ isSchedule b) where
-    pub schedules-not : not (x && y) ≡ true → sides.NotSets ≡ scheduleSides a p b q
-    unfolding scheduleSides
-    schedules-not h = rw (← ex, ← ey, not-true (x && y) h)
+  module _ (x y : Bool) (ex : x ≡ is_schedule a) (ey : y ≡ is_schedule b) where
+    pub schedules_not : not (x && y) ≡ true → sides.NotSets ≡ schedule_sides a p b q
+    unfolding schedule_sides
+    schedules_not h = rw (← ex, ← ey, not-true (x && y) h)
 
-    schedules-good : not (x && y) ≡ false → (isSchedule a && isSchedule b) ≡ true
-    schedules-good h = rw (← ex, ← ey) (not-false (x && y) h)
+    schedules_good : not (x && y) ≡ false → (is_schedule a && is_schedule b) ≡ true
+    schedules_good h = rw (← ex, ← ey) (not-false (x && y) h)
 
-    pub first-long : not (x && y) ≡ false → 12 ≤ length a
-    first-long h = let r = schedule-run a (and-true (isSchedule a) (isSchedule b) (schedules-good h)).0 in (opens a r.laid r.some).room
+    pub first_long : not (x && y) ≡ false → 12 ≤ length a
+    first_long h = let r = schedule_run a (and_true (is_schedule a) (is_schedule b) (schedules_good h)).0 in (opens a r.laid r.some).room
 
-    pub second-long : not (x && y) ≡ false → 12 ≤ length b
-    second-long h = let r = schedule-run b (and-true (isSchedule a) (isSchedule b) (schedules-good h)).1 in (opens b r.laid r.some).room
+    pub second_long : not (x && y) ≡ false → 12 ≤ length b
+    second_long h = let r = schedule_run b (and_true (is_schedule a) (is_schedule b) (schedules_good h)).1 in (opens b r.laid r.some).room
 
-    module _ (h : not (x && y) ≡ false) (u : PidWord) (eu : u ≡ pidWord p) where
-      pub schedules-none : u ≡ pid.NoPid → sides.NoPid ≡ scheduleSides a p b q
-      unfolding scheduleSides
-      schedules-none z = rw (schedules-good h, ← eu, z)
+    module _ (h : not (x && y) ≡ false) (u : PidWord) (eu : u ≡ pid_word p) where
+      pub schedules_none : u ≡ pid.NoPid → sides.NoPid ≡ schedule_sides a p b q
+      unfolding schedule_sides
+      schedules_none z = rw (schedules_good h, ← eu, z)
 
-      pub schedules-pid : u ≡ pid.TooLarge → (w : PidWord) (s : Sides) → w ≡ pidWord q → s ≡ besideBad w → s ≡ scheduleSides a p b q
-      unfolding scheduleSides
-      schedules-pid z w s ew es = rw (schedules-good h, ← eu, z, ← ew) es
+      pub schedules_pid : u ≡ pid.TooLarge → (w : PidWord) (s : Sides) → w ≡ pid_word q → s ≡ beside_bad w → s ≡ schedule_sides a p b q
+      unfolding schedule_sides
+      schedules_pid z w s ew es = rw (schedules_good h, ← eu, z, ← ew) es
 
-      module _ (i : ℕ) (z : u ≡ pid.Is i) (w : PidWord) (ew : w ≡ pidWord q) where
-        pub schedules-second-none : w ≡ pid.NoPid → sides.NoPid ≡ scheduleSides a p b q
-        unfolding scheduleSides
-        schedules-second-none y = rw (schedules-good h, ← eu, ← ew, z, y)
+      module _ (i : ℕ) (z : u ≡ pid.Is i) (w : PidWord) (ew : w ≡ pid_word q) where
+        pub schedules_second_none : w ≡ pid.NoPid → sides.NoPid ≡ schedule_sides a p b q
+        unfolding schedule_sides
+        schedules_second_none y = rw (schedules_good h, ← eu, ← ew, z, y)
 
-        pub schedules-second : w ≡ pid.TooLarge → sides.BadPid ≡ scheduleSides a p b q
-        unfolding scheduleSides
-        schedules-second y = rw (schedules-good h, ← eu, ← ew, z, y)
+        pub schedules_second : w ≡ pid.TooLarge → sides.BadPid ≡ schedule_sides a p b q
+        unfolding schedule_sides
+        schedules_second y = rw (schedules_good h, ← eu, ← ew, z, y)
 
-        pub schedules-keyed : (j : ℕ) (k m : Key) (s : Sides) → w ≡ pid.Is j → k ≡ scheduleKeyIn i a → m ≡ scheduleKeyIn j b → s ≡ sameSides k m → s ≡ scheduleSides a p b q
-        unfolding scheduleSides
-        schedules-keyed j k m s y ek em es = rw (schedules-good h, ← eu, ← ew, z, y, ← ek, ← em) es
+        pub schedules_keyed : (j : ℕ) (k m : Key) (s : Sides) → w ≡ pid.Is j → k ≡ schedule_key_in i a → m ≡ schedule_key_in j b → s ≡ same_sides k m → s ≡ schedule_sides a p b q
+        unfolding schedule_sides
+        schedules_keyed j k m s y ek em es = rw (schedules_good h, ← eu, ← ew, z, y, ← ek, ← em) es
 
 -- ---- one section
 
-pub set-or-none : (s : List ℕ) (b : Bool) → b ≡ is_set s → (eqb (length s) 0 || b) ≡ setOrEmpty s
-set-or-none s b e = rw e
+pub set_or_none : (s : List ℕ) (b : Bool) → b ≡ is_set s → (eqb (length s) 0 || b) ≡ set_or_empty s
+set_or_none s b e = rw e
 
-pub none-held : (n m p q : ℕ) (h : Holder) → n ≡ 0 → m ≡ 0 → h ≡ heldNot held-answer.NotOne → h ≡ heldFor n m p q
-none-held n m p q h a b e = e ∙ simp (eq-eqb n 0 a, eq-eqb m 0 b)
+pub none_held : (n m p q : ℕ) (h : Holder) → n ≡ 0 → m ≡ 0 → h ≡ held_not held_answer.NotOne → h ≡ held_for n m p q
+none_held n m p q h a b e = e ∙ simp (eq-eqb n 0 a, eq-eqb m 0 b)
 
-pub second-held : (n m p q : ℕ) (h : Holder) → n ≡ 0 → (m ≡ 0 → ⊥) → h ≡ heldOne 2 q m → h ≡ heldFor n m p q
-second-held n m p q h a b e = e ∙ simp (eq-eqb n 0 a, ne_eqb m 0 b)
+pub second_held : (n m p q : ℕ) (h : Holder) → n ≡ 0 → (m ≡ 0 → ⊥) → h ≡ held_one 2 q m → h ≡ held_for n m p q
+second_held n m p q h a b e = e ∙ simp (eq-eqb n 0 a, ne_eqb m 0 b)
 
-pub first-held : (n m p q : ℕ) (h : Holder) → (n ≡ 0 → ⊥) → m ≡ 0 → h ≡ heldOne 1 p n → h ≡ heldFor n m p q
-first-held n m p q h a b e = e ∙ simp (ne_eqb n 0 a, eq-eqb m 0 b)
+pub first_held : (n m p q : ℕ) (h : Holder) → (n ≡ 0 → ⊥) → m ≡ 0 → h ≡ held_one 1 p n → h ≡ held_for n m p q
+first_held n m p q h a b e = e ∙ simp (ne_eqb n 0 a, eq-eqb m 0 b)
 
-pub both-held : (n m p q : ℕ) (h : Holder) → (n ≡ 0 → ⊥) → (m ≡ 0 → ⊥) → h ≡ heldNot held-answer.NotOne → h ≡ heldFor n m p q
-both-held n m p q h a b e = e ∙ simp (ne_eqb n 0 a, ne_eqb m 0 b)
+pub both_held : (n m p q : ℕ) (h : Holder) → (n ≡ 0 → ⊥) → (m ≡ 0 → ⊥) → h ≡ held_not held_answer.NotOne → h ≡ held_for n m p q
+both_held n m p q h a b e = e ∙ simp (ne_eqb n 0 a, ne_eqb m 0 b)
 
-size_of : (s : List ℕ) (n p r : ℕ) → Placed s n p → EndAt s p r → r - p ≡ length (numbered n (sectionsIn s))
-size_of s n p r k e = let z : r ≡ p + length (numbered n (sectionsIn s)) = e.exact ∙ ap (λ (x : List ℕ). p + length x) k.there in rw z (add-sub_cancel_left p (length (numbered n (sectionsIn s))))
+size_of : (s : List ℕ) (n p r : ℕ) → Placed s n p → EndAt s p r → r - p ≡ length (numbered n (sections_in s))
+size_of s n p r k e = let z : r ≡ p + length (numbered n (sections_in s)) = e.exact ∙ ap (λ (x : List ℕ). p + length x) k.there in rw z (add-sub_cancel_left p (length (numbered n (sections_in s))))
 
-pub held-where : (a b : List ℕ) (n p q r t : ℕ) (h : Holder) → Placed a n p → Placed b n q → EndAt a p r → EndAt b q t → h ≡ heldFor (r - p) (t - q) p q
-    → h ≡ held_of (numbered n (sectionsIn a)) (numbered n (sectionsIn b)) (place_in n (sectionsIn a)) (place_in n (sectionsIn b))
-held-where a b n p q r t h k l e f z = z ∙ rw (size_of a n p r k e, size_of b n q t l f, k.exact, l.exact)
+pub held_where : (a b : List ℕ) (n p q r t : ℕ) (h : Holder) → Placed a n p → Placed b n q → EndAt a p r → EndAt b q t → h ≡ held_for (r - p) (t - q) p q
+    → h ≡ held_of (numbered n (sections_in a)) (numbered n (sections_in b)) (place_in n (sections_in a)) (place_in n (sections_in b))
+held_where a b n p q r t h k l e f z = z ∙ rw (size_of a n p r k e, size_of b n q t l f, k.exact, l.exact)
 
-laid-or-empty : (s : List ℕ) → setOrEmpty s ≡ true → laidOut s ≡ true
-laid-or-empty s e = go (eqb (length s) 0) refl e
+laid_or_empty : (s : List ℕ) → set_or_empty s ≡ true → laid_out s ≡ true
+laid_or_empty s e = go (eqb (length s) 0) refl e
   where
-    go : (t : Bool) → eqb (length s) 0 ≡ t → (t || is_set s) ≡ true → laidOut s ≡ true
-    go true z q = laid-empty s (eqb-true (length s) 0 z)
-    go false z q = (set-run s q).laid
+    go : (t : Bool) → eqb (length s) 0 ≡ t → (t || is_set s) ≡ true → laid_out s ≡ true
+    go true z q = laid_empty s (eqb-true (length s) 0 z)
+    go false z q = (set_run s q).laid
 
-module _ (a b : List ℕ) (x y : Bool) (ex : x ≡ setOrEmpty a) (ey : y ≡ setOrEmpty b) where
-  both-good : (x && y) ≡ true → (setOrEmpty a && setOrEmpty b) ≡ true
-  both-good h = rw (← ex, ← ey) h
+module _ (a b : List ℕ) (x y : Bool) (ex : x ≡ set_or_empty a) (ey : y ≡ set_or_empty b) where
+  both_good : (x && y) ≡ true → (set_or_empty a && set_or_empty b) ≡ true
+  both_good h = rw (← ex, ← ey) h
 
-  pub sides-laid : (x && y) ≡ true → LaidSides a b
-  sides-laid h =
-      let c = and-true (setOrEmpty a) (setOrEmpty b) (both-good h) in
-      record { first = laid-or-empty a c.0; second = laid-or-empty b c.1 }
+  pub sides_laid : (x && y) ≡ true → LaidSides a b
+  sides_laid h =
+      let c = and_true (set_or_empty a) (set_or_empty b) (both_good h) in
+      record { first = laid_or_empty a c.0; second = laid_or_empty b c.1 }
 
-  pub held-told : (n : ℕ) (h : Holder) → (x && y) ≡ true → h ≡ held_of (numbered n (sectionsIn a)) (numbered n (sectionsIn b)) (place_in n (sectionsIn a)) (place_in n (sectionsIn b)) → h ≡ heldBy a b n
-  unfolding heldBy
-  held-told n h z e = e ∙ rw (both-good z)
+  pub held_told : (n : ℕ) (h : Holder) → (x && y) ≡ true → h ≡ held_of (numbered n (sections_in a)) (numbered n (sections_in b)) (place_in n (sections_in a)) (place_in n (sections_in b)) → h ≡ held_by a b n
+  unfolding held_by
+  held_told n h z e = e ∙ rw (both_good z)
 
-  pub held-refused : (n : ℕ) (h : Holder) → (x && y) ≡ false → h ≡ heldNot held-answer.NotSets → h ≡ heldBy a b n
-  unfolding heldBy
-  held-refused n h z e = e ∙ rw (← ex, ← ey, z)
+  pub held_refused : (n : ℕ) (h : Holder) → (x && y) ≡ false → h ≡ held_not held_answer.NotSets → h ≡ held_by a b n
+  unfolding held_by
+  held_refused n h z e = e ∙ rw (← ex, ← ey, z)
 
 -- ---- the bytes of one section
 
-numbered-part : (n : ℕ) (xs : List (List ℕ)) → (place_in n xs + length (numbered n xs) ≤ length (flatten xs)) × (take (length (numbered n xs)) (drop (place_in n xs) (flatten xs)) ≡ numbered n xs)
+numbered_part : (n : ℕ) (xs : List (List ℕ)) → (place_in n xs + length (numbered n xs) ≤ length (flatten xs)) × (take (length (numbered n xs)) (drop (place_in n xs) (flatten xs)) ≡ numbered n xs)
 unfolding numbered place_in flatten
-numbered-part n [] = (omega arith, refl)
-numbered-part n (x ∷ xs) = go (eqb (sectionNumber x) n) (numbered-part n xs)
+numbered_part n [] = (omega arith, refl)
+numbered_part n (x ∷ xs) = go (eqb (section_number x) n) (numbered_part n xs)
   where
     go : (b : Bool) → (place_in n xs + length (numbered n xs) ≤ length (flatten xs)) × (take (length (numbered n xs)) (drop (place_in n xs) (flatten xs)) ≡ numbered n xs)
         → (cond b 0 (length x + place_in n xs) + length (cond b x (numbered n xs)) ≤ length (x ++ flatten xs))
@@ -205,17 +205,17 @@ numbered-part n (x ∷ xs) = go (eqb (sectionNumber x) n) (numbered-part n xs)
     go true h = (simp length-append (omega arith), take-append_seam x (flatten xs))
     go false h = (let k = h.0 in simp length-append (omega arith), rw (drop-append-add x (flatten xs) (place_in n xs)) h.1)
 
-pub part-numbered : (s : List ℕ) (n : ℕ) → laidOut s ≡ true → part_of s (place_in n (sectionsIn s)) (length (numbered n (sectionsIn s))) ≡ numbered n (sectionsIn s)
-part-numbered s n w =
-    let f = sections-all s w in
-    let h = numbered-part n (sectionsIn s) in
-    let k : place_in n (sectionsIn s) + length (numbered n (sectionsIn s)) ≤ length s = rw f at h.0 in
-    let a : place_in n (sectionsIn s) ≤ length s = omega arith in
-    let b : length (numbered n (sectionsIn s)) ≤ length s - place_in n (sectionsIn s) = omega arith in
-    rw (le-leb (place_in n (sectionsIn s)) (length s) a, le-leb (length (numbered n (sectionsIn s))) (length s - place_in n (sectionsIn s)) b) (rw f at h.1)
+pub part_numbered : (s : List ℕ) (n : ℕ) → laid_out s ≡ true → part_of s (place_in n (sections_in s)) (length (numbered n (sections_in s))) ≡ numbered n (sections_in s)
+part_numbered s n w =
+    let f = sections_all s w in
+    let h = numbered_part n (sections_in s) in
+    let k : place_in n (sections_in s) + length (numbered n (sections_in s)) ≤ length s = rw f at h.0 in
+    let a : place_in n (sections_in s) ≤ length s = omega arith in
+    let b : length (numbered n (sections_in s)) ≤ length s - place_in n (sections_in s) = omega arith in
+    rw (le-leb (place_in n (sections_in s)) (length s) a, le-leb (length (numbered n (sections_in s))) (length s - place_in n (sections_in s)) b) (rw f at h.1)
 
-nothing-part : (s : List ℕ) → part_of s 0 0 ≡ []
-nothing-part s = rw (le-leb 0 (length s) (omega arith), le-leb 0 (length s - 0) (omega arith))
+nothing_part : (s : List ℕ) → part_of s 0 0 ≡ []
+nothing_part s = rw (le-leb 0 (length s) (omega arith), le-leb 0 (length s - 0) (omega arith))
 
 no_bytes : (x : List ℕ) → length x ≡ 0 → x ≡ []
 no_bytes [] h = refl
@@ -225,221 +225,221 @@ no_bytes (b ∷ x) h = absurd (omega arith)
 abbrev Names : List ℕ → List ℕ → Holder → List ℕ → Type 0
 Names a b h part = (h.side ≡ 1 → part_of a h.start h.length ≡ part) × ((h.side ≡ 1 → ⊥) → part_of b h.start h.length ≡ part)
 
-not-one : {A : Type 0} → ◌≡◌ {A = ℕ} 0 1 → A
-not-one z = absurd (omega arith)
+not_one : {A : Type 0} → ◌≡◌ {A = ℕ} 0 1 → A
+not_one z = absurd (omega arith)
 
-not-two : {A : Type 0} → ◌≡◌ {A = ℕ} 2 1 → A
-not-two z = absurd (omega arith)
+not_two : {A : Type 0} → ◌≡◌ {A = ℕ} 2 1 → A
+not_two z = absurd (omega arith)
 
-named-of : (a b x y : List ℕ) (p q : ℕ) → part_of a p (length x) ≡ x → part_of b q (length y) ≡ y → Names a b (heldFor (length x) (length y) p q) (one_of x y)
+named_of : (a b x y : List ℕ) (p q : ℕ) → part_of a p (length x) ≡ x → part_of b q (length y) ≡ y → Names a b (held_for (length x) (length y) p q) (one_of x y)
 unfolding one_of
-named-of a b x y p q ex ey = go (eqb (length x) 0) refl (eqb (length y) 0) refl
+named_of a b x y p q ex ey = go (eqb (length x) 0) refl (eqb (length y) 0) refl
   where
     go : (t : Bool) → eqb (length x) 0 ≡ t → (u : Bool) → eqb (length y) 0 ≡ u
-        → Names a b (cond t (cond u (heldNot held-answer.NotOne) (heldOne 2 q (length y))) (cond u (heldOne 1 p (length x)) (heldNot held-answer.NotOne))) (cond t y (cond u x []))
-    go true et true eu = (λ z. not-one z, λ z. nothing-part b ∙ sym (no_bytes y (eqb-true (length y) 0 eu)))
-    go true et false eu = (λ z. not-two z, λ z. ey)
+        → Names a b (cond t (cond u (held_not held_answer.NotOne) (held_one 2 q (length y))) (cond u (held_one 1 p (length x)) (held_not held_answer.NotOne))) (cond t y (cond u x []))
+    go true et true eu = (λ z. not_one z, λ z. nothing_part b ∙ sym (no_bytes y (eqb-true (length y) 0 eu)))
+    go true et false eu = (λ z. not_two z, λ z. ey)
     go false et true eu = (λ z. ex, λ z. absurd (z refl))
-    go false et false eu = (λ z. not-one z, λ z. nothing-part b)
+    go false et false eu = (λ z. not_one z, λ z. nothing_part b)
 
-named : (a b : List ℕ) (n : ℕ) → Names a b (heldBy a b n) (sectionOf a b n)
-unfolding heldBy sectionOf
-named a b n = go (setOrEmpty a && setOrEmpty b) refl
+named : (a b : List ℕ) (n : ℕ) → Names a b (held_by a b n) (section_of a b n)
+unfolding held_by section_of
+named a b n = go (set_or_empty a && set_or_empty b) refl
   where
-    go : (g : Bool) → (setOrEmpty a && setOrEmpty b) ≡ g
-        → Names a b (cond g (held_of (numbered n (sectionsIn a)) (numbered n (sectionsIn b)) (place_in n (sectionsIn a)) (place_in n (sectionsIn b))) (heldNot held-answer.NotSets))
-        (cond g (one_of (numbered n (sectionsIn a)) (numbered n (sectionsIn b))) [])
+    go : (g : Bool) → (set_or_empty a && set_or_empty b) ≡ g
+        → Names a b (cond g (held_of (numbered n (sections_in a)) (numbered n (sections_in b)) (place_in n (sections_in a)) (place_in n (sections_in b))) (held_not held_answer.NotSets))
+        (cond g (one_of (numbered n (sections_in a)) (numbered n (sections_in b))) [])
     go true e =
-        let c = and-true (setOrEmpty a) (setOrEmpty b) e in
-        named-of a b (numbered n (sectionsIn a)) (numbered n (sectionsIn b)) (place_in n (sectionsIn a)) (place_in n (sectionsIn b))
-        (part-numbered a n (laid-or-empty a c.0)) (part-numbered b n (laid-or-empty b c.1))
-    go false e = (λ z. not-one z, λ z. nothing-part b)
+        let c = and_true (set_or_empty a) (set_or_empty b) e in
+        named_of a b (numbered n (sections_in a)) (numbered n (sections_in b)) (place_in n (sections_in a)) (place_in n (sections_in b))
+        (part_numbered a n (laid_or_empty a c.0)) (part_numbered b n (laid_or_empty b c.1))
+    go false e = (λ z. not_one z, λ z. nothing_part b)
 
-module _ (a b : List ℕ) (n : ℕ) (h : Holder) (e : h ≡ heldBy a b n) (part : List ℕ) where
-  pub section-first : h.side ≡ 1 → part ≡ part_of a h.start h.length → part ≡ sectionOf a b n
-  section-first z q = q ∙ (rw (← e) at (named a b n)).0 z
+module _ (a b : List ℕ) (n : ℕ) (h : Holder) (e : h ≡ held_by a b n) (part : List ℕ) where
+  pub section_first : h.side ≡ 1 → part ≡ part_of a h.start h.length → part ≡ section_of a b n
+  section_first z q = q ∙ (rw (← e) at (named a b n)).0 z
 
-  pub section-second : (h.side ≡ 1 → ⊥) → part ≡ part_of b h.start h.length → part ≡ sectionOf a b n
-  section-second z q = q ∙ (rw (← e) at (named a b n)).1 z
+  pub section_second : (h.side ≡ 1 → ⊥) → part ≡ part_of b h.start h.length → part ≡ section_of a b n
+  section_second z q = q ∙ (rw (← e) at (named a b n)).1 z
 
 -- ---- the comparisons
 
 -- what two alike sides are
-keyed-alike : (key : ℕ → List ℕ → Key) (u w : PidWord) (a b : List ℕ) → keyed key u w a b ≡ sides.Alike → (p : ℕ) × (q : ℕ) × (sameKey (key p a) (key q b) ≡ true)
-keyed-alike key pid.NoPid w a b e = let z : ◌≡◌ {A = ℕ} 0 1 = cc in absurd (omega arith)
-keyed-alike key pid.TooLarge pid.NoPid a b e = let z : ◌≡◌ {A = ℕ} 0 1 = cc in absurd (omega arith)
-keyed-alike key pid.TooLarge pid.TooLarge a b e = let z : ◌≡◌ {A = ℕ} 0 1 = cc in absurd (omega arith)
-keyed-alike key pid.TooLarge (pid.Is q) a b e = let z : ◌≡◌ {A = ℕ} 0 1 = cc in absurd (omega arith)
-keyed-alike key (pid.Is p) pid.NoPid a b e = let z : ◌≡◌ {A = ℕ} 0 1 = cc in absurd (omega arith)
-keyed-alike key (pid.Is p) pid.TooLarge a b e = let z : ◌≡◌ {A = ℕ} 0 1 = cc in absurd (omega arith)
-keyed-alike key (pid.Is p) (pid.Is q) a b e = go (sameKey (key p a) (key q b)) refl e
+keyed_alike : (key : ℕ → List ℕ → Key) (u w : PidWord) (a b : List ℕ) → keyed key u w a b ≡ sides.Alike → (p : ℕ) × (q : ℕ) × (same_key (key p a) (key q b) ≡ true)
+keyed_alike key pid.NoPid w a b e = let z : ◌≡◌ {A = ℕ} 0 1 = cc in absurd (omega arith)
+keyed_alike key pid.TooLarge pid.NoPid a b e = let z : ◌≡◌ {A = ℕ} 0 1 = cc in absurd (omega arith)
+keyed_alike key pid.TooLarge pid.TooLarge a b e = let z : ◌≡◌ {A = ℕ} 0 1 = cc in absurd (omega arith)
+keyed_alike key pid.TooLarge (pid.Is q) a b e = let z : ◌≡◌ {A = ℕ} 0 1 = cc in absurd (omega arith)
+keyed_alike key (pid.Is p) pid.NoPid a b e = let z : ◌≡◌ {A = ℕ} 0 1 = cc in absurd (omega arith)
+keyed_alike key (pid.Is p) pid.TooLarge a b e = let z : ◌≡◌ {A = ℕ} 0 1 = cc in absurd (omega arith)
+keyed_alike key (pid.Is p) (pid.Is q) a b e = go (same_key (key p a) (key q b)) refl e
   where
-    go : (t : Bool) → sameKey (key p a) (key q b) ≡ t → cond t sides.Alike sides.OtherKey ≡ sides.Alike → (p : ℕ) × (q : ℕ) × (sameKey (key p a) (key q b) ≡ true)
+    go : (t : Bool) → same_key (key p a) (key q b) ≡ t → cond t sides.Alike sides.OtherKey ≡ sides.Alike → (p : ℕ) × (q : ℕ) × (same_key (key p a) (key q b) ≡ true)
     go true z f = (p, q, z)
     go false z f = let y : ◌≡◌ {A = ℕ} 0 1 = cc in absurd (omega arith)
 
-good-alike : (g : Bool) (s : Sides) → cond g s sides.NotSets ≡ sides.Alike → (g ≡ true) × (s ≡ sides.Alike)
-good-alike true s e = (refl, e)
-good-alike false s e = let z : ◌≡◌ {A = ℕ} 0 1 = cc in absurd (omega arith)
+good_alike : (g : Bool) (s : Sides) → cond g s sides.NotSets ≡ sides.Alike → (g ≡ true) × (s ≡ sides.Alike)
+good_alike true s e = (refl, e)
+good_alike false s e = let z : ◌≡◌ {A = ℕ} 0 1 = cc in absurd (omega arith)
 
 module _ (a b : List ℕ) (p q : MaybePid) where
-  pub alike-sets : (s : Sides) → s ≡ setSides a p b q → s ≡ sides.Alike → AlikeSets a b
-  unfolding setSides
-  alike-sets s e f =
-      let g = good-alike (is_set a && is_set b) (keyed keyIn (pidWord p) (pidWord q) a b) (sym e ∙ f) in
-      let c = and-true (is_set a) (is_set b) g.0 in
-      let k = keyed-alike keyIn (pidWord p) (pidWord q) a b g.1 in
-      record { first = c.0; second = c.1; table = keys-table (keyIn k.0 a) (keyIn k.1 b) k.2 }
+  pub alike_sets : (s : Sides) → s ≡ set_sides a p b q → s ≡ sides.Alike → AlikeSets a b
+  unfolding set_sides
+  alike_sets s e f =
+      let g = good_alike (is_set a && is_set b) (keyed key_in (pid_word p) (pid_word q) a b) (sym e ∙ f) in
+      let c = and_true (is_set a) (is_set b) g.0 in
+      let k = keyed_alike key_in (pid_word p) (pid_word q) a b g.1 in
+      record { first = c.0; second = c.1; table = keys_table (key_in k.0 a) (key_in k.1 b) k.2 }
 
-  pub alike-schedules : (s : Sides) → s ≡ scheduleSides a p b q → s ≡ sides.Alike → AlikeSchedules a b
-  unfolding scheduleSides
-  alike-schedules s e f =
-      let g = good-alike (isSchedule a && isSchedule b) (keyed scheduleKeyIn (pidWord p) (pidWord q) a b) (sym e ∙ f) in
-      let c = and-true (isSchedule a) (isSchedule b) g.0 in
-      let k = keyed-alike scheduleKeyIn (pidWord p) (pidWord q) a b g.1 in
-      record { first = c.0; second = c.1; kind = keys-table (scheduleKeyIn k.0 a) (scheduleKeyIn k.1 b) k.2 }
+  pub alike_schedules : (s : Sides) → s ≡ schedule_sides a p b q → s ≡ sides.Alike → AlikeSchedules a b
+  unfolding schedule_sides
+  alike_schedules s e f =
+      let g = good_alike (is_schedule a && is_schedule b) (keyed schedule_key_in (pid_word p) (pid_word q) a b) (sym e ∙ f) in
+      let c = and_true (is_schedule a) (is_schedule b) g.0 in
+      let k = keyed_alike schedule_key_in (pid_word p) (pid_word q) a b g.1 in
+      record { first = c.0; second = c.1; kind = keys_table (schedule_key_in k.0 a) (schedule_key_in k.1 b) k.2 }
 
-  module _ (s : Sides) (e : s ≡ setSides a p b q) (room : ℕ) (r : Compared) where
-    pub compare-not : s ≡ sides.NotSets → r ≡ refused answer.NotSets → r ≡ compared a p b q room
+  module _ (s : Sides) (e : s ≡ set_sides a p b q) (room : ℕ) (r : Compared) where
+    pub compare_not : s ≡ sides.NotSets → r ≡ refused answer.NotSets → r ≡ compared a p b q room
     unfolding compared
-    compare-not z h = h ∙ rw (← e, z)
+    compare_not z h = h ∙ rw (← e, z)
 
-    pub compare-none : s ≡ sides.NoPid → r ≡ refused answer.NoPid → r ≡ compared a p b q room
+    pub compare_none : s ≡ sides.NoPid → r ≡ refused answer.NoPid → r ≡ compared a p b q room
     unfolding compared
-    compare-none z h = h ∙ rw (← e, z)
+    compare_none z h = h ∙ rw (← e, z)
 
-    pub compare-pid : s ≡ sides.BadPid → r ≡ refused answer.BadPid → r ≡ compared a p b q room
+    pub compare_pid : s ≡ sides.BadPid → r ≡ refused answer.BadPid → r ≡ compared a p b q room
     unfolding compared
-    compare-pid z h = h ∙ rw (← e, z)
+    compare_pid z h = h ∙ rw (← e, z)
 
-    pub compare-key : s ≡ sides.OtherKey → r ≡ refused answer.OtherKey → r ≡ compared a p b q room
+    pub compare_key : s ≡ sides.OtherKey → r ≡ refused answer.OtherKey → r ≡ compared a p b q room
     unfolding compared
-    compare-key z h = h ∙ rw (← e, z)
+    compare_key z h = h ∙ rw (← e, z)
 
-    pub compare_alike : s ≡ sides.Alike → r ≡ toldOf room (length (setEntries a b)) (sameVersion a b) (sameLast a b) → r ≡ compared a p b q room
+    pub compare_alike : s ≡ sides.Alike → r ≡ told_of room (length (set_entries a b)) (same_version a b) (same_last a b) → r ≡ compared a p b q room
     unfolding compared
     compare_alike z h = h ∙ rw (← e, z)
 
-  pub listed-alike : (s : Sides) (list l : List ℕ) → s ≡ setSides a p b q → s ≡ sides.Alike → l ≡ listIf (setEntries a b) list → l ≡ listed a p b q list
+  pub listed_alike : (s : Sides) (list l : List ℕ) → s ≡ set_sides a p b q → s ≡ sides.Alike → l ≡ list_if (set_entries a b) list → l ≡ listed a p b q list
   unfolding listed
-  listed-alike s list l e z h = h ∙ rw (← e, z)
+  listed_alike s list l e z h = h ∙ rw (← e, z)
 
-  pub listed-not : (s : Sides) (list : List ℕ) → s ≡ setSides a p b q → s ≡ sides.NotSets → list ≡ listed a p b q list
+  pub listed_not : (s : Sides) (list : List ℕ) → s ≡ set_sides a p b q → s ≡ sides.NotSets → list ≡ listed a p b q list
   unfolding listed
-  listed-not s list e z = rw (← e, z)
+  listed_not s list e z = rw (← e, z)
 
-  pub listed-none : (s : Sides) (list : List ℕ) → s ≡ setSides a p b q → s ≡ sides.NoPid → list ≡ listed a p b q list
+  pub listed_none : (s : Sides) (list : List ℕ) → s ≡ set_sides a p b q → s ≡ sides.NoPid → list ≡ listed a p b q list
   unfolding listed
-  listed-none s list e z = rw (← e, z)
+  listed_none s list e z = rw (← e, z)
 
-  pub listed-pid : (s : Sides) (list : List ℕ) → s ≡ setSides a p b q → s ≡ sides.BadPid → list ≡ listed a p b q list
+  pub listed_pid : (s : Sides) (list : List ℕ) → s ≡ set_sides a p b q → s ≡ sides.BadPid → list ≡ listed a p b q list
   unfolding listed
-  listed-pid s list e z = rw (← e, z)
+  listed_pid s list e z = rw (← e, z)
 
-  pub listed-key : (s : Sides) (list : List ℕ) → s ≡ setSides a p b q → s ≡ sides.OtherKey → list ≡ listed a p b q list
+  pub listed_key : (s : Sides) (list : List ℕ) → s ≡ set_sides a p b q → s ≡ sides.OtherKey → list ≡ listed a p b q list
   unfolding listed
-  listed-key s list e z = rw (← e, z)
+  listed_key s list e z = rw (← e, z)
 
 module _ (a b : List ℕ) (p q : MaybePid) where
-  module _ (s : Sides) (e : s ≡ scheduleSides a p b q) (room : ℕ) (r : Compared) where
-    pub schedules-no : s ≡ sides.NotSets → r ≡ refused answer.NotSets → r ≡ comparedSchedules a p b q room
-    unfolding comparedSchedules
-    schedules-no z h = h ∙ rw (← e, z)
+  module _ (s : Sides) (e : s ≡ schedule_sides a p b q) (room : ℕ) (r : Compared) where
+    pub schedules_no : s ≡ sides.NotSets → r ≡ refused answer.NotSets → r ≡ compared_schedules a p b q room
+    unfolding compared_schedules
+    schedules_no z h = h ∙ rw (← e, z)
 
-    pub schedules-without : s ≡ sides.NoPid → r ≡ refused answer.NoPid → r ≡ comparedSchedules a p b q room
-    unfolding comparedSchedules
-    schedules-without z h = h ∙ rw (← e, z)
+    pub schedules_without : s ≡ sides.NoPid → r ≡ refused answer.NoPid → r ≡ compared_schedules a p b q room
+    unfolding compared_schedules
+    schedules_without z h = h ∙ rw (← e, z)
 
-    pub schedules-bad : s ≡ sides.BadPid → r ≡ refused answer.BadPid → r ≡ comparedSchedules a p b q room
-    unfolding comparedSchedules
-    schedules-bad z h = h ∙ rw (← e, z)
+    pub schedules_bad : s ≡ sides.BadPid → r ≡ refused answer.BadPid → r ≡ compared_schedules a p b q room
+    unfolding compared_schedules
+    schedules_bad z h = h ∙ rw (← e, z)
 
-    pub schedules-other : s ≡ sides.OtherKey → r ≡ refused answer.OtherKey → r ≡ comparedSchedules a p b q room
-    unfolding comparedSchedules
-    schedules-other z h = h ∙ rw (← e, z)
+    pub schedules_other : s ≡ sides.OtherKey → r ≡ refused answer.OtherKey → r ≡ compared_schedules a p b q room
+    unfolding compared_schedules
+    schedules_other z h = h ∙ rw (← e, z)
 
-    pub schedules-alike : s ≡ sides.Alike → r ≡ toldOf room (length (scheduleEntries a b)) (versionsAgree (scheduleWords a b)) (lastsAgree (scheduleWords a b)) → r ≡ comparedSchedules a p b q room
-    unfolding comparedSchedules
-    schedules-alike z h = h ∙ rw (← e, z)
+    pub schedules_alike : s ≡ sides.Alike → r ≡ told_of room (length (schedule_entries a b)) (versions_agree (schedule_words a b)) (lasts_agree (schedule_words a b)) → r ≡ compared_schedules a p b q room
+    unfolding compared_schedules
+    schedules_alike z h = h ∙ rw (← e, z)
 
-  module _ (s : Sides) (e : s ≡ scheduleSides a p b q) (list : List ℕ) where
-    pub list-no : s ≡ sides.NotSets → list ≡ listedSchedules a p b q list
-    unfolding listedSchedules
-    list-no z = rw (← e, z)
+  module _ (s : Sides) (e : s ≡ schedule_sides a p b q) (list : List ℕ) where
+    pub list_no : s ≡ sides.NotSets → list ≡ listed_schedules a p b q list
+    unfolding listed_schedules
+    list_no z = rw (← e, z)
 
-    pub list-without : s ≡ sides.NoPid → list ≡ listedSchedules a p b q list
-    unfolding listedSchedules
-    list-without z = rw (← e, z)
+    pub list_without : s ≡ sides.NoPid → list ≡ listed_schedules a p b q list
+    unfolding listed_schedules
+    list_without z = rw (← e, z)
 
-    pub list-bad : s ≡ sides.BadPid → list ≡ listedSchedules a p b q list
-    unfolding listedSchedules
-    list-bad z = rw (← e, z)
+    pub list_bad : s ≡ sides.BadPid → list ≡ listed_schedules a p b q list
+    unfolding listed_schedules
+    list_bad z = rw (← e, z)
 
-    pub list-other : s ≡ sides.OtherKey → list ≡ listedSchedules a p b q list
-    unfolding listedSchedules
-    list-other z = rw (← e, z)
+    pub list_other : s ≡ sides.OtherKey → list ≡ listed_schedules a p b q list
+    unfolding listed_schedules
+    list_other z = rw (← e, z)
 
-    pub list-alike : (l : List ℕ) → s ≡ sides.Alike → l ≡ listIf (scheduleEntries a b) list → l ≡ listedSchedules a p b q list
-    unfolding listedSchedules
-    list-alike l z h = h ∙ rw (← e, z)
+    pub list_alike : (l : List ℕ) → s ≡ sides.Alike → l ≡ list_if (schedule_entries a b) list → l ≡ listed_schedules a p b q list
+    unfolding listed_schedules
+    list_alike l z h = h ∙ rw (← e, z)
 
-  module _ (s : Sides) (e : s ≡ scheduleSides a p b q) (room : ℕ) (tables : List ℕ) where
-    pub tables-no : s ≡ sides.NotSets → tables ≡ tables_of a p b q room tables
+  module _ (s : Sides) (e : s ≡ schedule_sides a p b q) (room : ℕ) (tables : List ℕ) where
+    pub tables_no : s ≡ sides.NotSets → tables ≡ tables_of a p b q room tables
     unfolding tables_of
-    tables-no z = rw (← e, z)
+    tables_no z = rw (← e, z)
 
-    pub tables-without : s ≡ sides.NoPid → tables ≡ tables_of a p b q room tables
+    pub tables_without : s ≡ sides.NoPid → tables ≡ tables_of a p b q room tables
     unfolding tables_of
-    tables-without z = rw (← e, z)
+    tables_without z = rw (← e, z)
 
-    pub tables-bad : s ≡ sides.BadPid → tables ≡ tables_of a p b q room tables
+    pub tables_bad : s ≡ sides.BadPid → tables ≡ tables_of a p b q room tables
     unfolding tables_of
-    tables-bad z = rw (← e, z)
+    tables_bad z = rw (← e, z)
 
-    pub tables-other : s ≡ sides.OtherKey → tables ≡ tables_of a p b q room tables
+    pub tables_other : s ≡ sides.OtherKey → tables ≡ tables_of a p b q room tables
     unfolding tables_of
-    tables-other z = rw (← e, z)
+    tables_other z = rw (← e, z)
 
-    pub tables-alike : (l : List ℕ) → s ≡ sides.Alike → l ≡ tablesIf room (scheduleEntries a b) (scheduleWords a b) tables → l ≡ tables_of a p b q room tables
+    pub tables_alike : (l : List ℕ) → s ≡ sides.Alike → l ≡ tables_if room (schedule_entries a b) (schedule_words a b) tables → l ≡ tables_of a p b q room tables
     unfolding tables_of
-    tables-alike l z h = h ∙ rw (← e, z)
+    tables_alike l z h = h ∙ rw (← e, z)
 
 -- the tables of two schedules
-module _ (a b list : List ℕ) (base : ℕ) (words : List ℕ) (v l : Bool) (r : Compared) (e : allDifferences (sectionsIn a) (sectionsIn b) ≡ scheduleEntries a b)
-    (eb : base ≡ kindFirst (tableId a)) (ew : words ≡ tableWords base (sectionsIn a) (sectionsIn b)) (ev : v ≡ versionsAgree words) (el : l ≡ lastsAgree words)
-    (er : r ≡ toldOf (length list / 4) (length (allDifferences (sectionsIn a) (sectionsIn b))) v l) where
-  same-words : words ≡ scheduleWords a b
-  same-words = ew ∙ ap (λ (f : ℕ). tableWords f (sectionsIn a) (sectionsIn b)) eb
+module _ (a b list : List ℕ) (base : ℕ) (words : List ℕ) (v l : Bool) (r : Compared) (e : all_differences (sections_in a) (sections_in b) ≡ schedule_entries a b)
+    (eb : base ≡ kind_first (table_id_of a)) (ew : words ≡ table_words base (sections_in a) (sections_in b)) (ev : v ≡ versions_agree words) (el : l ≡ lasts_agree words)
+    (er : r ≡ told_of (length list / 4) (length (all_differences (sections_in a) (sections_in b))) v l) where
+  same_words : words ≡ schedule_words a b
+  same_words = ew ∙ ap (λ (f : ℕ). table_words f (sections_in a) (sections_in b)) eb
 
-  pub tables-told : r ≡ toldOf (length list / 4) (length (scheduleEntries a b)) (versionsAgree (scheduleWords a b)) (lastsAgree (scheduleWords a b))
-  tables-told = er ∙ rw (ev, el, same-words, e)
+  pub tables_told : r ≡ told_of (length list / 4) (length (schedule_entries a b)) (versions_agree (schedule_words a b)) (lasts_agree (schedule_words a b))
+  tables_told = er ∙ rw (ev, el, same_words, e)
 
-  pub tables-out : (after tables out : List ℕ) → length after ≡ length list → out ≡ cond (ltb (length after / 4) r.count) tables words
-      → out ≡ tablesIf (length list / 4) (scheduleEntries a b) (scheduleWords a b) tables
-  tables-out after tables out h q =
-      let n : r.count ≡ length (scheduleEntries a b) = ap (λ (x : Compared). x.count) er ∙ ap length e in
-      q ∙ rw (h, n, same-words)
+  pub tables_out_lem : (after tables out : List ℕ) → length after ≡ length list → out ≡ cond (ltb (length after / 4) r.count) tables words
+      → out ≡ tables_if (length list / 4) (schedule_entries a b) (schedule_words a b) tables
+  tables_out_lem after tables out h q =
+      let n : r.count ≡ length (schedule_entries a b) = ap (λ (x : Compared). x.count) er ∙ ap length e in
+      q ∙ rw (h, n, same_words)
 
-  pub tables-list : (after : List ℕ) → after ≡ listIf (allDifferences (sectionsIn a) (sectionsIn b)) list → after ≡ listIf (scheduleEntries a b) list
-  tables-list after q = q ∙ rw e
+  pub tables_list : (after : List ℕ) → after ≡ list_if (all_differences (sections_in a) (sections_in b)) list → after ≡ list_if (schedule_entries a b) list
+  tables_list after q = q ∙ rw e
 
 -- a set, a schedule, has room for its first header
-pub alike-first : (a b : List ℕ) → AlikeSets a b → 12 ≤ length a
-alike-first a b w = let r = set-run a w.first in (opens a r.laid r.some).room
+pub alike_first : (a b : List ℕ) → AlikeSets a b → 12 ≤ length a
+alike_first a b w = let r = set_run a w.first in (opens a r.laid r.some).room
 
-pub alike-second : (a b : List ℕ) → AlikeSets a b → 12 ≤ length b
-alike-second a b w = let r = set-run b w.second in (opens b r.laid r.some).room
+pub alike_second : (a b : List ℕ) → AlikeSets a b → 12 ≤ length b
+alike_second a b w = let r = set_run b w.second in (opens b r.laid r.some).room
 
-pub schedule-some : (a b : List ℕ) → AlikeSchedules a b → 0 < length a
-schedule-some a b w = (schedule-run a w.first).some
+pub schedule_some : (a b : List ℕ) → AlikeSchedules a b → 0 < length a
+schedule_some a b w = (schedule_run a w.first).some
 
-pub table-there : (s part : List ℕ) (t : ℕ) (b : Bool) → b ≡ isSchedule s → b ≡ true → part ≡ tableIn s t → part ≡ tablePart s t
-unfolding tablePart
-table-there s part t b e h q = rw (← e, h) q
+pub table_there : (s part : List ℕ) (t : ℕ) (b : Bool) → b ≡ is_schedule s → b ≡ true → part ≡ table_in s t → part ≡ table_part s t
+unfolding table_part
+table_there s part t b e h q = rw (← e, h) q
 
-pub table_none : (s : List ℕ) (t : ℕ) (b : Bool) → b ≡ isSchedule s → b ≡ false → [] ≡ tablePart s t
-unfolding tablePart
+pub table_none : (s : List ℕ) (t : ℕ) (b : Bool) → b ≡ is_schedule s → b ≡ false → [] ≡ table_part s t
+unfolding table_part
 table_none s t b e h = rw (← e, h)
 
-pub is-schedule : (s : List ℕ) (b : Bool) → b ≡ isSchedule s → b ≡ true → isSchedule s ≡ true
-is-schedule s b e h = sym e ∙ h
+pub is_schedule_lem : (s : List ℕ) (b : Bool) → b ≡ is_schedule s → b ≡ true → is_schedule s ≡ true
+is_schedule_lem s b e h = sym e ∙ h

@@ -1,11 +1,11 @@
 // What the calls are made of once both sides are known to be what they should be.
 ghost use Rattle.std.specs.Prelude.{◌≡◌, cond, ℕ, ◌/◌, ◌%◌, ◌<◌, ◌≤◌, length, eqb};
 ghost use Rattle.laws.specs.Lists.{every};
-ghost use Rattle.laid.specs.Laid.{sectionsIn, kindFirst, sameVersion, sameLast};
+ghost use Rattle.laid.specs.Laid.{sections_in, kind_first, same_version, same_last};
 ghost use Rattle.laid.specs.Walk.{numbered, place_in};
-ghost use Rattle.differences.specs.Rules.{versionsAgree, lastsAgree};
-ghost use Rattle.differences.specs.Walk.{Ranked, allDifferences};
-ghost use Rattle.guides.specs.Store.{told, toldOf, listIf, setEntries, scheduleEntries, scheduleWords, tablesIf, heldNot, heldOne, heldFor, held_of};
+ghost use Rattle.differences.specs.Rules.{versions_agree, lasts_agree};
+ghost use Rattle.differences.specs.Walk.{Ranked, all_differences};
+ghost use Rattle.guides.specs.Store.{told, told_of, list_if, set_entries, schedule_entries, schedule_words, tables_if, held_not, held_one, held_for, held_of};
 ghost use Rattle.guides.specs.Store.{AlikeSets, AlikeSchedules, LaidSides};
 
 use crate::{CompareAnswer, Compared, HeldAnswer, Holder};
@@ -32,8 +32,8 @@ fn list_within(
 ) -> Compared
     requires ranked { Ranked first.now }
     requires ranked_2 { Ranked second.now }
-    ensures value { result ≡ toldOf (length list.old / 4) (length (allDifferences (sectionsIn first.now) (sectionsIn second.now))) versions lasts }
-    ensures list_after { list.new ≡ listIf (allDifferences (sectionsIn first.now) (sectionsIn second.now)) list.old }
+    ensures value { result ≡ told_of (length list.old / 4) (length (all_differences (sections_in first.now) (sections_in second.now))) versions lasts }
+    ensures list_after { list.new ≡ list_if (all_differences (sections_in first.now) (sections_in second.now)) list.old }
 {
     let count = differences::count(first, second);
     if list.len() / crate::ENTRY_WORDS < count {
@@ -49,8 +49,8 @@ fn list_within(
 
 pub fn compare_sets(first: &[u8], second: &[u8], list: &mut [u32]) -> Compared
     requires { AlikeSets first.now second.now }
-    ensures value { result ≡ toldOf (length list.old / 4) (length (setEntries first.now second.now)) (sameVersion first.now second.now) (sameLast first.now second.now) }
-    ensures list_after { list.new ≡ listIf (setEntries first.now second.now) list.old }
+    ensures value { result ≡ told_of (length list.old / 4) (length (set_entries first.now second.now)) (same_version first.now second.now) (same_last first.now second.now) }
+    ensures list_after { list.new ≡ list_if (set_entries first.now second.now) list.old }
 {
     let versions = first[5] / 2 % 32 == second[5] / 2 % 32;
     let lasts = first[7] == second[7];
@@ -82,7 +82,7 @@ fn write_tables(full: bool, words: &[u32; 16], tables: &mut [u32; 16])
 
 // The first table_id of a schedule's kind, 0x50 or 0x60.
 fn kind_first(table_id: u8) -> usize
-    ensures { (result ≡ kindFirst table_id) × (result ≤ 240) }
+    ensures { (result ≡ kind_first table_id) × (result ≤ 240) }
 {
     wide(table_id) / 16 * 16
 }
@@ -94,9 +94,9 @@ pub fn compare_tables(
     list: &mut [u32],
 ) -> Compared
     requires { AlikeSchedules first.now second.now }
-    ensures value { result ≡ toldOf (length list.old / 4) (length (scheduleEntries first.now second.now)) (versionsAgree (scheduleWords first.now second.now)) (lastsAgree (scheduleWords first.now second.now)) }
-    ensures tables_after { tables.new ≡ tablesIf (length list.old / 4) (scheduleEntries first.now second.now) (scheduleWords first.now second.now) tables.old }
-    ensures list_after { list.new ≡ listIf (scheduleEntries first.now second.now) list.old }
+    ensures value { result ≡ told_of (length list.old / 4) (length (schedule_entries first.now second.now)) (versions_agree (schedule_words first.now second.now)) (lasts_agree (schedule_words first.now second.now)) }
+    ensures tables_after { tables.new ≡ tables_if (length list.old / 4) (schedule_entries first.now second.now) (schedule_words first.now second.now) tables.old }
+    ensures list_after { list.new ≡ list_if (schedule_entries first.now second.now) list.old }
 {
     let words = differences::table_words(first, second, kind_first(first[0]));
     let compared = list_within(first, second, agree(&words, 4), agree(&words, 8), list);
@@ -107,22 +107,22 @@ pub fn compare_tables(
 
 // A side holds the number where its section there has bytes: n bytes at p in the first, m at q in the second.
 fn told_held(p: usize, n: usize, q: usize, m: usize) -> Holder
-    ensures { result ≡ heldFor n m p q }
+    ensures { result ≡ held_for n m p q }
 {
     if n == 0 {
         if m == 0 {
             return held_not(HeldAnswer::NotOne);
         }
-        return held_one(2, q, m);
+        return held_one_lem(2, q, m);
     }
     if m == 0 {
-        return held_one(1, p, n);
+        return held_one_lem(1, p, n);
     }
     held_not(HeldAnswer::NotOne)
 }
 
 pub fn held_not(answer: HeldAnswer) -> Holder
-    ensures { result ≡ heldNot answer }
+    ensures { result ≡ held_not answer }
 {
     Holder {
         answer,
@@ -132,8 +132,8 @@ pub fn held_not(answer: HeldAnswer) -> Holder
     }
 }
 
-fn held_one(side: u32, start: usize, length: usize) -> Holder
-    ensures { result ≡ heldOne side start length }
+fn held_one_lem(side: u32, start: usize, length: usize) -> Holder
+    ensures { result ≡ held_one side start length }
 {
     Holder {
         answer: HeldAnswer::One,
@@ -145,7 +145,7 @@ fn held_one(side: u32, start: usize, length: usize) -> Holder
 
 pub fn held_by(first: &[u8], second: &[u8], number: usize) -> Holder
     requires { LaidSides first.now second.now }
-    ensures { result ≡ held_of (numbered number (sectionsIn first.now)) (numbered number (sectionsIn second.now)) (place_in number (sectionsIn first.now)) (place_in number (sectionsIn second.now)) }
+    ensures { result ≡ held_of (numbered number (sections_in first.now)) (numbered number (sections_in second.now)) (place_in number (sections_in first.now)) (place_in number (sections_in second.now)) }
 {
     let p = laid::place_of(first, number);
     let q = laid::place_of(second, number);

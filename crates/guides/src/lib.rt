@@ -8,8 +8,8 @@ use section::ids::MaybePid;
 mod inner;
 
 ghost use Rattle.std.specs.Prelude.{◌≡◌, ◌/◌, length};
-ghost use Rattle.guides.specs.Store.{compareNo, heldNo, besideBad, sameSides, setSides, scheduleSides, refused};
-ghost use Rattle.guides.specs.Store.{compared, listed, comparedSchedules, listedSchedules, tables_of, setOrEmpty, heldBy, sectionOf, tablePart};
+ghost use Rattle.guides.specs.Store.{compare_no, held_no, beside_bad, same_sides, set_sides, schedule_sides, refused};
+ghost use Rattle.guides.specs.Store.{compared, listed, compared_schedules, listed_schedules, tables_of, set_or_empty, held_by, section_of, table_part};
 
 // The words of an entry of the list: table_id, section number, kind, place.
 pub const ENTRY_WORDS: usize = 4;
@@ -64,7 +64,7 @@ pub enum Sides {
 
 impl CompareAnswer {
     pub fn number(self) -> u8
-        ensures { result ≡ compareNo self }
+        ensures { result ≡ compare_no self }
     {
         match self {
             CompareAnswer::Differ => 8,
@@ -80,7 +80,7 @@ impl CompareAnswer {
 
 impl HeldAnswer {
     pub fn number(self) -> u8
-        ensures { result ≡ heldNo self }
+        ensures { result ≡ held_no self }
     {
         match self {
             HeldAnswer::One => 8,
@@ -122,9 +122,9 @@ pub fn compare_schedules(
     tables: &mut [u32; 16],
     list: &mut [u32],
 ) -> Compared
-    ensures value { result ≡ comparedSchedules first.now first_pid second.now second_pid (length list.old / 4) }
+    ensures value { result ≡ compared_schedules first.now first_pid second.now second_pid (length list.old / 4) }
     ensures tables_after { tables.new ≡ tables_of first.now first_pid second.now second_pid (length list.old / 4) tables.old }
-    ensures list_after { list.new ≡ listedSchedules first.now first_pid second.now second_pid list.old }
+    ensures list_after { list.new ≡ listed_schedules first.now first_pid second.now second_pid list.old }
 {
     match schedule_sides(first, first_pid, second, second_pid) {
         Sides::NotSets => refused(CompareAnswer::NotSets),
@@ -138,7 +138,7 @@ pub fn compare_schedules(
 // Which side alone holds the section of this number, and where. Both are a set or no bytes: of a table that a schedule has not, there are none. Keys are
 // not compared.
 pub fn held(first: &[u8], second: &[u8], number: usize) -> Holder
-    ensures { result ≡ heldBy first.now second.now number }
+    ensures { result ≡ held_by first.now second.now number }
 {
     if set_or_empty(first) & set_or_empty(second) {
         inner::held_by(first, second, number)
@@ -149,7 +149,7 @@ pub fn held(first: &[u8], second: &[u8], number: usize) -> Holder
 
 // The bytes of that section, from whichever side holds it; an empty part where `held` does not answer 8.
 pub fn section_of<'a>(first: &'a [u8], second: &'a [u8], number: usize) -> &'a [u8]
-    ensures { result.now ≡ sectionOf first.now second.now number }
+    ensures { result.now ≡ section_of first.now second.now number }
 {
     let h = held(first, second, number);
     let start = h.start;
@@ -162,7 +162,7 @@ pub fn section_of<'a>(first: &'a [u8], second: &'a [u8], number: usize) -> &'a [
 
 // The sections of one table of a schedule: empty where it has none, or where the bytes are no schedule.
 pub fn table_part<'a>(schedule: &'a [u8], table_id: u8) -> &'a [u8]
-    ensures { result.now ≡ tablePart schedule.now table_id }
+    ensures { result.now ≡ table_part schedule.now table_id }
 {
     if laid::is_schedule(schedule) {
         laid::table_of(schedule, table_id)
@@ -174,7 +174,7 @@ pub fn table_part<'a>(schedule: &'a [u8], table_id: u8) -> &'a [u8]
 // ---- what is asked of both sides
 
 fn set_sides(first: &[u8], first_pid: MaybePid, second: &[u8], second_pid: MaybePid) -> Sides
-    ensures { result ≡ setSides first.now first_pid second.now second_pid }
+    ensures { result ≡ set_sides first.now first_pid second.now second_pid }
 {
     if !(laid::is_set(first) & laid::is_set(second)) {
         return Sides::NotSets;
@@ -191,7 +191,7 @@ fn set_sides(first: &[u8], first_pid: MaybePid, second: &[u8], second_pid: Maybe
 }
 
 fn schedule_sides(first: &[u8], first_pid: MaybePid, second: &[u8], second_pid: MaybePid) -> Sides
-    ensures { result ≡ scheduleSides first.now first_pid second.now second_pid }
+    ensures { result ≡ schedule_sides first.now first_pid second.now second_pid }
 {
     if !(laid::is_schedule(first) & laid::is_schedule(second)) {
         return Sides::NotSets;
@@ -212,7 +212,7 @@ fn schedule_sides(first: &[u8], first_pid: MaybePid, second: &[u8], second_pid: 
 
 // The first side has a number that is no PID: 41 where the second has no PID, else 12.
 fn beside_bad(second: PidWord) -> Sides
-    ensures { result ≡ besideBad second }
+    ensures { result ≡ beside_bad second }
 {
     match second {
         PidWord::NoPid => Sides::NoPid,
@@ -222,9 +222,9 @@ fn beside_bad(second: PidWord) -> Sides
 }
 
 fn keyed(first: Key, second: Key) -> Sides
-    ensures { result ≡ sameSides first second }
+    ensures { result ≡ same_sides first second }
 {
-    if rows::same_key(first, second) {
+    if rows::same_key_lem(first, second) {
         Sides::Alike
     } else {
         Sides::OtherKey
@@ -232,7 +232,7 @@ fn keyed(first: Key, second: Key) -> Sides
 }
 
 fn set_or_empty(s: &[u8]) -> bool
-    ensures { result ≡ setOrEmpty s.now }
+    ensures { result ≡ set_or_empty s.now }
 {
     (s.len() == 0) | laid::is_set(s)
 }

@@ -2,26 +2,26 @@
 -- words hold.
 use Rattle.std.specs.Prelude.{ℕ, List, [], ◌∷◌, cond, eqb}
 use Rattle.host_words.specs.Answers.{Words, words}
-use Rattle.host_words.specs.Inputs.{inputNumber}
-use Rattle.host_words.specs.Pids.{maybePid}
-use Rattle.host_words.specs.Sections.{tellsNext}
+use Rattle.host_words.specs.Inputs.{input_number}
+use Rattle.host_words.specs.Pids.{maybe_pid}
+use Rattle.host_words.specs.Sections.{tells_next}
 use Rattle.eit_state.specs.State.{store, asked}
-use Rattle.eit.specs.Store.{Told, done, nothing, a-set, a-schedule, refused, number, After, opened_of, pushedOf, clearedOf, droppedOf, next_of, nextInOf}
-use Rattle.host_eit_words.specs.Words.{eitOf, words_of, wordsAfter, filterOf}
+use Rattle.eit.specs.Store.{Told, done, nothing, a_set, a_schedule, refused, number, After, opened_of, pushed_of, cleared_of, dropped_of, next_of, next_in_of}
+use Rattle.host_eit_words.specs.Words.{eit_of, words_of, words_after, filter_of}
 
 -- 7 writes all eight words; a refused opening leaves them as they were
-abbrev pub openedAs : List ℕ → After → Words
-openedAs eit l = words (number l.told) (cond (eqb (number l.told) 7) (words_of l.store.eit) eit)
+abbrev pub opened_as : List ℕ → After → Words
+opened_as eit l = words (number l.told) (cond (eqb (number l.told) 7) (words_of l.store.eit) eit)
 
-unfoldable pub eitOpened : List ℕ → ℕ → ℕ → ℕ → List ℕ → List ℕ → List ℕ → List ℕ → List ℕ → Words
-eitOpened eit limit size count heads slots cells schedule-heads units = openedAs eit (opened_of (store (asked limit size count) heads slots cells schedule-heads units))
+unfoldable pub eit_opened : List ℕ → ℕ → ℕ → ℕ → List ℕ → List ℕ → List ℕ → List ℕ → List ℕ → Words
+eit_opened eit limit size count heads slots cells schedule_heads units = opened_as eit (opened_of (store (asked limit size count) heads slots cells schedule_heads units))
 
 -- the counts after a clearing
-abbrev pub clearedAs : List ℕ → After → Words
-clearedAs eit l = words (number l.told) (wordsAfter eit l.store.eit)
+abbrev pub cleared_as : List ℕ → After → Words
+cleared_as eit l = words (number l.told) (words_after eit l.store.eit)
 
-unfoldable pub eitCleared : List ℕ → List ℕ → List ℕ → List ℕ → List ℕ → List ℕ → Words
-eitCleared eit heads slots cells schedule-heads units = clearedAs eit (clearedOf (store (eitOf eit) heads slots cells schedule-heads units))
+unfoldable pub eit_cleared : List ℕ → List ℕ → List ℕ → List ℕ → List ℕ → List ℕ → Words
+eit_cleared eit heads slots cells schedule_heads units = cleared_as eit (cleared_of (store (eit_of eit) heads slots cells schedule_heads units))
 
 -- an answer, the collector's eight words, the words of the five lent slices, and the row that goes out
 pub record EitLeft : Type 0 where
@@ -30,36 +30,36 @@ pub record EitLeft : Type 0 where
   pub heads : List ℕ
   pub slots : List ℕ
   pub cells : List ℕ
-  pub schedule-heads : List ℕ
+  pub schedule_heads : List ℕ
   pub units : List ℕ
   pub row : List ℕ
 
-abbrev pub eitLeft : ℕ → List ℕ → List ℕ → List ℕ → List ℕ → List ℕ → List ℕ → List ℕ → EitLeft
-eitLeft answer eit heads slots cells schedule-heads units row =
-    record { answer = answer; eit = eit; heads = heads; slots = slots; cells = cells; schedule-heads = schedule-heads; units = units; row = row }
+abbrev pub eit_left : ℕ → List ℕ → List ℕ → List ℕ → List ℕ → List ℕ → List ℕ → List ℕ → EitLeft
+eit_left answer eit heads slots cells schedule_heads units row =
+    record { answer = answer; eit = eit; heads = heads; slots = slots; cells = cells; schedule_heads = schedule_heads; units = units; row = row }
 
 -- the row of a set or a schedule that goes out; any other answer leaves the word as it was
-abbrev pub rowAfter : Told → List ℕ → List ℕ
-rowAfter done row = row
-rowAfter nothing row = row
-rowAfter (a-set o) row = o.row ∷ []
-rowAfter (a-schedule o) row = o.row ∷ []
-rowAfter (refused r) row = row
+abbrev pub row_after : Told → List ℕ → List ℕ
+row_after done row = row
+row_after nothing row = row
+row_after (a_set o) row = o.row ∷ []
+row_after (a_schedule o) row = o.row ∷ []
+row_after (refused r) row = row
 
-abbrev pub pushedAs : List ℕ → List ℕ → After → EitLeft
-pushedAs eit row l =
-    eitLeft (number l.told)
-    (wordsAfter eit l.store.eit)
+abbrev pub pushed_as : List ℕ → List ℕ → After → EitLeft
+pushed_as eit row l =
+    eit_left (number l.told)
+    (words_after eit l.store.eit)
     l.store.heads
     l.store.slots
     l.store.cells
-    l.store.schedule-heads
+    l.store.schedule_heads
     l.store.units
-    (rowAfter l.told row)
+    (row_after l.told row)
 
-unfoldable pub eitPushed : List ℕ → List ℕ → List ℕ → List ℕ → List ℕ → List ℕ → (input pid : ℕ) → List ℕ → List ℕ → EitLeft
-eitPushed eit heads slots cells schedule-heads units input pid section row =
-    pushedAs eit row (pushedOf (store (eitOf eit) heads slots cells schedule-heads units) (inputNumber input) (maybePid pid) section)
+unfoldable pub eit_pushed : List ℕ → List ℕ → List ℕ → List ℕ → List ℕ → List ℕ → (input pid : ℕ) → List ℕ → List ℕ → EitLeft
+eit_pushed eit heads slots cells schedule_heads units input pid section row =
+    pushed_as eit row (pushed_of (store (eit_of eit) heads slots cells schedule_heads units) (input_number input) (maybe_pid pid) section)
 
 -- an answer, the collector's eight words, and the words of the four slices that a drop may write
 pub record EitDropped : Type 0 where
@@ -67,29 +67,29 @@ pub record EitDropped : Type 0 where
   pub eit : List ℕ
   pub heads : List ℕ
   pub slots : List ℕ
-  pub schedule-heads : List ℕ
+  pub schedule_heads : List ℕ
   pub units : List ℕ
 
-abbrev pub eitDroppedTo : ℕ → List ℕ → List ℕ → List ℕ → List ℕ → List ℕ → EitDropped
-eitDroppedTo answer eit heads slots schedule-heads units =
-    record { answer = answer; eit = eit; heads = heads; slots = slots; schedule-heads = schedule-heads; units = units }
+abbrev pub eit_dropped_to : ℕ → List ℕ → List ℕ → List ℕ → List ℕ → List ℕ → EitDropped
+eit_dropped_to answer eit heads slots schedule_heads units =
+    record { answer = answer; eit = eit; heads = heads; slots = slots; schedule_heads = schedule_heads; units = units }
 
-abbrev pub droppedAs : List ℕ → After → EitDropped
-droppedAs eit l =
-    eitDroppedTo (number l.told)
-    (wordsAfter eit l.store.eit)
+abbrev pub dropped_as : List ℕ → After → EitDropped
+dropped_as eit l =
+    eit_dropped_to (number l.told)
+    (words_after eit l.store.eit)
     l.store.heads
     l.store.slots
-    l.store.schedule-heads
+    l.store.schedule_heads
     l.store.units
 
-unfoldable pub eitDropped : List ℕ → List ℕ → List ℕ → List ℕ → List ℕ → List ℕ → List ℕ → EitDropped
-eitDropped eit heads slots cells schedule-heads units filter = droppedAs eit (droppedOf (store (eitOf eit) heads slots cells schedule-heads units) (filterOf filter))
+unfoldable pub eit_dropped : List ℕ → List ℕ → List ℕ → List ℕ → List ℕ → List ℕ → List ℕ → EitDropped
+eit_dropped eit heads slots cells schedule_heads units filter = dropped_as eit (dropped_of (store (eit_of eit) heads slots cells schedule_heads units) (filter_of filter))
 
 -- 8 writes number, start and length of the section that is told of; 9 and 10 leave the three words as they were
-unfoldable pub eitNext : List ℕ → List ℕ → List ℕ → List ℕ → List ℕ → List ℕ → ℕ → ℕ → List ℕ → Words
-eitNext eit heads slots cells schedule-heads units row from next = tellsNext (next_of (store (eitOf eit) heads slots cells schedule-heads units) row from) next
+unfoldable pub eit_next : List ℕ → List ℕ → List ℕ → List ℕ → List ℕ → List ℕ → ℕ → ℕ → List ℕ → Words
+eit_next eit heads slots cells schedule_heads units row from next = tells_next (next_of (store (eit_of eit) heads slots cells schedule_heads units) row from) next
 
-unfoldable pub eitNextIn : List ℕ → List ℕ → List ℕ → List ℕ → List ℕ → List ℕ → ℕ → ℕ → ℕ → List ℕ → Words
-eitNextIn eit heads slots cells schedule-heads units row table from next =
-    tellsNext (nextInOf (store (eitOf eit) heads slots cells schedule-heads units) row table from) next
+unfoldable pub eit_next_in : List ℕ → List ℕ → List ℕ → List ℕ → List ℕ → List ℕ → ℕ → ℕ → ℕ → List ℕ → Words
+eit_next_in eit heads slots cells schedule_heads units row table from next =
+    tells_next (next_in_of (store (eit_of eit) heads slots cells schedule_heads units) row table from) next

@@ -2,7 +2,7 @@
 // and what it leaves is written back. Every content of the words has one answer.
 ghost use Rattle.std.specs.Prelude.{◌≡◌};
 ghost use Rattle.host_words.specs.Answers.{words};
-ghost use Rattle.host_eit.specs.Calls.{eitOpened, eitLeft, eitPushed, eitCleared, eitDroppedTo, eitDropped, eitNext, eitNextIn};
+ghost use Rattle.host_eit.specs.Calls.{eit_opened, eit_left, eit_pushed, eit_cleared, eit_dropped_to, eit_dropped, eit_next, eit_next_in};
 
 // Opens an EIT collector: 7 or 13. A refusal leaves the words as they were; nothing else lent is written.
 pub fn open(
@@ -16,7 +16,7 @@ pub fn open(
     schedule_heads: &[u64],
     units: &[u32],
 ) -> u8
-    ensures { words result eit.new ≡ eitOpened eit.old limit size count heads.now slots.now cells.now schedule_heads.now units.now }
+    ensures { words result eit.new ≡ eit_opened eit.old limit size count heads.now slots.now cells.now schedule_heads.now units.now }
 {
     let opened = eit::open(
         limit as usize,
@@ -44,7 +44,7 @@ pub fn push(
     section: &[u8],
     row: &mut [u64; 1],
 ) -> u8
-    ensures { eitLeft result eit.new heads.new slots.new cells.new schedule_heads.new units.new row.new ≡ eitPushed eit.old heads.old slots.old cells.old schedule_heads.old units.old input pid section.now row.old }
+    ensures { eit_left result eit.new heads.new slots.new cells.new schedule_heads.new units.new row.new ≡ eit_pushed eit.old heads.old slots.old cells.old schedule_heads.old units.old input pid section.now row.old }
 {
     let before = host_eit_words::eit(eit);
     let on = host_words::inputs::number(input);
@@ -72,7 +72,7 @@ pub fn clear(
     schedule_heads: &[u64],
     units: &[u32],
 ) -> u8
-    ensures { words result eit.new ≡ eitCleared eit.old heads.now slots.now cells.now schedule_heads.now units.now }
+    ensures { words result eit.new ≡ eit_cleared eit.old heads.now slots.now cells.now schedule_heads.now units.now }
 {
     let before = host_eit_words::eit(eit);
     let cleared = eit::clear(before, heads, slots, cells, schedule_heads, units);
@@ -90,7 +90,7 @@ pub fn drop(
     units: &mut [u32],
     filter: &[u64; 7],
 ) -> u8
-    ensures { eitDroppedTo result eit.new heads.new slots.new schedule_heads.new units.new ≡ eitDropped eit.old heads.old slots.old cells.now schedule_heads.old units.old filter.now }
+    ensures { eit_dropped_to result eit.new heads.new slots.new schedule_heads.new units.new ≡ eit_dropped eit.old heads.old slots.old cells.now schedule_heads.old units.old filter.now }
 {
     let before = host_eit_words::eit(eit);
     let wanted = host_eit_words::filter(filter);
@@ -110,7 +110,7 @@ pub fn next(
     from: u64,
     next: &mut [u64; 3],
 ) -> u8
-    ensures { words result next.new ≡ eitNext eit.now heads.now slots.now cells.now schedule_heads.now units.now row from next.old }
+    ensures { words result next.new ≡ eit_next eit.now heads.now slots.now cells.now schedule_heads.now units.now row from next.old }
 {
     let collector = host_eit_words::eit(eit);
     let told = eit::next_section(
@@ -139,7 +139,7 @@ pub fn next_in_schedule(
     from: u64,
     next: &mut [u64; 3],
 ) -> u8
-    ensures { words result next.new ≡ eitNextIn eit.now heads.now slots.now cells.now schedule_heads.now units.now row table from next.old }
+    ensures { words result next.new ≡ eit_next_in eit.now heads.now slots.now cells.now schedule_heads.now units.now row table from next.old }
 {
     let collector = host_eit_words::eit(eit);
     let told = eit::next_in_schedule(

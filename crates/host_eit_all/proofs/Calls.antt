@@ -7,41 +7,41 @@ use Rattle.eit_state.specs.State.{store}
 use Rattle.eit_state.specs.declared.Eit.{Eit}
 use Rattle.eit_state.specs.declared.PushAnswer.{PushAnswer}
 use Rattle.eit_state.specs.declared.PushAnswer.TheVariants as push-answer
-use Rattle.eit.specs.Store.{setOut, scheduleOut}
-use Rattle.eit_each.specs.Each.{toldBy, afterAll}
+use Rattle.eit.specs.Store.{set_out_lem, schedule_out}
+use Rattle.eit_each.specs.Each.{told_by, after_all}
 use Rattle.eit_each.specs.declared.AllAnswer.{AllAnswer}
 use Rattle.eit_each.specs.declared.AllAnswer.TheVariants as answer
 use Rattle.eit_each.specs.declared.AllPushed.{AllPushed}
-use Rattle.eit_all.specs.All.{pushedAll}
+use Rattle.eit_all.specs.All.{pushed_all}
 use Rattle.host_words.specs.Answers.{Pushes, pushes}
-use Rattle.host_eit_words.specs.Words.{eitOf, tellsPushed}
-use Rattle.host_eit.specs.Calls.{eitLeft}
-use Rattle.host_eit_all.specs.Calls.{tellsAll, allLeft, leftBy, eitPushedAll}
+use Rattle.host_eit_words.specs.Words.{eit_of, tells_pushed}
+use Rattle.host_eit.specs.Calls.{eit_left}
+use Rattle.host_eit_all.specs.Calls.{tells_all, all_left, left_by, eit_pushed_all}
 
 module _ (a : AllAnswer) (s : Eit) (w row : List ℕ) where
-  pub told-pushed : (b : PushAnswer) (r : ℕ) (ws rs : List ℕ) → a ≡ answer.Pushed b → pushes r ws rs ≡ tellsPushed (record { answer = b; eit = s }) w row → pushes r ws rs ≡ tellsAll a s w row
-  told-pushed b r ws rs h e = rw h e
+  pub told_pushed : (b : PushAnswer) (r : ℕ) (ws rs : List ℕ) → a ≡ answer.Pushed b → pushes r ws rs ≡ tells_pushed (record { answer = b; eit = s }) w row → pushes r ws rs ≡ tells_all a s w row
+  told_pushed b r ws rs h e = rw h e
 
-  pub told-long : a ≡ answer.TooLong → pushes 42 w row ≡ tellsAll a s w row
-  told-long h = rw h
+  pub told_long : a ≡ answer.TooLong → pushes 42 w row ≡ tells_all a s w row
+  told_long h = rw h
 
-left_as :
+left_as_lem :
     (a : AllAnswer) (s : Eit) (w row heads slots cells tops units : List ℕ) →
-    eitLeft (tellsAll a s w row).answer (tellsAll a s w row).now heads slots cells tops units (tellsAll a s w row).row ≡ leftBy w row (toldBy a (store s heads slots cells tops units)) (store s heads slots cells tops units)
-unfolding setOut scheduleOut
-left_as (answer.Pushed push-answer.Nothing) s w row heads slots cells tops units = refl
-left_as (answer.Pushed (push-answer.Set i)) s w row heads slots cells tops units = refl
-left_as (answer.Pushed (push-answer.Schedule k)) s w row heads slots cells tops units = refl
-left_as (answer.Pushed (push-answer.Refused r)) s w row heads slots cells tops units = refl
-left_as answer.TooLong s w row heads slots cells tops units = refl
+    eit_left (tells_all a s w row).answer (tells_all a s w row).now heads slots cells tops units (tells_all a s w row).row ≡ left_by w row (told_by a (store s heads slots cells tops units)) (store s heads slots cells tops units)
+unfolding set_out_lem schedule_out
+left_as_lem (answer.Pushed push_answer.Nothing) s w row heads slots cells tops units = refl
+left_as_lem (answer.Pushed (push_answer.Set i)) s w row heads slots cells tops units = refl
+left_as_lem (answer.Pushed (push_answer.Schedule k)) s w row heads slots cells tops units = refl
+left_as_lem (answer.Pushed (push_answer.Refused r)) s w row heads slots cells tops units = refl
+left_as_lem answer.TooLong s w row heads slots cells tops units = refl
 
-pub all_left :
+pub all_left_lem :
     (eit heads slots cells tops units list row : List ℕ) (s : Eit) (o : AllPushed) (hs ss cs hs₂ us ws rs ts : List ℕ) (r : ℕ) →
-    s ≡ eitOf eit →
-    afterAll o hs ss cs hs₂ us ≡ pushedAll (store s heads slots cells tops units) list →
+    s ≡ eit_of eit →
+    after_all o hs ss cs hs₂ us ≡ pushed_all (store s heads slots cells tops units) list →
     ts ≡ o.taken ∷ [] →
-    pushes r ws rs ≡ tellsAll o.answer o.eit eit row →
-    allLeft (eitLeft r ws hs ss cs hs₂ us rs) ts ≡ eitPushedAll eit heads slots cells tops units list row
-unfolding eitPushedAll
-all_left eit heads slots cells tops units list row s o hs ss cs hs₂ us ws rs ts r h e t p =
-    rw (← h, ← e, t, ← left_as o.answer o.eit eit row hs ss cs hs₂ us, ap (λ (x : Pushes). x.answer) p, ap (λ (x : Pushes). x.now) p, ap (λ (x : Pushes). x.row) p)
+    pushes r ws rs ≡ tells_all o.answer o.eit eit row →
+    all_left (eit_left r ws hs ss cs hs₂ us rs) ts ≡ eit_pushed_all eit heads slots cells tops units list row
+unfolding eit_pushed_all
+all_left_lem eit heads slots cells tops units list row s o hs ss cs hs₂ us ws rs ts r h e t p =
+    rw (← h, ← e, t, ← left_as_lem o.answer o.eit eit row hs ss cs hs₂ us, ap (λ (x : Pushes). x.answer) p, ap (λ (x : Pushes). x.now) p, ap (λ (x : Pushes). x.row) p)

@@ -4,22 +4,22 @@
 use Prim.Native.Nat.{ℕ}
 use mathlib.Core.Path.{◌≡◌, ap}
 use mathlib.Core.List.{List}
-use Rattle.laws.proofs.Unique.{one-result}
-use Rattle.host_eit.specs.Calls.{eitLeft}
-use Rattle.host_eit_all.specs.Calls.{AllLeft, allLeft, eitPushedAll}
+use Rattle.laws.proofs.Unique.{one_result}
+use Rattle.host_eit.specs.Calls.{eit_left}
+use Rattle.host_eit_all.specs.Calls.{AllLeft, all_left, eit_pushed_all}
 
-pub unique-eit-push-all :
+pub unique_eit_push_all :
     (eit heads slots cells tops units list row : List ℕ) (r s : ℕ) (w x h i k l c d o p y z n m t u : List ℕ) →
-    allLeft (eitLeft r w h k c o y n) t ≡ eitPushedAll eit heads slots cells tops units list row → allLeft (eitLeft s x i l d p z m) u ≡ eitPushedAll eit heads slots cells tops units list row →
+    all_left (eit_left r w h k c o y n) t ≡ eit_pushed_all eit heads slots cells tops units list row → all_left (eit_left s x i l d p z m) u ≡ eit_pushed_all eit heads slots cells tops units list row →
     (r ≡ s) × (w ≡ x) × (h ≡ i) × (k ≡ l) × (c ≡ d) × (o ≡ p) × (y ≡ z) × (n ≡ m) × (t ≡ u)
-unique-eit-push-all eit heads slots cells tops units list row r s w x h i k l c d o p y z n m t u a b =
-    let e : allLeft (eitLeft r w h k c o y n) t ≡ allLeft (eitLeft s x i l d p z m) u = one-result (eitPushedAll eit heads slots cells tops units list row) a b in (
+unique_eit_push_all eit heads slots cells tops units list row r s w x h i k l c d o p y z n m t u a b =
+    let e : all_left (eit_left r w h k c o y n) t ≡ all_left (eit_left s x i l d p z m) u = one_result (eit_pushed_all eit heads slots cells tops units list row) a b in (
       ap (λ (q : AllLeft). q.left.answer) e,
       ap (λ (q : AllLeft). q.left.eit) e,
       ap (λ (q : AllLeft). q.left.heads) e,
       ap (λ (q : AllLeft). q.left.slots) e,
       ap (λ (q : AllLeft). q.left.cells) e,
-      ap (λ (q : AllLeft). q.left.schedule-heads) e,
+      ap (λ (q : AllLeft). q.left.schedule_heads) e,
       ap (λ (q : AllLeft). q.left.units) e,
       ap (λ (q : AllLeft). q.left.row) e,
       ap (λ (q : AllLeft). q.taken) e,

@@ -2,15 +2,15 @@
 // apart, the one call is made, and what it leaves is written back. Every content of the words and every list has one answer.
 ghost use Rattle.std.specs.Prelude.{◌≡◌};
 ghost use Rattle.host_words.specs.Answers.{pushes};
-ghost use Rattle.host_eit.specs.Calls.{eitLeft};
-ghost use Rattle.host_eit_all.specs.Calls.{tellsAll, allLeft, eitPushedAll};
+ghost use Rattle.host_eit.specs.Calls.{eit_left};
+ghost use Rattle.host_eit_all.specs.Calls.{tells_all, all_left, eit_pushed_all};
 
 use eit_each::AllAnswer;
 use eit_state::{Eit, Pushed};
 
 // Writes what the pushes left as one push does, and gives the answer's number. 42 leaves the words as they were.
 fn write_told(eit: &mut [u64; 8], row: &mut [u64; 1], answer: AllAnswer, left: Eit) -> u8
-    ensures { pushes result eit.new row.new ≡ tellsAll answer left eit.old row.old }
+    ensures { pushes result eit.new row.new ≡ tells_all answer left eit.old row.old }
 {
     match answer {
         AllAnswer::Pushed(answer) => {
@@ -33,7 +33,7 @@ pub fn push_all(
     row: &mut [u64; 1],
     taken: &mut [u64; 1],
 ) -> u8
-    ensures { allLeft (eitLeft result eit.new heads.new slots.new cells.new schedule_heads.new units.new row.new) taken.new ≡ eitPushedAll eit.old heads.old slots.old cells.old schedule_heads.old units.old list.now row.old }
+    ensures { all_left (eit_left result eit.new heads.new slots.new cells.new schedule_heads.new units.new row.new) taken.new ≡ eit_pushed_all eit.old heads.old slots.old cells.old schedule_heads.old units.old list.now row.old }
 {
     let before = host_eit_words::eit(eit);
     let pushed = eit_all::push_all(before, heads, slots, cells, schedule_heads, units, list);

@@ -8,8 +8,8 @@ use lib.ListN.{length}
 use Rattle.host_words.proofs.Same.{word, none}
 use Rattle.host_eit_words.specs.Words as eits
 
-pub eit-same : (w : List ℕ) → length w ≡ 8 → eits.wordsAfter w (eits.eitOf w) ≡ w
-eit-same w h =
+pub eit_same : (w : List ℕ) → length w ≡ 8 → eits.words_after w (eits.eit_of w) ≡ w
+eit_same w h =
     sym
     (word w 0 _ (omega arith)
     (word w 1 _ (omega arith)

@@ -2,7 +2,7 @@
 // row that goes out; and the seven words of a filter: 0 pid, 1 kind, 2 service_id, 3 transport_stream_id, 4 original_network_id, 5 current_next, 6 input.
 ghost use Rattle.std.specs.Prelude.{◌≡◌};
 ghost use Rattle.host_words.specs.Answers.{words, pushes};
-ghost use Rattle.host_eit_words.specs.Words.{eitOf, words_of, wordsOpened, wordsAfter, row_by, tellsOpened, tellsPushed, tellsTurned, wantedOf, wantedPidOf, filterOf};
+ghost use Rattle.host_eit_words.specs.Words.{eit_of, words_of, words_opened, words_after, row_by, tells_opened, tells_pushed, tells_turned, wanted_of, wanted_pid_of, filter_of};
 
 use answers::Outcome;
 use eit_drop::{Filter, WantedPid};
@@ -15,7 +15,7 @@ use store::Sets;
 const FREE: u64 = 18446744073709551615;
 
 pub fn eit(words: &[u64; 8]) -> Eit
-    ensures { result ≡ eitOf words.now }
+    ensures { result ≡ eit_of words.now }
 {
     let sets = Sets {
         limit: words[0] as usize,
@@ -51,7 +51,7 @@ fn write(words: &mut [u64; 8], eit: Eit)
 
 // A collector that was opened writes all eight; a refused opening none.
 fn write_where(words: &mut [u64; 8], answer: Outcome, eit: Eit)
-    ensures { words.new ≡ wordsOpened answer eit words.old }
+    ensures { words.new ≡ words_opened answer eit words.old }
 {
     match answer {
         Outcome::Done => write(words, eit),
@@ -61,7 +61,7 @@ fn write_where(words: &mut [u64; 8], answer: Outcome, eit: Eit)
 
 // The counts: no call but opening changes the settings.
 fn write_counts(words: &mut [u64; 8], eit: Eit)
-    ensures { words.new ≡ wordsAfter words.old eit }
+    ensures { words.new ≡ words_after words.old eit }
 {
     let sets = eit.sets;
     *words = [
@@ -90,7 +90,7 @@ fn write_row(row: &mut [u64; 1], answer: PushAnswer)
 
 // Writes what an opening leaves in the words, and gives its number.
 pub fn write_opened(eit: &mut [u64; 8], opened: Turned) -> u8
-    ensures { words result eit.new ≡ tellsOpened opened eit.old }
+    ensures { words result eit.new ≡ tells_opened opened eit.old }
 {
     let answer = opened.answer;
     write_where(eit, answer, opened.eit);
@@ -99,7 +99,7 @@ pub fn write_opened(eit: &mut [u64; 8], opened: Turned) -> u8
 
 // Writes what a push leaves in the words, and gives its number.
 pub fn write_pushed(eit: &mut [u64; 8], row: &mut [u64; 1], pushed: Pushed) -> u8
-    ensures { pushes result eit.new row.new ≡ tellsPushed pushed eit.old row.old }
+    ensures { pushes result eit.new row.new ≡ tells_pushed pushed eit.old row.old }
 {
     let answer = pushed.answer;
     write_counts(eit, pushed.eit);
@@ -109,7 +109,7 @@ pub fn write_pushed(eit: &mut [u64; 8], row: &mut [u64; 1], pushed: Pushed) -> u
 
 // Writes what a clearing or a drop leaves in the words, and gives its number.
 pub fn write_turned(eit: &mut [u64; 8], turned: Turned) -> u8
-    ensures { words result eit.new ≡ tellsTurned turned eit.old }
+    ensures { words result eit.new ≡ tells_turned turned eit.old }
 {
     let answer = turned.answer;
     write_counts(eit, turned.eit);
@@ -117,7 +117,7 @@ pub fn write_turned(eit: &mut [u64; 8], turned: Turned) -> u8
 }
 
 fn wanted(word: u64) -> Wanted
-    ensures { result ≡ wantedOf word }
+    ensures { result ≡ wanted_of word }
 {
     if word == FREE {
         Wanted::Any
@@ -128,7 +128,7 @@ fn wanted(word: u64) -> Wanted
 
 // The PID of a filter: free, 0xFFFFFFFF for "exactly none", which a drop refuses (41), or exactly that one.
 fn wanted_pid(word: u64) -> WantedPid
-    ensures { result ≡ wantedPidOf word }
+    ensures { result ≡ wanted_pid_of word }
 {
     if word == FREE {
         return WantedPid::Any;
@@ -140,7 +140,7 @@ fn wanted_pid(word: u64) -> WantedPid
 }
 
 pub fn filter(words: &[u64; 7]) -> Filter
-    ensures { result ≡ filterOf words.now }
+    ensures { result ≡ filter_of words.now }
 {
     Filter {
         pid: wanted_pid(words[0]),

@@ -3,18 +3,18 @@
 use Prim.Native.Nat.{ℕ}
 use mathlib.Core.Path.{◌≡◌, ap}
 use mathlib.Core.List.{List}
-use Rattle.laws.proofs.Unique.{one-result}
+use Rattle.laws.proofs.Unique.{one_result}
 use Rattle.pats.specs.Store.{Record}
-use Rattle.host_feed.specs.Calls.{FeedLeft, left, packetFed}
+use Rattle.host_feed.specs.Calls.{FeedLeft, left, packet_fed}
 
-pub unique-feed :
+pub unique_feed :
     (gate streams keys changes : List ℕ) (watch : Record) (pids buffers : List ℕ) (input : ℕ) (packet places finished : List ℕ) (r s : ℕ)
     (g h t u k l m n : List ℕ) (w x : Record) (p q b c y z e f : List ℕ) →
-    left r g t k m w p b y e ≡ packetFed gate streams keys changes watch pids buffers input packet places finished →
-    left s h u l n x q c z f ≡ packetFed gate streams keys changes watch pids buffers input packet places finished →
+    left r g t k m w p b y e ≡ packet_fed gate streams keys changes watch pids buffers input packet places finished →
+    left s h u l n x q c z f ≡ packet_fed gate streams keys changes watch pids buffers input packet places finished →
     (r ≡ s) × (g ≡ h) × (t ≡ u) × (k ≡ l) × (m ≡ n) × (w ≡ x) × (p ≡ q) × (b ≡ c) × (y ≡ z) × (e ≡ f)
-unique-feed gate streams keys changes watch pids buffers input packet places finished r s g h t u k l m n w x p q b c y z e f i j =
-    let o : left r g t k m w p b y e ≡ left s h u l n x q c z f = one-result (packetFed gate streams keys changes watch pids buffers input packet places finished) i j in (
+unique_feed gate streams keys changes watch pids buffers input packet places finished r s g h t u k l m n w x p q b c y z e f i j =
+    let o : left r g t k m w p b y e ≡ left s h u l n x q c z f = one_result (packet_fed gate streams keys changes watch pids buffers input packet places finished) i j in (
       ap (λ (v : FeedLeft). v.answer) o,
       ap (λ (v : FeedLeft). v.gate) o,
       ap (λ (v : FeedLeft). v.streams) o,

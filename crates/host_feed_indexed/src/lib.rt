@@ -1,7 +1,7 @@
 // The transport stream through the gate with an index for a host in another language: `host_feed` with a bucket and a link for each row.
 ghost use Rattle.std.specs.Prelude.{◌≡◌};
-ghost use Rattle.pats.specs.Store.{recordOf};
-ghost use Rattle.host_feed_indexed_calls.specs.Calls.{left, packetFed};
+ghost use Rattle.pats.specs.Store.{record_of};
+ghost use Rattle.host_feed_indexed_calls.specs.Calls.{left, packet_fed};
 
 // `petrizolu_feed` through the index.
 pub fn feed(
@@ -21,7 +21,7 @@ pub fn feed(
     places: &mut [u64],
     finished: &mut [u64; 1],
 ) -> u8
-    ensures { left result gate.new streams.new keys.new changes.new buckets.new links.new (recordOf watch.new pat_slots.new pat_cells.new) pids.new buffers.new places.new finished.new ≡ packetFed gate.old streams.old keys.old changes.old buckets.old links.old (recordOf watch.old pat_slots.old pat_cells.old) pids.old buffers.old input packet.now places.old finished.old }
+    ensures { left result gate.new streams.new keys.new changes.new buckets.new links.new (record_of watch.new pat_slots.new pat_cells.new) pids.new buffers.new places.new finished.new ≡ packet_fed gate.old streams.old keys.old changes.old buckets.old links.old (record_of watch.old pat_slots.old pat_cells.old) pids.old buffers.old input packet.now places.old finished.old }
 {
     let held = host_gate_words::read(gate);
     let known = host_streams::streams(streams);

@@ -3,18 +3,18 @@
 use Prim.Native.Nat.{ℕ}
 use mathlib.Core.Path.{◌≡◌, ap}
 use mathlib.Core.List.{List}
-use Rattle.laws.proofs.Unique.{one-result}
+use Rattle.laws.proofs.Unique.{one_result}
 use Rattle.pats.specs.Store.{Record}
-use Rattle.host_feed_indexed_calls.specs.Calls.{FeedLeft, left, packetFed}
+use Rattle.host_feed_indexed_calls.specs.Calls.{FeedLeft, left, packet_fed}
 
-pub unique-indexed-feed :
+pub unique_indexed_feed :
     (gate streams keys changes buckets links : List ℕ) (watch : Record) (pids buffers : List ℕ) (input : ℕ) (packet places finished : List ℕ) (r s : ℕ)
     (g h t u k l m n d a d' a' : List ℕ) (w x : Record) (p q b c y z e f : List ℕ) →
-    left r g t k m d a w p b y e ≡ packetFed gate streams keys changes buckets links watch pids buffers input packet places finished →
-    left s h u l n d' a' x q c z f ≡ packetFed gate streams keys changes buckets links watch pids buffers input packet places finished →
+    left r g t k m d a w p b y e ≡ packet_fed gate streams keys changes buckets links watch pids buffers input packet places finished →
+    left s h u l n d' a' x q c z f ≡ packet_fed gate streams keys changes buckets links watch pids buffers input packet places finished →
     (r ≡ s) × (g ≡ h) × (t ≡ u) × (k ≡ l) × (m ≡ n) × (d ≡ d') × (a ≡ a') × (w ≡ x) × (p ≡ q) × (b ≡ c) × (y ≡ z) × (e ≡ f)
-unique-indexed-feed gate streams keys changes buckets links watch pids buffers input packet places finished r s g h t u k l m n d a d' a' w x p q b c y z e f i j =
-    let o : left r g t k m d a w p b y e ≡ left s h u l n d' a' x q c z f = one-result (packetFed gate streams keys changes buckets links watch pids buffers input packet places finished) i j in (
+unique_indexed_feed gate streams keys changes buckets links watch pids buffers input packet places finished r s g h t u k l m n d a d' a' w x p q b c y z e f i j =
+    let o : left r g t k m d a w p b y e ≡ left s h u l n d' a' x q c z f = one_result (packet_fed gate streams keys changes buckets links watch pids buffers input packet places finished) i j in (
       ap (λ (v : FeedLeft). v.answer) o,
       ap (λ (v : FeedLeft). v.gate) o,
       ap (λ (v : FeedLeft). v.streams) o,

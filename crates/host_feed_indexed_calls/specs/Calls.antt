@@ -3,14 +3,14 @@
 use Rattle.std.specs.Prelude.{ℕ, List}
 use Rattle.pats.specs.Store.{Record}
 use Rattle.ring_index.specs.Store.{index_of}
-use Rattle.gate_pats_indexed.specs.Store.{keptBy}
+use Rattle.gate_pats_indexed.specs.Store.{kept_by}
 use Rattle.demux_state.specs.State.{number_of}
 use Rattle.demux_indexed_store.specs.Carried.{Store, Left, store_of}
 use Rattle.demux_indexed_store.specs.Store.{fed}
-use Rattle.host_words.specs.Inputs.{inputNumber}
-use Rattle.host_gate_words.specs.Words.{gateOf, countersOf}
+use Rattle.host_words.specs.Inputs.{input_number}
+use Rattle.host_gate_words.specs.Words.{gate_of, counters_of}
 use Rattle.host_gate_words.specs.Words as gate
-use Rattle.host_streams.specs.Words.{streamsOf, finishedAfter}
+use Rattle.host_streams.specs.Words.{streams_of, finished_after}
 use Rattle.host_streams.specs.Words as streams
 
 -- an answer, the gate's thirteen words, the three of the streams, the rows and their index, the watch record, the PID words, the buffers, the places, and how many sections were finished
@@ -33,11 +33,11 @@ left answer g s keys changes buckets links watch pids buffers places n =
     record { answer = answer; gate = g; streams = s; keys = keys; changes = changes; buckets = buckets; links = links; watch = watch; pids = pids; buffers = buffers; places = places; finished = n }
 
 -- of the gate words 4 to 12 are written, of the streams words 1 and 2
-abbrev pub leftAs : List ℕ → List ℕ → List ℕ → Left → FeedLeft
-leftAs g s n l =
+abbrev pub left_as : List ℕ → List ℕ → List ℕ → Left → FeedLeft
+left_as g s n l =
     left (number_of l.answer)
-    (gate.wordsAfter g l.store.gate.kept.gate l.store.gate.kept.counters)
-    (streams.wordsAfter s l.store.streams)
+    (gate.words_after g l.store.gate.kept.gate l.store.gate.kept.counters)
+    (streams.words_after s l.store.streams)
     l.store.gate.kept.keys
     l.store.gate.kept.changes
     l.store.gate.index.buckets
@@ -46,11 +46,11 @@ leftAs g s n l =
     l.store.pids
     l.store.buffers
     l.store.places
-    (finishedAfter l.answer n)
+    (finished_after l.answer n)
 
 -- what the words hold
-abbrev pub storeIn : List ℕ → List ℕ → List ℕ → List ℕ → List ℕ → List ℕ → Record → List ℕ → List ℕ → List ℕ → Store
-storeIn g s keys changes buckets links watch pids buffers places = store_of (keptBy (gateOf g) (countersOf g) keys changes (index_of buckets links) watch) (streamsOf s) pids buffers places
+abbrev pub store_in : List ℕ → List ℕ → List ℕ → List ℕ → List ℕ → List ℕ → Record → List ℕ → List ℕ → List ℕ → Store
+store_in g s keys changes buckets links watch pids buffers places = store_of (kept_by (gate_of g) (counters_of g) keys changes (index_of buckets links) watch) (streams_of s) pids buffers places
 
-unfoldable pub packetFed : List ℕ → List ℕ → List ℕ → List ℕ → List ℕ → List ℕ → Record → List ℕ → List ℕ → (input : ℕ) → List ℕ → List ℕ → List ℕ → FeedLeft
-packetFed g s keys changes buckets links watch pids buffers input packet places n = leftAs g s n (fed (storeIn g s keys changes buckets links watch pids buffers places) (inputNumber input) packet)
+unfoldable pub packet_fed : List ℕ → List ℕ → List ℕ → List ℕ → List ℕ → List ℕ → Record → List ℕ → List ℕ → (input : ℕ) → List ℕ → List ℕ → List ℕ → FeedLeft
+packet_fed g s keys changes buckets links watch pids buffers input packet places n = left_as g s n (fed (store_in g s keys changes buckets links watch pids buffers places) (input_number input) packet)

@@ -4,33 +4,33 @@
 use Prim.Native.Nat.{ℕ}
 use mathlib.Core.Path.{◌≡◌, ap}
 use mathlib.Core.List.{List}
-use Rattle.laws.proofs.Unique.{one-result}
+use Rattle.laws.proofs.Unique.{one_result}
 use Rattle.pats.specs.Store.{Record}
 use Rattle.host_words.specs.Answers.{Words, words}
-use Rattle.host_gate.specs.Calls.{GateBegun, begun, gateOpened, GateLeft, left, gateOffered, watchOpened, watchAsked}
+use Rattle.host_gate.specs.Calls.{GateBegun, begun, gate_opened, GateLeft, left, gate_offered, watch_opened, watch_asked}
 
-pub unique-gate-open :
+pub unique_gate_open :
     (gate : List ℕ) (capacity settings rule : ℕ) (extra keys changes slots cells watch : List ℕ) (r s : ℕ) (g h w x : List ℕ) →
-    begun r g w ≡ gateOpened gate capacity settings rule extra keys changes slots cells watch → begun s h x ≡ gateOpened gate capacity settings rule extra keys changes slots cells watch →
+    begun r g w ≡ gate_opened gate capacity settings rule extra keys changes slots cells watch → begun s h x ≡ gate_opened gate capacity settings rule extra keys changes slots cells watch →
     (r ≡ s) × (g ≡ h) × (w ≡ x)
-unique-gate-open gate capacity settings rule extra keys changes slots cells watch r s g h w x a b =
-    let e : begun r g w ≡ begun s h x = one-result (gateOpened gate capacity settings rule extra keys changes slots cells watch) a b in
+unique_gate_open gate capacity settings rule extra keys changes slots cells watch r s g h w x a b =
+    let e : begun r g w ≡ begun s h x = one_result (gate_opened gate capacity settings rule extra keys changes slots cells watch) a b in
     (ap (λ (l : GateBegun). l.answer) e, ap (λ (l : GateBegun). l.gate) e, ap (λ (l : GateBegun). l.watch) e)
 
-pub unique-gate-offer :
+pub unique_gate_offer :
     (gate keys changes : List ℕ) (watch : Record) (input pid : ℕ) (section failure : List ℕ) (r s : ℕ) (g h k l m n : List ℕ) (w x : Record) (y z : List ℕ) →
-    left r g k m w y ≡ gateOffered gate keys changes watch input pid section failure → left s h l n x z ≡ gateOffered gate keys changes watch input pid section failure →
+    left r g k m w y ≡ gate_offered gate keys changes watch input pid section failure → left s h l n x z ≡ gate_offered gate keys changes watch input pid section failure →
     (r ≡ s) × (g ≡ h) × (k ≡ l) × (m ≡ n) × (w ≡ x) × (y ≡ z)
-unique-gate-offer gate keys changes watch input pid section failure r s g h k l m n w x y z a b =
-    let e : left r g k m w y ≡ left s h l n x z = one-result (gateOffered gate keys changes watch input pid section failure) a b in
+unique_gate_offer gate keys changes watch input pid section failure r s g h k l m n w x y z a b =
+    let e : left r g k m w y ≡ left s h l n x z = one_result (gate_offered gate keys changes watch input pid section failure) a b in
     (ap (λ (t : GateLeft). t.answer) e, ap (λ (t : GateLeft). t.gate) e, ap (λ (t : GateLeft). t.keys) e, ap (λ (t : GateLeft). t.changes) e, ap (λ (t : GateLeft). t.watch) e, ap (λ (t : GateLeft). t.failure) e)
 
-pub unique-watch-open :
+pub unique_watch_open :
     (settings : ℕ) (extra slots cells watch : List ℕ) (r s : ℕ) (w x : List ℕ) →
-    words r w ≡ watchOpened settings extra slots cells watch → words s x ≡ watchOpened settings extra slots cells watch → (r ≡ s) × (w ≡ x)
-unique-watch-open settings extra slots cells watch r s w x a b =
-    let e : words r w ≡ words s x = one-result (watchOpened settings extra slots cells watch) a b in
+    words r w ≡ watch_opened settings extra slots cells watch → words s x ≡ watch_opened settings extra slots cells watch → (r ≡ s) × (w ≡ x)
+unique_watch_open settings extra slots cells watch r s w x a b =
+    let e : words r w ≡ words s x = one_result (watch_opened settings extra slots cells watch) a b in
     (ap (λ (l : Words). l.answer) e, ap (λ (l : Words). l.now) e)
 
-pub unique-watch-ask : (watch : List ℕ) (pid r s : ℕ) → r ≡ watchAsked watch pid → s ≡ watchAsked watch pid → r ≡ s
-unique-watch-ask watch pid r s = one-result (watchAsked watch pid)
+pub unique_watch_ask : (watch : List ℕ) (pid r s : ℕ) → r ≡ watch_asked watch pid → s ≡ watch_asked watch pid → r ≡ s
+unique_watch_ask watch pid r s = one_result (watch_asked watch pid)

@@ -1,9 +1,9 @@
 // The gate and the watch for a host in another language, which keeps a gate and its counters as plain words: what the words hold is taken apart, the one
 // call is made, and what it leaves is written back. Every content of the words has one answer.
 ghost use Rattle.std.specs.Prelude.{◌≡◌};
-ghost use Rattle.host_gate.specs.Calls.{begun, gateOpened, left, gateOffered, watchOpened, watchAsked};
+ghost use Rattle.host_gate.specs.Calls.{begun, gate_opened, left, gate_offered, watch_opened, watch_asked};
 ghost use Rattle.host_words.specs.Answers.{words};
-ghost use Rattle.pats.specs.Store.{recordOf};
+ghost use Rattle.pats.specs.Store.{record_of};
 
 // Opens a gate and the watch record of one input: 7, 12 or 13. `settings` are bits: 1 repeats, 2 follow complete PATs, 4 well-known PIDs, 8 with 2 each changed
 // PAT section. A refusal writes nothing.
@@ -19,7 +19,7 @@ pub fn open(
     pat_slots: &[u32],
     pat_cells: &[u8],
 ) -> u8
-    ensures { begun result gate.new watch.new ≡ gateOpened gate.old capacity settings change_rule extra.now keys.now changes.now pat_slots.now pat_cells.now watch.old }
+    ensures { begun result gate.new watch.new ≡ gate_opened gate.old capacity settings change_rule extra.now keys.now changes.now pat_slots.now pat_cells.now watch.old }
 {
     let asked = host_gate_words::settings(capacity, settings, change_rule);
     let opened = gate_pats::open(asked, extra, keys, changes, watch, pat_slots, pat_cells);
@@ -39,7 +39,7 @@ pub fn offer(
     section: &[u8],
     failure: &mut [u64; 3],
 ) -> u8
-    ensures { left result gate.new keys.new changes.new (recordOf watch.new pat_slots.new pat_cells.new) failure.new ≡ gateOffered gate.old keys.old changes.old (recordOf watch.old pat_slots.old pat_cells.old) input pid section.now failure.old }
+    ensures { left result gate.new keys.new changes.new (record_of watch.new pat_slots.new pat_cells.new) failure.new ≡ gate_offered gate.old keys.old changes.old (record_of watch.old pat_slots.old pat_cells.old) input pid section.now failure.old }
 {
     let held = host_gate_words::read(gate);
     let from = host_words::inputs::number(input);
@@ -67,7 +67,7 @@ pub fn open_watch(
     pat_slots: &[u32],
     pat_cells: &[u8],
 ) -> u8
-    ensures { words result watch.new ≡ watchOpened settings extra.now pat_slots.now pat_cells.now watch.old }
+    ensures { words result watch.new ≡ watch_opened settings extra.now pat_slots.now pat_cells.now watch.old }
 {
     let asked = host_gate_words::settings(0, settings, 0);
     gate_pats::open_record(asked, extra, watch, pat_slots, pat_cells).number()
@@ -75,7 +75,7 @@ pub fn open_watch(
 
 // Whether a PID is watched: 8, 9, 10 or 12.
 pub fn ask(watch: &[u64], pid: u32) -> u8
-    ensures { result ≡ watchAsked watch.now pid }
+    ensures { result ≡ watch_asked watch.now pid }
 {
     watched::ask(watch, host_words::pids::number(pid)).number()
 }

@@ -6,9 +6,9 @@ use mathlib.Core.List.{List}
 use native.Mathlib.Omega.{arith}
 use lib.ListN.{length}
 use Rattle.host_words.proofs.Same.{word, none}
-use Rattle.host_gate_words.specs.Words.{gateOf, countersOf, wordsAfter}
+use Rattle.host_gate_words.specs.Words.{gate_of, counters_of, words_after}
 
-pub gate_same : (w : List ℕ) → length w ≡ 13 → wordsAfter w (gateOf w) (countersOf w) ≡ w
+pub gate_same : (w : List ℕ) → length w ≡ 13 → words_after w (gate_of w) (counters_of w) ≡ w
 gate_same w h =
     sym
     (word w 0 _ (omega arith)

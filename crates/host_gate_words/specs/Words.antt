@@ -1,7 +1,7 @@
 -- The thirteen words of a gate: 0 capacity, 1 repeats, 2 follow (0 off, 2 each changed PAT section, any other complete PATs), 3 change rule, 4 used, 5 first, 6 completed, 7 emitted, 8 suppressed,
 -- 9 CRC failures, 10 short sections, 11 CRC mismatches, 12 evictions; its settings as bits; and the three words of a failure.
 use Rattle.std.specs.Prelude.{ℕ, ◌/◌, ◌%◌, List, [], ◌∷◌, Bool, cond, not, eqb}
-use Rattle.answers.specs.Answers.{outcomeNo}
+use Rattle.answers.specs.Answers.{outcome_no}
 use Rattle.answers.specs.declared.Outcome.{Outcome}
 use Rattle.answers.specs.declared.Outcome.TheVariants as outcome
 use Rattle.counters.specs.Counters.{counts}
@@ -17,72 +17,72 @@ use Rattle.host_words.specs.Answers.{Words, words, at}
 use Rattle.host_gate_words.specs.declared.Held.{Held}
 
 -- the one setting of a watch
-abbrev pub asksForKnown : ℕ → Bool
-asksForKnown bits = eqb (bits / 4 % 2) 1
+abbrev pub asks_for_known : ℕ → Bool
+asks_for_known bits = eqb (bits / 4 % 2) 1
 
 -- how PATs are to be followed: bit 2 switches it on, bit 8 with it asks for each changed section
-abbrev pub followAsked : ℕ → Follow
-followAsked bits = cond (eqb (bits / 2 % 2) 1) (cond (eqb (bits / 8 % 2) 1) Sections Tables) Off
+abbrev pub follow_asked : ℕ → Follow
+follow_asked bits = cond (eqb (bits / 2 % 2) 1) (cond (eqb (bits / 8 % 2) 1) Sections Tables) Off
 
 -- what the word `follow` says, whatever it is
-abbrev pub followIn : ℕ → Follow
-followIn w = cond (eqb w 0) Off (cond (eqb w 2) Sections Tables)
+abbrev pub follow_in : ℕ → Follow
+follow_in w = cond (eqb w 0) Off (cond (eqb w 2) Sections Tables)
 
 -- the word that says it
-abbrev pub followWord : Follow → ℕ
-followWord Off = 0
-followWord Sections = 2
-followWord Tables = 1
+abbrev pub follow_word : Follow → ℕ
+follow_word Off = 0
+follow_word Sections = 2
+follow_word Tables = 1
 
--- bit 1 repeats, 2 follow, 4 the well-known PIDs, 8 with 2 each changed PAT section; other bits are not looked at
-abbrev pub settingsOf : ℕ → ℕ → ℕ → Settings
-settingsOf capacity bits rule =
-    record { capacity = capacity; repeats = eqb (bits % 2) 1; follow = followAsked bits; well_known = asksForKnown bits; change_rule = rule }
+-- bit 1 repeats, 2 follow, 4 the well_known PIDs, 8 with 2 each changed PAT section; other bits are not looked at
+abbrev pub settings_of : ℕ → ℕ → ℕ → Settings
+settings_of capacity bits rule =
+    record { capacity = capacity; repeats = eqb (bits % 2) 1; follow = follow_asked bits; well_known = asks_for_known bits; change_rule = rule }
 
-abbrev pub isOn : ℕ → Bool
-isOn w = not (eqb w 0)
+abbrev pub is_on : ℕ → Bool
+is_on w = not (eqb w 0)
 
-abbrev pub gateOf : List ℕ → Gate
-gateOf w =
-    record { ring = record { capacity = at w 0; used = at w 4; first = at w 5 }; repeats = isOn (at w 1); follow = followIn (at w 2); change_rule = at w 3 }
+abbrev pub gate_of : List ℕ → Gate
+gate_of w =
+    record { ring = record { capacity = at w 0; used = at w 4; first = at w 5 }; repeats = is_on (at w 1); follow = follow_in (at w 2); change_rule = at w 3 }
 
-abbrev pub countersOf : List ℕ → Counters
-countersOf w = counts (at w 6) (at w 7) (at w 8) (at w 9) (at w 10) (at w 11) (at w 12)
+abbrev pub counters_of : List ℕ → Counters
+counters_of w = counts (at w 6) (at w 7) (at w 8) (at w 9) (at w 10) (at w 11) (at w 12)
 
-abbrev pub heldIn : List ℕ → Held
-heldIn w = record { gate = gateOf w; counters = countersOf w }
+abbrev pub held_in : List ℕ → Held
+held_in w = record { gate = gate_of w; counters = counters_of w }
 
 abbrev pub bit : Bool → ℕ
 bit on = cond on 1 0
 
 -- words 4 to 12
-abbrev pub countsOf : Gate → Counters → List ℕ
-countsOf g c =
+abbrev pub counts_of : Gate → Counters → List ℕ
+counts_of g c =
     g.ring.used ∷ g.ring.first ∷ c.completed ∷ c.emitted ∷ c.suppressed ∷ c.crc_failures
     ∷ c.short_sections ∷ c.crc_mismatches ∷ c.evictions ∷ []
 
 -- all thirteen
 abbrev pub words_of : Gate → Counters → List ℕ
-words_of g c = g.ring.capacity ∷ bit g.repeats ∷ followWord g.follow ∷ g.change_rule ∷ countsOf g c
+words_of g c = g.ring.capacity ∷ bit g.repeats ∷ follow_word g.follow ∷ g.change_rule ∷ counts_of g c
 
 -- an offer writes words 4 to 12 only
-abbrev pub wordsAfter : List ℕ → Gate → Counters → List ℕ
-wordsAfter w g c = at w 0 ∷ at w 1 ∷ at w 2 ∷ at w 3 ∷ countsOf g c
+abbrev pub words_after : List ℕ → Gate → Counters → List ℕ
+words_after w g c = at w 0 ∷ at w 1 ∷ at w 2 ∷ at w 3 ∷ counts_of g c
 
 -- an opening that answers 7 writes all thirteen, a refused one none
-abbrev pub wordsOpened : Outcome → Gate → Counters → List ℕ → List ℕ
-wordsOpened outcome.Done g c w = words_of g c
-wordsOpened (outcome.Refused r) g c w = w
+abbrev pub words_opened : Outcome → Gate → Counters → List ℕ → List ℕ
+words_opened outcome.Done g c w = words_of g c
+words_opened (outcome.Refused r) g c w = w
 
 -- what an opening and an offer hand to the host
-abbrev pub tellsOpened : Opened → List ℕ → Words
-tellsOpened o w = words (outcomeNo o.answer) (wordsOpened o.answer o.gate o.counters w)
+abbrev pub tells_opened : Opened → List ℕ → Words
+tells_opened o w = words (outcome_no o.answer) (words_opened o.answer o.gate o.counters w)
 
 -- the words of a failure: length, stored, worked. 31 and 3 write them; every other answer leaves them as they were
-abbrev pub failureAfter : Said → List ℕ → List ℕ
-failureAfter (plain n) w = w
-failureAfter (short n) w = n ∷ 0 ∷ 0 ∷ []
-failureAfter (mismatch stored worked) w = 0 ∷ stored ∷ worked ∷ []
+abbrev pub failure_after : Said → List ℕ → List ℕ
+failure_after (plain n) w = w
+failure_after (short n) w = n ∷ 0 ∷ 0 ∷ []
+failure_after (mismatch stored worked) w = 0 ∷ stored ∷ worked ∷ []
 
 -- an answer, the words of the gate, and those of the failure
 pub record Told : Type 0 where
@@ -93,5 +93,5 @@ pub record Told : Type 0 where
 abbrev pub told : ℕ → List ℕ → List ℕ → Told
 told answer gate failure = record { answer = answer; gate = gate; failure = failure }
 
-abbrev pub tellsOffered : Offered → List ℕ → List ℕ → Told
-tellsOffered o w f = told (number_of (said_of o.answer)) (wordsAfter w o.gate o.counters) (failureAfter (said_of o.answer) f)
+abbrev pub tells_offered : Offered → List ℕ → List ℕ → Told
+tells_offered o w f = told (number_of (said_of o.answer)) (words_after w o.gate o.counters) (failure_after (said_of o.answer) f)

@@ -1,9 +1,9 @@
 // The thirteen words of a gate: 0 capacity, 1 repeats, 2 follow (0 off, 2 each changed PAT section, any other complete PATs), 3 change_rule, 4 used, 5 first, 6 completed, 7 emitted, 8 suppressed,
 // 9 crc_failures, 10 short_sections, 11 crc_mismatches, 12 evictions. And the three of a failure: 0 length, 1 stored, 2 worked.
 ghost use Rattle.std.specs.Prelude.{◌≡◌, []};
-ghost use Rattle.gate_state.specs.State.{said_of, failureSaid};
+ghost use Rattle.gate_state.specs.State.{said_of, failure_said};
 ghost use Rattle.host_words.specs.Answers.{words};
-ghost use Rattle.host_gate_words.specs.Words.{asksForKnown, followAsked, followIn, followWord, settingsOf, gateOf, countersOf, heldIn, bit, words_of, wordsAfter, wordsOpened, failureAfter, told, tellsOpened, tellsOffered};
+ghost use Rattle.host_gate_words.specs.Words.{asks_for_known, follow_asked, follow_in, follow_word, settings_of, gate_of, counters_of, held_in, bit, words_of, words_after, words_opened, failure_after, told, tells_opened, tells_offered};
 
 use answers::Outcome;
 use counters::Counters;
@@ -20,7 +20,7 @@ pub struct Held {
 
 // Settings as bits: 1 repeats, 2 follow, 4 well-known PIDs, 8 with 2 each changed PAT section. Other bits are not looked at. The change rule is a number of its own.
 pub fn settings(capacity: u64, bits: u32, change_rule: u64) -> Settings
-    ensures { result ≡ settingsOf capacity bits change_rule }
+    ensures { result ≡ settings_of capacity bits change_rule }
 {
     Settings {
         capacity: capacity,
@@ -33,14 +33,14 @@ pub fn settings(capacity: u64, bits: u32, change_rule: u64) -> Settings
 
 // Whether the bits ask for the well-known PIDs, the one setting of a watch.
 pub fn well_known(bits: u32) -> bool
-    ensures { result ≡ asksForKnown bits }
+    ensures { result ≡ asks_for_known bits }
 {
     bits / 4 % 2 == 1
 }
 
 // How PATs are to be followed: bit 8 without bit 2 asks for nothing.
 fn follow_asked(bits: u32) -> Follow
-    ensures { result ≡ followAsked bits }
+    ensures { result ≡ follow_asked bits }
 {
     if bits / 2 % 2 != 1 {
         return Follow::Off;
@@ -54,7 +54,7 @@ fn follow_asked(bits: u32) -> Follow
 
 // What the word `follow` says, whatever it is.
 fn follow_in(word: u64) -> Follow
-    ensures { result ≡ followIn word }
+    ensures { result ≡ follow_in word }
 {
     if word == 0 {
         return Follow::Off;
@@ -68,7 +68,7 @@ fn follow_in(word: u64) -> Follow
 
 // The word that says it.
 fn follow_word(follow: Follow) -> u64
-    ensures { result ≡ followWord follow }
+    ensures { result ≡ follow_word follow }
 {
     match follow {
         Follow::Off => 0,
@@ -78,7 +78,7 @@ fn follow_word(follow: Follow) -> u64
 }
 
 fn gate(words: &[u64; 13]) -> Gate
-    ensures { result ≡ gateOf words.now }
+    ensures { result ≡ gate_of words.now }
 {
     Gate {
         ring: Ring {
@@ -93,7 +93,7 @@ fn gate(words: &[u64; 13]) -> Gate
 }
 
 fn counters(words: &[u64; 13]) -> Counters
-    ensures { result ≡ countersOf words.now }
+    ensures { result ≡ counters_of words.now }
 {
     Counters {
         completed: words[6],
@@ -107,7 +107,7 @@ fn counters(words: &[u64; 13]) -> Counters
 }
 
 pub fn read(words: &[u64; 13]) -> Held
-    ensures { result ≡ heldIn words.now }
+    ensures { result ≡ held_in words.now }
 {
     Held {
         gate: gate(words),
@@ -147,7 +147,7 @@ fn write(words: &mut [u64; 13], gate: Gate, counters: Counters)
 
 // A gate that was opened writes all thirteen; a refused opening none.
 fn write_where(words: &mut [u64; 13], answer: Outcome, gate: Gate, counters: Counters)
-    ensures { words.new ≡ wordsOpened answer gate counters words.old }
+    ensures { words.new ≡ words_opened answer gate counters words.old }
 {
     match answer {
         Outcome::Done => write(words, gate, counters),
@@ -157,7 +157,7 @@ fn write_where(words: &mut [u64; 13], answer: Outcome, gate: Gate, counters: Cou
 
 // The rows in use and the counters: an offer never changes the settings.
 pub fn write_counts(words: &mut [u64; 13], gate: Gate, counters: Counters)
-    ensures { words.new ≡ wordsAfter words.old gate counters }
+    ensures { words.new ≡ words_after words.old gate counters }
 {
     let ring = gate.ring;
     *words = [
@@ -179,7 +179,7 @@ pub fn write_counts(words: &mut [u64; 13], gate: Gate, counters: Counters)
 
 // Writes what an opening leaves in the words, and gives its number.
 pub fn write_opened(gate: &mut [u64; 13], opened: Opened) -> u8
-    ensures { words result gate.new ≡ tellsOpened opened gate.old }
+    ensures { words result gate.new ≡ tells_opened opened gate.old }
 {
     let answer = opened.answer;
     write_where(gate, answer, opened.gate, opened.counters);
@@ -188,7 +188,7 @@ pub fn write_opened(gate: &mut [u64; 13], opened: Opened) -> u8
 
 // What a section failed by: its length (31), or the CRC stored and the one worked out (3).
 fn failure_words(failure: Failure) -> [u64; 3]
-    ensures { result ≡ failureAfter (failureSaid failure) [] }
+    ensures { result ≡ failure_after (failure_said failure) [] }
 {
     match failure {
         Failure::TooShort(length) => [length as u64, 0, 0],
@@ -198,7 +198,7 @@ fn failure_words(failure: Failure) -> [u64; 3]
 
 // A failure tells what it failed by; every other answer leaves the words as they were.
 fn write_failure(words: &mut [u64; 3], answer: Answer)
-    ensures { words.new ≡ failureAfter (said_of answer) words.old }
+    ensures { words.new ≡ failure_after (said_of answer) words.old }
 {
     match answer {
         Answer::Emitted => {}
@@ -210,7 +210,7 @@ fn write_failure(words: &mut [u64; 3], answer: Answer)
 
 // Writes what an offer leaves in the words, and gives its number.
 pub fn write_offered(gate: &mut [u64; 13], failure: &mut [u64; 3], offered: Offered) -> u8
-    ensures { told result gate.new failure.new ≡ tellsOffered offered gate.old failure.old }
+    ensures { told result gate.new failure.new ≡ tells_offered offered gate.old failure.old }
 {
     let answer = offered.answer;
     write_counts(gate, offered.gate, offered.counters);

@@ -9,103 +9,103 @@ use lib.ListN.{length}
 use lib.Dec.{eqb, ltb}
 use borrow.Author.Tests.{ne_eqb}
 use Rattle.differences.specs.Rules.{Entry}
-use Rattle.guides.specs.Store.{compareNo, heldNo, setSides, scheduleSides, toldOf, comparedBy, listIf, listBy, tablesIf, tablesBy, setEntries, scheduleEntries, scheduleWords, compared, listed, comparedSchedules, listedSchedules, tables_of, heldBy}
+use Rattle.guides.specs.Store.{compare_no, held_no, set_sides, schedule_sides, told_of, compared_by, list_if, list_by, tables_if, tables_by, set_entries, schedule_entries, schedule_words, compared, listed, compared_schedules, listed_schedules, tables_of, held_by}
 use Rattle.guides.specs.declared.Sides.{Sides}
 use Rattle.guides.specs.declared.Sides.TheVariants as sides
 use Rattle.guides.specs.declared.CompareAnswer.{CompareAnswer}
 use Rattle.guides.specs.declared.CompareAnswer.TheVariants as answer
 use Rattle.host_words.specs.Answers.{words}
-use Rattle.host_words.specs.Pids.{maybePid}
-use Rattle.laid.specs.Laid.{sameVersion, sameLast}
-use Rattle.differences.specs.Rules.{versionsAgree, lastsAgree}
-use Rattle.host_guides.specs.Calls.{tells, comparison, handed, setsCompared, comparisons, handedTables, schedulesCompared, heldByOne}
+use Rattle.host_words.specs.Pids.{maybe_pid}
+use Rattle.laid.specs.Laid.{same_version, same_last}
+use Rattle.differences.specs.Rules.{versions_agree, lasts_agree}
+use Rattle.host_guides.specs.Calls.{tells, comparison, handed, sets_compared, comparisons, handed_tables, schedules_compared, held_by_one}
 
 -- an answer that tells of the entries: no answer of two alike sides is another
-told-tells : (room count : ℕ) (v l : Bool) → tells (compareNo (toldOf room count v l).answer) ≡ true
-told-tells room count v l = go (ltb room count) (eqb count 0)
+told_tells : (room count : ℕ) (v l : Bool) → tells (compare_no (told_of room count v l).answer) ≡ true
+told_tells room count v l = go (ltb room count) (eqb count 0)
   where
-    go : (a b : Bool) → tells (compareNo (cond a answer.NoRoom (cond b answer.Same answer.Differ))) ≡ true
+    go : (a b : Bool) → tells (compare_no (cond a answer.NoRoom (cond b answer.Same answer.Differ))) ≡ true
     go true b = refl
     go false true = refl
     go false false = refl
 
-by-sides :
-    (s : Sides) (es : List Entry) (v l : Bool) (list told : List ℕ) (n : ℕ) → n ≡ compareNo (comparedBy s (length list / 4) es v l).answer → tells n ≡ false →
-    handed (comparedBy s (length list / 4) es v l) told (listBy s es list) ≡ comparison n told list
-by-sides sides.NotSets es v l list told n e h = rw e
-by-sides sides.NoPid es v l list told n e h = rw e
-by-sides sides.BadPid es v l list told n e h = rw e
-by-sides sides.OtherKey es v l list told n e h = rw e
-by-sides sides.Alike es v l list told n e h = let z : ◌≡◌ {A = Bool} true false = sym (ap tells e ∙ told-tells (length list / 4) (length es) v l) ∙ h in cc
+by_sides :
+    (s : Sides) (es : List Entry) (v l : Bool) (list told : List ℕ) (n : ℕ) → n ≡ compare_no (compared_by s (length list / 4) es v l).answer → tells n ≡ false →
+    handed (compared_by s (length list / 4) es v l) told (list_by s es list) ≡ comparison n told list
+by_sides sides.NotSets es v l list told n e h = rw e
+by_sides sides.NoPid es v l list told n e h = rw e
+by_sides sides.BadPid es v l list told n e h = rw e
+by_sides sides.OtherKey es v l list told n e h = rw e
+by_sides sides.Alike es v l list told n e h = let z : ◌≡◌ {A = Bool} true false = sym (ap tells e ∙ told_tells (length list / 4) (length es) v l) ∙ h in cc
 
-by-kinds :
-    (s : Sides) (es : List Entry) (v l : Bool) (ws tables list told : List ℕ) (n : ℕ) → n ≡ compareNo (comparedBy s (length list / 4) es v l).answer → tells n ≡ false →
-    handedTables (comparedBy s (length list / 4) es v l) told (tablesBy s es (length list / 4) ws tables) (listBy s es list) ≡ comparisons n told tables list
-by-kinds sides.NotSets es v l ws tables list told n e h = rw e
-by-kinds sides.NoPid es v l ws tables list told n e h = rw e
-by-kinds sides.BadPid es v l ws tables list told n e h = rw e
-by-kinds sides.OtherKey es v l ws tables list told n e h = rw e
-by-kinds sides.Alike es v l ws tables list told n e h = let z : ◌≡◌ {A = Bool} true false = sym (ap tells e ∙ told-tells (length list / 4) (length es) v l) ∙ h in cc
+by_kinds :
+    (s : Sides) (es : List Entry) (v l : Bool) (ws tables list told : List ℕ) (n : ℕ) → n ≡ compare_no (compared_by s (length list / 4) es v l).answer → tells n ≡ false →
+    handed_tables (compared_by s (length list / 4) es v l) told (tables_by s es (length list / 4) ws tables) (list_by s es list) ≡ comparisons n told tables list
+by_kinds sides.NotSets es v l ws tables list told n e h = rw e
+by_kinds sides.NoPid es v l ws tables list told n e h = rw e
+by_kinds sides.BadPid es v l ws tables list told n e h = rw e
+by_kinds sides.OtherKey es v l ws tables list told n e h = rw e
+by_kinds sides.Alike es v l ws tables list told n e h = let z : ◌≡◌ {A = Bool} true false = sym (ap tells e ∙ told_tells (length list / 4) (length es) v l) ∙ h in cc
 
 module _ (first : List ℕ) (p : ℕ) (second : List ℕ) (q : ℕ) (n : ℕ) where
   -- 10, 41, 12 and 33
-  pub compare-refused : (list told : List ℕ) → n ≡ (setsCompared first p second q list told).answer → tells n ≡ false → setsCompared first p second q list told ≡ comparison n told list
-  unfolding setsCompared compared listed
-  compare-refused list told e h = by-sides (setSides first (maybePid p) second (maybePid q)) (setEntries first second) (sameVersion first second) (sameLast first second) list told n e h
+  pub compare_refused : (list told : List ℕ) → n ≡ (sets_compared first p second q list told).answer → tells n ≡ false → sets_compared first p second q list told ≡ comparison n told list
+  unfolding sets_compared compared listed
+  compare_refused list told e h = by_sides (set_sides first (maybe_pid p) second (maybe_pid q)) (set_entries first second) (same_version first second) (same_last first second) list told n e h
 
-  pub compare-schedules-refused :
-      (tables list told : List ℕ) → n ≡ (schedulesCompared first p second q tables list told).answer → tells n ≡ false → schedulesCompared first p second q tables list told ≡ comparisons n told tables list
-  unfolding schedulesCompared comparedSchedules listedSchedules tables_of
-  compare-schedules-refused tables list told e h =
-      by-kinds (scheduleSides first (maybePid p) second (maybePid q)) (scheduleEntries first second) (versionsAgree (scheduleWords first second)) (lastsAgree (scheduleWords first second)) (scheduleWords first second) tables list told n e h
+  pub compare_schedules_refused :
+      (tables list told : List ℕ) → n ≡ (schedules_compared first p second q tables list told).answer → tells n ≡ false → schedules_compared first p second q tables list told ≡ comparisons n told tables list
+  unfolding schedules_compared compared_schedules listed_schedules tables_of
+  compare_schedules_refused tables list told e h =
+      by_kinds (schedule_sides first (maybe_pid p) second (maybe_pid q)) (schedule_entries first second) (versions_agree (schedule_words first second)) (lasts_agree (schedule_words first second)) (schedule_words first second) tables list told n e h
 
 -- 34
-full-list : (s : Sides) (es : List Entry) (v l : Bool) (list : List ℕ) → compareNo (comparedBy s (length list / 4) es v l).answer ≡ 34 → listBy s es list ≡ list
-full-list sides.NotSets es v l list e = refl
-full-list sides.NoPid es v l list e = refl
-full-list sides.BadPid es v l list e = refl
-full-list sides.OtherKey es v l list e = refl
-full-list sides.Alike es v l list e = go (ltb (length list / 4) (length es)) refl
+full_list : (s : Sides) (es : List Entry) (v l : Bool) (list : List ℕ) → compare_no (compared_by s (length list / 4) es v l).answer ≡ 34 → list_by s es list ≡ list
+full_list sides.NotSets es v l list e = refl
+full_list sides.NoPid es v l list e = refl
+full_list sides.BadPid es v l list e = refl
+full_list sides.OtherKey es v l list e = refl
+full_list sides.Alike es v l list e = go (ltb (length list / 4) (length es)) refl
   where
-    go : (a : Bool) → ltb (length list / 4) (length es) ≡ a → listIf es list ≡ list
+    go : (a : Bool) → ltb (length list / 4) (length es) ≡ a → list_if es list ≡ list
     go true z = rw z
-    go false z = more (eqb (length es) 0) (ap (λ (a : Bool). compareNo (cond a answer.NoRoom (cond (eqb (length es) 0) answer.Same answer.Differ))) (sym z) ∙ e)
+    go false z = more (eqb (length es) 0) (ap (λ (a : Bool). compare_no (cond a answer.NoRoom (cond (eqb (length es) 0) answer.Same answer.Differ))) (sym z) ∙ e)
       where
-        more : (b : Bool) → compareNo (cond b answer.Same answer.Differ) ≡ 34 → listIf es list ≡ list
+        more : (b : Bool) → compare_no (cond b answer.Same answer.Differ) ≡ 34 → list_if es list ≡ list
         more true k = let y : ◌≡◌ {A = ℕ} 9 34 = k in absurd (omega arith)
         more false k = let y : ◌≡◌ {A = ℕ} 8 34 = k in absurd (omega arith)
 
-full-tables : (s : Sides) (es : List Entry) (v l : Bool) (ws tables list : List ℕ) → compareNo (comparedBy s (length list / 4) es v l).answer ≡ 34 → tablesBy s es (length list / 4) ws tables ≡ tables
-full-tables sides.NotSets es v l ws tables list e = refl
-full-tables sides.NoPid es v l ws tables list e = refl
-full-tables sides.BadPid es v l ws tables list e = refl
-full-tables sides.OtherKey es v l ws tables list e = refl
-full-tables sides.Alike es v l ws tables list e = go (ltb (length list / 4) (length es)) refl
+full_tables : (s : Sides) (es : List Entry) (v l : Bool) (ws tables list : List ℕ) → compare_no (compared_by s (length list / 4) es v l).answer ≡ 34 → tables_by s es (length list / 4) ws tables ≡ tables
+full_tables sides.NotSets es v l ws tables list e = refl
+full_tables sides.NoPid es v l ws tables list e = refl
+full_tables sides.BadPid es v l ws tables list e = refl
+full_tables sides.OtherKey es v l ws tables list e = refl
+full_tables sides.Alike es v l ws tables list e = go (ltb (length list / 4) (length es)) refl
   where
-    go : (a : Bool) → ltb (length list / 4) (length es) ≡ a → tablesIf (length list / 4) es ws tables ≡ tables
+    go : (a : Bool) → ltb (length list / 4) (length es) ≡ a → tables_if (length list / 4) es ws tables ≡ tables
     go true z = rw z
-    go false z = more (eqb (length es) 0) (ap (λ (a : Bool). compareNo (cond a answer.NoRoom (cond (eqb (length es) 0) answer.Same answer.Differ))) (sym z) ∙ e)
+    go false z = more (eqb (length es) 0) (ap (λ (a : Bool). compare_no (cond a answer.NoRoom (cond (eqb (length es) 0) answer.Same answer.Differ))) (sym z) ∙ e)
       where
-        more : (b : Bool) → compareNo (cond b answer.Same answer.Differ) ≡ 34 → tablesIf (length list / 4) es ws tables ≡ tables
+        more : (b : Bool) → compare_no (cond b answer.Same answer.Differ) ≡ 34 → tables_if (length list / 4) es ws tables ≡ tables
         more true k = let y : ◌≡◌ {A = ℕ} 9 34 = k in absurd (omega arith)
         more false k = let y : ◌≡◌ {A = ℕ} 8 34 = k in absurd (omega arith)
 
 module _ (first : List ℕ) (p : ℕ) (second : List ℕ) (q : ℕ) where
-  pub compare-no-room : (list told : List ℕ) → (setsCompared first p second q list told).answer ≡ 34 → (setsCompared first p second q list told).list ≡ list
-  unfolding setsCompared compared listed
-  compare-no-room list told e = full-list (setSides first (maybePid p) second (maybePid q)) (setEntries first second) (sameVersion first second) (sameLast first second) list e
+  pub compare_no_room : (list told : List ℕ) → (sets_compared first p second q list told).answer ≡ 34 → (sets_compared first p second q list told).list ≡ list
+  unfolding sets_compared compared listed
+  compare_no_room list told e = full_list (set_sides first (maybe_pid p) second (maybe_pid q)) (set_entries first second) (same_version first second) (same_last first second) list e
 
-  pub compare-schedules-no-room :
-      (tables list told : List ℕ) → (schedulesCompared first p second q tables list told).answer ≡ 34 →
-      ((schedulesCompared first p second q tables list told).list ≡ list) × ((schedulesCompared first p second q tables list told).tables ≡ tables)
-  unfolding schedulesCompared comparedSchedules listedSchedules tables_of
-  compare-schedules-no-room tables list told e = (
-    full-list (scheduleSides first (maybePid p) second (maybePid q)) (scheduleEntries first second) (versionsAgree (scheduleWords first second)) (lastsAgree (scheduleWords first second)) list e,
-    full-tables (scheduleSides first (maybePid p) second (maybePid q)) (scheduleEntries first second) (versionsAgree (scheduleWords first second)) (lastsAgree (scheduleWords first second)) (scheduleWords first second) tables list e,
+  pub compare_schedules_no_room :
+      (tables list told : List ℕ) → (schedules_compared first p second q tables list told).answer ≡ 34 →
+      ((schedules_compared first p second q tables list told).list ≡ list) × ((schedules_compared first p second q tables list told).tables ≡ tables)
+  unfolding schedules_compared compared_schedules listed_schedules tables_of
+  compare_schedules_no_room tables list told e = (
+    full_list (schedule_sides first (maybe_pid p) second (maybe_pid q)) (schedule_entries first second) (versions_agree (schedule_words first second)) (lasts_agree (schedule_words first second)) list e,
+    full_tables (schedule_sides first (maybe_pid p) second (maybe_pid q)) (schedule_entries first second) (versions_agree (schedule_words first second)) (lasts_agree (schedule_words first second)) (schedule_words first second) tables list e,
   )
 
 -- 9 and 10
-pub held-refused :
-    (first second : List ℕ) (number : ℕ) (held : List ℕ) (n : ℕ) → n ≡ (heldByOne first second number held).answer → (n ≡ 8 → ⊥) → heldByOne first second number held ≡ words n held
-unfolding heldByOne
-held-refused first second number held n e h = rw (← e, ne_eqb n 8 h)
+pub held_refused :
+    (first second : List ℕ) (number : ℕ) (held : List ℕ) (n : ℕ) → n ≡ (held_by_one first second number held).answer → (n ≡ 8 → ⊥) → held_by_one first second number held ≡ words n held
+unfolding held_by_one
+held_refused first second number held n e h = rw (← e, ne_eqb n 8 h)

@@ -1,7 +1,7 @@
 // The comparisons for a host in another language: two sets, two schedules, and the section that one side alone holds. Every content of what is lent has one answer.
 ghost use Rattle.std.specs.Prelude.{◌≡◌};
 ghost use Rattle.host_words.specs.Answers.{words};
-ghost use Rattle.host_guides.specs.Calls.{flag, tellsCompared, tellsHeld, comparison, setsCompared, comparisons, schedulesCompared, heldByOne};
+ghost use Rattle.host_guides.specs.Calls.{flag, tells_compared, tells_held, comparison, sets_compared, comparisons, schedules_compared, held_by_one};
 
 use guides::{Compared, Holder};
 
@@ -20,7 +20,7 @@ fn flag(on: bool) -> u64
 
 // Writes how many entries there are, and whether versions and last numbers agree; gives the answer's number. 10, 41, 12 and 33 leave the words.
 fn write_compared(compared: &mut [u64; 3], told: Compared) -> u8
-    ensures { words result compared.new ≡ tellsCompared told compared.old }
+    ensures { words result compared.new ≡ tells_compared told compared.old }
 {
     let answer = told.answer;
     let number = answer.number();
@@ -39,7 +39,7 @@ pub fn compare(
     list: &mut [u32],
     compared: &mut [u64; 3],
 ) -> u8
-    ensures { comparison result compared.new list.new ≡ setsCompared first.now first_pid second.now second_pid list.old compared.old }
+    ensures { comparison result compared.new list.new ≡ sets_compared first.now first_pid second.now second_pid list.old compared.old }
 {
     let p = host_words::pids::maybe(first_pid);
     let q = host_words::pids::maybe(second_pid);
@@ -57,7 +57,7 @@ pub fn compare_schedules(
     list: &mut [u32],
     compared: &mut [u64; 3],
 ) -> u8
-    ensures { comparisons result compared.new tables.new list.new ≡ schedulesCompared first.now first_pid second.now second_pid tables.old list.old compared.old }
+    ensures { comparisons result compared.new tables.new list.new ≡ schedules_compared first.now first_pid second.now second_pid tables.old list.old compared.old }
 {
     let p = host_words::pids::maybe(first_pid);
     let q = host_words::pids::maybe(second_pid);
@@ -67,7 +67,7 @@ pub fn compare_schedules(
 
 // Writes the side, 1 or 2, and where the section stands in its bytes; gives the answer's number. 9 and 10 leave the words.
 fn write_held(held: &mut [u64; 3], holder: Holder) -> u8
-    ensures { words result held.new ≡ tellsHeld holder held.old }
+    ensures { words result held.new ≡ tells_held holder held.old }
 {
     let answer = holder.answer;
     let number = answer.number();
@@ -83,7 +83,7 @@ fn write_held(held: &mut [u64; 3], holder: Holder) -> u8
 
 // Which side alone holds the section of this number, and where: 8, 9 or 10. The part crosses as a side, a start and a length, never as a pointer.
 pub fn held_by_one(first: &[u8], second: &[u8], number: u64, held: &mut [u64; 3]) -> u8
-    ensures { words result held.new ≡ heldByOne first.now second.now number held.old }
+    ensures { words result held.new ≡ held_by_one first.now second.now number held.old }
 {
     let holder = guides::held(first, second, number as usize);
     write_held(held, holder)

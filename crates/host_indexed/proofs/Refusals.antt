@@ -7,115 +7,115 @@ use mathlib.Core.Bool.{Bool, true, false, cond}
 use native.Mathlib.Omega.{arith}
 use lib.ListN.{length}
 use lib.Dec.{eqb}
-use Rattle.ring.specs.Store.{stampOf}
+use Rattle.ring.specs.Store.{stamp_of}
 use Rattle.ring_index.specs.Store.{index_of}
-use Rattle.ring_index.specs.Store.{seenBy as foundBy}
-use Rattle.offers.specs.Offers.{verdictOf}
+use Rattle.ring_index.specs.Store.{seen_by as found_by}
+use Rattle.offers.specs.Offers.{verdict_of}
 use Rattle.offers.specs.declared.Verdict.{Verdict}
 use Rattle.offers.specs.declared.Verdict.TheVariants.{Refused, Failed, Arrived}
-use Rattle.watched.specs.Store.{allPids}
-use Rattle.gate_state.specs.State.{number_of, isJudged, byTables, emitsOf, seenBy}
+use Rattle.watched.specs.Store.{all_pids}
+use Rattle.gate_state.specs.State.{number_of, is_judged, by_tables, emits_of, seen_by}
 use Rattle.gate_state.specs.declared.Settings.{Settings}
 use Rattle.pats.specs.Store.{Record}
 use Rattle.gate_indexed.specs.Store as sections
-use Rattle.gate_pats.specs.Store.{roomWith, state_of, soundBy, recordAfter}
+use Rattle.gate_pats.specs.Store.{room_with, state_of, sound_by, record_after}
 use Rattle.gate_pats.specs.declared.inner.State.{State}
 use Rattle.gate_pats.specs.declared.inner.State.TheVariants.{NotWhole, Full, Ready}
 use Rattle.gate_pats_indexed.specs.Store as indexed
-use Rattle.host_words.specs.Inputs.{inputNumber}
-use Rattle.host_words.specs.Pids.{pidNumber}
-use Rattle.host_gate_words.specs.Words.{settingsOf, gateOf, countersOf, failureAfter}
+use Rattle.host_words.specs.Inputs.{input_number}
+use Rattle.host_words.specs.Pids.{pid_number}
+use Rattle.host_gate_words.specs.Words.{settings_of, gate_of, counters_of, failure_after}
 use Rattle.host_gate_words.proofs.Same.{gate_same}
-use Rattle.host_gate.proofs.Refusals.{told-judged, failure-judged, not-judged, and_none, and_last}
-use Rattle.host_indexed.specs.Calls.{begun, begunAs, gateOpened, left, leftAs, gateOffered}
+use Rattle.host_gate.proofs.Refusals.{told_judged, failure_judged, not_judged, and_none, and_last}
+use Rattle.host_indexed.specs.Calls.{begun, begun_as, gate_opened, left, left_as, gate_offered}
 
 -- what a refusal leaves and says
 record Kept (l : sections.Offering) (s : sections.Indexed) : Type 0 where
   left' : l.left ≡ s
-  failure : (w : List ℕ) → failureAfter l.answer w ≡ w
+  failure : (w : List ℕ) → failure_after l.answer w ≡ w
 
-carried-refused : (s : sections.Indexed) (section : List ℕ) (v : Verdict) → isJudged (number_of (sections.carriedBy s section v).answer) ≡ false → Kept (sections.carriedBy s section v) s
-unfolding sections.carriedBy sections.admittedBy seenBy
-carried-refused s section (Refused r) h = record { left' = refl; failure = λ w. refl }
-carried-refused s section (Failed f) h = absurd (failure-judged f h)
-carried-refused s section (Arrived a) h =
+carried_refused : (s : sections.Indexed) (section : List ℕ) (v : Verdict) → is_judged (number_of (sections.carried_by s section v).answer) ≡ false → Kept (sections.carried_by s section v) s
+unfolding sections.carried_by sections.admitted_by seen_by
+carried_refused s section (Refused r) h = record { left' = refl; failure = λ w. refl }
+carried_refused s section (Failed f) h = absurd (failure_judged f h)
+carried_refused s section (Arrived a) h =
     absurd
-    (told-judged (emitsOf s.store.gate (foundBy s.store.gate.ring s.store.keys s.store.changes s.index a.key (stampOf a.version a.change))) h)
+    (told_judged (emits_of s.store.gate (found_by s.store.gate.ring s.store.keys s.store.changes s.index a.key (stamp_of a.version a.change))) h)
 
-offer-refused-by :
-    (s : sections.Indexed) (input pid : ℕ) (section : List ℕ) → isJudged (number_of (sections.offeredBy s input pid section).answer) ≡ false → Kept (sections.offeredBy s input pid section) s
-unfolding sections.offeredBy
-offer-refused-by s input pid section h = carried-refused s section (verdictOf (sections.isWholeBy s) s.store.counters s.store.gate.change_rule input pid section) h
+offer_refused_by :
+    (s : sections.Indexed) (input pid : ℕ) (section : List ℕ) → is_judged (number_of (sections.offered_by s input pid section).answer) ≡ false → Kept (sections.offered_by s input pid section) s
+unfolding sections.offered_by
+offer_refused_by s input pid section h = carried_refused s section (verdict_of (sections.is_whole_by s) s.store.counters s.store.gate.change_rule input pid section) h
 
 -- what a refusal of the gate with a record leaves and says
 record Stays (l : indexed.Offering) (s : indexed.KeptBy) : Type 0 where
   left' : l.left ≡ s
-  failure : (w : List ℕ) → failureAfter l.answer w ≡ w
+  failure : (w : List ℕ) → failure_after l.answer w ≡ w
 
-taken_refused : (s : indexed.KeptBy) (input pid : ℕ) (section : List ℕ) → isJudged (number_of (indexed.takenBy s input pid section).answer) ≡ false → Stays (indexed.takenBy s input pid section) s
-unfolding indexed.takenBy recordAfter
+taken_refused : (s : indexed.KeptBy) (input pid : ℕ) (section : List ℕ) → is_judged (number_of (indexed.taken_by s input pid section).answer) ≡ false → Stays (indexed.taken_by s input pid section) s
+unfolding indexed.taken_by record_after
 taken_refused s input pid section h =
-    let o = sections.offeredBy (indexed.sectionsBy s) input pid section in
-    let k = offer-refused-by (indexed.sectionsBy s) input pid section h in
+    let o = sections.offered_by (indexed.sections_by s) input pid section in
+    let k = offer_refused_by (indexed.sections_by s) input pid section h in
     record { left' = same o k.left' h; failure = k.failure }
   where
-    same : (o : sections.Offering) → o.left ≡ indexed.sectionsBy s → isJudged (number_of o.answer) ≡ false → (indexed.thenEntered s input pid section o).left ≡ s
-    same o e h = rw (e, and_none (byTables s.kept.gate.follow) (soundBy o.answer) (eqb pid 0) (not-judged o.answer h))
+    same : (o : sections.Offering) → o.left ≡ indexed.sections_by s → is_judged (number_of o.answer) ≡ false → (indexed.then_entered s input pid section o).left ≡ s
+    same o e h = rw (e, and_none (by_tables s.kept.gate.follow) (sound_by o.answer) (eqb pid 0) (not_judged o.answer h))
 
-as-state :
-    (s : indexed.KeptBy) (input pid : ℕ) (section : List ℕ) (x : State) → isJudged (number_of (indexed.offeredAs s input pid section x).answer) ≡ false →
-    Stays (indexed.offeredAs s input pid section x) s
-unfolding indexed.offeredAs
-as-state s input pid section NotWhole h = record { left' = refl; failure = λ w. refl }
-as-state s input pid section Full h = record { left' = refl; failure = λ w. refl }
-as-state s input pid section Ready h = taken_refused s input pid section h
+as_state :
+    (s : indexed.KeptBy) (input pid : ℕ) (section : List ℕ) (x : State) → is_judged (number_of (indexed.offered_as s input pid section x).answer) ≡ false →
+    Stays (indexed.offered_as s input pid section x) s
+unfolding indexed.offered_as
+as_state s input pid section NotWhole h = record { left' = refl; failure = λ w. refl }
+as_state s input pid section Full h = record { left' = refl; failure = λ w. refl }
+as_state s input pid section Ready h = taken_refused s input pid section h
 
-offered-refused :
-    (s : indexed.KeptBy) (input pid : ℕ) (section : List ℕ) → isJudged (number_of (indexed.offeredWith s input pid section).answer) ≡ false →
-    Stays (indexed.offeredWith s input pid section) s
-unfolding indexed.offeredWith
-offered-refused s input pid section h = as-state s input pid section (state_of s.kept.gate.follow s.kept.watch) h
+offered_refused :
+    (s : indexed.KeptBy) (input pid : ℕ) (section : List ℕ) → is_judged (number_of (indexed.offered_with s input pid section).answer) ≡ false →
+    Stays (indexed.offered_with s input pid section) s
+unfolding indexed.offered_with
+offered_refused s input pid section h = as_state s input pid section (state_of s.kept.gate.follow s.kept.watch) h
 
 -- every answer but 1, 2, 31 and 3
-pub indexed-offer-refused :
+pub indexed_offer_refused :
     (gate keys changes buckets links : List ℕ) (watch : Record) (input pid : ℕ) (section failure : List ℕ) (answer : ℕ) → length gate ≡ 13 →
-    answer ≡ (gateOffered gate keys changes buckets links watch input pid section failure).answer → isJudged answer ≡ false →
-    gateOffered gate keys changes buckets links watch input pid section failure ≡ left answer gate keys changes buckets links watch failure
-unfolding gateOffered
-indexed-offer-refused gate keys changes buckets links watch input pid section failure answer n e h =
-    let s : indexed.KeptBy = indexed.keptBy (gateOf gate) (countersOf gate) keys changes (index_of buckets links) watch in
-    let l : indexed.Offering = indexed.offeredWith s (inputNumber input) (pidNumber pid) section in
-    let k : isJudged (number_of l.answer) ≡ false = rw (← e) h in
-    let r = offered-refused s (inputNumber input) (pidNumber pid) section k in
+    answer ≡ (gate_offered gate keys changes buckets links watch input pid section failure).answer → is_judged answer ≡ false →
+    gate_offered gate keys changes buckets links watch input pid section failure ≡ left answer gate keys changes buckets links watch failure
+unfolding gate_offered
+indexed_offer_refused gate keys changes buckets links watch input pid section failure answer n e h =
+    let s : indexed.KeptBy = indexed.kept_by (gate_of gate) (counters_of gate) keys changes (index_of buckets links) watch in
+    let l : indexed.Offering = indexed.offered_with s (input_number input) (pid_number pid) section in
+    let k : is_judged (number_of l.answer) ≡ false = rw (← e) h in
+    let r = offered_refused s (input_number input) (pid_number pid) section k in
     go l r.left' (r.failure failure) e
   where
     go :
-        (l : indexed.Offering) → l.left ≡ indexed.keptBy (gateOf gate) (countersOf gate) keys changes (index_of buckets links) watch →
-        failureAfter l.answer failure ≡ failure → answer ≡ number_of l.answer →
-        leftAs gate failure l ≡ left answer gate keys changes buckets links watch failure
+        (l : indexed.Offering) → l.left ≡ indexed.kept_by (gate_of gate) (counters_of gate) keys changes (index_of buckets links) watch →
+        failure_after l.answer failure ≡ failure → answer ≡ number_of l.answer →
+        left_as gate failure l ≡ left answer gate keys changes buckets links watch failure
     go l p f e = rw (p, f, e, gate_same gate n)
 
 -- 12 and 13
-pub indexed-open-refused :
+pub indexed_open_refused :
     (gate : List ℕ) (capacity settings rule : ℕ) (extra keys changes buckets links slots cells watch : List ℕ) (answer : ℕ) →
-    answer ≡ (gateOpened gate capacity settings rule extra keys changes buckets links slots cells watch).answer → (answer ≡ 7 → ⊥) →
-    gateOpened gate capacity settings rule extra keys changes buckets links slots cells watch ≡ begun answer gate buckets watch
-unfolding gateOpened indexed.openedWith sections.openedBy
-indexed-open-refused gate capacity settings rule extra keys changes buckets links slots cells watch answer e h =
-    all (settingsOf capacity settings rule) _ _ (roomWith (settingsOf capacity settings rule).follow (length watch) (length slots) (length cells)) (allPids extra)
-    (sections.canOpenBy (settingsOf capacity settings rule) (length keys) (length changes) (length buckets) (length links) (length watch)) e
+    answer ≡ (gate_opened gate capacity settings rule extra keys changes buckets links slots cells watch).answer → (answer ≡ 7 → ⊥) →
+    gate_opened gate capacity settings rule extra keys changes buckets links slots cells watch ≡ begun answer gate buckets watch
+unfolding gate_opened indexed.opened_with sections.opened_by
+indexed_open_refused gate capacity settings rule extra keys changes buckets links slots cells watch answer e h =
+    all (settings_of capacity settings rule) _ _ (room_with (settings_of capacity settings rule).follow (length watch) (length slots) (length cells)) (all_pids extra)
+    (sections.can_open_by (settings_of capacity settings rule) (length keys) (length changes) (length buckets) (length links) (length watch)) e
   where
     lower : Settings → List ℕ → List ℕ → Bool → Bool → sections.Begun
     lower s bs ws good room = cond good (cond room (sections.begins 7 s bs ws) (sections.begins 13 s buckets watch)) (sections.begins 12 s buckets watch)
 
     upper : Settings → List ℕ → List ℕ → Bool → Bool → Bool → sections.Begun
-    upper s bs ws there good room = cond there (indexed.begunWith s.follow (lower s bs ws good room)) (sections.begins (cond good 13 12) s buckets watch)
+    upper s bs ws there good room = cond there (indexed.begun_with s.follow (lower s bs ws good room)) (sections.begins (cond good 13 12) s buckets watch)
 
     all :
-        (s : Settings) (bs ws : List ℕ) (there good room : Bool) → answer ≡ (begunAs gate (upper s bs ws there good room)).answer →
-        begunAs gate (upper s bs ws there good room) ≡ begun answer gate buckets watch
+        (s : Settings) (bs ws : List ℕ) (there good room : Bool) → answer ≡ (begun_as gate (upper s bs ws there good room)).answer →
+        begun_as gate (upper s bs ws there good room) ≡ begun answer gate buckets watch
     all s bs ws true true true e = absurd (h e)
-    all s bs ws true true false e = rw (e, and_last (byTables s.follow))
-    all s bs ws true false room e = rw (e, and_last (byTables s.follow))
+    all s bs ws true true false e = rw (e, and_last (by_tables s.follow))
+    all s bs ws true false room e = rw (e, and_last (by_tables s.follow))
     all s bs ws false true room e = rw e
     all s bs ws false false room e = rw e

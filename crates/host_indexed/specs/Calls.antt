@@ -1,10 +1,10 @@
 -- What the calls of the gate with an index answer and leave in the words that a host lends: what gate_pats_indexed/specs/Store.antt says of the gate that
 -- the words hold.
 use Rattle.std.specs.Prelude.{ℕ, List, cond, length, eqb}
-use Rattle.host_words.specs.Inputs.{inputNumber}
-use Rattle.host_words.specs.Pids.{pidNumber}
+use Rattle.host_words.specs.Inputs.{input_number}
+use Rattle.host_words.specs.Pids.{pid_number}
 use Rattle.gate_state.specs.State.{number_of}
-use Rattle.host_gate_words.specs.Words.{settingsOf, gateOf, countersOf, words_of, wordsAfter, failureAfter}
+use Rattle.host_gate_words.specs.Words.{settings_of, gate_of, counters_of, words_of, words_after, failure_after}
 use Rattle.ring_index.specs.Store.{index_of}
 use Rattle.pats.specs.Store.{Record}
 use Rattle.gate_indexed.specs.Store.{Begun}
@@ -20,13 +20,13 @@ pub record GateBegun : Type 0 where
 abbrev pub begun : ℕ → List ℕ → List ℕ → List ℕ → GateBegun
 begun answer gate buckets watch = record { answer = answer; gate = gate; buckets = buckets; watch = watch }
 
-abbrev pub begunAs : List ℕ → Begun → GateBegun
-begunAs gate b =
+abbrev pub begun_as : List ℕ → Begun → GateBegun
+begun_as gate b =
     begun b.answer (cond (eqb b.answer 7) (words_of b.gate b.counters) gate) b.buckets b.words
 
-unfoldable pub gateOpened : List ℕ → ℕ → ℕ → ℕ → List ℕ → List ℕ → List ℕ → List ℕ → List ℕ → List ℕ → List ℕ → List ℕ → GateBegun
-gateOpened gate capacity settings rule extra keys changes buckets links slots cells watch =
-    begunAs gate (indexed.openedWith (settingsOf capacity settings rule) extra (length keys) (length changes) (length links) (length slots) (length cells) buckets watch)
+unfoldable pub gate_opened : List ℕ → ℕ → ℕ → ℕ → List ℕ → List ℕ → List ℕ → List ℕ → List ℕ → List ℕ → List ℕ → List ℕ → GateBegun
+gate_opened gate capacity settings rule extra keys changes buckets links slots cells watch =
+    begun_as gate (indexed.opened_with (settings_of capacity settings rule) extra (length keys) (length changes) (length links) (length slots) (length cells) buckets watch)
 
 -- an answer, the gate's thirteen words, its rows and their index, the watch record, and the words of a failure
 pub record GateLeft : Type 0 where
@@ -43,17 +43,17 @@ abbrev pub left : ℕ → List ℕ → List ℕ → List ℕ → List ℕ → Li
 left answer gate keys changes buckets links watch failure =
     record { answer = answer; gate = gate; keys = keys; changes = changes; buckets = buckets; links = links; watch = watch; failure = failure }
 
-abbrev pub leftAs : List ℕ → List ℕ → indexed.Offering → GateLeft
-leftAs gate failure l =
+abbrev pub left_as : List ℕ → List ℕ → indexed.Offering → GateLeft
+left_as gate failure l =
     left (number_of l.answer)
-    (wordsAfter gate l.left.kept.gate l.left.kept.counters)
+    (words_after gate l.left.kept.gate l.left.kept.counters)
     l.left.kept.keys
     l.left.kept.changes
     l.left.index.buckets
     l.left.index.links
     l.left.kept.watch
-    (failureAfter l.answer failure)
+    (failure_after l.answer failure)
 
-unfoldable pub gateOffered : List ℕ → List ℕ → List ℕ → List ℕ → List ℕ → Record → (input pid : ℕ) → List ℕ → List ℕ → GateLeft
-gateOffered gate keys changes buckets links watch input pid section failure =
-    leftAs gate failure (indexed.offeredWith (indexed.keptBy (gateOf gate) (countersOf gate) keys changes (index_of buckets links) watch) (inputNumber input) (pidNumber pid) section)
+unfoldable pub gate_offered : List ℕ → List ℕ → List ℕ → List ℕ → List ℕ → Record → (input pid : ℕ) → List ℕ → List ℕ → GateLeft
+gate_offered gate keys changes buckets links watch input pid section failure =
+    left_as gate failure (indexed.offered_with (indexed.kept_by (gate_of gate) (counters_of gate) keys changes (index_of buckets links) watch) (input_number input) (pid_number pid) section)

@@ -1,7 +1,7 @@
 // The gate with an index for a host in another language: `host_gate` with a bucket and a link for each row.
 ghost use Rattle.std.specs.Prelude.{◌≡◌};
-ghost use Rattle.pats.specs.Store.{recordOf};
-ghost use Rattle.host_indexed.specs.Calls.{begun, gateOpened, left, gateOffered};
+ghost use Rattle.pats.specs.Store.{record_of};
+ghost use Rattle.host_indexed.specs.Calls.{begun, gate_opened, left, gate_offered};
 
 // `petrizolu_gate_open` for a gate with an index over its rows: also the buckets are written.
 pub fn open(
@@ -18,7 +18,7 @@ pub fn open(
     pat_slots: &[u32],
     pat_cells: &[u8],
 ) -> u8
-    ensures { begun result gate.new buckets.new watch.new ≡ gateOpened gate.old capacity settings change_rule extra.now keys.now changes.now buckets.old links.now pat_slots.now pat_cells.now watch.old }
+    ensures { begun result gate.new buckets.new watch.new ≡ gate_opened gate.old capacity settings change_rule extra.now keys.now changes.now buckets.old links.now pat_slots.now pat_cells.now watch.old }
 {
     let asked = host_gate_words::settings(capacity, settings, change_rule);
     let opened = gate_pats_indexed::open(
@@ -42,7 +42,7 @@ pub fn offer(
     section: &[u8],
     failure: &mut [u64; 3],
 ) -> u8
-    ensures { left result gate.new keys.new changes.new buckets.new links.new (recordOf watch.new pat_slots.new pat_cells.new) failure.new ≡ gateOffered gate.old keys.old changes.old buckets.old links.old (recordOf watch.old pat_slots.old pat_cells.old) input pid section.now failure.old }
+    ensures { left result gate.new keys.new changes.new buckets.new links.new (record_of watch.new pat_slots.new pat_cells.new) failure.new ≡ gate_offered gate.old keys.old changes.old buckets.old links.old (record_of watch.old pat_slots.old pat_cells.old) input pid section.now failure.old }
 {
     let held = host_gate_words::read(gate);
     let from = host_words::inputs::number(input);

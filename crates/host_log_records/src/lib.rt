@@ -2,7 +2,7 @@
 // what is lent has one answer.
 ghost use Rattle.std.specs.Prelude.{◌≡◌, [], ◌∷◌, ◌≤◌, length, take};
 ghost use Rattle.host_words.specs.Answers.{words};
-ghost use Rattle.host_log_records.specs.Calls.{recordWords, logRead, answer_of, laidOver, RoomFor, Made, made, offerMade, setMade};
+ghost use Rattle.host_log_records.specs.Calls.{record_words, log_read, answer_of, laid_over, RoomFor, Made, made, offer_made, set_made};
 
 use answers::Refusal;
 use gate_state::Answer;
@@ -15,7 +15,7 @@ use section::header::ChangeRule;
 const LONGEST: usize = 4098;
 
 fn write_record(fields: &mut [u64; 12], r: Record, next: usize)
-    ensures { fields.new ≡ recordWords r next }
+    ensures { fields.new ≡ record_words r next }
 {
     *fields = [
         r.kind as u64,
@@ -35,7 +35,7 @@ fn write_record(fields: &mut [u64; 12], r: Record, next: usize)
 
 // The record at a place: 8 writes its fields and the place after it; 9, 38 and 39 leave the words.
 pub fn read(log: &[u8], place: u64, fields: &mut [u64; 12]) -> u8
-    ensures { words result fields.new ≡ logRead log.now place fields.old }
+    ensures { words result fields.new ≡ log_read log.now place fields.old }
 {
     let at = place as usize;
     match log_records::read_record(log, at) {
@@ -71,7 +71,7 @@ fn answer_of(number: u8) -> Answer
 // The first bytes of a record; what is behind them stays.
 fn lay(all: &[u8; 23], n: usize, bytes: &mut [u8])
     requires { (n ≤ 23) × (n ≤ length bytes.old) }
-    ensures { bytes.new ≡ laidOver bytes.old (take n all.now) }
+    ensures { bytes.new ≡ laid_over bytes.old (take n all.now) }
 {
     let whole = &all[..];
     cells::keep(bytes, 0, &whole[0..n]);
@@ -80,7 +80,7 @@ fn lay(all: &[u8; 23], n: usize, bytes: &mut [u8])
 // The bytes of a record, and how many there are.
 fn write_entry(entry: Entry, bytes: &mut [u8], told: &mut [u64; 1])
     requires { RoomFor entry (length bytes.old) }
-    ensures bytes_after { bytes.new ≡ laidOver bytes.old (take entry.length entry.bytes) }
+    ensures bytes_after { bytes.new ≡ laid_over bytes.old (take entry.length entry.bytes) }
     ensures told_after { told.new ≡ entry.length ∷ [] }
 {
     let all = entry.bytes;
@@ -99,7 +99,7 @@ pub fn offer_record(
     bytes: &mut [u8; 13],
     told: &mut [u64; 1],
 ) -> u8
-    ensures { made result bytes.new told.new ≡ offerMade answer change_rule input pid section.now bytes.old told.old }
+    ensures { made result bytes.new told.new ≡ offer_made answer change_rule input pid section.now bytes.old told.old }
 {
     if LONGEST < section.len() {
         return 42;
@@ -124,7 +124,7 @@ pub fn set_record(
     bytes: &mut [u8; 10],
     told: &mut [u64; 1],
 ) -> u8
-    ensures { made result bytes.new told.new ≡ setMade input pid section.now bytes.old }
+    ensures { made result bytes.new told.new ≡ set_made input pid section.now bytes.old }
 {
     let i = host_words::inputs::number(input);
     let p = host_words::pids::maybe(pid);

@@ -1,7 +1,7 @@
 // What the words of a host stand for in the calls on logs (docs/RULES.md, "Logs"): seven words of settings, and the word that a call tells a place or a length in.
 ghost use Rattle.std.specs.Prelude.{◌≡◌};
 ghost use Rattle.host_words.specs.Answers.{words};
-ghost use Rattle.host_log_words.specs.Words.{settingsOf, ruleFor, pidsFor, tellsChecked, tellsWritten};
+ghost use Rattle.host_log_words.specs.Words.{settings_of, rule_for, pids_for, tells_checked, tells_written};
 
 use log_check::Checked;
 use log_state::{Pids, Settings};
@@ -9,14 +9,14 @@ use log_write::Written;
 
 // The change rule, and none where it is not said how sets are taken: opening refuses that.
 fn rule_for(rule: u64, pids: u64) -> u64
-    ensures { result ≡ ruleFor rule pids }
+    ensures { result ≡ rule_for rule pids }
 {
     if pids < 3 { rule } else { 0 }
 }
 
 // How sets are taken: 1 without PIDs, 2 by the older definition, else with them.
 fn pids_for(pids: u64) -> Pids
-    ensures { result ≡ pidsFor pids }
+    ensures { result ≡ pids_for pids }
 {
     if pids == 1 {
         return Pids::Without;
@@ -29,7 +29,7 @@ fn pids_for(pids: u64) -> Pids
 
 // The settings that seven words are: capacity, repeats, change rule, limit, cell size, cell count, and how sets are taken.
 pub fn settings_of(w: &[u64; 7]) -> Settings
-    ensures { result ≡ settingsOf w.now }
+    ensures { result ≡ settings_of w.now }
 {
     Settings {
         capacity: w[0],
@@ -44,7 +44,7 @@ pub fn settings_of(w: &[u64; 7]) -> Settings
 
 // Writes the place, which 38, 39 and 40 tell; gives the answer's number.
 pub fn write_place(place: &mut [u64; 1], told: Checked) -> u8
-    ensures { words result place.new ≡ tellsChecked told place.old }
+    ensures { words result place.new ≡ tells_checked told place.old }
 {
     let answer = told.answer;
     let number = answer.number();
@@ -56,7 +56,7 @@ pub fn write_place(place: &mut [u64; 1], told: Checked) -> u8
 
 // Writes how many bytes the log has, which 7 tells; gives the answer's number.
 pub fn write_length(length: &mut [u64; 1], told: Written) -> u8
-    ensures { words result length.new ≡ tellsWritten told length.old }
+    ensures { words result length.new ≡ tells_written told length.old }
 {
     let answer = told.answer;
     let number = answer.number();

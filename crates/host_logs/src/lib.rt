@@ -1,7 +1,7 @@
 // Logs for a host in another language (docs/RULES.md, "Logs"): one checked against a section list, and one written. Every content of what is lent has one answer.
 ghost use Rattle.std.specs.Prelude.{◌≡◌};
 ghost use Rattle.log_sections.specs.Steps.{memory};
-ghost use Rattle.host_logs.specs.Calls.{checkLeft, logChecked, writeLeft, logWritten};
+ghost use Rattle.host_logs.specs.Calls.{check_left, log_checked, write_left, log_written};
 
 // Is the log exactly that of the sections? 8, 10, 13, 38, 39, 40, 41 or 42. 42, 10, 41 and 13 leave the memory of the run.
 pub fn check(
@@ -15,7 +15,7 @@ pub fn check(
     cells: &mut [u8],
     place: &mut [u64; 1],
 ) -> u8
-    ensures { checkLeft result place.new (memory keys.new changes.new heads.new slots.new cells.new) ≡ logChecked settings.now sections.now log.now (memory keys.old changes.old heads.old slots.old cells.old) place.old }
+    ensures { check_left result place.new (memory keys.new changes.new heads.new slots.new cells.new) ≡ log_checked settings.now sections.now log.now (memory keys.old changes.old heads.old slots.old cells.old) place.old }
 {
     let s = host_log_words::settings_of(settings);
     let told = log_check::check(s, sections, log, keys, changes, heads, slots, cells);
@@ -34,7 +34,7 @@ pub fn write(
     cells: &mut [u8],
     length: &mut [u64; 1],
 ) -> u8
-    ensures { writeLeft result length.new room.new (memory keys.new changes.new heads.new slots.new cells.new) ≡ logWritten settings.now sections.now room.old (memory keys.old changes.old heads.old slots.old cells.old) length.old }
+    ensures { write_left result length.new room.new (memory keys.new changes.new heads.new slots.new cells.new) ≡ log_written settings.now sections.now room.old (memory keys.old changes.old heads.old slots.old cells.old) length.old }
 {
     let s = host_log_words::settings_of(settings);
     let told = log_write::write(s, sections, room, keys, changes, heads, slots, cells);

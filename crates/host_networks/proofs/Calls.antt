@@ -12,54 +12,54 @@ use Rattle.store.specs.declared.Sets.{Sets}
 use Rattle.rules_networks.specs.declared.Table.{Table}
 use Rattle.rules_networks.specs.declared.Table.TheVariants.{Nit, Bat, Sdt, None}
 use Rattle.network_sets.specs.declared.Read.{Read}
-use Rattle.network_sets.specs.Sets.{readNumber}
-use Rattle.networks.specs.Store.{readSection, readSet}
+use Rattle.network_sets.specs.Sets.{read_number}
+use Rattle.networks.specs.Store.{read_section, read_set}
 use Rattle.host_words.specs.Answers.{Words, words}
-use Rattle.host_sets_words.specs.Words.{setsOf}
+use Rattle.host_sets_words.specs.Words.{sets_of}
 use Rattle.host_showing.specs.Calls.{listing}
-use Rattle.host_networks.specs.Calls.{readerOf, tellsRead, handed, sectionRead, setRead}
+use Rattle.host_networks.specs.Calls.{reader_of, tells_read, handed, section_read, set_read}
 
 -- ---- readers
 
 module _ (n : ℕ) where
-  pub reader-nit : n ≡ 1 → Nit ≡ readerOf n
-  unfolding readerOf
-  reader-nit e = rw e
+  pub reader_nit : n ≡ 1 → Nit ≡ reader_of n
+  unfolding reader_of
+  reader_nit e = rw e
 
   module _ (a : n ≢ 1) where
-    pub reader-bat : n ≡ 2 → Bat ≡ readerOf n
-    unfolding readerOf
-    reader-bat e = rw e
+    pub reader_bat : n ≡ 2 → Bat ≡ reader_of n
+    unfolding reader_of
+    reader_bat e = rw e
 
     module _ (b : n ≢ 2) where
-      pub reader-sdt : n ≡ 3 → Sdt ≡ readerOf n
-      unfolding readerOf
-      reader-sdt e = rw e
+      pub reader_sdt : n ≡ 3 → Sdt ≡ reader_of n
+      unfolding reader_of
+      reader_sdt e = rw e
 
-      pub reader-none : n ≢ 3 → None ≡ readerOf n
-      unfolding readerOf
-      reader-none c = rw (ne_eqb n 1 a, ne_eqb n 2 b, ne_eqb n 3 c)
+      pub reader_none : n ≢ 3 → None ≡ reader_of n
+      unfolding reader_of
+      reader_none c = rw (ne_eqb n 1 a, ne_eqb n 2 b, ne_eqb n 3 c)
 
 -- ---- the three words
 
-module _ (s : Read) (w : List ℕ) (n : ℕ) (e : n ≡ readNumber s.answer) where
-  pub read_kept : (eqb n 10 || eqb n 41) ≡ true → words n w ≡ tellsRead s w
+module _ (s : Read) (w : List ℕ) (n : ℕ) (e : n ≡ read_number s.answer) where
+  pub read_kept : (eqb n 10 || eqb n 41) ≡ true → words n w ≡ tells_read s w
   read_kept h = rw (← e, h)
 
-  pub read-written : (eqb n 10 || eqb n 41) ≡ false → words n (s.count ∷ s.section ∷ s.place ∷ []) ≡ tellsRead s w
-  read-written h = rw (← e, h)
+  pub read_written : (eqb n 10 || eqb n 41) ≡ false → words n (s.count ∷ s.section ∷ s.place ∷ []) ≡ tells_read s w
+  read_written h = rw (← e, h)
 
 -- ---- the calls
 
-both : (s : Read) (l w ws : List ℕ) (r : ℕ) (x : Read × List ℕ) → (s, l) ≡ x → words r ws ≡ tellsRead s w → listing r ws l ≡ handed x w
+both : (s : Read) (l w ws : List ℕ) (r : ℕ) (x : Read × List ℕ) → (s, l) ≡ x → words r ws ≡ tells_read s w → listing r ws l ≡ handed x w
 both s l w ws r x e t = rw (← e, ap (λ (y : Words). y.answer) t, ap (λ (y : Words). y.now) t)
 
-module _ (reader : ℕ) (t : Table) (k : t ≡ readerOf reader) (list w : List ℕ) (s : Read) (l ws : List ℕ) (r : ℕ) where
-  pub section-read : (section : List ℕ) (skip : ℕ) → (s, l) ≡ readSection t section skip list → words r ws ≡ tellsRead s w → listing r ws l ≡ sectionRead reader section skip list w
-  unfolding sectionRead
-  section-read section skip e f = rw (← k) (both s l w ws r (readSection t section skip list) e f)
+module _ (reader : ℕ) (t : Table) (k : t ≡ reader_of reader) (list w : List ℕ) (s : Read) (l ws : List ℕ) (r : ℕ) where
+  pub section_read_lem : (section : List ℕ) (skip : ℕ) → (s, l) ≡ read_section t section skip list → words r ws ≡ tells_read s w → listing r ws l ≡ section_read reader section skip list w
+  unfolding section_read
+  section_read_lem section skip e f = rw (← k) (both s l w ws r (read_section t section skip list) e f)
 
-  pub set-read : (sets heads slots cells : List ℕ) (c : Sets) (row skip : ℕ) → c ≡ setsOf sets → (s, l) ≡ readSet t (store c heads slots cells) row skip list → words r ws ≡ tellsRead s w
-      → listing r ws l ≡ setRead reader sets heads slots cells row skip list w
-  unfolding setRead
-  set-read sets heads slots cells c row skip h e f = rw (← k, ← h) (both s l w ws r (readSet t (store c heads slots cells) row skip list) e f)
+  pub set_read_lem : (sets heads slots cells : List ℕ) (c : Sets) (row skip : ℕ) → c ≡ sets_of sets → (s, l) ≡ read_set t (store c heads slots cells) row skip list → words r ws ≡ tells_read s w
+      → listing r ws l ≡ set_read reader sets heads slots cells row skip list w
+  unfolding set_read
+  set_read_lem sets heads slots cells c row skip h e f = rw (← k, ← h) (both s l w ws r (read_set t (store c heads slots cells) row skip list) e f)

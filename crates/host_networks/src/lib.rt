@@ -3,7 +3,7 @@
 ghost use Rattle.std.specs.Prelude.{◌≡◌};
 ghost use Rattle.host_words.specs.Answers.{words};
 ghost use Rattle.host_showing.specs.Calls.{listing};
-ghost use Rattle.host_networks.specs.Calls.{readerOf, tellsRead, sectionRead, setRead};
+ghost use Rattle.host_networks.specs.Calls.{reader_of, tells_read, section_read, set_read};
 
 use network_sets::Read;
 use rules_networks::Table;
@@ -15,7 +15,7 @@ const NO_PID: u8 = 41;
 
 // The reader of a number: 1 networks', 2 bouquets', 3 services'; any other number names none.
 fn reader_of(reader: u32) -> Table
-    ensures { result ≡ readerOf reader }
+    ensures { result ≡ reader_of reader }
 {
     if reader == 1 {
         return Table::Nit;
@@ -31,7 +31,7 @@ fn reader_of(reader: u32) -> Table
 
 // Writes how many entries there are, and with 35 and 36 the section and the place in it; gives the answer's number. 10 and 41 leave the words.
 fn write_read(listed: &mut [u64; 3], read: Read) -> u8
-    ensures { words result listed.new ≡ tellsRead read listed.old }
+    ensures { words result listed.new ≡ tells_read read listed.old }
 {
     let answer = read.answer;
     let number = answer.number();
@@ -50,7 +50,7 @@ pub fn entries(
     list: &mut [u32],
     listed: &mut [u64; 3],
 ) -> u8
-    ensures { listing result listed.new list.new ≡ sectionRead reader section.now skip list.old listed.old }
+    ensures { listing result listed.new list.new ≡ section_read reader section.now skip list.old listed.old }
 {
     let table = reader_of(reader);
     let read = networks::entries(table, section, skip as usize, list);
@@ -69,7 +69,7 @@ pub fn sets_entries(
     list: &mut [u32],
     listed: &mut [u64; 3],
 ) -> u8
-    ensures { listing result listed.new list.new ≡ setRead reader sets.now heads.now slots.now cells.now row skip list.old listed.old }
+    ensures { listing result listed.new list.new ≡ set_read reader sets.now heads.now slots.now cells.now row skip list.old listed.old }
 {
     let table = reader_of(reader);
     let collector = host_sets_words::sets(sets);

@@ -1,14 +1,14 @@
 // Packets that are passed over, for a host in another language (`host_feed`): one call for those at the front of some bytes that need no feed.
 ghost use Rattle.std.specs.Prelude.{◌≡◌};
-ghost use Rattle.pats.specs.Store.{recordOf};
-ghost use Rattle.host_streams.specs.Words.{wordsAfter};
-ghost use Rattle.host_pass.specs.Calls.{left, packetsPassed};
+ghost use Rattle.pats.specs.Store.{record_of};
+ghost use Rattle.host_streams.specs.Words.{words_after};
+ghost use Rattle.host_pass.specs.Calls.{left, packets_passed};
 
 use streams::Streams;
 
 // The counts: a packet never changes how many buffers are lent.
 pub fn write_counts(words: &mut [u64; 3], streams: Streams)
-    ensures { words.new ≡ wordsAfter words.old streams }
+    ensures { words.new ≡ words_after words.old streams }
 {
     *words = [words[0], streams.packets, streams.malformed];
 }
@@ -28,7 +28,7 @@ pub fn pass(
     packets: &[u8],
     places: &[u64],
 ) -> u64
-    ensures { left result streams.new pids.new ≡ packetsPassed gate.now streams.old keys.now changes.now (recordOf watch.now pat_slots.now pat_cells.now) pids.old buffers.now input packets.now places.now }
+    ensures { left result streams.new pids.new ≡ packets_passed gate.now streams.old keys.now changes.now (record_of watch.now pat_slots.now pat_cells.now) pids.old buffers.now input packets.now places.now }
 {
     let held = host_gate_words::read(gate);
     let known = host_streams::streams(streams);

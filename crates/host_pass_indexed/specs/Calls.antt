@@ -2,10 +2,10 @@
 use Rattle.std.specs.Prelude.{ℕ, ◌/◌, List, length}
 use Rattle.pats.specs.Store.{Record}
 use Rattle.demux_indexed_pass.specs.Store.{passing}
-use Rattle.host_words.specs.Inputs.{inputNumber}
-use Rattle.host_feed_indexed_calls.specs.Calls.{storeIn}
-use Rattle.host_pass.specs.Calls.{PassLeft, leftAs}
+use Rattle.host_words.specs.Inputs.{input_number}
+use Rattle.host_feed_indexed_calls.specs.Calls.{store_in}
+use Rattle.host_pass.specs.Calls.{PassLeft, left_as}
 
 -- of the packets of 188 bytes those before the first that is not passed over, each fed
-unfoldable pub packetsPassed : List ℕ → List ℕ → List ℕ → List ℕ → List ℕ → List ℕ → Record → List ℕ → List ℕ → (input : ℕ) → List ℕ → List ℕ → PassLeft
-packetsPassed g s keys changes buckets links watch pids buffers input packets places = leftAs s (passing (length packets / 188) (storeIn g s keys changes buckets links watch pids buffers places) (inputNumber input) packets)
+unfoldable pub packets_passed : List ℕ → List ℕ → List ℕ → List ℕ → List ℕ → List ℕ → Record → List ℕ → List ℕ → (input : ℕ) → List ℕ → List ℕ → PassLeft
+packets_passed g s keys changes buckets links watch pids buffers input packets places = left_as s (passing (length packets / 188) (store_in g s keys changes buckets links watch pids buffers places) (input_number input) packets)

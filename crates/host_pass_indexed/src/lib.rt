@@ -1,8 +1,8 @@
 // `host_pass` through the gate with an index.
 ghost use Rattle.std.specs.Prelude.{◌≡◌};
-ghost use Rattle.pats.specs.Store.{recordOf};
+ghost use Rattle.pats.specs.Store.{record_of};
 ghost use Rattle.host_pass.specs.Calls.{left};
-ghost use Rattle.host_pass_indexed.specs.Calls.{packetsPassed};
+ghost use Rattle.host_pass_indexed.specs.Calls.{packets_passed};
 
 // How many packets at the front are passed over: none where a feed would be refused.
 pub fn pass(
@@ -21,7 +21,7 @@ pub fn pass(
     packets: &[u8],
     places: &[u64],
 ) -> u64
-    ensures { left result streams.new pids.new ≡ packetsPassed gate.now streams.old keys.now changes.now buckets.now links.now (recordOf watch.now pat_slots.now pat_cells.now) pids.old buffers.now input packets.now places.now }
+    ensures { left result streams.new pids.new ≡ packets_passed gate.now streams.old keys.now changes.now buckets.now links.now (record_of watch.now pat_slots.now pat_cells.now) pids.old buffers.now input packets.now places.now }
 {
     let held = host_gate_words::read(gate);
     let known = host_streams::streams(streams);

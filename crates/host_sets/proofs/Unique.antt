@@ -4,27 +4,27 @@
 use Prim.Native.Nat.{ℕ}
 use mathlib.Core.Path.{◌≡◌, ap}
 use mathlib.Core.List.{List}
-use Rattle.laws.proofs.Unique.{one-result}
+use Rattle.laws.proofs.Unique.{one_result}
 use Rattle.host_words.specs.Answers.{words}
-use Rattle.host_words.proofs.Unique.{words-one}
-use Rattle.host_sets.specs.Calls.{setsOpened, setsCleared, SetsLeft, setsLeft, setsPushed, setsNext}
+use Rattle.host_words.proofs.Unique.{words_one}
+use Rattle.host_sets.specs.Calls.{sets_opened, sets_cleared, SetsLeft, sets_left, sets_pushed, sets_next}
 
-pub unique-sets-open :
+pub unique_sets_open :
     (sets : List ℕ) (limit size count : ℕ) (heads slots cells : List ℕ) (r s : ℕ) (w x : List ℕ) →
-    words r w ≡ setsOpened sets limit size count heads slots cells → words s x ≡ setsOpened sets limit size count heads slots cells → (r ≡ s) × (w ≡ x)
-unique-sets-open sets limit size count heads slots cells = words-one (setsOpened sets limit size count heads slots cells)
+    words r w ≡ sets_opened sets limit size count heads slots cells → words s x ≡ sets_opened sets limit size count heads slots cells → (r ≡ s) × (w ≡ x)
+unique_sets_open sets limit size count heads slots cells = words_one (sets_opened sets limit size count heads slots cells)
 
-pub unique-sets-clear :
+pub unique_sets_clear :
     (sets heads slots cells : List ℕ) (r s : ℕ) (w x : List ℕ) →
-    words r w ≡ setsCleared sets heads slots cells → words s x ≡ setsCleared sets heads slots cells → (r ≡ s) × (w ≡ x)
-unique-sets-clear sets heads slots cells = words-one (setsCleared sets heads slots cells)
+    words r w ≡ sets_cleared sets heads slots cells → words s x ≡ sets_cleared sets heads slots cells → (r ≡ s) × (w ≡ x)
+unique_sets_clear sets heads slots cells = words_one (sets_cleared sets heads slots cells)
 
-pub unique-sets-push :
+pub unique_sets_push :
     (sets heads slots cells : List ℕ) (input pid : ℕ) (section row : List ℕ) (r s : ℕ) (w x h i k l c d n m : List ℕ) →
-    setsLeft r w h k c n ≡ setsPushed sets heads slots cells input pid section row → setsLeft s x i l d m ≡ setsPushed sets heads slots cells input pid section row →
+    sets_left r w h k c n ≡ sets_pushed sets heads slots cells input pid section row → sets_left s x i l d m ≡ sets_pushed sets heads slots cells input pid section row →
     (r ≡ s) × (w ≡ x) × (h ≡ i) × (k ≡ l) × (c ≡ d) × (n ≡ m)
-unique-sets-push sets heads slots cells input pid section row r s w x h i k l c d n m a b =
-    let e : setsLeft r w h k c n ≡ setsLeft s x i l d m = one-result (setsPushed sets heads slots cells input pid section row) a b in (
+unique_sets_push sets heads slots cells input pid section row r s w x h i k l c d n m a b =
+    let e : sets_left r w h k c n ≡ sets_left s x i l d m = one_result (sets_pushed sets heads slots cells input pid section row) a b in (
       ap (λ (t : SetsLeft). t.answer) e,
       ap (λ (t : SetsLeft). t.sets) e,
       ap (λ (t : SetsLeft). t.heads) e,
@@ -33,7 +33,7 @@ unique-sets-push sets heads slots cells input pid section row r s w x h i k l c 
       ap (λ (t : SetsLeft). t.row) e,
     )
 
-pub unique-sets-next :
+pub unique_sets_next :
     (sets heads slots cells : List ℕ) (row from : ℕ) (next : List ℕ) (r s : ℕ) (w x : List ℕ) →
-    words r w ≡ setsNext sets heads slots cells row from next → words s x ≡ setsNext sets heads slots cells row from next → (r ≡ s) × (w ≡ x)
-unique-sets-next sets heads slots cells row from next = words-one (setsNext sets heads slots cells row from next)
+    words r w ≡ sets_next sets heads slots cells row from next → words s x ≡ sets_next sets heads slots cells row from next → (r ≡ s) × (w ≡ x)
+unique_sets_next sets heads slots cells row from next = words_one (sets_next sets heads slots cells row from next)

@@ -2,7 +2,7 @@
 // and what it leaves is written back. Every content of the words has one answer.
 ghost use Rattle.std.specs.Prelude.{◌≡◌};
 ghost use Rattle.host_words.specs.Answers.{words};
-ghost use Rattle.host_sets.specs.Calls.{setsLeft, setsOpened, setsPushed, setsCleared, setsNext};
+ghost use Rattle.host_sets.specs.Calls.{sets_left, sets_opened, sets_pushed, sets_cleared, sets_next};
 
 // Opens a set collector: 7 or 13. A refusal leaves the words as they were; nothing else lent is written.
 pub fn open(
@@ -14,7 +14,7 @@ pub fn open(
     slots: &[u32],
     cells: &[u8],
 ) -> u8
-    ensures { words result sets.new ≡ setsOpened sets.old limit size count heads.now slots.now cells.now }
+    ensures { words result sets.new ≡ sets_opened sets.old limit size count heads.now slots.now cells.now }
 {
     let opened = sets::open(
         limit as usize,
@@ -38,7 +38,7 @@ pub fn push(
     section: &[u8],
     row: &mut [u64; 1],
 ) -> u8
-    ensures { setsLeft result sets.new heads.new slots.new cells.new row.new ≡ setsPushed sets.old heads.old slots.old cells.old input pid section.now row.old }
+    ensures { sets_left result sets.new heads.new slots.new cells.new row.new ≡ sets_pushed sets.old heads.old slots.old cells.old input pid section.now row.old }
 {
     let before = host_sets_words::sets(sets);
     let on = host_words::inputs::number(input);
@@ -49,7 +49,7 @@ pub fn push(
 
 // Empties all rows: 7, 10 or 41.
 pub fn clear(sets: &mut [u64; 6], heads: &[u64], slots: &[u32], cells: &[u8]) -> u8
-    ensures { words result sets.new ≡ setsCleared sets.old heads.now slots.now cells.now }
+    ensures { words result sets.new ≡ sets_cleared sets.old heads.now slots.now cells.now }
 {
     let before = host_sets_words::sets(sets);
     let cleared = sets::clear(before, heads, slots, cells);
@@ -66,7 +66,7 @@ pub fn next(
     from: u64,
     next: &mut [u64; 3],
 ) -> u8
-    ensures { words result next.new ≡ setsNext sets.now heads.now slots.now cells.now row from next.old }
+    ensures { words result next.new ≡ sets_next sets.now heads.now slots.now cells.now row from next.old }
 {
     let collector = host_sets_words::sets(sets);
     let told = sets::next_section(collector, heads, slots, cells, row as usize, from as usize);

@@ -5,32 +5,32 @@ use Rattle.std.specs.Prelude.{ℕ, List, [], ◌∷◌}
 use Rattle.store.specs.Store.{Store, store}
 use Rattle.store.specs.declared.Sets.{Sets}
 use Rattle.sets_settle.specs.Settle.{after}
-use Rattle.sets_all.specs.All.{AllTold, of, overlong, AllAfter, pushedAll}
+use Rattle.sets_all.specs.All.{AllTold, of, overlong, AllAfter, pushed_all}
 use Rattle.sets_all.specs.declared.AllAnswer.{AllAnswer}
 use Rattle.sets_all.specs.declared.AllAnswer.TheVariants as answer
 use Rattle.host_words.specs.Answers.{Pushes, pushes}
-use Rattle.host_sets_words.specs.Words.{setsOf, tellsPushed}
-use Rattle.host_sets.specs.Calls.{SetsLeft, setsLeft, pushedAs}
+use Rattle.host_sets_words.specs.Words.{sets_of, tells_pushed}
+use Rattle.host_sets.specs.Calls.{SetsLeft, sets_left, pushed_as}
 
 -- what the words of the collector and the row's word are then: as one push leaves them, and 42 leaves them as they were
-abbrev pub tellsAll : AllAnswer → Sets → List ℕ → List ℕ → Pushes
-tellsAll (answer.Pushed a) s w row = tellsPushed (record { answer = a; sets = s }) w row
-tellsAll answer.TooLong s w row = pushes 42 w row
+abbrev pub tells_all : AllAnswer → Sets → List ℕ → List ℕ → Pushes
+tells_all (answer.Pushed a) s w row = tells_pushed (record { answer = a; sets = s }) w row
+tells_all answer.TooLong s w row = pushes 42 w row
 
 -- what one push leaves in all that is lent, and the word of the bytes that were taken
 pub record AllLeft : Type 0 where
   pub left : SetsLeft
   pub taken : List ℕ
 
-abbrev pub allLeft : SetsLeft → List ℕ → AllLeft
-allLeft left taken = record { left = left; taken = taken }
+abbrev pub all_left : SetsLeft → List ℕ → AllLeft
+all_left left taken = record { left = left; taken = taken }
 
-abbrev pub leftBy : List ℕ → List ℕ → AllTold → Store → SetsLeft
-leftBy sets row (of t) s = pushedAs sets row (after t s)
-leftBy sets row overlong s = setsLeft 42 sets s.heads s.slots s.cells row
+abbrev pub left_by : List ℕ → List ℕ → AllTold → Store → SetsLeft
+left_by sets row (of t) s = pushed_as sets row (after t s)
+left_by sets row overlong s = sets_left 42 sets s.heads s.slots s.cells row
 
-abbrev pub pushedAllAs : List ℕ → List ℕ → AllAfter → AllLeft
-pushedAllAs sets row l = allLeft (leftBy sets row l.told l.store) (l.taken ∷ [])
+abbrev pub pushed_all_as : List ℕ → List ℕ → AllAfter → AllLeft
+pushed_all_as sets row l = all_left (left_by sets row l.told l.store) (l.taken ∷ [])
 
-unfoldable pub setsPushedAll : (sets heads slots cells list row : List ℕ) → AllLeft
-setsPushedAll sets heads slots cells list row = pushedAllAs sets row (pushedAll (store (setsOf sets) heads slots cells) list)
+unfoldable pub sets_pushed_all : (sets heads slots cells list row : List ℕ) → AllLeft
+sets_pushed_all sets heads slots cells list row = pushed_all_as sets row (pushed_all (store (sets_of sets) heads slots cells) list)

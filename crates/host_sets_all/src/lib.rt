@@ -2,8 +2,8 @@
 // apart, the one call is made, and what it leaves is written back. Every content of the words and every list has one answer.
 ghost use Rattle.std.specs.Prelude.{◌≡◌};
 ghost use Rattle.host_words.specs.Answers.{pushes};
-ghost use Rattle.host_sets.specs.Calls.{setsLeft};
-ghost use Rattle.host_sets_all.specs.Calls.{tellsAll, allLeft, setsPushedAll};
+ghost use Rattle.host_sets.specs.Calls.{sets_left};
+ghost use Rattle.host_sets_all.specs.Calls.{tells_all, all_left, sets_pushed_all};
 
 use sets_all::AllAnswer;
 use sets_settle::Pushed;
@@ -11,7 +11,7 @@ use store::Sets;
 
 // Writes what the pushes left as one push does, and gives the answer's number. 42 leaves the words as they were.
 fn write_told(sets: &mut [u64; 6], row: &mut [u64; 1], answer: AllAnswer, left: Sets) -> u8
-    ensures { pushes result sets.new row.new ≡ tellsAll answer left sets.old row.old }
+    ensures { pushes result sets.new row.new ≡ tells_all answer left sets.old row.old }
 {
     match answer {
         AllAnswer::Pushed(answer) => {
@@ -32,7 +32,7 @@ pub fn push_all(
     row: &mut [u64; 1],
     taken: &mut [u64; 1],
 ) -> u8
-    ensures { allLeft (setsLeft result sets.new heads.new slots.new cells.new row.new) taken.new ≡ setsPushedAll sets.old heads.old slots.old cells.old list.now row.old }
+    ensures { all_left (sets_left result sets.new heads.new slots.new cells.new row.new) taken.new ≡ sets_pushed_all sets.old heads.old slots.old cells.old list.now row.old }
 {
     let before = host_sets_words::sets(sets);
     let pushed = sets_all::push_all(before, heads, slots, cells, list);

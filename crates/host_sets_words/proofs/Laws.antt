@@ -10,8 +10,8 @@ use Rattle.sets_settle.specs.declared.PushAnswer.{PushAnswer}
 use Rattle.sets_settle.specs.declared.PushAnswer.TheVariants as push-answer
 use Rattle.host_sets_words.specs.Words as collectors
 
-pub sets-written : (a : Outcome) (s : Sets) (w ws : List ℕ) → a ≡ outcome.Done → ws ≡ collectors.words_of s → ws ≡ collectors.wordsOpened a s w
-sets-written a s w ws h e = rw h e
+pub sets_written : (a : Outcome) (s : Sets) (w ws : List ℕ) → a ≡ outcome.Done → ws ≡ collectors.words_of s → ws ≡ collectors.words_opened a s w
+sets_written a s w ws h e = rw h e
 
-pub row_written : (a : PushAnswer) (i : ℕ) (row : List ℕ) → a ≡ push-answer.Set i → i ∷ [] ≡ collectors.row_by a row
+pub row_written : (a : PushAnswer) (i : ℕ) (row : List ℕ) → a ≡ push_answer.Set i → i ∷ [] ≡ collectors.row_by a row
 row_written a i row h = rw h

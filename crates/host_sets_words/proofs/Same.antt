@@ -8,7 +8,7 @@ use lib.ListN.{length}
 use Rattle.host_words.proofs.Same.{word, none}
 use Rattle.host_sets_words.specs.Words as collectors
 
-pub sets_same : (w : List ℕ) → length w ≡ 6 → collectors.wordsAfter w (collectors.setsOf w) ≡ w
+pub sets_same : (w : List ℕ) → length w ≡ 6 → collectors.words_after w (collectors.sets_of w) ≡ w
 sets_same w h =
     sym
     (word w 0 _ (omega arith)

@@ -1,7 +1,7 @@
 // The six words of a set collector: 0 limit, 1 size, 2 count, 3 used, 4 evictions, 5 clock; and the word of a row that goes out.
 ghost use Rattle.std.specs.Prelude.{◌≡◌};
 ghost use Rattle.host_words.specs.Answers.{words, pushes};
-ghost use Rattle.host_sets_words.specs.Words.{setsOf, words_of, wordsOpened, wordsAfter, row_by, tellsOpened, tellsPushed, tellsCleared};
+ghost use Rattle.host_sets_words.specs.Words.{sets_of, words_of, words_opened, words_after, row_by, tells_opened, tells_pushed, tells_cleared};
 
 use answers::Outcome;
 use sets::{Cleared, Opened};
@@ -9,7 +9,7 @@ use sets_settle::{PushAnswer, Pushed};
 use store::Sets;
 
 pub fn sets(words: &[u64; 6]) -> Sets
-    ensures { result ≡ setsOf words.now }
+    ensures { result ≡ sets_of words.now }
 {
     Sets {
         limit: words[0] as usize,
@@ -37,7 +37,7 @@ fn write(words: &mut [u64; 6], sets: Sets)
 
 // A collector that was opened writes all six; a refused opening none.
 fn write_where(words: &mut [u64; 6], answer: Outcome, sets: Sets)
-    ensures { words.new ≡ wordsOpened answer sets words.old }
+    ensures { words.new ≡ words_opened answer sets words.old }
 {
     match answer {
         Outcome::Done => write(words, sets),
@@ -47,7 +47,7 @@ fn write_where(words: &mut [u64; 6], answer: Outcome, sets: Sets)
 
 // The counts: no call but opening changes the settings.
 fn write_counts(words: &mut [u64; 6], sets: Sets)
-    ensures { words.new ≡ wordsAfter words.old sets }
+    ensures { words.new ≡ words_after words.old sets }
 {
     let used = sets.used as u64;
     *words = [
@@ -73,7 +73,7 @@ fn write_row(row: &mut [u64; 1], answer: PushAnswer)
 
 // Writes what an opening leaves in the words, and gives its number.
 pub fn write_opened(sets: &mut [u64; 6], opened: Opened) -> u8
-    ensures { words result sets.new ≡ tellsOpened opened sets.old }
+    ensures { words result sets.new ≡ tells_opened opened sets.old }
 {
     let answer = opened.answer;
     write_where(sets, answer, opened.sets);
@@ -82,7 +82,7 @@ pub fn write_opened(sets: &mut [u64; 6], opened: Opened) -> u8
 
 // Writes what a push leaves in the words, and gives its number.
 pub fn write_pushed(sets: &mut [u64; 6], row: &mut [u64; 1], pushed: Pushed) -> u8
-    ensures { pushes result sets.new row.new ≡ tellsPushed pushed sets.old row.old }
+    ensures { pushes result sets.new row.new ≡ tells_pushed pushed sets.old row.old }
 {
     let answer = pushed.answer;
     write_counts(sets, pushed.sets);
@@ -92,7 +92,7 @@ pub fn write_pushed(sets: &mut [u64; 6], row: &mut [u64; 1], pushed: Pushed) -> 
 
 // Writes what a clearing leaves in the words, and gives its number.
 pub fn write_cleared(sets: &mut [u64; 6], cleared: Cleared) -> u8
-    ensures { words result sets.new ≡ tellsCleared cleared sets.old }
+    ensures { words result sets.new ≡ tells_cleared cleared sets.old }
 {
     let answer = cleared.answer;
     write_counts(sets, cleared.sets);

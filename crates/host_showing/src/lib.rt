@@ -2,7 +2,7 @@
 // lent list; and the calendar date of a day. Every content of what is lent has one answer.
 ghost use Rattle.std.specs.Prelude.{◌≡◌};
 ghost use Rattle.host_words.specs.Answers.{words};
-ghost use Rattle.host_showing.specs.Calls.{tellsListed, listing, sectionListed, setListed, tableListed, dateWord, dateNumber};
+ghost use Rattle.host_showing.specs.Calls.{tells_listed, listing, section_listed, set_listed, table_listed, date_word, date_number};
 
 use shown_sections::Shown;
 use times::{Date, Day};
@@ -16,7 +16,7 @@ const MALFORMED: u8 = 14;
 
 // Writes how many entries there are, and the section and the place in it where the listing ended early; gives the answer's number. 10, 41 and 14 leave the words.
 fn write_listed(listed: &mut [u64; 3], shown: Shown) -> u8
-    ensures { words result listed.new ≡ tellsListed shown listed.old }
+    ensures { words result listed.new ≡ tells_listed shown listed.old }
 {
     let answer = shown.answer;
     let number = answer.number();
@@ -29,7 +29,7 @@ fn write_listed(listed: &mut [u64; 3], shown: Shown) -> u8
 
 // The events of a section: 8, 9, 14, 18, 19 or 32. The list shows entries from `skip` on as far as there is room.
 pub fn events(section: &[u8], skip: u64, list: &mut [u32], listed: &mut [u64; 3]) -> u8
-    ensures { listing result listed.new list.new ≡ sectionListed section.now skip list.old listed.old }
+    ensures { listing result listed.new list.new ≡ section_listed section.now skip list.old listed.old }
 {
     let shown = showing::events(section, skip as usize, list);
     write_listed(listed, shown)
@@ -48,7 +48,7 @@ pub fn eit_events(
     list: &mut [u32],
     listed: &mut [u64; 3],
 ) -> u8
-    ensures { listing result listed.new list.new ≡ setListed eit.now heads.now slots.now cells.now schedule_heads.now units.now row skip list.old listed.old }
+    ensures { listing result listed.new list.new ≡ set_listed eit.now heads.now slots.now cells.now schedule_heads.now units.now row skip list.old listed.old }
 {
     let collector = host_eit_words::eit(eit);
     let shown = showing::events_of_set(
@@ -79,7 +79,7 @@ pub fn eit_events_in_schedule(
     list: &mut [u32],
     listed: &mut [u64; 3],
 ) -> u8
-    ensures { listing result listed.new list.new ≡ tableListed eit.now heads.now slots.now cells.now schedule_heads.now units.now row table skip list.old listed.old }
+    ensures { listing result listed.new list.new ≡ table_listed eit.now heads.now slots.now cells.now schedule_heads.now units.now row table skip list.old listed.old }
 {
     let collector = host_eit_words::eit(eit);
     let shown = showing::events_of_table(
@@ -99,7 +99,7 @@ pub fn eit_events_in_schedule(
 
 // A date in eight decimal digits, year, month and day; 0 where there is none.
 fn date_word(date: Date) -> u32
-    ensures { result ≡ dateWord date }
+    ensures { result ≡ date_word date }
 {
     match date {
         Date::On(c) => c.year as u32 * 10000 + c.month as u32 * 100 + c.day as u32,
@@ -109,7 +109,7 @@ fn date_word(date: Date) -> u32
 
 // The calendar date of a modified Julian day: 19931013 for 49273; 0 for a day before 1900-03-01 and for a number above 65535, which is no day.
 pub fn date(day: u32) -> u32
-    ensures { result ≡ dateNumber day }
+    ensures { result ≡ date_number day }
 {
     if 65535 < day {
         return 0;

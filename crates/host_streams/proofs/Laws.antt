@@ -6,7 +6,7 @@ use mathlib.Core.Bool.{cond}
 use mathlib.Core.List.{List, [], ◌∷◌}
 use lib.ListN.{length}
 use lib.Dec.{eqb}
-use Rattle.answers.specs.Answers.{outcomeNo}
+use Rattle.answers.specs.Answers.{outcome_no}
 use Rattle.answers.specs.declared.Outcome.{Outcome}
 use Rattle.answers.specs.declared.Outcome.TheVariants as outcome
 use Rattle.streams.specs.Store.{opening, opened_of}
@@ -16,24 +16,24 @@ use Rattle.demux_state.specs.State.{said_of}
 use Rattle.demux_state.specs.declared.Answer.{Answer}
 use Rattle.demux_state.specs.declared.Answer.TheVariants as answer
 use Rattle.host_words.specs.Answers.{Words, words}
-use Rattle.host_words.proofs.Refusals.{refused-not-7}
-use Rattle.host_streams.specs.Words.{words_of, wordsOpened, finishedAfter, told, tellsOpened}
-use Rattle.host_streams.specs.Calls.{begun, streamsOpened}
+use Rattle.host_words.proofs.Refusals.{refused_not_7}
+use Rattle.host_streams.specs.Words.{words_of, words_opened, finished_after, told, tells_opened}
+use Rattle.host_streams.specs.Calls.{begun, streams_opened}
 
-pub all-written : (a : Outcome) (s : Streams) (w ws : List ℕ) → a ≡ outcome.Done → ws ≡ words_of s → ws ≡ wordsOpened a s w
-all-written a s w ws h e = rw h e
+pub all_written : (a : Outcome) (s : Streams) (w ws : List ℕ) → a ≡ outcome.Done → ws ≡ words_of s → ws ≡ words_opened a s w
+all_written a s w ws h e = rw h e
 
-pub finished-written : (a : Answer) (n : ℕ) (w : List ℕ) → a ≡ answer.Taken n → n ∷ [] ≡ finishedAfter (said_of a) w
-finished-written a n w h = rw h
+pub finished_written : (a : Answer) (n : ℕ) (w : List ℕ) → a ≡ answer.Taken n → n ∷ [] ≡ finished_after (said_of a) w
+finished_written a n w h = rw h
 
-pub told-are : (n r : ℕ) (g gs s ss f fs : List ℕ) → r ≡ n → gs ≡ g → ss ≡ s → fs ≡ f → told r gs ss fs ≡ told n g s f
-told-are n r g gs s ss f fs a b c d = λ i. record { answer = a i; gate = b i; streams = c i; finished = d i }
+pub told_are : (n r : ℕ) (g gs s ss f fs : List ℕ) → r ≡ n → gs ≡ g → ss ≡ s → fs ≡ f → told r gs ss fs ≡ told n g s f
+told_are n r g gs s ss f fs a b c d = λ i. record { answer = a i; gate = b i; streams = c i; finished = d i }
 
-opened-words : (a : Outcome) (s : Streams) (w : List ℕ) → wordsOpened a s w ≡ cond (eqb (outcomeNo a) 7) (words_of s) w
-opened-words outcome.Done s w = refl
-opened-words (outcome.Refused r) s w = rw (refused-not-7 r)
+opened_words : (a : Outcome) (s : Streams) (w : List ℕ) → words_opened a s w ≡ cond (eqb (outcome_no a) 7) (words_of s) w
+opened_words outcome.Done s w = refl
+opened_words (outcome.Refused r) s w = rw (refused_not_7 r)
 
-pub streams-opened : (streams : List ℕ) (count : ℕ) (pids buffers : List ℕ) (o : Opened) (ps ss : List ℕ) (r : ℕ) → opening o ps ≡ opened_of count pids (length buffers)
-    → words r ss ≡ tellsOpened o streams → begun r ss ps ≡ streamsOpened streams count pids buffers
-unfolding streamsOpened
-streams-opened streams count pids buffers o ps ss r f t = rw (← f, ap (λ (x : Words). x.answer) t, ap (λ (x : Words). x.now) t, opened-words o.answer o.streams streams)
+pub streams_opened_lem : (streams : List ℕ) (count : ℕ) (pids buffers : List ℕ) (o : Opened) (ps ss : List ℕ) (r : ℕ) → opening o ps ≡ opened_of count pids (length buffers)
+    → words r ss ≡ tells_opened o streams → begun r ss ps ≡ streams_opened streams count pids buffers
+unfolding streams_opened
+streams_opened_lem streams count pids buffers o ps ss r f t = rw (← f, ap (λ (x : Words). x.answer) t, ap (λ (x : Words). x.now) t, opened_words o.answer o.streams streams)

@@ -13,8 +13,8 @@ abbrev pub begun : ℕ → List ℕ → List ℕ → StreamsBegun
 begun answer streams pids = record { answer = answer; streams = streams; pids = pids }
 
 -- 7 writes all three words; a refused opening leaves them as they were
-abbrev pub begunAs : List ℕ → Opening → StreamsBegun
-begunAs streams o = begun o.answer (cond (eqb o.answer 7) (words_of o.streams) streams) o.pids
+abbrev pub begun_as : List ℕ → Opening → StreamsBegun
+begun_as streams o = begun o.answer (cond (eqb o.answer 7) (words_of o.streams) streams) o.pids
 
-unfoldable pub streamsOpened : List ℕ → ℕ → List ℕ → List ℕ → StreamsBegun
-streamsOpened streams count pids buffers = begunAs streams (opened_of count pids (length buffers))
+unfoldable pub streams_opened : List ℕ → ℕ → List ℕ → List ℕ → StreamsBegun
+streams_opened streams count pids buffers = begun_as streams (opened_of count pids (length buffers))

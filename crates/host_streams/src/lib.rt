@@ -3,15 +3,15 @@
 ghost use Rattle.std.specs.Prelude.{◌≡◌};
 ghost use Rattle.demux_state.specs.State.{said_of};
 ghost use Rattle.host_words.specs.Answers.{words};
-ghost use Rattle.host_streams.specs.Words.{streamsOf, words_of, wordsOpened, wordsAfter, finishedAfter, told, tellsOpened, tellsFed};
-ghost use Rattle.host_streams.specs.Calls.{begun, streamsOpened};
+ghost use Rattle.host_streams.specs.Words.{streams_of, words_of, words_opened, words_after, finished_after, told, tells_opened, tells_fed};
+ghost use Rattle.host_streams.specs.Calls.{begun, streams_opened};
 
 use answers::Outcome;
 use demux_state::{Answer, Fed};
 use streams::{Opened, Streams};
 
 pub fn streams(words: &[u64; 3]) -> Streams
-    ensures { result ≡ streamsOf words.now }
+    ensures { result ≡ streams_of words.now }
 {
     Streams {
         count: words[0] as usize,
@@ -29,7 +29,7 @@ fn write(words: &mut [u64; 3], streams: Streams)
 
 // Streams that were opened write all three; a refused opening none.
 fn write_where(words: &mut [u64; 3], answer: Outcome, streams: Streams)
-    ensures { words.new ≡ wordsOpened answer streams words.old }
+    ensures { words.new ≡ words_opened answer streams words.old }
 {
     match answer {
         Outcome::Done => write(words, streams),
@@ -39,7 +39,7 @@ fn write_where(words: &mut [u64; 3], answer: Outcome, streams: Streams)
 
 // Writes what an opening leaves in the words, and gives its number.
 fn write_opened(streams: &mut [u64; 3], opened: Opened) -> u8
-    ensures { words result streams.new ≡ tellsOpened opened streams.old }
+    ensures { words result streams.new ≡ tells_opened opened streams.old }
 {
     let answer = opened.answer;
     write_where(streams, answer, opened.streams);
@@ -48,7 +48,7 @@ fn write_opened(streams: &mut [u64; 3], opened: Opened) -> u8
 
 // Opens the streams of one input: 7 or 13. A refusal writes nothing.
 pub fn open(streams: &mut [u64; 3], count: u64, pids: &mut [u64], buffers: &[u8]) -> u8
-    ensures { begun result streams.new pids.new ≡ streamsOpened streams.old count pids.old buffers.now }
+    ensures { begun result streams.new pids.new ≡ streams_opened streams.old count pids.old buffers.now }
 {
     let opened = streams::open(count as usize, pids, buffers);
     write_opened(streams, opened)
@@ -56,14 +56,14 @@ pub fn open(streams: &mut [u64; 3], count: u64, pids: &mut [u64], buffers: &[u8]
 
 // The counts: a packet never changes how many buffers are lent.
 fn write_counts(words: &mut [u64; 3], streams: Streams)
-    ensures { words.new ≡ wordsAfter words.old streams }
+    ensures { words.new ≡ words_after words.old streams }
 {
     *words = [words[0], streams.packets, streams.malformed];
 }
 
 // How many sections a packet that was taken finished; every other answer leaves the word as it was.
 fn write_finished(finished: &mut [u64; 1], answer: Answer)
-    ensures { finished.new ≡ finishedAfter (said_of answer) finished.old }
+    ensures { finished.new ≡ finished_after (said_of answer) finished.old }
 {
     match answer {
         Answer::Taken(n) => *finished = [n as u64],
@@ -80,7 +80,7 @@ pub fn write_fed(
     finished: &mut [u64; 1],
     fed: Fed,
 ) -> u8
-    ensures { told result gate.new streams.new finished.new ≡ tellsFed fed gate.old streams.old finished.old }
+    ensures { told result gate.new streams.new finished.new ≡ tells_fed fed gate.old streams.old finished.old }
 {
     let answer = fed.answer;
     host_gate_words::write_counts(gate, fed.gate, fed.counters);

@@ -6,28 +6,28 @@ use mathlib.Core.List.{List}
 use mathlib.Core.Bool.{cond, false, true≢false}
 use lib.Dec.{eqb, ltb}
 use borrow.Author.Tests.{ne_eqb}
-use Rattle.answers.specs.Answers.{refusalNo, replyNo}
+use Rattle.answers.specs.Answers.{refusal_no, reply_no}
 use Rattle.answers.specs.declared.Refusal.{Refusal}
 use Rattle.answers.specs.declared.Reply.{Reply}
 use Rattle.answers.specs.declared.Reply.TheVariants.{Yes, No, Refused}
-use Rattle.answers.proofs.Laws.{refused-from-10}
+use Rattle.answers.proofs.Laws.{refused_from_10}
 use Rattle.readers.specs.declared.Next.{Next}
 use Rattle.host_words.specs.Answers.{words}
-use Rattle.host_words.specs.Sections.{sectionAfter, tellsNext}
+use Rattle.host_words.specs.Sections.{section_after, tells_next}
 
 -- no refusal is 7
-pub refused-not-7 : (r : Refusal) → eqb (refusalNo r) 7 ≡ false
-refused-not-7 r = ne_eqb (refusalNo r) 7 (λ (e : refusalNo r ≡ 7). true≢false (sym (ap (λ (n : ℕ). ltb n 10) e) ∙ refused-from-10 r))
+pub refused_not_7 : (r : Refusal) → eqb (refusal_no r) 7 ≡ false
+refused_not_7 r = ne_eqb (refusal_no r) 7 (λ (e : refusal_no r ≡ 7). true≢false (sym (ap (λ (n : ℕ). ltb n 10) e) ∙ refused_from_10 r))
 
 -- an opening
-pub refused-open : (answer n : ℕ) (ws w : List ℕ) → answer ≡ n → (answer ≡ 7 → ⊥) → words n (cond (eqb n 7) ws w) ≡ words answer w
-refused-open answer n ws w e h = rw (← e, ne_eqb answer 7 h)
+pub refused_open : (answer n : ℕ) (ws w : List ℕ) → answer ≡ n → (answer ≡ 7 → ⊥) → words n (cond (eqb n 7) ws w) ≡ words answer w
+refused_open answer n ws w e h = rw (← e, ne_eqb answer 7 h)
 
 -- a question: 9 and 10
-pub refused-next : (next : Next) (w : List ℕ) (answer : ℕ) → answer ≡ (tellsNext next w).answer → (answer ≡ 8 → ⊥) → tellsNext next w ≡ words answer w
-refused-next next w answer e h = go next.answer e
+pub refused_next : (next : Next) (w : List ℕ) (answer : ℕ) → answer ≡ (tells_next next w).answer → (answer ≡ 8 → ⊥) → tells_next next w ≡ words answer w
+refused_next next w answer e h = go next.answer e
   where
-    go : (a : Reply) → answer ≡ replyNo a → words (replyNo a) (sectionAfter a next w) ≡ words answer w
+    go : (a : Reply) → answer ≡ reply_no a → words (reply_no a) (section_after a next w) ≡ words answer w
     go Yes e = absurd (h e)
     go No e = rw e
     go (Refused r) e = rw e

@@ -4,9 +4,9 @@ use Rattle.section.specs.declared.ids.MaybePid.{MaybePid}
 use Rattle.section.specs.declared.ids.MaybePid.TheVariants as maybe
 
 -- a number above 65,535 does not wrap to a small one: 65,535 is no PID either, and is refused as one
-abbrev pub pidNumber : ℕ → ℕ
-pidNumber pid = cond (ltb pid 65535) pid 65535
+abbrev pub pid_number : ℕ → ℕ
+pid_number pid = cond (ltb pid 65535) pid 65535
 
 -- 0xFFFFFFFF is "no PID"
-abbrev pub maybePid : ℕ → MaybePid
-maybePid pid = cond (eqb pid 0xFFFF_FFFF) maybe.None (maybe.Some (pidNumber pid))
+abbrev pub maybe_pid : ℕ → MaybePid
+maybe_pid pid = cond (eqb pid 0xFFFF_FFFF) maybe.None (maybe.Some (pid_number pid))

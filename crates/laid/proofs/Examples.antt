@@ -4,69 +4,69 @@ use mathlib.Core.Path.{◌≡◌, refl}
 use mathlib.Core.Bool.{Bool, true, false}
 use mathlib.Core.List.{List, [], ◌∷◌, ◌++◌}
 use Prim.Native.Nat.{ℕ}
-use Rattle.laws.specs.Entries.{entriesIn, wholeEntries}
+use Rattle.laws.specs.Entries.{entries_in, whole_entries}
 use Rattle.laws.specs.Lists.{every}
-use Rattle.rows.specs.Rows.{sameKey, sameOrigin}
-use Rattle.laid.specs.Laid.{cut, sectionsIn, laidOut, chainFrom, chain, in_set, inSchedule, joined, is_set, isSchedule, those, tableIn}
+use Rattle.rows.specs.Rows.{same_key, same_origin}
+use Rattle.laid.specs.Laid.{cut, sections_in, laid_out, chain_from, chain, in_set, in_schedule, joined, is_set, is_schedule, those, table_in}
 
 -- a section of 12 bytes: table_id, version · 2 + current_next, section number, last number, the low byte of the network
 section : (table version number last network : ℕ) → List ℕ
 section table version number last network = table ∷ 0xF0 ∷ 9 ∷ 0 ∷ 1 ∷ version ∷ number ∷ last ∷ 0 ∷ 7 ∷ 0 ∷ network ∷ []
 
-set-of : List ℕ → Bool
-set-of s = is_set s
+set_of : List ℕ → Bool
+set_of s = is_set s
 
-schedule-of : List ℕ → Bool
-schedule-of s = isSchedule s
+schedule_of_lem : List ℕ → Bool
+schedule_of_lem s = is_schedule s
 
 abbrev two : List ℕ → List ℕ → List ℕ
 two a b = a ++ b
 
-one-is-set : set-of (section 0x42 3 0 1 0) ≡ true
-unfolding set-of section is_set joined laidOut chain chainFrom sectionsIn cut every wholeEntries entriesIn
-one-is-set = refl
+one_is_set : set_of (section 0x42 3 0 1 0) ≡ true
+unfolding set_of section is_set joined laid_out chain chain_from sections_in cut every whole_entries entries_in
+one_is_set = refl
 
-rising-is-set : set-of (two (section 0x42 3 0 1 0) (section 0x42 3 1 1 0)) ≡ true
-unfolding set-of section is_set joined laidOut chain chainFrom in_set sameKey sameOrigin sectionsIn cut every wholeEntries entriesIn
-rising-is-set = refl
+rising_is_set : set_of (two (section 0x42 3 0 1 0) (section 0x42 3 1 1 0)) ≡ true
+unfolding set_of section is_set joined laid_out chain chain_from in_set same_key same_origin sections_in cut every whole_entries entries_in
+rising_is_set = refl
 
-empty-is-none : set-of [] ≡ false
-unfolding set-of is_set joined
-empty-is-none = refl
+empty_is_none : set_of [] ≡ false
+unfolding set_of is_set joined
+empty_is_none = refl
 
-equal-numbers : set-of (two (section 0x42 3 0 1 0) (section 0x42 3 0 1 0)) ≡ false
-unfolding set-of section is_set joined laidOut chain chainFrom in_set sameKey sameOrigin sectionsIn cut every wholeEntries entriesIn
-equal-numbers = refl
+equal_numbers : set_of (two (section 0x42 3 0 1 0) (section 0x42 3 0 1 0)) ≡ false
+unfolding set_of section is_set joined laid_out chain chain_from in_set same_key same_origin sections_in cut every whole_entries entries_in
+equal_numbers = refl
 
-another-version : set-of (two (section 0x42 3 0 1 0) (section 0x42 5 1 1 0)) ≡ false
-unfolding set-of section is_set joined laidOut chain chainFrom in_set sameKey sameOrigin sectionsIn cut every wholeEntries entriesIn
-another-version = refl
+another_version : set_of (two (section 0x42 3 0 1 0) (section 0x42 5 1 1 0)) ≡ false
+unfolding set_of section is_set joined laid_out chain chain_from in_set same_key same_origin sections_in cut every whole_entries entries_in
+another_version = refl
 
 -- the network counts in an EIT alone
-another-network : set-of (two (section 0x42 3 0 1 0) (section 0x42 3 1 1 9)) ≡ true
-unfolding set-of section is_set joined laidOut chain chainFrom in_set sameKey sameOrigin sectionsIn cut every wholeEntries entriesIn
-another-network = refl
+another_network : set_of (two (section 0x42 3 0 1 0) (section 0x42 3 1 1 9)) ≡ true
+unfolding set_of section is_set joined laid_out chain chain_from in_set same_key same_origin sections_in cut every whole_entries entries_in
+another_network = refl
 
-eit-network : set-of (two (section 0x4E 3 0 1 0) (section 0x4E 3 1 1 9)) ≡ false
-unfolding set-of section is_set joined laidOut chain chainFrom in_set sameKey sameOrigin sectionsIn cut every wholeEntries entriesIn
-eit-network = refl
+eit_network : set_of (two (section 0x4E 3 0 1 0) (section 0x4E 3 1 1 9)) ≡ false
+unfolding set_of section is_set joined laid_out chain chain_from in_set same_key same_origin sections_in cut every whole_entries entries_in
+eit_network = refl
 
-byte-behind : set-of (two (section 0x42 3 0 1 0) (0 ∷ [])) ≡ false
-unfolding set-of section is_set joined laidOut chain chainFrom in_set sameKey sameOrigin sectionsIn cut every wholeEntries entriesIn
-byte-behind = refl
+byte_behind : set_of (two (section 0x42 3 0 1 0) (0 ∷ [])) ≡ false
+unfolding set_of section is_set joined laid_out chain chain_from in_set same_key same_origin sections_in cut every whole_entries entries_in
+byte_behind = refl
 
-tables-rise : schedule-of (two (section 0x50 3 0 1 0) (section 0x52 5 0 0 0)) ≡ true
-unfolding schedule-of section isSchedule joined laidOut chain chainFrom inSchedule sameKey sameOrigin sectionsIn cut every wholeEntries entriesIn
-tables-rise = refl
+tables_rise_lem : schedule_of_lem (two (section 0x50 3 0 1 0) (section 0x52 5 0 0 0)) ≡ true
+unfolding schedule_of_lem section is_schedule joined laid_out chain chain_from in_schedule same_key same_origin sections_in cut every whole_entries entries_in
+tables_rise_lem = refl
 
-tables-fall : schedule-of (two (section 0x52 3 0 1 0) (section 0x50 5 0 0 0)) ≡ false
-unfolding schedule-of section isSchedule joined laidOut chain chainFrom inSchedule sameKey sameOrigin sectionsIn cut every wholeEntries entriesIn
-tables-fall = refl
+tables_fall : schedule_of_lem (two (section 0x52 3 0 1 0) (section 0x50 5 0 0 0)) ≡ false
+unfolding schedule_of_lem section is_schedule joined laid_out chain chain_from in_schedule same_key same_origin sections_in cut every whole_entries entries_in
+tables_fall = refl
 
-two-kinds : schedule-of (two (section 0x5F 3 0 0 0) (section 0x60 3 0 0 0)) ≡ false
-unfolding schedule-of section isSchedule joined laidOut chain chainFrom inSchedule sameKey sameOrigin sectionsIn cut every wholeEntries entriesIn
-two-kinds = refl
+two_kinds : schedule_of_lem (two (section 0x5F 3 0 0 0) (section 0x60 3 0 0 0)) ≡ false
+unfolding schedule_of_lem section is_schedule joined laid_out chain chain_from in_schedule same_key same_origin sections_in cut every whole_entries entries_in
+two_kinds = refl
 
-one_table : tableIn (two (section 0x50 3 0 1 0) (section 0x52 5 0 0 0)) 0x52 ≡ section 0x52 5 0 0 0
-unfolding section tableIn those sectionsIn cut mathlib.Core.List.flatten
+one_table : table_in (two (section 0x50 3 0 1 0) (section 0x52 5 0 0 0)) 0x52 ≡ section 0x52 5 0 0 0
+unfolding section table_in those sections_in cut mathlib.Core.List.flatten
 one_table = refl

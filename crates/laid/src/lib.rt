@@ -3,8 +3,8 @@
 // where one asks for bytes that are laid so, the public calls there have looked.
 ghost use Rattle.std.specs.Prelude.{◌≡◌, true, cond, ◌+◌, ◌≤◌, ◌<◌, length};
 ghost use Rattle.section.specs.Header.{byte_at, word16};
-ghost use Rattle.laid.specs.Laid.{word_of, pidWord, isEit, ofSchedule, key_of, keyIn, scheduleKeyIn, in_table, in_set, inSchedule, joins, joined, laidOut, is_set, isSchedule, tableIn};
-ghost use Rattle.laid.specs.Walk.{Sized, LaidFrom, from, RankAt, headIf, leads, Sectioned, EndAt, Placed, belowTable, Passed};
+ghost use Rattle.laid.specs.Laid.{word_of, pid_word, is_eit, of_schedule, key_of, key_in, schedule_key_in, in_table, in_set, in_schedule, joins, joined, laid_out, is_set, is_schedule, table_in};
+ghost use Rattle.laid.specs.Walk.{Sized, LaidFrom, from, RankAt, head_if, leads, Sectioned, EndAt, Placed, below_table, Passed};
 
 use rows::{Key, Origin};
 use section::bytes::{long_form, section_length, wide, word};
@@ -24,7 +24,7 @@ pub enum PidWord {
 }
 
 pub fn pid_word(pid: MaybePid) -> PidWord
-    ensures { result ≡ pidWord pid }
+    ensures { result ≡ pid_word pid }
 {
     match pid {
         MaybePid::None => PidWord::NoPid,
@@ -43,14 +43,14 @@ fn made_word(m: Made) -> PidWord
 
 // An EIT's table_id (EN 300 468, table 2).
 pub fn is_eit(table_id: u8) -> bool
-    ensures { result ≡ isEit table_id }
+    ensures { result ≡ is_eit table_id }
 {
     (0x4E <= table_id) & (table_id <= 0x6F)
 }
 
 // The table_id of an EIT's schedule.
 fn of_schedule(table_id: u8) -> bool
-    ensures { result ≡ ofSchedule table_id }
+    ensures { result ≡ of_schedule table_id }
 {
     (0x50 <= table_id) & (table_id <= 0x6F)
 }
@@ -82,7 +82,7 @@ fn word_if(eit: bool, s: &[u8], i: usize) -> u64
 // The key of a set that starts with this section.
 pub fn key_in(pid: u64, s: &[u8]) -> Key
     requires { 12 ≤ length s.now }
-    ensures { result ≡ keyIn pid s.now }
+    ensures { result ≡ key_in pid s.now }
 {
     key_of(wide(s[0]) as u64, pid, s)
 }
@@ -90,7 +90,7 @@ pub fn key_in(pid: u64, s: &[u8]) -> Key
 // The key of a schedule that starts with this section: of its tables it has the kind alone.
 pub fn schedule_key_in(pid: u64, s: &[u8]) -> Key
     requires { 12 ≤ length s.now }
-    ensures { result ≡ scheduleKeyIn pid s.now }
+    ensures { result ≡ schedule_key_in pid s.now }
 {
     key_of((wide(s[0]) / 16 * 16) as u64, pid, s)
 }
@@ -123,14 +123,14 @@ fn in_set(x: &[u8], y: &[u8]) -> bool
     requires { (12 ≤ length x.now) × (12 ≤ length y.now) }
     ensures { result ≡ in_set x.now y.now }
 {
-    rows::same_key(key_in(0, x), key_in(0, y)) & in_table(x, y)
+    rows::same_key_lem(key_in(0, x), key_in(0, y)) & in_table(x, y)
 }
 
 fn in_schedule(x: &[u8], y: &[u8]) -> bool
     requires { (12 ≤ length x.now) × (12 ≤ length y.now) }
-    ensures { result ≡ inSchedule x.now y.now }
+    ensures { result ≡ in_schedule x.now y.now }
 {
-    let one = rows::same_key(schedule_key_in(0, x), schedule_key_in(0, y));
+    let one = rows::same_key_lem(schedule_key_in(0, x), schedule_key_in(0, y));
     one & ((x[0] < y[0]) | ((x[0] == y[0]) & in_table(x, y)))
 }
 
@@ -176,7 +176,7 @@ pub fn is_set(s: &[u8]) -> bool
 }
 
 pub fn is_schedule(s: &[u8]) -> bool
-    ensures { result ≡ isSchedule s.now }
+    ensures { result ≡ is_schedule s.now }
 {
     if joined(true, s) {
         of_schedule(s[0])
@@ -214,7 +214,7 @@ pub fn rank_at(s: &[u8], at: usize) -> usize
 // The section that starts at `at` where it has this rank, else an empty part.
 pub fn section_at<'a>(s: &'a [u8], at: usize, rank: usize) -> &'a [u8]
     requires { LaidFrom s.now at }
-    ensures result_value { result.now ≡ headIf rank (from s.now at) }
+    ensures result_value { result.now ≡ head_if rank (from s.now at) }
     ensures sectioned { Sectioned result.now }
 {
     let end = end_at(s, at);
@@ -245,7 +245,7 @@ pub fn table_at<'a>(s: &'a [u8], at: usize, table: usize) -> &'a [u8]
 
 // Where the section of this number starts; the end of the bytes where there is none.
 pub fn place_of(s: &[u8], number: usize) -> usize
-    requires { laidOut s.now ≡ true }
+    requires { laid_out s.now ≡ true }
     ensures { Placed s.now number result }
 {
     let mut at = 0;
@@ -261,7 +261,7 @@ pub fn place_of(s: &[u8], number: usize) -> usize
 // Where the sections from `from` on whose table_id is below `bound` end.
 pub fn pass(s: &[u8], from: usize, bound: usize) -> usize
     requires { LaidFrom s.now from }
-    ensures { Passed (belowTable bound) s.now from result }
+    ensures { Passed (below_table bound) s.now from result }
 {
     let mut at = from;
     while at < s.len() {
@@ -275,8 +275,8 @@ pub fn pass(s: &[u8], from: usize, bound: usize) -> usize
 
 // The sections of one table of a schedule, an empty part where it has none.
 pub fn table_of<'a>(s: &'a [u8], table_id: u8) -> &'a [u8]
-    requires { isSchedule s.now ≡ true }
-    ensures { result.now ≡ tableIn s.now table_id }
+    requires { is_schedule s.now ≡ true }
+    ensures { result.now ≡ table_in s.now table_id }
 {
     let start = pass(s, 0, wide(table_id));
     let end = pass(s, start, wide(table_id) + 1);

@@ -43,9 +43,9 @@ module _ (network number n : ℕ) (p : 2 ≤ n) where
       let i = bounded t (1 + get_or t 0 0) (suc left - 2 - get_or t 0 0) (suc at) (omega arith) in omega arith))
 
   -- twice the number of entries is at most the bytes walked, of which the first `left` are descriptors'
-  pub two-bytes-from : (s : List ℕ) (at left : ℕ) → at + left ≤ length s → 2 * length (words_of network number (found_from n s at left)) ≤ length s - at
+  pub two_bytes_from : (s : List ℕ) (at left : ℕ) → at + left ≤ length s → 2 * length (words_of network number (found_from n s at left)) ≤ length s - at
   unfolding found_from
-  two-bytes-from s at left h =
+  two_bytes_from s at left h =
       let l : length (drop at s) ≡ length s - at = length-drop at s in
       let i = bounded (drop at s) 0 left at (omega arith) in
       omega arith
@@ -61,23 +61,23 @@ Below limit (Done count) = Unit {0}
 Below limit (Past at count) = at < limit
 
 module _ (n limit : ℕ) where
-  either-below : (b : Bool) (x y : Found) (k : ℕ) → Below limit (end_of k x) → Below limit (end_of k y) → Below limit (end_of k (cond b x y))
-  either-below true x y k p q = p
-  either-below false x y k p q = q
+  either_below : (b : Bool) (x y : Found) (k : ℕ) → Below limit (end_of k x) → Below limit (end_of k y) → Below limit (end_of k (cond b x y))
+  either_below true x y k p q = p
+  either_below false x y k p q = q
 
   below : (r : List ℕ) (pass left at k : ℕ) → at + length r ≤ limit → Below limit (end_of k (walk n r pass left at))
   unfolding walk end_of
   below [] pass left at k h = tt
   below (b ∷ t) (suc pass) left at k h = below t pass left (suc at) k (omega arith)
   below (b ∷ t) zero zero at k h =
-      either-below (ltb (length (b ∷ t)) n) (past at) _ k (omega arith)
-      (either-below (ltb (length (b ∷ t) - n) (counted n (b ∷ t))) (past at) _ k (omega arith)
+      either_below (ltb (length (b ∷ t)) n) (past at) _ k (omega arith)
+      (either_below (ltb (length (b ∷ t) - n) (counted n (b ∷ t))) (past at) _ k (omega arith)
       (below t (n - 1) (counted n (b ∷ t)) (suc at) (k + 1) (omega arith)))
   below (b ∷ t) zero (suc left) at k h =
-      either-below (ltb (suc left) 2) (past at) _ k (omega arith)
-      (either-below (ltb (suc left - 2) (get_or t 0 0)) (past at) _ k (omega arith)
+      either_below (ltb (suc left) 2) (past at) _ k (omega arith)
+      (either_below (ltb (suc left - 2) (get_or t 0 0)) (past at) _ k (omega arith)
       (below t (1 + get_or t 0 0) (suc left - 2 - get_or t 0 0) (suc at) (k + 1) (omega arith)))
 
-  pub starts-below : (s : List ℕ) (at left k : ℕ) → at ≤ length s → length s ≤ limit → Below limit (end_of k (found_from n s at left))
+  pub starts_below : (s : List ℕ) (at left k : ℕ) → at ≤ length s → length s ≤ limit → Below limit (end_of k (found_from n s at left))
   unfolding found_from
-  starts-below s at left k h l = let e : length (drop at s) ≡ length s - at = length-drop at s in below (drop at s) 0 left at k (omega arith)
+  starts_below s at left k h l = let e : length (drop at s) ≡ length s - at = length-drop at s in below (drop at s) 0 left at k (omega arith)

@@ -22,21 +22,21 @@ module _ (n : ℕ) where
   walk_end [] at h = refl
   walk_end (b ∷ t) at h = absurd (omega arith)
 
-  pub walk-short : (r : List ℕ) (at : ℕ) → 0 < length r → length r < n → walk n r 0 0 at ≡ past at
+  pub walk_short : (r : List ℕ) (at : ℕ) → 0 < length r → length r < n → walk n r 0 0 at ≡ past at
   unfolding walk
-  walk-short [] at h l = absurd (omega arith)
-  walk-short (b ∷ t) at h l = simp (lt-ltb (length (b ∷ t)) n l)
+  walk_short [] at h l = absurd (omega arith)
+  walk_short (b ∷ t) at h l = simp (lt-ltb (length (b ∷ t)) n l)
 
-  pub walk-past : (r : List ℕ) (at : ℕ) → 0 < length r → n ≤ length r → length r - n < counted n r → walk n r 0 0 at ≡ past at
+  pub walk_past : (r : List ℕ) (at : ℕ) → 0 < length r → n ≤ length r → length r - n < counted n r → walk n r 0 0 at ≡ past at
   unfolding walk
-  walk-past [] at z h m = absurd (omega arith)
-  walk-past (b ∷ t) at z h m = simp (le-ltb (length (b ∷ t)) n h, lt-ltb (length (b ∷ t) - n) (counted n (b ∷ t)) m)
+  walk_past [] at z h m = absurd (omega arith)
+  walk_past (b ∷ t) at z h m = simp (le-ltb (length (b ∷ t)) n h, lt-ltb (length (b ∷ t) - n) (counted n (b ∷ t)) m)
 
-  pub walk-entry : (r : List ℕ) (at : ℕ) → 1 ≤ n → n ≤ length r → counted n r ≤ length r - n
+  pub walk_entry : (r : List ℕ) (at : ℕ) → 1 ≤ n → n ≤ length r → counted n r ≤ length r - n
       → walk n r 0 0 at ≡ entry at (take n r) (walk n (drop n r) 0 (counted n r) (at + n))
   unfolding walk
-  walk-entry [] at z h m = absurd (omega arith)
-  walk-entry (b ∷ t) at z h m =
+  walk_entry [] at z h m = absurd (omega arith)
+  walk_entry (b ∷ t) at z h m =
       simp (le-ltb (length (b ∷ t)) n h, le-ltb (length (b ∷ t) - n) (counted n (b ∷ t)) m)
       (ap (entry at (take n (b ∷ t)))
       (passing (n - 1) t (counted n (b ∷ t)) (suc at) (omega arith)
@@ -45,23 +45,23 @@ module _ (n : ℕ) where
       one : suc (n - 1) ≡ n
       one = omega arith
 
-  pub walk-one : (r : List ℕ) (at : ℕ) → 1 ≤ length r → walk n r 0 1 at ≡ past at
+  pub walk_one : (r : List ℕ) (at : ℕ) → 1 ≤ length r → walk n r 0 1 at ≡ past at
   unfolding walk
-  walk-one [] at h = absurd (omega arith)
-  walk-one (b ∷ t) at h = refl
+  walk_one [] at h = absurd (omega arith)
+  walk_one (b ∷ t) at h = refl
 
-  pub walk-over : (r : List ℕ) (left at : ℕ) → 2 ≤ left → left ≤ length r → left - 2 < get_or r 1 0 → walk n r 0 left at ≡ past at
+  pub walk_over : (r : List ℕ) (left at : ℕ) → 2 ≤ left → left ≤ length r → left - 2 < get_or r 1 0 → walk n r 0 left at ≡ past at
   unfolding walk
-  walk-over [] left at h l m = absurd (omega arith)
-  walk-over (b ∷ t) zero at h l m = absurd (omega arith)
-  walk-over (b ∷ t) (suc left) at h l m = simp (le-ltb (suc left) 2 h, lt-ltb (suc left - 2) (get_or t 0 0) m)
+  walk_over [] left at h l m = absurd (omega arith)
+  walk_over (b ∷ t) zero at h l m = absurd (omega arith)
+  walk_over (b ∷ t) (suc left) at h l m = simp (le-ltb (suc left) 2 h, lt-ltb (suc left - 2) (get_or t 0 0) m)
 
-  pub walk-descriptor : (r : List ℕ) (left at : ℕ) → 2 ≤ left → left ≤ length r → get_or r 1 0 ≤ left - 2
+  pub walk_descriptor : (r : List ℕ) (left at : ℕ) → 2 ≤ left → left ≤ length r → get_or r 1 0 ≤ left - 2
       → walk n r 0 left at ≡ descriptor at (get_or r 0 0) (get_or r 1 0) (walk n (drop (2 + get_or r 1 0) r) 0 (left - 2 - get_or r 1 0) (at + 2 + get_or r 1 0))
   unfolding walk
-  walk-descriptor [] left at h l m = absurd (omega arith)
-  walk-descriptor (b ∷ t) zero at h l m = absurd (omega arith)
-  walk-descriptor (b ∷ t) (suc left) at h l m =
+  walk_descriptor [] left at h l m = absurd (omega arith)
+  walk_descriptor (b ∷ t) zero at h l m = absurd (omega arith)
+  walk_descriptor (b ∷ t) (suc left) at h l m =
       simp (le-ltb (suc left) 2 h, le-ltb (suc left - 2) (get_or t 0 0) m)
       (ap (descriptor at b (get_or t 0 0))
       (passing (1 + get_or t 0 0) t (suc left - 2 - get_or t 0 0) (suc at) (omega arith)

@@ -10,56 +10,56 @@ use mathlib.Core.List.{List, [], ◌∷◌, ◌++◌, append-nil, append_assoc}
 use lib.ListN.{length, take, drop, length-append, length-drop, take-append-drop}
 use lib.Seq.{take-nil, drop-nil, drop-drop, take-add, length-take-le, paste}
 use lib.Dec.{eqb}
-use Rattle.laws.proofs.Lists.{paste-part}
-use Rattle.laws.proofs.Tests.{lt-or-le}
-use Rattle.entry_words.specs.Words.{eventOf, eventWords, plainWords, streamWords, serviceWords, entryWords, descriptorWords}
+use Rattle.laws.proofs.Lists.{paste_part}
+use Rattle.laws.proofs.Tests.{lt_or_le}
+use Rattle.entry_words.specs.Words.{event_of, event_words, plain_words, stream_words, service_words, entry_words, descriptor_words}
 use Rattle.listing.specs.Rules.{page, joined}
 use Rattle.listing.specs.Store.{Found, done, past, entry, descriptor, put_in, put_all, words_of}
-use Rattle.listing.proofs.Ways.{put-before, put-none, put-room}
+use Rattle.listing.proofs.Ways.{put_before, put_none, put_room}
 
 -- entries of twelve words each
 pub data Twelve : List (List ℕ) → Type 0 where
   none : Twelve []
   more : {words : List ℕ} {entries : List (List ℕ)} → length words ≡ 12 → Twelve entries → Twelve (words ∷ entries)
 
-either-twelve : (b : Bool) (x y : List ℕ) → length x ≡ 12 → length y ≡ 12 → length (cond b x y) ≡ 12
-either-twelve true x y h l = h
-either-twelve false x y h l = l
+either_twelve : (b : Bool) (x y : List ℕ) → length x ≡ 12 → length y ≡ 12 → length (cond b x y) ≡ 12
+either_twelve true x y h l = h
+either_twelve false x y h l = l
 
-entry-twelve : (network number at : ℕ) (header : List ℕ) → length (entryWords network number at header) ≡ 12
-unfolding entryWords eventWords streamWords serviceWords plainWords
-entry-twelve network number at header =
-    either-twelve (eqb (length header) 12) (eventWords number at (eventOf header)) _ refl
-    (either-twelve (eqb (length header) 6) (streamWords number at header) _ refl
-    (either-twelve (eqb (length header) 5) (serviceWords network number at header) (plainWords number at header) refl refl))
+entry_twelve : (network number at : ℕ) (header : List ℕ) → length (entry_words network number at header) ≡ 12
+unfolding entry_words event_words stream_words service_words plain_words
+entry_twelve network number at header =
+    either_twelve (eqb (length header) 12) (event_words number at (event_of header)) _ refl
+    (either_twelve (eqb (length header) 6) (stream_words number at header) _ refl
+    (either_twelve (eqb (length header) 5) (service_words network number at header) (plain_words number at header) refl refl))
 
-descriptor-twelve : (number at tag size : ℕ) → length (descriptorWords number at tag size) ≡ 12
-unfolding descriptorWords
-descriptor-twelve number at tag size = refl
+descriptor_twelve : (number at tag size : ℕ) → length (descriptor_words number at tag size) ≡ 12
+unfolding descriptor_words
+descriptor_twelve number at tag size = refl
 
 -- all that is found is listed by twelve words
-pub found-twelve : (network number : ℕ) (f : Found) → Twelve (words_of network number f)
+pub found_twelve : (network number : ℕ) (f : Found) → Twelve (words_of network number f)
 unfolding words_of
-found-twelve network number done = none
-found-twelve network number (past at) = none
-found-twelve network number (entry at header f) = more (entry-twelve network number at header) (found-twelve network number f)
-found-twelve network number (descriptor at tag size f) = more (descriptor-twelve number at tag size) (found-twelve network number f)
+found_twelve network number done = none
+found_twelve network number (past at) = none
+found_twelve network number (entry at header f) = more (entry_twelve network number at header) (found_twelve network number f)
+found_twelve network number (descriptor at tag size f) = more (descriptor_twelve number at tag size) (found_twelve network number f)
 
-pub twelve-append : {xs ys : List (List ℕ)} → Twelve xs → Twelve ys → Twelve (xs ++ ys)
-twelve-append none q = q
-twelve-append (more h p) q = more h (twelve-append p q)
+pub twelve_append : {xs ys : List (List ℕ)} → Twelve xs → Twelve ys → Twelve (xs ++ ys)
+twelve_append none q = q
+twelve_append (more h p) q = more h (twelve_append p q)
 
-twelve-drop : (n : ℕ) {xs : List (List ℕ)} → Twelve xs → Twelve (drop n xs)
-twelve-drop zero p = p
-twelve-drop (suc n) none = none
-twelve-drop (suc n) (more h p) = twelve-drop n p
+twelve_drop : (n : ℕ) {xs : List (List ℕ)} → Twelve xs → Twelve (drop n xs)
+twelve_drop zero p = p
+twelve_drop (suc n) none = none
+twelve_drop (suc n) (more h p) = twelve_drop n p
 
 -- entries that follow each other go into the list one after another
-pub put-append : (xs ys : List (List ℕ)) (list : List ℕ) (skip k : ℕ) → put_all list skip k (xs ++ ys) ≡ put_all (put_all list skip k xs) skip (k + length xs) ys
+pub put_append : (xs ys : List (List ℕ)) (list : List ℕ) (skip k : ℕ) → put_all list skip k (xs ++ ys) ≡ put_all (put_all list skip k xs) skip (k + length xs) ys
 unfolding put_all
-put-append [] ys list skip k = rw (add-zero k)
-put-append (x ∷ xs) ys list skip k =
-    put-append xs ys (put_in list skip k x) skip (k + 1)
+put_append [] ys list skip k = rw (add-zero k)
+put_append (x ∷ xs) ys list skip k =
+    put_append xs ys (put_in list skip k x) skip (k + 1)
     ∙ ap (λ (j : ℕ). put_all (put_all (put_in list skip k x) skip (k + 1) xs) skip j ys) (omega arith)
 
 -- where there is no room the list stays
@@ -67,7 +67,7 @@ full : (entries : List (List ℕ)) (list : List ℕ) (skip k : ℕ) → skip + l
 unfolding put_all
 full [] list skip k h = refl
 full (x ∷ xs) list skip k h =
-    ap (λ (l : List ℕ). put_all l skip (k + 1) xs) (sym (put-none list skip k x (omega arith) (omega arith)))
+    ap (λ (l : List ℕ). put_all l skip (k + 1) xs) (sym (put_none list skip k x (omega arith) (omega arith)))
     ∙ full xs list skip (k + 1) (omega arith)
 
 -- the first `skip` entries are passed over
@@ -77,14 +77,14 @@ skipped [] list skip k h = rw (drop-nil {A = List ℕ} (skip - k))
 skipped (x ∷ xs) list skip k h = ⊎_elim
     (λ (l : k < skip).
     let e : skip - k ≡ suc (skip - (k + 1)) = omega arith in
-    ap (λ (q : List ℕ). put_all q skip (k + 1) xs) (sym (put-before list skip k x l))
+    ap (λ (q : List ℕ). put_all q skip (k + 1) xs) (sym (put_before list skip k x l))
     ∙ skipped xs list skip (k + 1) (omega arith)
     ∙ ap (λ (j : ℕ). put_all list skip skip (drop j (x ∷ xs))) (sym e))
     (λ (l : skip ≤ k).
     let e : skip - k ≡ 0 = omega arith in
     let d : k ≡ skip = omega arith in
     ap (λ (j : ℕ). put_all list skip j (x ∷ xs)) d ∙ ap (λ (j : ℕ). put_all list skip skip (drop j (x ∷ xs))) (sym e))
-    (lt-or-le k skip)
+    (lt_or_le k skip)
 
 -- then they lie over what stands there
 over : (skip : ℕ) {entries : List (List ℕ)} → Twelve entries → (a b : List ℕ) (j : ℕ) → length a ≡ j * 12
@@ -96,7 +96,7 @@ over skip (more {words = x} {entries = xs} h t) a b j l = ⊎_elim
     let e : length b / 12 ≡ 0 = omega arith in
     let m : length (a ++ b) ≡ j * 12 + length b = length-append a b ∙ ap (λ (i : ℕ). i + length b) l in
     rw e
-    (ap (λ (q : List ℕ). put_all q skip (skip + j + 1) xs) (sym (put-none (a ++ b) skip (skip + j) x (omega arith) (omega arith)))
+    (ap (λ (q : List ℕ). put_all q skip (skip + j + 1) xs) (sym (put_none (a ++ b) skip (skip + j) x (omega arith) (omega arith)))
     ∙ full xs (a ++ b) skip (skip + j + 1) (omega arith)))
     (λ (s : 12 ≤ length b).
     let m : length (a ++ b) ≡ j * 12 + length b = length-append a b ∙ ap (λ (i : ℕ). i + length b) l in
@@ -105,10 +105,10 @@ over skip (more {words = x} {entries = xs} h t) a b j l = ⊎_elim
     let i : skip + j - skip ≡ j = omega arith in
     let z : length (a ++ x) ≡ (j + 1) * 12 = length-append a x ∙ omega arith in
     let p : put_in (a ++ b) skip (skip + j) x ≡ (a ++ x) ++ drop 12 b =
-    sym (put-room (a ++ b) skip (skip + j) x (omega arith) (omega arith))
+    sym (put_room (a ++ b) skip (skip + j) x (omega arith) (omega arith))
     ∙ ap (λ (i : ℕ). paste (a ++ b) (i * 12) x 12) i
     ∙ ap (λ (q : List ℕ). paste (a ++ q) (j * 12) x 12) (sym (take-append-drop 12 b))
-    ∙ paste-part a (take 12 b) (drop 12 b) x (j * 12) 12 l (length-take-le 12 b s) h
+    ∙ paste_part a (take 12 b) (drop 12 b) x (j * 12) 12 l (length-take-le 12 b s) h
     ∙ sym (append_assoc a x (drop 12 b)) in
     let n : ℕ = length (take (length (drop 12 b) / 12) xs) in
     let v : 12 + n * 12 ≡ suc n * 12 = omega arith in
@@ -118,7 +118,7 @@ over skip (more {words = x} {entries = xs} h t) a b j l = ⊎_elim
     ∙ append_assoc a x (joined (take (length (drop 12 b) / 12) xs) ++ drop (n * 12) (drop 12 b))
     ∙ ap (λ (q : List ℕ). a ++ q) (sym (append_assoc x (joined (take (length (drop 12 b) / 12) xs)) (drop (n * 12) (drop 12 b))))
     ∙ ap (λ (q : List ℕ). a ++ (x ++ joined (take (length (drop 12 b) / 12) xs) ++ q)) (drop-drop (n * 12) 12 b ∙ ap (λ (k : ℕ). drop k b) v)))
-    (lt-or-le (length b) 12)
+    (lt_or_le (length b) 12)
 
 -- entries skip to skip + room - 1 stand at the list's front, and every word behind the last of them is as before
 pub window : (list : List ℕ) (skip : ℕ) {entries : List (List ℕ)} → Twelve entries
@@ -127,7 +127,7 @@ window list skip {entries} t =
     skipped entries list skip 0 (omega arith)
     ∙ ap (λ (k : ℕ). put_all list skip skip (drop k entries)) (sub-zero skip)
     ∙ ap (λ (k : ℕ). put_all list skip k (drop skip entries)) (sym (add-zero skip))
-    ∙ over skip (twelve-drop skip t) [] list 0 refl
+    ∙ over skip (twelve_drop skip t) [] list 0 refl
 
 -- pages laid side by side are one page, whatever their room: so pages from the first entry on are all entries, each once
 pub pages : (skip room next : ℕ) (entries : List (List ℕ)) → page skip (room + next) entries ≡ page skip room entries ++ page (skip + room) next entries

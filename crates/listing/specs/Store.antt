@@ -3,7 +3,7 @@
 use Rattle.std.specs.Prelude.{ℕ, zero, suc, ◌+◌, ◌*◌, ◌/◌, ◌-◌, ◌≤◌, ◌<◌, List, [], ◌∷◌, cond, length, get_or, take, drop, ltb}
 use Rattle.std.proofs.Math.Seq.{paste}
 use Rattle.laws.specs.Entries.{counted}
-use Rattle.entry_words.specs.Words.{entryWords, descriptorWords}
+use Rattle.entry_words.specs.Words.{entry_words, descriptor_words}
 use Rattle.listing.specs.declared.Loop.{Loop}
 use Rattle.listing.specs.declared.Walked.{Walked}
 use Rattle.listing.specs.declared.Walked.TheVariants.{Done, Past}
@@ -50,8 +50,8 @@ put_all list skip k (words ∷ entries) = put_all (put_in list skip k words) ski
 unfoldable pub words_of : (network number : ℕ) → Found → List (List ℕ)
 words_of network number done = []
 words_of network number (past at) = []
-words_of network number (entry at header f) = entryWords network number at header ∷ words_of network number f
-words_of network number (descriptor at tag size f) = descriptorWords number at tag size ∷ words_of network number f
+words_of network number (entry at header f) = entry_words network number at header ∷ words_of network number f
+words_of network number (descriptor at tag size f) = descriptor_words number at tag size ∷ words_of network number f
 
 -- how it ended, with k entries before it
 unfoldable pub end_of : (k : ℕ) → Found → Walked

@@ -3,7 +3,7 @@
 ghost use Rattle.std.specs.Prelude.{◌≡◌, ◌+◌, ◌≤◌, ◌<◌, length, get_or, take, drop};
 ghost use Rattle.std.proofs.Math.Seq.{paste};
 ghost use Rattle.laws.specs.Entries.{counted};
-ghost use Rattle.entry_words.specs.Words.{entryWords, descriptorWords};
+ghost use Rattle.entry_words.specs.Words.{entry_words, descriptor_words};
 ghost use Rattle.listing.specs.Store.{put_in, listing, Sound};
 
 use section::bytes::wide;
@@ -60,7 +60,7 @@ fn put(list: &mut [u32], skip: usize, k: usize, words: &[u32; 12])
 
 fn put_entry(s: &[u8], of: Loop, at: usize, list: &mut [u32], k: usize)
     requires { (at + of.header ≤ length s.now) × (length s.now < 4294967296) × (4 ≤ of.header) }
-    ensures { list.new ≡ put_in list.old of.skip k (entryWords of.network of.number at (take of.header (drop at s.now))) }
+    ensures { list.new ≡ put_in list.old of.skip k (entry_words of.network of.number at (take of.header (drop at s.now))) }
 {
     let words = entry_words::entry_words(&s[at..at + of.header], of.network, of.number, at as u32);
     put(list, of.skip, k, &words);
@@ -68,7 +68,7 @@ fn put_entry(s: &[u8], of: Loop, at: usize, list: &mut [u32], k: usize)
 
 fn put_descriptor(s: &[u8], of: Loop, at: usize, list: &mut [u32], k: usize)
     requires { (at + 2 ≤ length s.now) × (length s.now < 4294967296) }
-    ensures { list.new ≡ put_in list.old of.skip k (descriptorWords of.number at (get_or s.now at 0) (get_or s.now (at + 1) 0)) }
+    ensures { list.new ≡ put_in list.old of.skip k (descriptor_words of.number at (get_or s.now at 0) (get_or s.now (at + 1) 0)) }
 {
     let words = entry_words::descriptor_words(s[at], s[at + 1], of.number, at as u32);
     put(list, of.skip, k, &words);

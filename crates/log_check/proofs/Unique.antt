@@ -2,19 +2,19 @@
 -- Assumes nothing.
 use mathlib.Core.Path.{◌≡◌, sym, ap, ◌∙◌}
 use Prim.Native.Nat.{ℕ}
-use Rattle.laws.proofs.Unique.{one-result}
+use Rattle.laws.proofs.Unique.{one_result}
 use Rattle.rules_logs.specs.Records.{Bytes}
 use Rattle.log_state.specs.declared.Settings.{Settings}
 use Rattle.log_sections.specs.Steps.{Memory}
 use Rattle.log_check.specs.declared.CheckAnswer.{CheckAnswer}
 use Rattle.log_check.specs.declared.Checked.{Checked}
-use Rattle.log_check.specs.Check.{checkNo, Check, checkAs, checkedOf}
+use Rattle.log_check.specs.Check.{check_no, Check, check_as, checked_of}
 
-pub unique-check : (s : Settings) (list log : Bytes) (m : Memory) (r q : Checked) (n o : Memory)
-    → checkAs r n ≡ checkedOf s list log m → checkAs q o ≡ checkedOf s list log m → (r ≡ q) × (n ≡ o)
-unique-check s list log m r q n o d e =
-    let same : checkAs r n ≡ checkAs q o = one-result (checkedOf s list log m) d e in
+pub unique_check : (s : Settings) (list log : Bytes) (m : Memory) (r q : Checked) (n o : Memory)
+    → check_as r n ≡ checked_of s list log m → check_as q o ≡ checked_of s list log m → (r ≡ q) × (n ≡ o)
+unique_check s list log m r q n o d e =
+    let same : check_as r n ≡ check_as q o = one_result (checked_of s list log m) d e in
     (ap (λ (c : Check). c.checked) same, ap (λ (c : Check). c.memory) same)
 
-pub unique-check-number : (a : CheckAnswer) (r q : ℕ) → r ≡ checkNo a → q ≡ checkNo a → r ≡ q
-unique-check-number a r q = one-result (checkNo a)
+pub unique_check_number : (a : CheckAnswer) (r q : ℕ) → r ≡ check_no a → q ≡ check_no a → r ≡ q
+unique_check_number a r q = one_result (check_no a)

@@ -1,11 +1,11 @@
 // A log checked against a section list (docs/RULES.md, "Logs"): whether it is exactly the log that the list gives, and where not, the first place and what
 // is wrong there.
 ghost use Rattle.std.specs.Prelude.{◌≡◌};
-ghost use Rattle.log_compare.specs.Compare.{passed, recordsIn};
+ghost use Rattle.log_compare.specs.Compare.{passed, records_in};
 ghost use Rattle.log_list.specs.List.{WholeFrom};
 ghost use Rattle.log_state.specs.State.{lent};
-ghost use Rattle.log_sections.specs.Steps.{shownIn, memory};
-ghost use Rattle.log_check.specs.Check.{checkNo, refusedBy, toldOf, IsEntry, Walked, checkAs, checkedOf};
+ghost use Rattle.log_sections.specs.Steps.{shown_in, memory};
+ghost use Rattle.log_check.specs.Check.{check_no, refused_by, told_of, IsEntry, Walked, check_as, checked_of};
 
 use log_compare::{Fault, Seen};
 use log_entries::Entry;
@@ -37,7 +37,7 @@ pub struct Checked {
 
 impl CheckAnswer {
     pub fn number(self) -> u8
-        ensures { result ≡ checkNo self }
+        ensures { result ≡ check_no self }
     {
         match self {
             CheckAnswer::Yes => 8,
@@ -55,13 +55,13 @@ impl CheckAnswer {
 }
 
 fn refused(answer: CheckAnswer) -> Checked
-    ensures { result ≡ refusedBy answer }
+    ensures { result ≡ refused_by answer }
 {
     Checked { answer, place: 0 }
 }
 
 fn told(seen: Seen) -> Checked
-    ensures { result ≡ toldOf seen }
+    ensures { result ≡ told_of seen }
 {
     let fault = seen.fault;
     let place = seen.place;
@@ -93,7 +93,7 @@ fn told(seen: Seen) -> Checked
 // The records of one section beside the log at this place.
 fn beside(log: &[u8], place: usize, entry: Entry) -> Seen
     requires { IsEntry entry }
-    ensures { result ≡ passed log.now place (recordsIn (shownIn entry)) }
+    ensures { result ≡ passed log.now place (records_in (shown_in entry)) }
 {
     let bytes = entry.bytes;
     let length = entry.length;
@@ -143,7 +143,7 @@ pub fn check(
     slots: &mut [u32],
     cells: &mut [u8],
 ) -> Checked
-    ensures { checkAs result (memory keys.new changes.new heads.new slots.new cells.new) ≡ checkedOf settings sections.now log.now (memory keys.old changes.old heads.old slots.old cells.old) }
+    ensures { check_as result (memory keys.new changes.new heads.new slots.new cells.new) ≡ checked_of settings sections.now log.now (memory keys.old changes.old heads.old slots.old cells.old) }
 {
     let prepared = log_prepare::prepare(settings, sections, keys, changes, heads, slots, cells);
     match prepared {

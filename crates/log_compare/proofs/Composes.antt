@@ -11,79 +11,79 @@ use lib.ListN.{length, take, drop, get_or, length-drop, drop_of_length-le}
 use lib.Seq.{get_or-drop, drop-drop}
 use borrow.Author.Tests.{le-leb, lt-leb}
 use Rattle.laws.specs.Lists.{same_list}
-use Rattle.laws.proofs.Lists.{getD-ix}
-use Rattle.rules_logs.specs.Records.{Bytes, recordSize}
-use Rattle.rules_logs.specs.Verdict.{Verdict, yes, unknown, cutOff, missing, tooMany, differs, headed, verdict}
+use Rattle.laws.proofs.Lists.{get_d_ix}
+use Rattle.rules_logs.specs.Records.{Bytes, record_size}
+use Rattle.rules_logs.specs.Verdict.{Verdict, yes, unknown, cut_off, missing, too_many, differs, headed, verdict}
 use Rattle.log_compare.specs.declared.Fault.TheVariants as fault
 use Rattle.log_compare.specs.declared.Seen.{Seen}
-use Rattle.log_compare.specs.Compare.{is_none, seen, said_of, metOf, onward, passedOne, passed, finished, goesOn}
+use Rattle.log_compare.specs.Compare.{is_none, seen, said_of, met_of, onward, passed_one, passed, finished, goes_on}
 
 module _ (log : Bytes) (p : ℕ) where
-  at-end : drop p log ≡ [] → length log ≤ p
-  at-end d = let n = length-drop p log in let m = ap length d in omega (arith, n, m)
+  at_end_lem : drop p log ≡ [] → length log ≤ p
+  at_end_lem d = let n = length-drop p log in let m = ap length d in omega (arith, n, m)
 
   module _ {k : ℕ} {l : Bytes} (d : drop p log ≡ k ∷ l) where
-    before-end : p < length log
-    before-end = let n = length-drop p log in let m = ap length d in omega (arith, n, m)
+    before_end : p < length log
+    before_end = let n = length-drop p log in let m = ap length d in omega (arith, n, m)
 
     left : length log - p ≡ length (k ∷ l)
     left = sym (length-drop p log) ∙ ap length d
 
     kind : get_or log p 0 ≡ k
-    kind = let here : p + 0 ≡ p = omega arith in sym (get_or-drop p log 0 0 ∙ getD-ix log 0 here) ∙ ap (λ (x : Bytes). get_or x 0 0) d
+    kind = let here : p + 0 ≡ p = omega arith in sym (get_or-drop p log 0 0 ∙ get_d_ix log 0 here) ∙ ap (λ (x : Bytes). get_or x 0 0) d
 
     -- a record that begins here
     there : Bool → Bool → Seen
-    there a b = cond a (seen fault.Unknown p) (cond b (seen fault.CutOff p) (seen fault.None (p + recordSize k)))
+    there a b = cond a (seen fault.Unknown p) (cond b (seen fault.CutOff p) (seen fault.None (p + record_size k)))
 
-    met-there : metOf log p ≡ there (eqb (recordSize k) 0) (ltb (length (k ∷ l)) (recordSize k))
-    unfolding metOf there
-    met-there = rw (kind, left) refl
+    met_there : met_of log p ≡ there (eqb (record_size k) 0) (ltb (length (k ∷ l)) (record_size k))
+    unfolding met_of there
+    met_there = rw (kind, left) refl
 
 -- none is expected any more
-pub finish-says : (log : Bytes) (p : ℕ) → verdict p (drop p log) [] ≡ said_of (finished log p).fault (finished log p).place
+pub finish_says : (log : Bytes) (p : ℕ) → verdict p (drop p log) [] ≡ said_of (finished log p).fault (finished log p).place
 unfolding verdict finished there
-finish-says log p = go (drop p log) refl
+finish_says log p = go (drop p log) refl
   where
     go : (l : Bytes) → drop p log ≡ l → verdict p l [] ≡ said_of (finished log p).fault (finished log p).place
-    go [] d = rw (le-leb (length log) p (at-end log p d)) refl
-    go (k ∷ l) d = rw (lt-leb (length log) p (before-end log p d), met-there log p d) (by (eqb (recordSize k) 0) (ltb (length (k ∷ l)) (recordSize k)))
+    go [] d = rw (le-leb (length log) p (at_end_lem log p d)) refl
+    go (k ∷ l) d = rw (lt-leb (length log) p (before_end log p d), met_there log p d) (by (eqb (record_size k) 0) (ltb (length (k ∷ l)) (record_size k)))
       where
-        by : (a b : Bool) → cond a (unknown p) (cond b (cutOff p) (tooMany p))
+        by : (a b : Bool) → cond a (unknown p) (cond b (cut_off p) (too_many p))
             ≡ said_of (onward (there log p d a b) (seen fault.TooMany p)).fault (onward (there log p d a b) (seen fault.TooMany p)).place
         by true b = refl
         by false true = refl
         by false false = refl
 
 -- es are expected first, and then the rest
-pub composes : (log : Bytes) (es rest : List Bytes) (p : ℕ) → verdict p (drop p log) (es ++ rest) ≡ goesOn log rest (passed log p es)
-unfolding verdict passed passedOne there
+pub composes : (log : Bytes) (es rest : List Bytes) (p : ℕ) → verdict p (drop p log) (es ++ rest) ≡ goes_on log rest (passed log p es)
+unfolding verdict passed passed_one there
 composes log [] rest p = refl
 composes log (e ∷ es) rest p = go (drop p log) refl (composes log es rest)
   where
-    go : (l : Bytes) → drop p log ≡ l → ((q : ℕ) → verdict q (drop q log) (es ++ rest) ≡ goesOn log rest (passed log q es))
-        → verdict p l (e ∷ (es ++ rest)) ≡ goesOn log rest (passed log p (e ∷ es))
-    go [] d on = rw (le-leb (length log) p (at-end log p d)) refl
+    go : (l : Bytes) → drop p log ≡ l → ((q : ℕ) → verdict q (drop q log) (es ++ rest) ≡ goes_on log rest (passed log q es))
+        → verdict p l (e ∷ (es ++ rest)) ≡ goes_on log rest (passed log p (e ∷ es))
+    go [] d on = rw (le-leb (length log) p (at_end_lem log p d)) refl
     go (k ∷ l) d on =
-        rw (lt-leb (length log) p (before-end log p d), met-there log p d, d)
-        (by (eqb (recordSize k) 0) (ltb (length (k ∷ l)) (recordSize k)))
+        rw (lt-leb (length log) p (before_end log p d), met_there log p d, d)
+        (by (eqb (record_size k) 0) (ltb (length (k ∷ l)) (record_size k)))
       where
         size : ℕ
-        size = recordSize k
+        size = record_size k
 
         one : Bool → Bool → Seen
         one a b = onward (there log p d a b) (cond (same_list (take ((there log p d a b).place - p) (k ∷ l)) e) (there log p d a b) (seen fault.Differs p))
 
-        then : verdict (p + size) (drop size (k ∷ l)) (es ++ rest) ≡ goesOn log rest (passed log (p + size) es)
+        then : verdict (p + size) (drop size (k ∷ l)) (es ++ rest) ≡ goes_on log rest (passed log (p + size) es)
         then = rw (← d, drop-drop size p log) (on (p + size))
 
         same : (c : Bool) → cond c (verdict (p + size) (drop size (k ∷ l)) (es ++ rest)) (differs p)
-            ≡ goesOn log rest (let s : Seen = cond c (seen fault.None (p + size)) (seen fault.Differs p) in onward s (passed log s.place es))
+            ≡ goes_on log rest (let s : Seen = cond c (seen fault.None (p + size)) (seen fault.Differs p) in onward s (passed log s.place es))
         same true = then
         same false = refl
 
-        by : (a b : Bool) → cond a (unknown p) (cond b (cutOff p) (cond (same_list (take size (k ∷ l)) e) (verdict (p + size) (drop size (k ∷ l)) (es ++ rest)) (differs p)))
-            ≡ goesOn log rest (onward (one a b) (passed log (one a b).place es))
+        by : (a b : Bool) → cond a (unknown p) (cond b (cut_off p) (cond (same_list (take size (k ∷ l)) e) (verdict (p + size) (drop size (k ∷ l)) (es ++ rest)) (differs p)))
+            ≡ goes_on log rest (onward (one a b) (passed log (one a b).place es))
         by true b = refl
         by false true = refl
         by false false = let n : (p + size) - p ≡ size = omega arith in rw n (same (same_list (take size (k ∷ l)) e))

@@ -1,7 +1,7 @@
 // Records that are expected beside those that a log has (docs/RULES.md, "Logs"). Parts for the checker: it passes records that are as expected, and says
 // of the first that is not what is wrong with it.
 ghost use Rattle.std.specs.Prelude.{◌≡◌, ◌+◌, ◌≤◌, ◌<◌, length};
-ghost use Rattle.log_compare.specs.Compare.{seen, is_none, metOf, passedOne, passed, finished, recordsIn, Laid};
+ghost use Rattle.log_compare.specs.Compare.{seen, is_none, met_of, passed_one, passed, finished, records_in, Laid};
 
 use log_records::record_size;
 
@@ -49,7 +49,7 @@ fn told(fault: Fault, place: usize) -> Seen
 // The record at this place of the log, which does not end there: of no kind, cut off, or whole, and then its size.
 fn met(log: &[u8], place: usize) -> Seen
     requires { place < length log.now }
-    ensures { result ≡ metOf log.now place }
+    ensures { result ≡ met_of log.now place }
 {
     let size = record_size(log[place]);
     if size == 0 {
@@ -63,7 +63,7 @@ fn met(log: &[u8], place: usize) -> Seen
 
 // One record that is expected at this place.
 fn compare_one(log: &[u8], place: usize, expected: &[u8]) -> Seen
-    ensures { result ≡ passedOne log.now place expected.now }
+    ensures { result ≡ passed_one log.now place expected.now }
 {
     if log.len() <= place {
         return told(Fault::Missing, place);
@@ -73,7 +73,7 @@ fn compare_one(log: &[u8], place: usize, expected: &[u8]) -> Seen
         return seen;
     }
     let end = seen.place;
-    if !cells::same_bytes(&log[place..end], expected) {
+    if !cells::same_bytes_lem(&log[place..end], expected) {
         return told(Fault::Differs, place);
     }
     seen
@@ -82,7 +82,7 @@ fn compare_one(log: &[u8], place: usize, expected: &[u8]) -> Seen
 // Records that are expected from this place on, one after another in bytes.
 pub fn compare(log: &[u8], place: usize, expected: &[u8]) -> Seen
     requires { Laid expected.now }
-    ensures { result ≡ passed log.now place (recordsIn expected.now) }
+    ensures { result ≡ passed log.now place (records_in expected.now) }
 {
     let mut seen = told(Fault::None, place);
     let mut done = 0;

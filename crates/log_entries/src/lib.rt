@@ -1,7 +1,7 @@
 // The records that one section gives, in 23 bytes (docs/RULES.md, "Logs"). Parts of what makes them.
 ghost use Rattle.std.specs.Prelude.{◌≡◌, [], ◌++◌, ◌<◌, ◌≤◌, take};
-ghost use Rattle.rules_logs.specs.Records.{seenRecord, failedRecord};
-ghost use Rattle.log_entries.specs.Entries.{entryWith, joinedOf, failedKind};
+ghost use Rattle.rules_logs.specs.Records.{seen_record, failed_record};
+ghost use Rattle.log_entries.specs.Entries.{entry_with, joined_of, failed_kind};
 
 use section::header::Parts;
 
@@ -14,7 +14,7 @@ pub struct Entry {
 
 // No record.
 pub fn none() -> Entry
-    ensures { result ≡ entryWith [] }
+    ensures { result ≡ entry_with [] }
 {
     Entry {
         bytes: [0; 23],
@@ -24,7 +24,7 @@ pub fn none() -> Entry
 
 // A record of 6 bytes.
 fn of_6(a: [u8; 6]) -> Entry
-    ensures { result ≡ entryWith a }
+    ensures { result ≡ entry_with a }
 {
     Entry {
         bytes: [
@@ -36,7 +36,7 @@ fn of_6(a: [u8; 6]) -> Entry
 
 // A record of 8 bytes.
 pub fn of_8(a: [u8; 8]) -> Entry
-    ensures { result ≡ entryWith a }
+    ensures { result ≡ entry_with a }
 {
     Entry {
         bytes: [
@@ -49,7 +49,7 @@ pub fn of_8(a: [u8; 8]) -> Entry
 
 // A record of 10 bytes.
 pub fn of_10(a: [u8; 10]) -> Entry
-    ensures { result ≡ entryWith a }
+    ensures { result ≡ entry_with a }
 {
     Entry {
         bytes: [
@@ -62,7 +62,7 @@ pub fn of_10(a: [u8; 10]) -> Entry
 
 // A record of 13 bytes.
 fn of_13(a: [u8; 13]) -> Entry
-    ensures { result ≡ entryWith a }
+    ensures { result ≡ entry_with a }
 {
     Entry {
         bytes: [
@@ -86,7 +86,7 @@ fn join(a: [u8; 13], b: [u8; 23]) -> [u8; 23]
 // Short or a mismatch, of a section of so many bytes.
 pub fn failed_entry(short: bool, input: u8, pid: u16, size: usize) -> Entry
     requires { size < 65536 }
-    ensures { result ≡ entryWith (failedRecord (failedKind short) input pid size) }
+    ensures { result ≡ entry_with (failed_record (failed_kind short) input pid size) }
 {
     if short {
         return of_6(log_records::failed(log_records::SHORT, input, pid, size as u16));
@@ -96,7 +96,7 @@ pub fn failed_entry(short: bool, input: u8, pid: u16, size: usize) -> Entry
 
 // Emitted or suppressed.
 pub fn seen_entry(kind: u8, input: u8, pid: u16, p: Parts) -> Entry
-    ensures { result ≡ entryWith (seenRecord kind input pid p) }
+    ensures { result ≡ entry_with (seen_record kind input pid p) }
 {
     of_13(log_records::seen(kind, input, pid, p))
 }
@@ -104,7 +104,7 @@ pub fn seen_entry(kind: u8, input: u8, pid: u16, p: Parts) -> Entry
 // Emitted or suppressed, and the record of a set behind it.
 pub fn seen_with(kind: u8, input: u8, pid: u16, p: Parts, set: Entry) -> Entry
     requires { set.length ≤ 10 }
-    ensures { result ≡ joinedOf (seenRecord kind input pid p) set }
+    ensures { result ≡ joined_of (seen_record kind input pid p) set }
 {
     let b = set.bytes;
     Entry {

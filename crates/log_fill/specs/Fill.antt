@@ -3,10 +3,10 @@
 use Rattle.std.specs.Prelude.{ℕ, ◌≤◌, ◌≡◌, List, ◌++◌, length}
 use Rattle.std.proofs.lemmas.List.Edits.{sets}
 use Rattle.rules_logs.specs.Records.{Bytes}
-use Rattle.rules_logs.specs.Verdict.{logOf}
-use Rattle.log_list.specs.List.{givensFrom}
+use Rattle.rules_logs.specs.Verdict.{log_of}
+use Rattle.log_list.specs.List.{givens_from}
 use Rattle.log_state.specs.State.{Lent}
-use Rattle.log_sections.specs.Steps.{recordsBy, leftBy, Memory, memoryIn}
+use Rattle.log_sections.specs.Steps.{records_by, left_by, Memory, memory_in}
 
 -- bytes put in at a place, and whatever comes behind them put in at place r
 pub record PutAt (room : Bytes) (at : ℕ) (bytes : Bytes) (r : ℕ) (after : Bytes) : Type 0 where
@@ -15,5 +15,5 @@ pub record PutAt (room : Bytes) (at : ℕ) (bytes : Bytes) (r : ℕ) (after : By
 
 -- the log of the sections from the start of the room on, and what is left of the run
 pub record FilledBy (list room : Bytes) (s : Lent) (after : Bytes) (m : Memory) : Type 0 where
-  pub log : after ≡ sets room 0 (logOf (recordsBy s (givensFrom list 0)))
-  pub leaves : m ≡ memoryIn (leftBy s (givensFrom list 0))
+  pub log : after ≡ sets room 0 (log_of (records_by s (givens_from list 0)))
+  pub leaves : m ≡ memory_in (left_by s (givens_from list 0))

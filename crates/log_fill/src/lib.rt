@@ -3,7 +3,7 @@
 ghost use Rattle.std.specs.Prelude.{◌≡◌, ◌≤◌, min, length};
 ghost use Rattle.log_list.specs.List.{WholeFrom};
 ghost use Rattle.log_state.specs.State.{lent};
-ghost use Rattle.log_sections.specs.Steps.{shownIn, memory};
+ghost use Rattle.log_sections.specs.Steps.{shown_in, memory};
 ghost use Rattle.log_fill.specs.Fill.{PutAt, FilledBy};
 
 use log_entries::Entry;
@@ -19,7 +19,7 @@ fn smaller(n: usize, m: usize) -> usize
 fn put(room: &mut [u8], at: usize, entry: Entry) -> usize
     requires at_in_bounds { at ≤ length room.old }
     requires length_in_bounds { entry.length ≤ length entry.bytes }
-    ensures { PutAt room.old at (shownIn entry) result room.new }
+    ensures { PutAt room.old at (shown_in entry) result room.new }
 {
     let bytes = entry.bytes;
     let n = smaller(entry.length, room.len() - at);

@@ -3,7 +3,7 @@
 use Rattle.std.specs.Prelude.{ℕ, ◌+◌, ◌-◌, ◌*◌, ◌≤◌, ◌<◌, ◌≡◌, List, [], ◌∷◌, cond, leb, ltb, length, take, drop}
 use Rattle.section.specs.Header.{byte_at, word16}
 use Rattle.rules_logs.specs.Records.{Bytes}
-use Rattle.rules_logs.specs.Sections.{Given, Listed, tooLong, cut, sections, sectionsIn}
+use Rattle.rules_logs.specs.Sections.{Given, Listed, too_long, cut, sections, sections_in}
 use Rattle.log_list.specs.declared.Place.{Place}
 use Rattle.log_list.specs.declared.Next.{Next}
 use Rattle.log_list.specs.declared.Next.TheVariants as next
@@ -11,8 +11,8 @@ use Rattle.log_list.specs.declared.Judged.{Judged}
 use Rattle.log_list.specs.declared.Judged.TheVariants as judged
 
 -- what the five bytes at place p say
-unfoldable pub placeAt : Bytes → (p : ℕ) → Place
-placeAt s p = record {
+unfoldable pub place_at : Bytes → (p : ℕ) → Place
+place_at s p = record {
   input = byte_at s p;
   pid = word16 (byte_at s (p + 1)) (byte_at s (p + 2));
   start = p + 5;
@@ -22,41 +22,41 @@ placeAt s p = record {
 -- what begins at place p: a length over 4,098 is told also where the bytes behind it are missing
 unfoldable pub next_at : Bytes → (p : ℕ) → Next
 next_at s p =
-    let size : ℕ = (placeAt s p).length in
+    let size : ℕ = (place_at s p).length in
     cond (leb (length s) p) next.End
     (cond (ltb (length s - p) 5) next.Cut
     (cond (ltb 4098 size) next.TooLong
     (cond (ltb (length s - (p + 5)) size) next.Cut
-    (next.Section (placeAt s p)))))
+    (next.Section (place_at s p)))))
 
 -- what a list comes to
-abbrev pub judgedOf : Listed → Judged
-judgedOf tooLong = judged.TooLong
-judgedOf cut = judged.Cut
-judgedOf (sections gs) = judged.Whole
+abbrev pub judged_of : Listed → Judged
+judged_of too_long = judged.TooLong
+judged_of cut = judged.Cut
+judged_of (sections gs) = judged.Whole
 
 -- its sections, none where it is not whole
-abbrev pub givensOf : Listed → List Given
-givensOf tooLong = []
-givensOf cut = []
-givensOf (sections gs) = gs
+abbrev pub givens_of : Listed → List Given
+givens_of too_long = []
+givens_of cut = []
+givens_of (sections gs) = gs
 
 -- the sections from place p on
-abbrev pub givensFrom : Bytes → (p : ℕ) → List Given
-givensFrom s p = givensOf (sectionsIn (drop p s))
+abbrev pub givens_from : Bytes → (p : ℕ) → List Given
+givens_from s p = givens_of (sections_in (drop p s))
 
 -- the section that a place tells of
-abbrev pub givenAt : Bytes → Place → Given
-givenAt s r = record { input = r.input; pid = r.pid; section = take r.length (drop r.start s) }
+abbrev pub given_at : Bytes → Place → Given
+given_at s r = record { input = r.input; pid = r.pid; section = take r.length (drop r.start s) }
 
 -- from place p on the list is whole
 pub record WholeFrom (s : Bytes) (p : ℕ) : Type 0 where
   pub within : p ≤ length s
-  pub whole : judgedOf (sectionsIn (drop p s)) ≡ judged.Whole
+  pub whole : judged_of (sections_in (drop p s)) ≡ judged.Whole
 
 -- the first of the sections from place p on
 pub record PlacedAt (s : Bytes) (p : ℕ) (r : Place) : Type 0 where
-  pub first : givensFrom s p ≡ givenAt s r ∷ givensFrom s (r.start + r.length)
+  pub first : givens_from s p ≡ given_at s r ∷ givens_from s (r.start + r.length)
   pub behind : WholeFrom s (r.start + r.length)
   pub starts : r.start ≡ p + 5
   pub later : p < r.start

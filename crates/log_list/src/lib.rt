@@ -1,8 +1,8 @@
 // A section list read from its bytes (docs/RULES.md, "Logs"): for each section an input (1 byte), a PID (2), a length (2), then so many bytes. Parts for the
 // checker and the writer.
 ghost use Rattle.std.specs.Prelude.{◌≡◌, ◌+◌, ◌≤◌, ◌<◌, length};
-ghost use Rattle.rules_logs.specs.Sections.{sectionsIn};
-ghost use Rattle.log_list.specs.List.{placeAt, next_at, judgedOf, WholeFrom, PlacedAt};
+ghost use Rattle.rules_logs.specs.Sections.{sections_in};
+ghost use Rattle.log_list.specs.List.{place_at, next_at, judged_of, WholeFrom, PlacedAt};
 
 use section::bytes::{wide, word};
 
@@ -39,9 +39,9 @@ pub enum Judged {
 }
 
 // What the five bytes at this place say.
-fn place_at(list: &[u8], place: usize) -> Place
+fn place_at_lem(list: &[u8], place: usize) -> Place
     requires { place + 5 ≤ length list.now }
-    ensures { result ≡ placeAt list.now place }
+    ensures { result ≡ place_at list.now place }
 {
     Place {
         input: list[place],
@@ -61,7 +61,7 @@ pub fn read_next(list: &[u8], place: usize) -> Next
     if list.len() - place < HEAD {
         return Next::Cut;
     }
-    let p = place_at(list, place);
+    let p = place_at_lem(list, place);
     if LONGEST < p.length {
         return Next::TooLong;
     }
@@ -77,12 +77,12 @@ pub fn section_at(list: &[u8], place: usize) -> Place
     requires place_in_bounds { place < length list.now }
     ensures { PlacedAt list.now place result }
 {
-    place_at(list, place)
+    place_at_lem(list, place)
 }
 
 // The whole list, from its start: the first bad section decides.
 pub fn judge(list: &[u8]) -> Judged
-    ensures { result ≡ judgedOf (sectionsIn list.now) }
+    ensures { result ≡ judged_of (sections_in list.now) }
 {
     let mut at = 0;
     while at < list.len() {

@@ -2,18 +2,18 @@
 -- `cond test a b` is a where the test is true, else b.
 -- Assumes nothing.
 use Rattle.std.specs.Prelude.{ℕ, [], Bool, true, false, cond, ◌&&◌, length, leb, ltb}
-use Rattle.section.specs.Header.{tableId, headerOf}
-use Rattle.section.specs.Judged.{form_of, parts_of, bareParts, checkedChange}
+use Rattle.section.specs.Header.{table_id_of, header_of}
+use Rattle.section.specs.Judged.{form_of, parts_of, bare_parts, checked_change}
 use Rattle.section.specs.declared.header.ChangeRule.{ChangeRule}
 use Rattle.section.specs.declared.header.Form.{Form}
 use Rattle.section.specs.declared.header.Form.TheVariants as form
 use Rattle.section.specs.declared.ids.MaybePid.{MaybePid}
 use Rattle.section.specs.declared.ids.MaybePid.TheVariants as maybe
-use Rattle.offers.specs.Offers.{isShort}
+use Rattle.offers.specs.Offers.{is_short}
 use Rattle.gate_state.specs.declared.Answer.{Answer}
 use Rattle.gate_state.specs.declared.Answer.TheVariants as answer
-use Rattle.rules_logs.specs.Records.{Bytes, seenRecord, failedRecord, setRecord, bareSetRecord}
-use Rattle.log_entries.specs.Entries.{entryWith, failedKind}
+use Rattle.rules_logs.specs.Records.{Bytes, seen_record, failed_record, set_record, bare_set_record}
+use Rattle.log_entries.specs.Entries.{entry_with, failed_kind}
 use Rattle.log_entries.specs.declared.Entry.{Entry}
 use Rattle.log_makers.specs.declared.Noting.{Noting}
 use Rattle.log_makers.specs.declared.Noting.TheVariants.{Done, TooLong}
@@ -30,68 +30,68 @@ room_for form.Checked n = leb 4 n
 room_for form.Plain n = true
 
 -- 3 bytes or more, and room for the CRC that the form announces: all that the gate asks of a section but the CRC itself
-unfoldable pub hasParts : Bytes → Bool
-hasParts s = cond (ltb (length s) 3) false (room_for (form_of s) (length s))
+unfoldable pub has_parts : Bytes → Bool
+has_parts s = cond (ltb (length s) 3) false (room_for (form_of s) (length s))
 
 -- with a checked CRC and no header
-unfoldable pub checkedIn : ChangeRule → Bytes → Found
-checkedIn rule s = cond (ltb (length s) 4) found.Nothing (found.Are (bareParts (tableId s) (checkedChange rule s)))
+unfoldable pub checked_in : ChangeRule → Bytes → Found
+checked_in rule s = cond (ltb (length s) 4) found.Nothing (found.Are (bare_parts (table_id_of s) (checked_change rule s)))
 
 -- the parts of a section that the gate has found sound; none where it cannot have been
 unfoldable pub parts_in : ChangeRule → Bytes → Found
-parts_in rule s = cond (hasParts s) (found.Are (parts_of rule s (form_of s))) found.Nothing
+parts_in rule s = cond (has_parts s) (found.Are (parts_of rule s (form_of s))) found.Nothing
 
 -- 1 and 2
-abbrev pub seenOr : (kind input pid : ℕ) → Found → Bytes
-seenOr kind input pid (found.Are p) = seenRecord kind input pid p
-seenOr kind input pid found.Nothing = []
+abbrev pub seen_or : (kind input pid : ℕ) → Found → Bytes
+seen_or kind input pid (found.Are p) = seen_record kind input pid p
+seen_or kind input pid found.Nothing = []
 
 -- what the gate answered as a record: 1 emitted, 2 suppressed, 3 short (31), 4 mismatch (3); none of a refusal
-unfoldable pub offerRecord : Answer → ChangeRule → (input pid : ℕ) → Bytes → Bytes
-offerRecord answer.Emitted rule input pid s = seenOr 1 input pid (parts_in rule s)
-offerRecord answer.Suppressed rule input pid s = seenOr 2 input pid (parts_in rule s)
-offerRecord (answer.Failed f) rule input pid s = failedRecord (failedKind (isShort f)) input pid (length s)
-offerRecord (answer.Refused r) rule input pid s = []
+unfoldable pub offer_record : Answer → ChangeRule → (input pid : ℕ) → Bytes → Bytes
+offer_record answer.Emitted rule input pid s = seen_or 1 input pid (parts_in rule s)
+offer_record answer.Suppressed rule input pid s = seen_or 2 input pid (parts_in rule s)
+offer_record (answer.Failed f) rule input pid s = failed_record (failed_kind (is_short f)) input pid (length s)
+offer_record (answer.Refused r) rule input pid s = []
 
 -- an input and a PID that there are
-abbrev pub isOrigin : (input pid : ℕ) → Bool
-isOrigin input pid = ltb input 16 && ltb pid 8192
+abbrev pub is_origin : (input pid : ℕ) → Bool
+is_origin input pid = ltb input 16 && ltb pid 8192
 
 -- 0, 6 or 13 bytes, 0 where there is no such input or PID
-unfoldable pub offerNoted : Answer → ChangeRule → (input pid : ℕ) → Bytes → Entry
-offerNoted a rule input pid s = entryWith (cond (isOrigin input pid) (offerRecord a rule input pid s) [])
+unfoldable pub offer_noted : Answer → ChangeRule → (input pid : ℕ) → Bytes → Entry
+offer_noted a rule input pid s = entry_with (cond (is_origin input pid) (offer_record a rule input pid s) [])
 
 -- 42 where the section has more than 4,098 bytes; else 7
 unfoldable pub noted_of : Answer → ChangeRule → (input pid : ℕ) → Bytes → Noted
 noted_of a rule input pid s =
-    cond (ltb 4098 (length s)) (record { answer = TooLong; entry = entryWith [] })
-    (record { answer = Done; entry = offerNoted a rule input pid s })
+    cond (ltb 4098 (length s)) (record { answer = TooLong; entry = entry_with [] })
+    (record { answer = Done; entry = offer_noted a rule input pid s })
 
-abbrev pub notingNo : Noting → ℕ
-notingNo Done = 7
-notingNo TooLong = 42
+abbrev pub noting_no : Noting → ℕ
+noting_no Done = 7
+noting_no TooLong = 42
 
 -- ---- of a set
 
 -- the set that this section completed, with its PID (5); none without one
-abbrev pub setRecordOf : (input : ℕ) → MaybePid → Bytes → Bytes
-setRecordOf input (maybe.Some pid) s = setRecord input pid (headerOf s)
-setRecordOf input maybe.None s = []
+abbrev pub set_record_of : (input : ℕ) → MaybePid → Bytes → Bytes
+set_record_of input (maybe.Some pid) s = set_record input pid (header_of s)
+set_record_of input maybe.None s = []
 
 -- an input and a PID that there are
-abbrev pub isSource : (input : ℕ) → MaybePid → Bool
-isSource input (maybe.Some pid) = isOrigin input pid
-isSource input maybe.None = false
+abbrev pub is_source : (input : ℕ) → MaybePid → Bool
+is_source input (maybe.Some pid) = is_origin input pid
+is_source input maybe.None = false
 
 -- none of a section under 12 bytes, which completes no set
-unfoldable pub setEntry : (input : ℕ) → MaybePid → Bytes → Entry
-setEntry input pid s = entryWith (cond (isSource input pid && leb 12 (length s)) (setRecordOf input pid s) [])
+unfoldable pub set_entry : (input : ℕ) → MaybePid → Bytes → Entry
+set_entry input pid s = entry_with (cond (is_source input pid && leb 12 (length s)) (set_record_of input pid s) [])
 
 -- ---- by the older definition, which knows no PIDs
 
 -- the set that this section completed (6)
-abbrev pub bareRecordOf : (input : ℕ) → Bytes → Bytes
-bareRecordOf input s = bareSetRecord input (headerOf s)
+abbrev pub bare_record_of : (input : ℕ) → Bytes → Bytes
+bare_record_of input s = bare_set_record input (header_of s)
 
-unfoldable pub bareSetEntry : (input : ℕ) → Bytes → Entry
-bareSetEntry input s = entryWith (cond (ltb input 16 && leb 12 (length s)) (bareRecordOf input s) [])
+unfoldable pub bare_set_entry : (input : ℕ) → Bytes → Entry
+bare_set_entry input s = entry_with (cond (ltb input 16 && leb 12 (length s)) (bare_record_of input s) [])

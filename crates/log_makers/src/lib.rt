@@ -1,10 +1,10 @@
 // The records that one section gives (docs/RULES.md, "Logs"): for a monitor that appends them to a log after each offer and each set. No store is looked at,
 // and no CRC is judged again.
 ghost use Rattle.std.specs.Prelude.{◌≡◌, ◌<◌, ◌≤◌, length};
-ghost use Rattle.section.specs.Header.{versionOf, storedCrc, headerOf};
-ghost use Rattle.section.specs.Judged.{checkedChange, bareParts, headedParts};
-ghost use Rattle.log_entries.specs.Entries.{entryWith};
-ghost use Rattle.log_makers.specs.Makers.{checkedIn, parts_in, seenOr, offerNoted, noted_of, notingNo, setEntry, bareSetEntry};
+ghost use Rattle.section.specs.Header.{version_of, stored_crc, header_of};
+ghost use Rattle.section.specs.Judged.{checked_change, bare_parts, headed_parts};
+ghost use Rattle.log_entries.specs.Entries.{entry_with};
+ghost use Rattle.log_makers.specs.Makers.{checked_in, parts_in, seen_or, offer_noted, noted_of, noting_no, set_entry, bare_set_entry};
 
 use gate_state::Answer;
 use log_entries::Entry;
@@ -21,7 +21,7 @@ pub enum Noting {
 
 impl Noting {
     pub fn number(self) -> u8
-        ensures { result ≡ notingNo self }
+        ensures { result ≡ noting_no self }
     {
         match self {
             Noting::Done => 7,
@@ -44,7 +44,7 @@ pub enum Found {
 }
 
 fn found_entry(kind: u8, input: u8, pid: u16, f: Found) -> Entry
-    ensures { result ≡ entryWith (seenOr kind input pid f) }
+    ensures { result ≡ entry_with (seen_or kind input pid f) }
 {
     match f {
         Found::Are(p) => log_entries::seen_entry(kind, input, pid, p),
@@ -54,7 +54,7 @@ fn found_entry(kind: u8, input: u8, pid: u16, f: Found) -> Entry
 
 fn version(s: &[u8]) -> u8
     requires { 12 ≤ length s.now }
-    ensures { result ≡ versionOf s.now }
+    ensures { result ≡ version_of s.now }
 {
     s[5] / 2 % 32
 }
@@ -62,7 +62,7 @@ fn version(s: &[u8]) -> u8
 // The CRC that a section carries.
 fn stored_crc(s: &[u8]) -> u32
     requires { 4 ≤ length s.now }
-    ensures { result ≡ storedCrc s.now }
+    ensures { result ≡ stored_crc s.now }
 {
     crc::stored(s, s.len() - 4)
 }
@@ -70,7 +70,7 @@ fn stored_crc(s: &[u8]) -> u32
 // With a header.
 fn headed(s: &[u8]) -> Parts
     requires { 12 ≤ length s.now }
-    ensures { result ≡ headedParts s.now (storedCrc s.now) }
+    ensures { result ≡ headed_parts s.now (stored_crc s.now) }
 {
     Parts {
         table_id: s[0],
@@ -83,7 +83,7 @@ fn headed(s: &[u8]) -> Parts
 
 // Without a header.
 fn bare(table_id: u8, change: u32) -> Parts
-    ensures { result ≡ bareParts table_id change }
+    ensures { result ≡ bare_parts table_id change }
 {
     Parts {
         table_id: table_id,
@@ -96,7 +96,7 @@ fn bare(table_id: u8, change: u32) -> Parts
 
 fn checked_change(s: &[u8], rule: ChangeRule) -> u32
     requires { 4 ≤ length s.now }
-    ensures { result ≡ checkedChange rule s.now }
+    ensures { result ≡ checked_change rule s.now }
 {
     match rule {
         ChangeRule::AllBytes => crc::crc(s),
@@ -107,7 +107,7 @@ fn checked_change(s: &[u8], rule: ChangeRule) -> u32
 // With a checked CRC and no header.
 fn checked(s: &[u8], rule: ChangeRule) -> Found
     requires { 3 ≤ length s.now }
-    ensures { result ≡ checkedIn rule s.now }
+    ensures { result ≡ checked_in rule s.now }
 {
     if s.len() < 4 {
         return Found::Nothing;
@@ -137,7 +137,7 @@ fn parts(s: &[u8], rule: ChangeRule) -> Found
 // 0, 6 or 13 bytes.
 fn note(answer: Answer, rule: ChangeRule, input: u8, pid: u16, section: &[u8]) -> Entry
     requires { length section.now < 65536 }
-    ensures { result ≡ offerNoted answer rule input pid section.now }
+    ensures { result ≡ offer_noted answer rule input pid section.now }
 {
     if (input < 16) & (pid < 8192) {
         return match answer {
@@ -176,7 +176,7 @@ pub fn offer_record(answer: Answer, rule: ChangeRule, input: u8, pid: u16, secti
 
 fn header_of(s: &[u8]) -> Header
     requires { 12 ≤ length s.now }
-    ensures { result ≡ headerOf s.now }
+    ensures { result ≡ header_of s.now }
 {
     Header {
         table_id: s[0],
@@ -191,7 +191,7 @@ fn header_of(s: &[u8]) -> Header
 // The record of the set that this section completed, 10 bytes; 0 of a section under 12 bytes, where there is no such input or PID, and without a PID: the push
 // before it was answered 41.
 pub fn set_record(input: u8, pid: MaybePid, section: &[u8]) -> Entry
-    ensures { result ≡ setEntry input pid section.now }
+    ensures { result ≡ set_entry input pid section.now }
 {
     if (16 <= input) | (section.len() < 12) {
         return log_entries::none();
@@ -210,7 +210,7 @@ pub fn set_record(input: u8, pid: MaybePid, section: &[u8]) -> Entry
 
 // The same by the older definition, which knows no PIDs: 8 bytes. A part of a run of a log.
 pub fn bare_set_record(input: u8, section: &[u8]) -> Entry
-    ensures { result ≡ bareSetEntry input section.now }
+    ensures { result ≡ bare_set_entry input section.now }
 {
     if (section.len() < 12) | (16 <= input) {
         return log_entries::none();

@@ -3,29 +3,29 @@
 use Rattle.std.specs.Prelude.{ℕ, ◌-◌, ◌≡◌, List, [], ◌∷◌, true, false, cond, ltb, length}
 use Rattle.rules_logs.specs.Records.{Bytes}
 use Rattle.rules_logs.specs.Sections.{Given}
-use Rattle.rules_logs.specs.Verdict.{logOf}
-use Rattle.log_list.specs.List.{givensFrom}
+use Rattle.rules_logs.specs.Verdict.{log_of}
+use Rattle.log_list.specs.List.{givens_from}
 use Rattle.log_state.specs.State.{Lent}
 use Rattle.log_run.specs.Store.{Taking}
-use Rattle.log_sections.specs.Steps.{takes, recordsBy, Memory, memoryIn}
+use Rattle.log_sections.specs.Steps.{takes, records_by, Memory, memory_in}
 use Rattle.log_measure.specs.declared.Measured.{Measured}
 
 -- the log of sections
-abbrev pub logBy : Lent → List Given → Bytes
-logBy s gs = logOf (recordsBy s gs)
+abbrev pub log_by : Lent → List Given → Bytes
+log_by s gs = log_of (records_by s gs)
 
 -- no room: the log is longer than the room
-abbrev pub measuredOf : (room size : ℕ) → Measured
-measuredOf room size = cond (ltb room size) (record { fits = false; length = 0 }) (record { fits = true; length = size })
+abbrev pub measured_of : (room size : ℕ) → Measured
+measured_of room size = cond (ltb room size) (record { fits = false; length = 0 }) (record { fits = true; length = size })
 
 -- what is left after the sections that are looked at: none after the first whose records find no room
-unfoldable pub fittedIn : (free : ℕ) → Lent → List Given → Lent
-fittedIn free s [] = s
-fittedIn free s (g ∷ gs) =
+unfoldable pub fitted_in : (free : ℕ) → Lent → List Given → Lent
+fitted_in free s [] = s
+fitted_in free s (g ∷ gs) =
     let t : Taking = takes s g in
-    let size : ℕ = length (logOf t.records) in
-    cond (ltb free size) t.left (fittedIn (free - size) t.left gs)
+    let size : ℕ = length (log_of t.records) in
+    cond (ltb free size) t.left (fitted_in (free - size) t.left gs)
 
 pub record MeasuredBy (list : Bytes) (room : ℕ) (s : Lent) (r : Measured) (m : Memory) : Type 0 where
-  pub tells : r ≡ measuredOf room (length (logBy s (givensFrom list 0)))
-  pub leaves : m ≡ memoryIn (fittedIn room s (givensFrom list 0))
+  pub tells : r ≡ measured_of room (length (log_by s (givens_from list 0)))
+  pub leaves : m ≡ memory_in (fitted_in room s (givens_from list 0))

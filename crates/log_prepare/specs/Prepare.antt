@@ -4,8 +4,8 @@
 use Rattle.std.specs.Prelude.{ℕ, ◌≡◌, cond}
 use Rattle.answers.specs.declared.Outcome.TheVariants as outcome
 use Rattle.answers.specs.declared.Outcome.{Outcome}
-use Rattle.rules_logs.specs.Sections.{Listed, tooLong, cut, sections}
-use Rattle.log_state.specs.State.{isWithout, opened_of}
+use Rattle.rules_logs.specs.Sections.{Listed, too_long, cut, sections}
+use Rattle.log_state.specs.State.{is_without, opened_of}
 use Rattle.log_state.specs.declared.Opened.{Opened}
 use Rattle.log_state.specs.declared.Pids.{Pids}
 use Rattle.log_state.specs.declared.Run.{Run}
@@ -14,14 +14,14 @@ use Rattle.log_prepare.specs.declared.Prepared.{Prepared}
 use Rattle.log_prepare.specs.declared.Prepared.TheVariants as prepared
 
 -- past 41 opening refuses with 13 alone
-abbrev pub readyBy : Run → Outcome → Prepared
-readyBy run outcome.Done = prepared.Ready run
-readyBy run (outcome.Refused r) = prepared.TooLittle
+abbrev pub ready_by : Run → Outcome → Prepared
+ready_by run outcome.Done = prepared.Ready run
+ready_by run (outcome.Refused r) = prepared.TooLittle
 
-abbrev pub readyOf : Pids → Opened → Prepared
-readyOf p o = cond (isWithout p) prepared.NoPid (readyBy o.run o.answer)
+abbrev pub ready_of : Pids → Opened → Prepared
+ready_of p o = cond (is_without p) prepared.NoPid (ready_by o.run o.answer)
 
-unfoldable pub preparedOf : Settings → Listed → (keys changes heads slots cells : ℕ) → Prepared
-preparedOf s tooLong keys changes heads slots cells = prepared.TooLong
-preparedOf s cut keys changes heads slots cells = prepared.Cut
-preparedOf s (sections gs) keys changes heads slots cells = readyOf s.pids (opened_of s keys changes heads slots cells)
+unfoldable pub prepared_of : Settings → Listed → (keys changes heads slots cells : ℕ) → Prepared
+prepared_of s too_long keys changes heads slots cells = prepared.TooLong
+prepared_of s cut keys changes heads slots cells = prepared.Cut
+prepared_of s (sections gs) keys changes heads slots cells = ready_of s.pids (opened_of s keys changes heads slots cells)

@@ -1,8 +1,8 @@
 // What comes before the sections of a list are looked at (docs/RULES.md, "Logs"): the list is judged, and then a run is opened. A part of the checker and of
 // the writer.
 ghost use Rattle.std.specs.Prelude.{◌≡◌, length};
-ghost use Rattle.rules_logs.specs.Sections.{sectionsIn};
-ghost use Rattle.log_prepare.specs.Prepare.{preparedOf, readyOf};
+ghost use Rattle.rules_logs.specs.Sections.{sections_in};
+ghost use Rattle.log_prepare.specs.Prepare.{prepared_of, ready_of};
 
 use answers::Outcome;
 use log_list::Judged;
@@ -19,7 +19,7 @@ pub enum Prepared {
 }
 
 fn ready(pids: Pids, opened: Opened) -> Prepared
-    ensures { result ≡ readyOf pids opened }
+    ensures { result ≡ ready_of pids opened }
 {
     if pids.is_without() {
         return Prepared::NoPid;
@@ -42,7 +42,7 @@ pub fn prepare(
     slots: &[u32],
     cells: &[u8],
 ) -> Prepared
-    ensures { result ≡ preparedOf settings (sectionsIn sections.now) (length keys.now) (length changes.now) (length heads.now) (length slots.now) (length cells.now) }
+    ensures { result ≡ prepared_of settings (sections_in sections.now) (length keys.now) (length changes.now) (length heads.now) (length slots.now) (length cells.now) }
 {
     let judged = log_list::judge(sections);
     let pids = settings.pids;

@@ -4,7 +4,7 @@ use mathlib.Core.Path.{◌≡◌, sym, ◌∙◌}
 use mathlib.Core.List.{List}
 use Prim.Native.Nat.{ℕ}
 use Rattle.log_records.specs.declared.Read.{Read}
-use Rattle.log_records.specs.Reading.{readAt}
+use Rattle.log_records.specs.Reading.{read_at}
 
-pub unique-read-record : (log : List ℕ) (place : ℕ) {a b : Read} → a ≡ readAt log place → b ≡ readAt log place → a ≡ b
-unique-read-record log place p q = p ∙ sym q
+pub unique_read_record : (log : List ℕ) (place : ℕ) {a b : Read} → a ≡ read_at log place → b ≡ read_at log place → a ≡ b
+unique_read_record log place p q = p ∙ sym q

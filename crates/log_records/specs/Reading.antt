@@ -3,7 +3,7 @@
 use Rattle.std.specs.Prelude.{ℕ, ◌+◌, ◌-◌, ◌≡◌, List, Bool, cond, leb, ltb, eqb, length, get_or}
 use Rattle.crc.specs.Crc.{stored_at}
 use Rattle.section.specs.Header.{byte_at, word16}
-use Rattle.rules_logs.specs.Records.{recordSize}
+use Rattle.rules_logs.specs.Records.{record_size}
 use Rattle.log_records.specs.declared.Record.{Record}
 use Rattle.log_records.specs.declared.Read.{Read}
 use Rattle.log_records.specs.declared.Read.TheVariants.{Found, End, Unknown, Cut}
@@ -28,8 +28,8 @@ seen_at s i = record {
 }
 
 -- 3 and 4
-unfoldable pub failedAt : List ℕ → ℕ → Record
-failedAt s i = record {
+unfoldable pub failed_at : List ℕ → ℕ → Record
+failed_at s i = record {
   kind = byte_at s i;
   input = byte_at s (i + 1);
   pid = word_at s (i + 2);
@@ -60,8 +60,8 @@ set_at s i = record {
 }
 
 -- 6: a PID that is unknown is 8192
-unfoldable pub bareSetAt : List ℕ → ℕ → Record
-bareSetAt s i = record {
+unfoldable pub bare_set_at : List ℕ → ℕ → Record
+bare_set_at s i = record {
   kind = byte_at s i;
   input = byte_at s (i + 1);
   pid = 8192;
@@ -78,21 +78,21 @@ bareSetAt s i = record {
 -- it is the size of a kind that there is
 pub record IsSize (size : ℕ) : Type 0 where
   pub kind : ℕ
-  pub sized : size ≡ recordSize kind
+  pub sized : size ≡ record_size kind
   pub known : size ≡ 0 → ⊥
 
 -- the record of this size from byte i on
 unfoldable pub fields_at : List ℕ → ℕ → (size : ℕ) → Record
-fields_at s i size = cond (eqb size 13) (seen_at s i) (cond (eqb size 6) (failedAt s i) (cond (eqb size 10) (set_at s i) (bareSetAt s i)))
+fields_at s i size = cond (eqb size 13) (seen_at s i) (cond (eqb size 6) (failed_at s i) (cond (eqb size 10) (set_at s i) (bare_set_at s i)))
 
 -- the record that begins at this place: the end of the log comes first, then a kind that there is not, then a record that is cut off
-unfoldable pub readAt : List ℕ → ℕ → Read
-readAt s i =
-    let size : ℕ = recordSize (byte_at s i) in
+unfoldable pub read_at : List ℕ → ℕ → Read
+read_at s i =
+    let size : ℕ = record_size (byte_at s i) in
     cond (leb (length s) i) End (cond (eqb size 0) Unknown (cond (ltb (length s - i) size) Cut (Found (fields_at s i size))))
 
-abbrev pub readNumber : Read → ℕ
-readNumber (Found r) = 8
-readNumber End = 9
-readNumber Unknown = 38
-readNumber Cut = 39
+abbrev pub read_number : Read → ℕ
+read_number (Found r) = 8
+read_number End = 9
+read_number Unknown = 38
+read_number Cut = 39

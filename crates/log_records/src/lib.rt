@@ -1,7 +1,7 @@
 // The records of a log in bytes (docs/RULES.md, "Logs"). Parts for the writer and the checker: each makes one record.
 ghost use Rattle.std.specs.Prelude.{◌≡◌, cond, ◌<◌, ◌/◌, ◌%◌, ◌+◌, ◌≤◌, length};
-ghost use Rattle.rules_logs.specs.Records.{recordSize, seenRecord, failedRecord, setRecord, bareSetRecord};
-ghost use Rattle.log_records.specs.Reading.{seen_at, failedAt, set_at, bareSetAt, fields_at, readAt, readNumber, IsSize};
+ghost use Rattle.rules_logs.specs.Records.{record_size, seen_record, failed_record, set_record, bare_set_record};
+ghost use Rattle.log_records.specs.Reading.{seen_at, failed_at, set_at, bare_set_at, fields_at, read_at, read_number, IsSize};
 
 use section::bytes::word;
 use section::header::{Header, Parts};
@@ -24,7 +24,7 @@ pub const NO_PID: u16 = 8192;
 
 // How many bytes a record of this kind has, with the kind; 0 where there is no such kind.
 pub fn record_size(kind: u8) -> usize
-    ensures { result ≡ recordSize kind }
+    ensures { result ≡ record_size kind }
 {
     if (kind == EMITTED) | (kind == SUPPRESSED) {
         return 13;
@@ -64,7 +64,7 @@ fn byte_of(n: u32, power: u32) -> u8
 
 // Emitted or suppressed.
 pub fn seen(kind: u8, input: u8, pid: u16, p: Parts) -> [u8; 13]
-    ensures { result ≡ seenRecord kind input pid p }
+    ensures { result ≡ seen_record kind input pid p }
 {
     let change = p.change;
     [
@@ -86,7 +86,7 @@ pub fn seen(kind: u8, input: u8, pid: u16, p: Parts) -> [u8; 13]
 
 // Short or a mismatch, of a section of so many bytes.
 pub fn failed(kind: u8, input: u8, pid: u16, length: u16) -> [u8; 6]
-    ensures { result ≡ failedRecord kind input pid length }
+    ensures { result ≡ failed_record kind input pid length }
 {
     [kind, input, high(pid), low(pid), high(length), low(length)]
 }
@@ -99,7 +99,7 @@ fn bit(b: bool) -> u8
 
 // A set with its PID, by the header of the section that completed it.
 pub fn set(input: u8, pid: u16, h: Header) -> [u8; 10]
-    ensures { result ≡ setRecord input pid h }
+    ensures { result ≡ set_record input pid h }
 {
     [
         SET,
@@ -117,7 +117,7 @@ pub fn set(input: u8, pid: u16, h: Header) -> [u8; 10]
 
 // A set without a PID.
 pub fn bare_set(input: u8, h: Header) -> [u8; 8]
-    ensures { result ≡ bareSetRecord input h }
+    ensures { result ≡ bare_set_record input h }
 {
     [
         BARE_SET,
@@ -158,7 +158,7 @@ pub enum Read {
 
 impl Read {
     pub fn number(self) -> u8
-        ensures { result ≡ readNumber self }
+        ensures { result ≡ read_number self }
     {
         match self {
             Read::Found(_) => 8,
@@ -192,7 +192,7 @@ fn seen_at(log: &[u8], at: usize) -> Record
 // Short or a mismatch.
 fn failed_at(log: &[u8], at: usize) -> Record
     requires { at + 6 ≤ length log.now }
-    ensures { result ≡ failedAt log.now at }
+    ensures { result ≡ failed_at log.now at }
 {
     Record {
         kind: log[at],
@@ -232,7 +232,7 @@ fn set_at(log: &[u8], at: usize) -> Record
 // A set without one.
 fn bare_set_at(log: &[u8], at: usize) -> Record
     requires { at + 8 ≤ length log.now }
-    ensures { result ≡ bareSetAt log.now at }
+    ensures { result ≡ bare_set_at log.now at }
 {
     Record {
         kind: log[at],
@@ -269,7 +269,7 @@ fn fields(log: &[u8], at: usize, size: usize) -> Record
 
 // The record that begins at this place.
 pub fn read_record(log: &[u8], place: usize) -> Read
-    ensures { result ≡ readAt log.now place }
+    ensures { result ≡ read_at log.now place }
 {
     if log.len() <= place {
         return Read::End;

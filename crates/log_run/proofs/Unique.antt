@@ -4,14 +4,14 @@ use mathlib.Core.Path.{◌≡◌, sym, ap, ◌∙◌}
 use mathlib.Core.List.{List}
 use Prim.Native.Nat.{ℕ}
 use Rattle.log_state.specs.State.{Lent}
-use Rattle.log_run.specs.Store.{Shown, afterTake, taken_of}
+use Rattle.log_run.specs.Store.{Shown, after_take, taken_of}
 use Rattle.log_run.specs.declared.Taken.{Taken}
 
-pub unique-take : (s : Lent) (input pid : ℕ) (section : List ℕ) (x y : Taken) (ks cs hs ss zs ks' cs' hs' ss' zs' : List ℕ)
-    → afterTake x ks cs hs ss zs ≡ taken_of s input pid section → afterTake y ks' cs' hs' ss' zs' ≡ taken_of s input pid section
+pub unique_take : (s : Lent) (input pid : ℕ) (section : List ℕ) (x y : Taken) (ks cs hs ss zs ks' cs' hs' ss' zs' : List ℕ)
+    → after_take x ks cs hs ss zs ≡ taken_of s input pid section → after_take y ks' cs' hs' ss' zs' ≡ taken_of s input pid section
     → (x ≡ y) × (ks ≡ ks') × (cs ≡ cs') × (hs ≡ hs') × (ss ≡ ss') × (zs ≡ zs')
-unique-take s input pid section x y ks cs hs ss zs ks' cs' hs' ss' zs' p q =
-    let e : afterTake x ks cs hs ss zs ≡ afterTake y ks' cs' hs' ss' zs' = p ∙ sym q in (
+unique_take s input pid section x y ks cs hs ss zs ks' cs' hs' ss' zs' p q =
+    let e : after_take x ks cs hs ss zs ≡ after_take y ks' cs' hs' ss' zs' = p ∙ sym q in (
       λ i. record { answer = (e i).answer; entry = (e i).entry; run = (e i).left.run },
       ap (λ (l : Shown). l.left.keys) e,
       ap (λ (l : Shown). l.left.changes) e,

@@ -3,7 +3,7 @@
 ghost use Rattle.std.specs.Prelude.{◌≡◌, length};
 ghost use Rattle.store.specs.Store.{store};
 ghost use Rattle.log_state.specs.State.{lent, Arrives};
-ghost use Rattle.log_run.specs.Store.{afterTake, shown, seenIn, taken_of};
+ghost use Rattle.log_run.specs.Store.{after_take, shown, seen_in, taken_of};
 
 use log_entries::Entry;
 use log_state::{Ruling, Run, Sight, TakeAnswer};
@@ -29,7 +29,7 @@ fn admit(
     section: &[u8],
 ) -> Taken
     requires { Arrives run (length keys.old) (length changes.old) (store run.sets heads.old slots.old cells.old) input pid }
-    ensures { afterTake result keys.new changes.new heads.new slots.new cells.new ≡ shown (seenIn (lent run keys.old changes.old heads.old slots.old cells.old) input pid section.now sight) }
+    ensures { after_take result keys.new changes.new heads.new slots.new cells.new ≡ shown (seen_in (lent run keys.old changes.old heads.old slots.old cells.old) input pid section.now sight) }
 {
     let ring = run.ring;
     let sets = run.sets;
@@ -69,7 +69,7 @@ pub fn take(
     pid: u16,
     section: &[u8],
 ) -> Taken
-    ensures { afterTake result keys.new changes.new heads.new slots.new cells.new ≡ taken_of (lent run keys.old changes.old heads.old slots.old cells.old) input pid section.now }
+    ensures { after_take result keys.new changes.new heads.new slots.new cells.new ≡ taken_of (lent run keys.old changes.old heads.old slots.old cells.old) input pid section.now }
 {
     match log_state::judge(
         run,

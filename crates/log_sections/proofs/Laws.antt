@@ -7,29 +7,29 @@ use native.Mathlib.Omega.{arith}
 use lib.ListN.{length, take, drop, replicate, length-append}
 use Rattle.rules_logs.specs.Records.{Bytes}
 use Rattle.rules_logs.specs.Sections.{Given}
-use Rattle.rules_logs.specs.Verdict.{logOf, AllRecords}
-use Rattle.log_entries.specs.Entries.{entryWith}
+use Rattle.rules_logs.specs.Verdict.{log_of, AllRecords}
+use Rattle.log_entries.specs.Entries.{entry_with}
 use Rattle.log_entries.specs.declared.Entry.{Entry}
-use Rattle.log_entries.proofs.Entries.{entry-shows}
+use Rattle.log_entries.proofs.Entries.{entry_shows}
 use Rattle.log_list.specs.declared.Place.{Place}
-use Rattle.log_list.specs.List.{givensFrom, givenAt, WholeFrom, PlacedAt}
+use Rattle.log_list.specs.List.{givens_from, given_at, WholeFrom, PlacedAt}
 use Rattle.log_state.specs.State.{Lent, lent}
-use Rattle.log_run.specs.Store.{Taking, Shown, shown, afterTake, taking, taken_of}
+use Rattle.log_run.specs.Store.{Taking, Shown, shown, after_take, taking, taken_of}
 use Rattle.log_run.specs.declared.Taken.{Taken}
-use Rattle.log_run.proofs.Records.{are-records}
+use Rattle.log_run.proofs.Records.{are_records}
 use Rattle.log_sections.specs.declared.Step.{Step}
-use Rattle.log_sections.specs.Steps.{takes, shownIn, Stepped}
+use Rattle.log_sections.specs.Steps.{takes, shown_in, Stepped}
 
-pub is-taken : (list : Bytes) (p : ℕ) (s : Lent) {place : Place} {r : Taken} (keys changes heads slots cells : List ℕ)
+pub is_taken : (list : Bytes) (p : ℕ) (s : Lent) {place : Place} {r : Taken} (keys changes heads slots cells : List ℕ)
     → PlacedAt list p place
-    → afterTake r keys changes heads slots cells ≡ taken_of s place.input place.pid (take ((place.start + place.length) - place.start) (drop place.start list))
+    → after_take r keys changes heads slots cells ≡ taken_of s place.input place.pid (take ((place.start + place.length) - place.start) (drop place.start list))
     → Stepped list p s (record { run = r.run; entry = r.entry; next = place.start + place.length }) (lent r.run keys changes heads slots cells)
 unfolding taken_of
-is-taken list p s {place = place} {r = r} keys changes heads slots cells at e =
+is_taken list p s {place = place} {r = r} keys changes heads slots cells at e =
     let n : (place.start + place.length) - place.start ≡ place.length = omega arith in
-    let f : afterTake r keys changes heads slots cells ≡ shown (takes s (givenAt list place)) = e ∙ ap (λ (k : ℕ). taken_of s place.input place.pid (take k (drop place.start list))) n in
+    let f : after_take r keys changes heads slots cells ≡ shown (takes s (given_at list place)) = e ∙ ap (λ (k : ℕ). taken_of s place.input place.pid (take k (drop place.start list))) n in
     record {
-      given = givenAt list place;
+      given = given_at list place;
       first = at.first;
       behind = at.behind;
       later = omega (arith, at.later);
@@ -39,29 +39,29 @@ is-taken list p s {place = place} {r = r} keys changes heads slots cells at e =
 
 -- ---- the records that a section gave, as its entry shows them
 
-within : (l : Bytes) → (entryWith l).length ≤ length (entryWith l).bytes
-unfolding entryWith
+within : (l : Bytes) → (entry_with l).length ≤ length (entry_with l).bytes
+unfolding entry_with
 within l = omega (arith, length-append l (replicate (23 - length l) 0))
 
-sized : (l : Bytes) → (entryWith l).length ≡ length l
-unfolding entryWith
+sized : (l : Bytes) → (entry_with l).length ≡ length l
+unfolding entry_with
 sized l = refl
 
 module _ {list : Bytes} {p : ℕ} {s : Lent} {r : Step} {after : Lent} (st : Stepped list p s r after) where
-  pub step-shows : shownIn r.entry ≡ logOf (takes s st.given).records
-  step-shows = ap shownIn st.entry ∙ entry-shows (logOf (takes s st.given).records)
+  pub step_shows : shown_in r.entry ≡ log_of (takes s st.given).records
+  step_shows = ap shown_in st.entry ∙ entry_shows (log_of (takes s st.given).records)
 
   pub step_fits : r.entry.length ≤ length r.entry.bytes
-  step_fits = rw st.entry (within (logOf (takes s st.given).records))
+  step_fits = rw st.entry (within (log_of (takes s st.given).records))
 
-  pub step-sized : r.entry.length ≡ length (logOf (takes s st.given).records)
-  step-sized = ap (λ (x : Entry). x.length) st.entry ∙ sized (logOf (takes s st.given).records)
+  pub step_sized : r.entry.length ≡ length (log_of (takes s st.given).records)
+  step_sized = ap (λ (x : Entry). x.length) st.entry ∙ sized (log_of (takes s st.given).records)
 
-  pub step-records : AllRecords (takes s st.given).records
-  step-records = are-records s st.given.input st.given.pid st.given.section
+  pub step_records : AllRecords (takes s st.given).records
+  step_records = are_records s st.given.input st.given.pid st.given.section
 
 -- the records of some sections, one after another, and then those of others
-pub log-append : (es fs : List Bytes) → logOf (es ++ fs) ≡ logOf es ++ logOf fs
-unfolding logOf
-log-append [] fs = refl
-log-append (e ∷ es) fs = ap (λ (l : Bytes). e ++ l) (log-append es fs) ∙ sym (append_assoc e (logOf es) (logOf fs))
+pub log_append : (es fs : List Bytes) → log_of (es ++ fs) ≡ log_of es ++ log_of fs
+unfolding log_of
+log_append [] fs = refl
+log_append (e ∷ es) fs = ap (λ (l : Bytes). e ++ l) (log_append es fs) ∙ sym (append_assoc e (log_of es) (log_of fs))

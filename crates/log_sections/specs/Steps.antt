@@ -3,11 +3,11 @@
 use Rattle.std.specs.Prelude.{ℕ, ◌<◌, ◌≡◌, List, [], ◌∷◌, ◌++◌, Bool, length, take}
 use Rattle.rules_logs.specs.Records.{Bytes}
 use Rattle.rules_logs.specs.Sections.{Given}
-use Rattle.rules_logs.specs.Verdict.{logOf}
-use Rattle.log_entries.specs.Entries.{entryWith}
+use Rattle.rules_logs.specs.Verdict.{log_of}
+use Rattle.log_entries.specs.Entries.{entry_with}
 use Rattle.log_entries.specs.declared.Entry.{Entry}
-use Rattle.log_list.specs.List.{givensFrom, WholeFrom}
-use Rattle.log_state.specs.State.{Lent, lent, canOpen}
+use Rattle.log_list.specs.List.{givens_from, WholeFrom}
+use Rattle.log_state.specs.State.{Lent, lent, can_open}
 use Rattle.log_state.specs.declared.Run.{Run}
 use Rattle.log_state.specs.declared.Settings.{Settings}
 use Rattle.log_run.specs.Store.{Taking, taking}
@@ -18,27 +18,27 @@ abbrev pub takes : Lent → Given → Taking
 takes s g = taking s g.input g.pid g.section
 
 -- the records that sections give, in order
-unfoldable pub recordsBy : Lent → List Given → List Bytes
-recordsBy s [] = []
-recordsBy s (g ∷ gs) = (takes s g).records ++ recordsBy (takes s g).left gs
+unfoldable pub records_by : Lent → List Given → List Bytes
+records_by s [] = []
+records_by s (g ∷ gs) = (takes s g).records ++ records_by (takes s g).left gs
 
 -- the run and the memory that they leave
-unfoldable pub leftBy : Lent → List Given → Lent
-leftBy s [] = s
-leftBy s (g ∷ gs) = leftBy (takes s g).left gs
+unfoldable pub left_by : Lent → List Given → Lent
+left_by s [] = s
+left_by s (g ∷ gs) = left_by (takes s g).left gs
 
 -- the section at place p of a list, taken
 pub record Stepped (list : Bytes) (p : ℕ) (s : Lent) (r : Step) (after : Lent) : Type 0 where
   pub given : Given
-  pub first : givensFrom list p ≡ given ∷ givensFrom list r.next
+  pub first : givens_from list p ≡ given ∷ givens_from list r.next
   pub behind : WholeFrom list r.next
   pub later : p < r.next
-  pub entry : r.entry ≡ entryWith (logOf (takes s given).records)
+  pub entry : r.entry ≡ entry_with (log_of (takes s given).records)
   pub left : after ≡ (takes s given).left
 
 -- the bytes that an entry shows
-abbrev pub shownIn : Entry → Bytes
-shownIn e = take e.length e.bytes
+abbrev pub shown_in : Entry → Bytes
+shown_in e = take e.length e.bytes
 
 -- ---- the content of the five lent slices
 
@@ -56,12 +56,12 @@ memory keys changes heads slots cells = record { keys = keys; changes = changes;
 abbrev pub over : Run → Memory → Lent
 over run m = lent run m.keys m.changes m.heads m.slots m.cells
 
-abbrev pub memoryIn : Lent → Memory
-memoryIn s = memory s.keys s.changes s.heads s.slots s.cells
+abbrev pub memory_in : Lent → Memory
+memory_in s = memory s.keys s.changes s.heads s.slots s.cells
 
 -- the memory lent is enough for these settings, and opening refuses none of them
 abbrev pub opens : Settings → Memory → Bool
-opens s m = canOpen s (length m.keys) (length m.changes) (length m.heads) (length m.slots) (length m.cells)
+opens s m = can_open s (length m.keys) (length m.changes) (length m.heads) (length m.slots) (length m.cells)
 
 -- the slices keep their lengths
 pub record Lengths (m n : Memory) : Type 0 where

@@ -1,10 +1,10 @@
 // A run of a log (docs/RULES.md, "Logs"): the rows of a gate and a set collector over lent memory, opened, and what a section comes to before anything is
 // written: 42, 10, 11, 12, 37, a failure, or a section that arrived.
 ghost use Rattle.std.specs.Prelude.{◌≡◌, length};
-ghost use Rattle.section.specs.Judged.{ruleOf, judgedOf};
+ghost use Rattle.section.specs.Judged.{rule_of, judged_of};
 ghost use Rattle.store.specs.Store.{store};
-ghost use Rattle.offers.specs.Offers.{readAs, read_of};
-ghost use Rattle.log_state.specs.State.{isWith, isWithout, run_of, canOpen, opened_of, takeNo, gateWhole, ruledBy, rulingBy, RulingOk, FromOk};
+ghost use Rattle.offers.specs.Offers.{read_as, read_of};
+ghost use Rattle.log_state.specs.State.{is_with, is_without, run_of, can_open, opened_of, take_no, gate_whole, ruled_by, ruling_by, RulingOk, FromOk};
 
 use answers::{Outcome, Refusal};
 use ring::Ring;
@@ -79,7 +79,7 @@ pub enum Ruling {
 
 impl TakeAnswer {
     pub fn number(self) -> u8
-        ensures { result ≡ takeNo self }
+        ensures { result ≡ take_no self }
     {
         match self {
             TakeAnswer::Done => 7,
@@ -91,7 +91,7 @@ impl TakeAnswer {
 
 impl Pids {
     pub fn is_with(self) -> bool
-        ensures { result ≡ isWith self }
+        ensures { result ≡ is_with self }
     {
         match self {
             Pids::With => true,
@@ -101,7 +101,7 @@ impl Pids {
     }
 
     pub fn is_without(self) -> bool
-        ensures { result ≡ isWithout self }
+        ensures { result ≡ is_without self }
     {
         match self {
             Pids::With => false,
@@ -144,7 +144,7 @@ fn can_open(
     slots: usize,
     cells: usize,
 ) -> bool
-    ensures { result ≡ canOpen settings keys changes heads slots cells }
+    ensures { result ≡ can_open settings keys changes heads slots cells }
 {
     let all = ring::room(settings.capacity);
     let pids = settings.pids;
@@ -203,7 +203,7 @@ pub fn open(
 
 // Whether the gate's rows fit, there is such a change rule, and sets are taken: a run without PIDs came from no opening.
 fn gate_whole(run: Run, keys: usize, changes: usize) -> bool
-    ensures { result ≡ gateWhole run keys changes }
+    ensures { result ≡ gate_whole run keys changes }
 {
     let ring = run.ring;
     let pids = run.pids;
@@ -212,7 +212,7 @@ fn gate_whole(run: Run, keys: usize, changes: usize) -> bool
 
 // 31 where the section is too short for its CRC, 3 where the CRC does not fit.
 fn read_from(from: Origin, rule: u64, section: &[u8]) -> Ruling
-    ensures { result ≡ ruledBy rule section.now (readAs from (length section.now) (judgedOf (ruleOf rule) section.now)) }
+    ensures { result ≡ ruled_by rule section.now (read_as from (length section.now) (judged_of (rule_of rule) section.now)) }
 {
     match section::header::judge(section, ChangeRule::of(rule)) {
         Judged::Short => Ruling::Failed(true),
@@ -226,7 +226,7 @@ fn read_from(from: Origin, rule: u64, section: &[u8]) -> Ruling
 
 // 12, 37, then 31 or 3.
 fn read(rule: u64, input: u8, pid: u16, section: &[u8]) -> Ruling
-    ensures value { result ≡ ruledBy rule section.now (read_of rule input pid section.now) }
+    ensures value { result ≡ ruled_by rule section.now (read_of rule input pid section.now) }
     ensures from_ok { FromOk input pid result }
 {
     match Origin::make(input, pid) {
@@ -248,7 +248,7 @@ pub fn judge(
     pid: u16,
     section: &[u8],
 ) -> Ruling
-    ensures value { result ≡ rulingBy run keys changes (store run.sets heads.now slots.now cells.now) input pid section.now }
+    ensures value { result ≡ ruling_by run keys changes (store run.sets heads.now slots.now cells.now) input pid section.now }
     ensures ruling_ok { RulingOk run keys changes (store run.sets heads.now slots.now cells.now) input pid section.now result }
 {
     if 4098 < section.len() {

@@ -14,92 +14,92 @@ use Rattle.store.specs.Store.{Store}
 use Rattle.sets_settle.specs.Settle.{Told, done, nothing, handed, refused, answer_of}
 use Rattle.sets_settle.specs.declared.PushAnswer.{PushAnswer}
 use Rattle.sets_settle.specs.declared.PushAnswer.TheVariants as push-answer
-use Rattle.rules_logs.specs.Records.{Bytes, recordSize, seenRecord, failedRecord, setRecord, bareSetRecord}
-use Rattle.rules_logs.specs.Verdict.{logOf, IsRecord, AllRecords}
-use Rattle.log_entries.specs.Entries.{entryWith, joinedOf, failedKind}
-use Rattle.log_entries.proofs.Entries.{joined-entry}
-use Rattle.log_makers.specs.Makers.{setRecordOf, bareRecordOf, setEntry, bareSetEntry}
-use Rattle.log_steps.specs.Steps.{line_for, seenKind, setRecords, setEntryFor, setNoted, seenNoted, PushedOk}
+use Rattle.rules_logs.specs.Records.{Bytes, record_size, seen_record, failed_record, set_record, bare_set_record}
+use Rattle.rules_logs.specs.Verdict.{log_of, IsRecord, AllRecords}
+use Rattle.log_entries.specs.Entries.{entry_with, joined_of, failed_kind}
+use Rattle.log_entries.proofs.Entries.{joined_entry}
+use Rattle.log_makers.specs.Makers.{set_record_of, bare_record_of, set_entry, bare_set_entry}
+use Rattle.log_steps.specs.Steps.{line_for, seen_kind, set_records, set_entry_for, set_noted, seen_noted, PushedOk}
 
 -- ---- sizes
 
-pub seen-13 : (kind input pid : ℕ) (p : Parts) → length (seenRecord kind input pid p) ≡ 13
-unfolding seenRecord
-seen-13 kind input pid p = refl
+pub seen_13 : (kind input pid : ℕ) (p : Parts) → length (seen_record kind input pid p) ≡ 13
+unfolding seen_record
+seen_13 kind input pid p = refl
 
-pub set-10-long : (pids : Bool) (input pid : ℕ) (section : Bytes) → length (line_for pids input pid section) ≤ 10
-unfolding setRecord bareSetRecord
-set-10-long true input pid section = omega arith
-set-10-long false input pid section = omega arith
+pub set_10_long : (pids : Bool) (input pid : ℕ) (section : Bytes) → length (line_for pids input pid section) ≤ 10
+unfolding set_record bare_set_record
+set_10_long true input pid section = omega arith
+set_10_long false input pid section = omega arith
 
-pub none-small : (entryWith []).length ≤ 10
-unfolding entryWith
-none-small = omega arith
+pub none_small : (entry_with []).length ≤ 10
+unfolding entry_with
+none_small = omega arith
 
-pub set-small : (pids : Bool) (input pid : ℕ) (section : Bytes) → (setEntryFor pids input pid section).length ≤ 10
-unfolding setEntry bareSetEntry entryWith
-set-small true input pid section = go (ltb input 16 && ltb pid 8192 && leb 12 (length section))
+pub set_small : (pids : Bool) (input pid : ℕ) (section : Bytes) → (set_entry_for pids input pid section).length ≤ 10
+unfolding set_entry bare_set_entry entry_with
+set_small true input pid section = go (ltb input 16 && ltb pid 8192 && leb 12 (length section))
   where
-    go : (b : Bool) → length (cond b (setRecordOf input (maybe.Some pid) section) []) ≤ 10
-    go true = set-10-long true input pid section
+    go : (b : Bool) → length (cond b (set_record_of input (maybe.Some pid) section) []) ≤ 10
+    go true = set_10_long true input pid section
     go false = omega arith
-set-small false input pid section = go (ltb input 16 && leb 12 (length section))
+set_small false input pid section = go (ltb input 16 && leb 12 (length section))
   where
-    go : (b : Bool) → length (cond b (bareRecordOf input section) []) ≤ 10
-    go true = set-10-long false input pid section
+    go : (b : Bool) → length (cond b (bare_record_of input section) []) ≤ 10
+    go true = set_10_long false input pid section
     go false = omega arith
 
-pub sets-small : (pids : Bool) (input pid : ℕ) (section : Bytes) (t : Told) → length (logOf (setRecords pids input pid section t)) ≤ 10
-unfolding logOf
-sets-small pids input pid section done = omega arith
-sets-small pids input pid section nothing = omega arith
-sets-small pids input pid section (handed h) = rw (append-nil (line_for pids input pid section)) (set-10-long pids input pid section)
-sets-small pids input pid section (refused r) = omega arith
+pub sets_small : (pids : Bool) (input pid : ℕ) (section : Bytes) (t : Told) → length (log_of (set_records pids input pid section t)) ≤ 10
+unfolding log_of
+sets_small pids input pid section done = omega arith
+sets_small pids input pid section nothing = omega arith
+sets_small pids input pid section (handed h) = rw (append-nil (line_for pids input pid section)) (set_10_long pids input pid section)
+sets_small pids input pid section (refused r) = omega arith
 
 -- ---- what is made is what is told
 
 module _ (input pid : ℕ) (pids : Bool) (section : Bytes) (i : ltb input 16 ≡ true) (p : ltb pid 8192 ≡ true) where
-  line_made : (b : Bool) → 12 ≤ length section → setEntryFor b input pid section ≡ entryWith (line_for b input pid section)
-  unfolding setEntry bareSetEntry
+  line_made : (b : Bool) → 12 ≤ length section → set_entry_for b input pid section ≡ entry_with (line_for b input pid section)
+  unfolding set_entry bare_set_entry
   line_made true o = rw (i, p, le-leb 12 (length section) o) refl
   line_made false o = rw (i, le-leb 12 (length section) o) refl
 
-  pub set-made : (a : PushAnswer) (s : Store) → PushedOk section a
-      → setNoted pids input pid section a ≡ entryWith (logOf (setRecords pids input pid section (answer_of a s)))
-  unfolding logOf
-  set-made push-answer.Nothing s o = refl
-  set-made (push-answer.Set j) s o = line_made pids o ∙ ap entryWith (sym (append-nil (line_for pids input pid section)))
-  set-made (push-answer.Refused r) s o = refl
+  pub set_made_lem : (a : PushAnswer) (s : Store) → PushedOk section a
+      → set_noted pids input pid section a ≡ entry_with (log_of (set_records pids input pid section (answer_of a s)))
+  unfolding log_of
+  set_made_lem push_answer.Nothing s o = refl
+  set_made_lem (push_answer.Set j) s o = line_made pids o ∙ ap entry_with (sym (append-nil (line_for pids input pid section)))
+  set_made_lem (push_answer.Refused r) s o = refl
 
-  pub seen-made : (kind : ℕ) (parts : Parts) (a : PushAnswer) (s : Store) → PushedOk section a
-      → seenNoted kind input pid parts pids section a
-      ≡ entryWith (logOf (seenRecord kind input pid parts ∷ setRecords pids input pid section (answer_of a s)))
-  unfolding logOf seenNoted
-  seen-made kind parts a s o =
-      let one : Bytes = seenRecord kind input pid parts in
-      let more : Bytes = logOf (setRecords pids input pid section (answer_of a s)) in
-      ap (joinedOf one) (set-made a s o) ∙ joined-entry one more (seen-13 kind input pid parts) (sets-small pids input pid section (answer_of a s))
+  pub seen_made : (kind : ℕ) (parts : Parts) (a : PushAnswer) (s : Store) → PushedOk section a
+      → seen_noted kind input pid parts pids section a
+      ≡ entry_with (log_of (seen_record kind input pid parts ∷ set_records pids input pid section (answer_of a s)))
+  unfolding log_of seen_noted
+  seen_made kind parts a s o =
+      let one : Bytes = seen_record kind input pid parts in
+      let more : Bytes = log_of (set_records pids input pid section (answer_of a s)) in
+      ap (joined_of one) (set_made_lem a s o) ∙ joined_entry one more (seen_13 kind input pid parts) (sets_small pids input pid section (answer_of a s))
 
 -- ---- they are records
 
-pub seen-is-record : (changed repeats : Bool) (input pid : ℕ) (p : Parts) → IsRecord (seenRecord (seenKind changed repeats) input pid p)
-unfolding seenRecord recordSize
-seen-is-record true repeats input pid p = record { known = omega arith; sized = refl }
-seen-is-record false true input pid p = record { known = omega arith; sized = refl }
-seen-is-record false false input pid p = record { known = omega arith; sized = refl }
+pub seen_is_record : (changed repeats : Bool) (input pid : ℕ) (p : Parts) → IsRecord (seen_record (seen_kind changed repeats) input pid p)
+unfolding seen_record record_size
+seen_is_record true repeats input pid p = record { known = omega arith; sized = refl }
+seen_is_record false true input pid p = record { known = omega arith; sized = refl }
+seen_is_record false false input pid p = record { known = omega arith; sized = refl }
 
-pub failed-is-record : (short : Bool) (input pid n : ℕ) → IsRecord (failedRecord (failedKind short) input pid n)
-unfolding failedRecord recordSize
-failed-is-record true input pid n = record { known = omega arith; sized = refl }
-failed-is-record false input pid n = record { known = omega arith; sized = refl }
+pub failed_is_record : (short : Bool) (input pid n : ℕ) → IsRecord (failed_record (failed_kind short) input pid n)
+unfolding failed_record record_size
+failed_is_record true input pid n = record { known = omega arith; sized = refl }
+failed_is_record false input pid n = record { known = omega arith; sized = refl }
 
-pub set-is-record : (pids : Bool) (input pid : ℕ) (section : Bytes) → IsRecord (line_for pids input pid section)
-unfolding setRecord bareSetRecord recordSize
-set-is-record true input pid section = record { known = omega arith; sized = refl }
-set-is-record false input pid section = record { known = omega arith; sized = refl }
+pub set_is_record : (pids : Bool) (input pid : ℕ) (section : Bytes) → IsRecord (line_for pids input pid section)
+unfolding set_record bare_set_record record_size
+set_is_record true input pid section = record { known = omega arith; sized = refl }
+set_is_record false input pid section = record { known = omega arith; sized = refl }
 
-pub sets-are-records : (pids : Bool) (input pid : ℕ) (section : Bytes) (t : Told) → AllRecords (setRecords pids input pid section t)
-sets-are-records pids input pid section done = tt
-sets-are-records pids input pid section nothing = tt
-sets-are-records pids input pid section (handed h) = (set-is-record pids input pid section, tt)
-sets-are-records pids input pid section (refused r) = tt
+pub sets_are_records : (pids : Bool) (input pid : ℕ) (section : Bytes) (t : Told) → AllRecords (set_records pids input pid section t)
+sets_are_records pids input pid section done = tt
+sets_are_records pids input pid section nothing = tt
+sets_are_records pids input pid section (handed h) = (set_is_record pids input pid section, tt)
+sets_are_records pids input pid section (refused r) = tt

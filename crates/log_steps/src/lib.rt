@@ -2,8 +2,8 @@
 ghost use Rattle.std.specs.Prelude.{◌≡◌, ◌≤◌, length};
 ghost use Rattle.store.specs.Store.{store};
 ghost use Rattle.sets_plan.specs.Plan.{Ready};
-ghost use Rattle.sets_settle.specs.Settle.{afterPush};
-ghost use Rattle.log_steps.specs.Steps.{fromFor, seenKind, gatheredOf, setEntryFor, setNoted, seenNoted, PushedOk};
+ghost use Rattle.sets_settle.specs.Settle.{after_push};
+ghost use Rattle.log_steps.specs.Steps.{from_for, seen_kind, gathered_of, set_entry_for, set_noted, seen_noted, PushedOk};
 
 use arrivals::SetArrival;
 use log_entries::Entry;
@@ -15,7 +15,7 @@ use store::Sets;
 
 // Where a section came from, in the words of a key: with its PID, or by the older definition with 8192, a number that no PID has.
 pub fn origin_for(pids: bool, input: u8, pid: u16) -> Origin
-    ensures { result ≡ fromFor pids input pid }
+    ensures { result ≡ from_for pids input pid }
 {
     if pids {
         Origin {
@@ -32,7 +32,7 @@ pub fn origin_for(pids: bool, input: u8, pid: u16) -> Origin
 
 // Emitted or suppressed.
 pub fn seen_kind(changed: bool, repeats: bool) -> u8
-    ensures { result ≡ seenKind changed repeats }
+    ensures { result ≡ seen_kind changed repeats }
 {
     if changed | repeats {
         log_records::EMITTED
@@ -51,7 +51,7 @@ pub fn gather(
     section: &[u8],
 ) -> Pushed
     requires { Ready (store sets heads.old slots.old cells.old) }
-    ensures cells_after { afterPush result heads.new slots.new cells.new ≡ gatheredOf (store sets heads.old slots.old cells.old) from section.now }
+    ensures cells_after { after_push result heads.new slots.new cells.new ≡ gathered_of (store sets heads.old slots.old cells.old) from section.now }
     ensures pushed_ok { PushedOk section.now result.answer }
 {
     match arrivals::set_read(from, section) {
@@ -67,7 +67,7 @@ pub fn gather(
 
 // The record of a set: with its PID, or by the older definition without.
 fn set_entry(pids: bool, input: u8, pid: u16, section: &[u8]) -> Entry
-    ensures { result ≡ setEntryFor pids input pid section.now }
+    ensures { result ≡ set_entry_for pids input pid section.now }
 {
     if pids {
         log_makers::set_record(input, MaybePid::Some(pid), section)
@@ -78,7 +78,7 @@ fn set_entry(pids: bool, input: u8, pid: u16, section: &[u8]) -> Entry
 
 // The record of a set that went out.
 fn set_noted(pids: bool, input: u8, pid: u16, section: &[u8], answer: PushAnswer) -> Entry
-    ensures value { result ≡ setNoted pids input pid section.now answer }
+    ensures value { result ≡ set_noted pids input pid section.now answer }
     ensures length_bound { result.length ≤ 10 }
 {
     match answer {
@@ -98,7 +98,7 @@ pub fn note(
     section: &[u8],
     answer: PushAnswer,
 ) -> Entry
-    ensures { result ≡ seenNoted kind input pid parts pids section.now answer }
+    ensures { result ≡ seen_noted kind input pid parts pids section.now answer }
 {
     log_entries::seen_with(
         kind,

@@ -67,7 +67,7 @@ pub fn number_at(i: usize) -> Number {
 pub fn is_word(i: usize, word: &[u8]) -> bool {
     let mut text = [0u8; 64];
     let n = os::arg(i, &mut text);
-    cells::same_bytes(&text[0..n], word)
+    cells::same_bytes_lem(&text[0..n], word)
 }
 
 // How sets are taken: with PIDs but where the word says otherwise.

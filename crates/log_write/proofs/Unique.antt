@@ -2,19 +2,19 @@
 -- Assumes nothing.
 use mathlib.Core.Path.{◌≡◌, ap}
 use Prim.Native.Nat.{ℕ}
-use Rattle.laws.proofs.Unique.{one-result}
+use Rattle.laws.proofs.Unique.{one_result}
 use Rattle.rules_logs.specs.Records.{Bytes}
 use Rattle.log_state.specs.declared.Settings.{Settings}
 use Rattle.log_sections.specs.Steps.{Memory}
 use Rattle.log_write.specs.declared.WriteAnswer.{WriteAnswer}
 use Rattle.log_write.specs.declared.Written.{Written}
-use Rattle.log_write.specs.Write.{writeNo, Write, writeAs, written_of}
+use Rattle.log_write.specs.Write.{write_no, Write, write_as, written_of}
 
-pub unique-write : (s : Settings) (list room : Bytes) (m : Memory) (r q : Written) (a b : Bytes) (n o : Memory)
-    → writeAs r a n ≡ written_of s list room m → writeAs q b o ≡ written_of s list room m → (r ≡ q) × (a ≡ b) × (n ≡ o)
-unique-write s list room m r q a b n o d e =
-    let same : writeAs r a n ≡ writeAs q b o = one-result (written_of s list room m) d e in
+pub unique_write : (s : Settings) (list room : Bytes) (m : Memory) (r q : Written) (a b : Bytes) (n o : Memory)
+    → write_as r a n ≡ written_of s list room m → write_as q b o ≡ written_of s list room m → (r ≡ q) × (a ≡ b) × (n ≡ o)
+unique_write s list room m r q a b n o d e =
+    let same : write_as r a n ≡ write_as q b o = one_result (written_of s list room m) d e in
     (ap (λ (w : Write). w.written) same, ap (λ (w : Write). w.room) same, ap (λ (w : Write). w.memory) same)
 
-pub unique-write-number : (a : WriteAnswer) (r q : ℕ) → r ≡ writeNo a → q ≡ writeNo a → r ≡ q
-unique-write-number a r q = one-result (writeNo a)
+pub unique_write_number : (a : WriteAnswer) (r q : ℕ) → r ≡ write_no a → q ≡ write_no a → r ≡ q
+unique_write_number a r q = one_result (write_no a)

@@ -1,9 +1,9 @@
 // The log that a section list gives, written into a room (docs/RULES.md, "Logs"). The list is run twice: a log that is too long for the room must leave it as
 // it was, so it is measured first.
 ghost use Rattle.std.specs.Prelude.{◌≡◌};
-ghost use Rattle.log_list.specs.List.{WholeFrom, givensFrom};
+ghost use Rattle.log_list.specs.List.{WholeFrom, givens_from};
 ghost use Rattle.log_sections.specs.Steps.{memory};
-ghost use Rattle.log_write.specs.Write.{writeNo, refusedBy, writeAs, asWriter, ranTwice, written_of};
+ghost use Rattle.log_write.specs.Write.{write_no, refused_by, write_as, as_writer, ran_twice, written_of};
 
 use log_prepare::Prepared;
 use log_state::{Pids, Run, Settings};
@@ -29,7 +29,7 @@ pub struct Written {
 
 impl WriteAnswer {
     pub fn number(self) -> u8
-        ensures { result ≡ writeNo self }
+        ensures { result ≡ write_no self }
     {
         match self {
             WriteAnswer::Done => 7,
@@ -43,14 +43,14 @@ impl WriteAnswer {
 }
 
 fn refused(answer: WriteAnswer) -> Written
-    ensures { result ≡ refusedBy answer }
+    ensures { result ≡ refused_by answer }
 {
     Written { answer, length: 0 }
 }
 
 // A writer writes with PIDs alone: any other setting is without, which is 41.
 fn as_writer(settings: Settings) -> Settings
-    ensures { result ≡ asWriter settings }
+    ensures { result ≡ as_writer settings }
 {
     let pids = settings.pids;
     if pids.is_with() {
@@ -79,7 +79,7 @@ fn write_open(
     cells: &mut [u8],
 ) -> Written
     requires { WholeFrom sections.now 0 }
-    ensures { writeAs result room.new (memory keys.new changes.new heads.new slots.new cells.new) ≡ ranTwice run room.old (memory keys.old changes.old heads.old slots.old cells.old) (givensFrom sections.now 0) }
+    ensures { write_as result room.new (memory keys.new changes.new heads.new slots.new cells.new) ≡ ran_twice run room.old (memory keys.old changes.old heads.old slots.old cells.old) (givens_from sections.now 0) }
 {
     let measured = log_measure::measure(
         run,
@@ -113,7 +113,7 @@ pub fn write(
     slots: &mut [u32],
     cells: &mut [u8],
 ) -> Written
-    ensures { writeAs result room.new (memory keys.new changes.new heads.new slots.new cells.new) ≡ written_of settings sections.now room.old (memory keys.old changes.old heads.old slots.old cells.old) }
+    ensures { write_as result room.new (memory keys.new changes.new heads.new slots.new cells.new) ≡ written_of settings sections.now room.old (memory keys.old changes.old heads.old slots.old cells.old) }
 {
     let asked = as_writer(settings);
     let prepared = log_prepare::prepare(asked, sections, keys, changes, heads, slots, cells);

@@ -9,8 +9,8 @@ count_of (Done count) = count
 count_of (Past at count) = count
 
 -- these entries, after k others: how many there are then, and the list
-unfoldable pub listedFrom : (skip k : ℕ) → (entries : List (List ℕ)) → (list : List ℕ) → ℕ × List ℕ
-listedFrom skip k entries list = (k + length entries, put_all list skip k entries)
+unfoldable pub listed_from : (skip k : ℕ) → (entries : List (List ℕ)) → (list : List ℕ) → ℕ × List ℕ
+listed_from skip k entries list = (k + length entries, put_all list skip k entries)
 
 -- a section that stands in bytes of that length, with k entries before it
 pub record SectionIn (long start size number k : ℕ) : Type 0 where

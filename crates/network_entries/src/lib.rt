@@ -2,9 +2,9 @@
 // so that the place of an entry is one in them: the host reads a descriptor's bytes there.
 ghost use Rattle.std.specs.Prelude.{◌≡◌, ◌+◌, ◌-◌, ◌<◌, ◌≤◌, length, take, drop};
 ghost use Rattle.listing.specs.Store.{found_from, words_of};
-ghost use Rattle.rules_networks.specs.Networks.{nitBroken, sdtBroken, nitEntries, sdtEntries, faultOf, entriesOf};
+ghost use Rattle.rules_networks.specs.Networks.{nit_broken, sdt_broken, nit_entries, sdt_entries, fault_of, entries_of};
 ghost use Rattle.network_faults.specs.Faults.{LoopIn};
-ghost use Rattle.network_entries.specs.Entries.{count_of, listedFrom, SectionIn};
+ghost use Rattle.network_entries.specs.Entries.{count_of, listed_from, SectionIn};
 
 use listing::{Loop, Walked};
 use rules_networks::Table;
@@ -32,7 +32,7 @@ fn list_loop(
 ) -> usize
     requires loop_in { LoopIn (length bytes.now) of.header at left end }
     requires k_bound { k < 8589934592 }
-    ensures { ((result, list.new) ≡ listedFrom of.skip k (words_of of.network of.number (found_from of.header (take end bytes.now) at left)) list.old) × (result ≤ k + (end - at)) }
+    ensures { ((result, list.new) ≡ listed_from of.skip k (words_of of.network of.number (found_from of.header (take end bytes.now) at left)) list.old) × (result ≤ k + (end - at)) }
 {
     let walked = listing::descriptors(&bytes[0..end], of, at, left, list, k);
     count_of(walked)
@@ -49,8 +49,8 @@ fn list_nit(
     k: usize,
 ) -> usize
     requires section_in { SectionIn (length bytes.now) start size number k }
-    requires bytes_value { nitBroken (take size (drop start bytes.now)) ≡ 0 }
-    ensures { ((result, list.new) ≡ listedFrom skip k (nitEntries start number (take size (drop start bytes.now))) list.old) × (result ≤ k + size) }
+    requires bytes_value { nit_broken (take size (drop start bytes.now)) ≡ 0 }
+    ensures { ((result, list.new) ≡ listed_from skip k (nit_entries start number (take size (drop start bytes.now))) list.old) × (result ≤ k + size) }
 {
     let of = Loop {
         header: entry_words::STREAM_HEADER,
@@ -75,8 +75,8 @@ fn list_sdt(
     k: usize,
 ) -> usize
     requires section_in { SectionIn (length bytes.now) start size number k }
-    requires bytes_value { sdtBroken (take size (drop start bytes.now)) ≡ 0 }
-    ensures { ((result, list.new) ≡ listedFrom skip k (sdtEntries start number (take size (drop start bytes.now))) list.old) × (result ≤ k + size) }
+    requires bytes_value { sdt_broken (take size (drop start bytes.now)) ≡ 0 }
+    ensures { ((result, list.new) ≡ listed_from skip k (sdt_entries start number (take size (drop start bytes.now))) list.old) × (result ≤ k + size) }
 {
     let of = Loop {
         header: entry_words::SERVICE_HEADER,
@@ -99,8 +99,8 @@ pub fn list_section(
     k: usize,
 ) -> usize
     requires section_in { SectionIn (length bytes.now) start size number k }
-    requires bytes_value { faultOf table (take size (drop start bytes.now)) ≡ 0 }
-    ensures { ((result, list.new) ≡ listedFrom skip k (entriesOf table start number (take size (drop start bytes.now))) list.old) × (result ≤ k + size) }
+    requires bytes_value { fault_of table (take size (drop start bytes.now)) ≡ 0 }
+    ensures { ((result, list.new) ≡ listed_from skip k (entries_of table start number (take size (drop start bytes.now))) list.old) × (result ≤ k + size) }
 {
     match table {
         Table::Nit => list_nit(bytes, start, size, number, skip, list, k),

@@ -4,7 +4,7 @@ use Rattle.section.specs.Header.{byte_at}
 use Rattle.listing.specs.Store.{found_from}
 use Rattle.listing.specs.declared.Walked.{Walked}
 use Rattle.listing.specs.declared.Walked.TheVariants.{Done, Past}
-use Rattle.rules_networks.specs.Networks.{crcAt, brokenIn, first_of}
+use Rattle.rules_networks.specs.Networks.{crc_at, broken_in, first_of}
 
 -- what has the length that section_length says has at most 3 + 4,095 bytes
 abbrev pub Short : (wrong : Bool) → (size : ℕ) → Type 0
@@ -28,12 +28,12 @@ pub record NitIn (long n : ℕ) : Type 0 where
   pub short : long ≤ 4098
 
 -- the place of what runs past, and 1
-abbrev pub pastPlace : Walked → ℕ
-pastPlace (Done count) = 0
-pastPlace (Past at count) = at + 1
+abbrev pub past_place : Walked → ℕ
+past_place (Done count) = 0
+past_place (Past at count) = at + 1
 
 -- the loops of a NIT or BAT section whose first length is n: the first loop, then the second length, then the second loop
-unfoldable pub nitLoops : List ℕ → (n : ℕ) → ℕ
-nitLoops s n =
-    first_of (brokenIn (found_from 6 (take (10 + n) s) 10 n))
-    (cond (eqb (10 + n + 2 + count12 s (10 + n)) (crcAt s)) (brokenIn (found_from 6 (take (10 + n + 2 + count12 s (10 + n)) s) (10 + n + 2) 0)) (suc (10 + n)))
+unfoldable pub nit_loops : List ℕ → (n : ℕ) → ℕ
+nit_loops s n =
+    first_of (broken_in (found_from 6 (take (10 + n) s) 10 n))
+    (cond (eqb (10 + n + 2 + count12 s (10 + n)) (crc_at s)) (broken_in (found_from 6 (take (10 + n + 2 + count12 s (10 + n)) s) (10 + n + 2) 0)) (suc (10 + n)))

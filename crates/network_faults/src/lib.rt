@@ -4,8 +4,8 @@ ghost use Rattle.std.specs.Prelude.{◌≡◌, ◌+◌, ◌<◌, ◌≤◌, leng
 ghost use Rattle.section.specs.Header.{byte_at};
 ghost use Rattle.listing.specs.Store.{found_from};
 ghost use Rattle.listing.proofs.Bounds.{Below};
-ghost use Rattle.rules_networks.specs.Networks.{is_of, lengthWrong, brokenIn, nitBroken, sdtBroken, brokenOf, faultOf};
-ghost use Rattle.network_faults.specs.Faults.{Short, LoopIn, NitIn, count12, pastPlace, nitLoops};
+ghost use Rattle.rules_networks.specs.Networks.{is_of, length_wrong, broken_in, nit_broken, sdt_broken, broken_of, fault_of};
+ghost use Rattle.network_faults.specs.Faults.{Short, LoopIn, NitIn, count12, past_place, nit_loops};
 
 use listing::{Loop, Walked};
 use rules_networks::Table;
@@ -44,7 +44,7 @@ fn is_of(table: Table, id: usize) -> bool
 
 // Under 3 bytes, or not 3 + section_length.
 fn length_wrong(s: &[u8]) -> bool
-    ensures { (result ≡ lengthWrong s.now) × Short result (length s.now) }
+    ensures { (result ≡ length_wrong s.now) × Short result (length s.now) }
 {
     if s.len() < 3 {
         return true;
@@ -55,7 +55,7 @@ fn length_wrong(s: &[u8]) -> bool
 // The place, and 1, of what runs past its loop; 0 where nothing does.
 fn past_place(walked: Walked) -> usize
     requires { Below 4294967296 walked }
-    ensures { result ≡ pastPlace walked }
+    ensures { result ≡ past_place walked }
 {
     match walked {
         Walked::Done(_) => 0,
@@ -67,7 +67,7 @@ fn past_place(walked: Walked) -> usize
 // decides, and nothing is written.
 fn loop_fault(s: &[u8], header: usize, at: usize, left: usize, end: usize) -> usize
     requires { LoopIn (length s.now) header at left end }
-    ensures { result ≡ brokenIn (found_from header (take end s.now) at left) }
+    ensures { result ≡ broken_in (found_from header (take end s.now) at left) }
 {
     let of = Loop {
         header,
@@ -83,7 +83,7 @@ fn loop_fault(s: &[u8], header: usize, at: usize, left: usize, end: usize) -> us
 // The two loops of a NIT or BAT section that has room for its two lengths: n is the first.
 fn nit_loops(s: &[u8], n: usize) -> usize
     requires { NitIn (length s.now) n }
-    ensures { result ≡ nitLoops s.now n }
+    ensures { result ≡ nit_loops s.now n }
 {
     let second = 10 + n;
     let first = loop_fault(s, entry_words::STREAM_HEADER, 10, n, second);
@@ -98,7 +98,7 @@ fn nit_loops(s: &[u8], n: usize) -> usize
 }
 
 fn nit_fault(s: &[u8]) -> usize
-    ensures { result ≡ nitBroken s.now }
+    ensures { result ≡ nit_broken s.now }
 {
     if length_wrong(s) {
         return 2;
@@ -114,7 +114,7 @@ fn nit_fault(s: &[u8]) -> usize
 }
 
 fn sdt_fault(s: &[u8]) -> usize
-    ensures { result ≡ sdtBroken s.now }
+    ensures { result ≡ sdt_broken s.now }
 {
     if length_wrong(s) {
         return 2;
@@ -126,7 +126,7 @@ fn sdt_fault(s: &[u8]) -> usize
 }
 
 fn broken(table: Table, s: &[u8]) -> usize
-    ensures { result ≡ brokenOf table s.now }
+    ensures { result ≡ broken_of table s.now }
 {
     match table {
         Table::Nit => nit_fault(s),
@@ -138,7 +138,7 @@ fn broken(table: Table, s: &[u8]) -> usize
 
 // 35 before 36.
 pub fn fault(table: Table, s: &[u8]) -> usize
-    ensures { result ≡ faultOf table s.now }
+    ensures { result ≡ fault_of table s.now }
 {
     if is_of(table, byte_at(s, 0)) {
         return broken(table, s);

@@ -1,9 +1,9 @@
 // The entries of the sections of a row, one after another (docs/RULES.md, "Entries"). All sections are judged before anything is listed, so that 35 and 36 leave the list
 // as it was.
 ghost use Rattle.std.specs.Prelude.{◌≡◌, ◌+◌, ◌*◌, ◌≤◌, ◌<◌, length};
-ghost use Rattle.cells.specs.Cells.{cellNumber};
-ghost use Rattle.network_entries.specs.Entries.{listedFrom};
-ghost use Rattle.network_sets.specs.Sets.{readNumber, read_of, nothingRead, endedAt, refusedAt, said_of, SlotIn, SlotsIn, AllTaken, slotFault, slotsFault, slotEntries, slotsEntries, slotsTold};
+ghost use Rattle.cells.specs.Cells.{cell_number};
+ghost use Rattle.network_entries.specs.Entries.{listed_from};
+ghost use Rattle.network_sets.specs.Sets.{read_number, read_of, nothing_read, ended_at, refused_at, said_of, SlotIn, SlotsIn, AllTaken, slot_fault, slots_fault, slot_entries, slots_entries, slots_told};
 
 use answers::Refusal;
 use rules_networks::Table;
@@ -21,7 +21,7 @@ pub enum ReadAnswer {
 
 impl ReadAnswer {
     pub fn number(self) -> u8
-        ensures { result ≡ readNumber self }
+        ensures { result ≡ read_number self }
     {
         match self {
             ReadAnswer::Yes => 8,
@@ -62,14 +62,14 @@ fn read_of(answer: ReadAnswer, count: usize, section: usize, place: usize) -> Re
 
 // No entry is listed, and no section is told.
 pub fn nothing(answer: ReadAnswer) -> Read
-    ensures { result ≡ nothingRead answer }
+    ensures { result ≡ nothing_read answer }
 {
     read_of(answer, 0, 0, 0)
 }
 
 // All is listed: are there entries past those that the list passes over?
 pub fn ended(skip: usize, count: usize) -> Read
-    ensures { result ≡ endedAt skip count }
+    ensures { result ≡ ended_at skip count }
 {
     if skip < count {
         return read_of(ReadAnswer::Yes, count, 0, 0);
@@ -80,7 +80,7 @@ pub fn ended(skip: usize, count: usize) -> Read
 // 35 at table_id, 36 anywhere else.
 pub fn refused(section: usize, fault: usize) -> Read
     requires { 0 < fault }
-    ensures { result ≡ refusedAt section fault }
+    ensures { result ≡ refused_at section fault }
 {
     if fault == 1 {
         return read_of(ReadAnswer::OtherTable, 0, section, 0);
@@ -91,7 +91,7 @@ pub fn refused(section: usize, fault: usize) -> Read
 // Where the bytes of the section begin that a slot's word names.
 fn start_of(w: u32, size: usize) -> usize
     requires { size ≤ 4096 }
-    ensures { (result ≡ cellNumber w * size) × (result < 4294836224) }
+    ensures { (result ≡ cell_number w * size) × (result < 4294836224) }
 {
     cells::cell_number(w) * size
 }
@@ -99,7 +99,7 @@ fn start_of(w: u32, size: usize) -> usize
 // Why the section that a slot's word names is refused, if it names one.
 fn slot_fault(table: Table, w: u32, size: usize, cells: &[u8]) -> usize
     requires { SlotIn (length cells.now) size w }
-    ensures { result ≡ slotFault table cells.now size w }
+    ensures { result ≡ slot_fault table cells.now size w }
 {
     if cells::is_filled(w) {
         let start = start_of(w, size);
@@ -112,7 +112,7 @@ fn slot_fault(table: Table, w: u32, size: usize, cells: &[u8]) -> usize
 // The first section that is refused, by rising number.
 fn slots_fault(table: Table, slots: &[u32], size: usize, cells: &[u8]) -> Fault
     requires { SlotsIn (length cells.now) size slots.now }
-    ensures { result ≡ slotsFault table cells.now size slots.now 0 }
+    ensures { result ≡ slots_fault table cells.now size slots.now 0 }
 {
     let mut j = 0;
     while j < slots.len() {
@@ -141,8 +141,8 @@ fn list_slot(
 ) -> usize
     requires slot_in { SlotIn (length cells.now) size w }
     requires number_bound { (number < 256) × (k ≤ number * 65536) }
-    requires w_value { slotFault table cells.now size w ≡ 0 }
-    ensures { ((result, list.new) ≡ listedFrom skip k (slotEntries table cells.now size w number) list.old) × (result ≤ k + 65536) }
+    requires w_value { slot_fault table cells.now size w ≡ 0 }
+    ensures { ((result, list.new) ≡ listed_from skip k (slot_entries table cells.now size w number) list.old) × (result ≤ k + 65536) }
 {
     if cells::is_filled(w) {
         let start = start_of(w, size);
@@ -163,7 +163,7 @@ fn list_slots(
 ) -> usize
     requires slots_in { SlotsIn (length cells.now) size slots.now }
     requires all_taken { AllTaken table cells.now size slots.now }
-    ensures { (result, list.new) ≡ listedFrom skip 0 (slotsEntries table cells.now size slots.now 0) list.old }
+    ensures { (result, list.new) ≡ listed_from skip 0 (slots_entries table cells.now size slots.now 0) list.old }
 {
     let mut k = 0;
     let mut j = 0;
@@ -184,7 +184,7 @@ pub fn read_slots(
     list: &mut [u32],
 ) -> Read
     requires { SlotsIn (length cells.now) size slots.now }
-    ensures { (result, list.new) ≡ said_of skip (slotsTold table cells.now size slots.now 0) list.old }
+    ensures { (result, list.new) ≡ said_of skip (slots_told table cells.now size slots.now 0) list.old }
 {
     let first = slots_fault(table, slots, size, cells);
     if first.fault != 0 {

@@ -13,24 +13,24 @@ use borrow.Author.Tests.{ne_eqb}
 use Rattle.laws.specs.Lists.{any}
 use Rattle.answers.specs.declared.Refusal.TheVariants as refusal
 use Rattle.section.specs.Header.{byte_at}
-use Rattle.rows.specs.Rows.{rowSlots}
-use Rattle.without_pid.specs.Pids.{withoutPid}
+use Rattle.rows.specs.Rows.{row_slots}
+use Rattle.without_pid.specs.Pids.{without_pid}
 use Rattle.store.specs.Store.{Store, whole_of}
-use Rattle.handed.specs.Handed.{setOut}
+use Rattle.handed.specs.Handed.{set_out_lem}
 use Rattle.listing.specs.Rules.{page, joined}
 use Rattle.listing.specs.Store.{put_all}
 use Rattle.rules_networks.specs.declared.Table.{Table}
 use Rattle.rules_networks.specs.declared.Table.TheVariants.{Nit, Bat, Sdt, None}
-use Rattle.rules_networks.specs.Networks.{is_of, lengthWrong, NitWhole, SdtWhole, NitBreaks, SdtBreaks, nitBroken, sdtBroken, brokenOf, faultOf, entriesOf, Told, other-table, broken-loop, entries, toldBy, readAt, readAs}
-use Rattle.rules_networks.proofs.Nit.{nit-whole, nit-laid-out}
-use Rattle.rules_networks.proofs.Sdt.{sdt-whole, sdt-laid-out}
-use Rattle.rules_networks.proofs.Broken.{First, nit-first-broken, sdt-first-broken}
+use Rattle.rules_networks.specs.Networks.{is_of, length_wrong, NitWhole, SdtWhole, NitBreaks, SdtBreaks, nit_broken, sdt_broken, broken_of, fault_of, entries_of, Told, other_table, broken_loop, entries, told_by, read_at, read_as}
+use Rattle.rules_networks.proofs.Nit.{nit_whole, nit_laid_out}
+use Rattle.rules_networks.proofs.Sdt.{sdt_whole, sdt_laid_out}
+use Rattle.rules_networks.proofs.Broken.{First, nit_first_broken, sdt_first_broken}
 use Rattle.network_sets.specs.declared.Read.{Read}
 use Rattle.network_sets.specs.declared.ReadAnswer.{ReadAnswer}
 use Rattle.network_sets.specs.declared.ReadAnswer.TheVariants.{Yes, No, Refused, OtherTable, BrokenLoop}
-use Rattle.network_sets.specs.Sets.{readNumber, read_of, nothingRead, endedAt, said_of, slotsTold, is_refused}
-use Rattle.network_sets.proofs.Order.{as_before, entries-twelve, read-window}
-use Rattle.networks.specs.Store.{readSection, readSet}
+use Rattle.network_sets.specs.Sets.{read_number, read_of, nothing_read, ended_at, said_of, slots_told, is_refused}
+use Rattle.network_sets.proofs.Order.{as_before_lem, entries_twelve, read_window}
+use Rattle.networks.specs.Store.{read_section, read_set}
 
 -- ---- whole sections
 
@@ -44,81 +44,81 @@ WholeAs None s = ⊥
 -- a table_id of the reader's, 3 + section_length bytes, and every loop ends where its length says
 pub record Taken (t : Table) (s : List ℕ) : Type 0 where
   pub own : is_of t (byte_at s 0) ≡ true
-  pub exact : lengthWrong s ≡ false
+  pub exact : length_wrong s ≡ false
   pub whole : WholeAs t s
 
-whole-unbroken : (t : Table) (s : List ℕ) → lengthWrong s ≡ false → WholeAs t s → brokenOf t s ≡ 0
-whole-unbroken Nit s e w = nit-whole s e w
-whole-unbroken Bat s e w = nit-whole s e w
-whole-unbroken Sdt s e w = sdt-whole s e w
-whole-unbroken None s e w = absurd w
+whole_unbroken : (t : Table) (s : List ℕ) → length_wrong s ≡ false → WholeAs t s → broken_of t s ≡ 0
+whole_unbroken Nit s e w = nit_whole s e w
+whole_unbroken Bat s e w = nit_whole s e w
+whole_unbroken Sdt s e w = sdt_whole s e w
+whole_unbroken None s e w = absurd w
 
-pub taken-faultless : (t : Table) (s : List ℕ) → Taken t s → faultOf t s ≡ 0
-unfolding faultOf
-taken-faultless t s k = rw k.own (whole-unbroken t s k.exact k.whole)
+pub taken_faultless : (t : Table) (s : List ℕ) → Taken t s → fault_of t s ≡ 0
+unfolding fault_of
+taken_faultless t s k = rw k.own (whole_unbroken t s k.exact k.whole)
 
-unbroken-whole : (t : Table) (s : List ℕ) → is_of t (byte_at s 0) ≡ true → brokenOf t s ≡ 0 → Taken t s
+unbroken_whole : (t : Table) (s : List ℕ) → is_of t (byte_at s 0) ≡ true → broken_of t s ≡ 0 → Taken t s
 unfolding any
-unbroken-whole Nit s o e = let p = nit-laid-out s e in record { own = o; exact = p.0; whole = p.1 }
-unbroken-whole Bat s o e = let p = nit-laid-out s e in record { own = o; exact = p.0; whole = p.1 }
-unbroken-whole Sdt s o e = let p = sdt-laid-out s e in record { own = o; exact = p.0; whole = p.1 }
-unbroken-whole None s o e = absurd (true≢false (sym o))
+unbroken_whole Nit s o e = let p = nit_laid_out s e in record { own = o; exact = p.0; whole = p.1 }
+unbroken_whole Bat s o e = let p = nit_laid_out s e in record { own = o; exact = p.0; whole = p.1 }
+unbroken_whole Sdt s o e = let p = sdt_laid_out s e in record { own = o; exact = p.0; whole = p.1 }
+unbroken_whole None s o e = absurd (true≢false (sym o))
 
-pub faultless-taken : (t : Table) (s : List ℕ) → faultOf t s ≡ 0 → Taken t s
-unfolding faultOf
-faultless-taken t s e = go (is_of t (byte_at s 0)) refl e
+pub faultless_taken : (t : Table) (s : List ℕ) → fault_of t s ≡ 0 → Taken t s
+unfolding fault_of
+faultless_taken t s e = go (is_of t (byte_at s 0)) refl e
   where
-    go : (b : Bool) → is_of t (byte_at s 0) ≡ b → cond b (brokenOf t s) 1 ≡ 0 → Taken t s
-    go true o f = unbroken-whole t s o f
+    go : (b : Bool) → is_of t (byte_at s 0) ≡ b → cond b (broken_of t s) 1 ≡ 0 → Taken t s
+    go true o f = unbroken_whole t s o f
     go false o f = absurd (let z : ◌≡◌ {A = ℕ} 1 0 = f in omega arith)
 
 -- ---- what is answered
 
 abbrev pub answer_of : Read × List ℕ → ℕ
-answer_of x = readNumber x.0.answer
+answer_of x = read_number x.0.answer
 
 -- 35 or 36
-abbrev pub isFault : (answer : ℕ) → Bool
-isFault n = eqb n 35 || eqb n 36
+abbrev pub is_fault : (answer : ℕ) → Bool
+is_fault n = eqb n 35 || eqb n 36
 
-ended-number : (skip count : ℕ) → isFault (readNumber (endedAt skip count).answer) ≡ false
-ended-number skip count = go (ltb skip count)
+ended_number : (skip count : ℕ) → is_fault (read_number (ended_at skip count).answer) ≡ false
+ended_number skip count = go (ltb skip count)
   where
-    go : (b : Bool) → isFault (readNumber (cond b Yes No)) ≡ false
+    go : (b : Bool) → is_fault (read_number (cond b Yes No)) ≡ false
     go true = refl
     go false = refl
 
 module _ (t : Table) (s : List ℕ) (skip : ℕ) (list : List ℕ) where
   -- a whole section: its entries, in the list's window
-  pub section-listed : Taken t s
-      → readSection t s skip list ≡ (
-        endedAt skip (length (entriesOf t 0 (byte_at s 6) s)),
-        joined (page skip (length list / 12) (entriesOf t 0 (byte_at s 6) s)) ++ drop (length (page skip (length list / 12) (entriesOf t 0 (byte_at s 6) s)) * 12) list,
+  pub section_listed_lem : Taken t s
+      → read_section t s skip list ≡ (
+        ended_at skip (length (entries_of t 0 (byte_at s 6) s)),
+        joined (page skip (length list / 12) (entries_of t 0 (byte_at s 6) s)) ++ drop (length (page skip (length list / 12) (entries_of t 0 (byte_at s 6) s)) * 12) list,
       )
-  unfolding readSection readAs readAt
-  section-listed k =
-      rw (taken-faultless t s k)
-      (ap (λ (l : List ℕ). (endedAt skip (length (entriesOf t 0 (byte_at s 6) s)), l)) (read-window skip list (entries-twelve t 0 (byte_at s 6) s)))
+  unfolding read_section read_as read_at
+  section_listed_lem k =
+      rw (taken_faultless t s k)
+      (ap (λ (l : List ℕ). (ended_at skip (length (entries_of t 0 (byte_at s 6) s)), l)) (read_window skip list (entries_twelve t 0 (byte_at s 6) s)))
 
   -- neither 35 nor 36 where the section is whole ..
-  pub whole-answers : Taken t s → isFault (answer_of (readSection t s skip list)) ≡ false
-  whole-answers k = rw (section-listed k) (ended-number skip (length (entriesOf t 0 (byte_at s 6) s)))
+  pub whole_answers : Taken t s → is_fault (answer_of (read_section t s skip list)) ≡ false
+  whole_answers k = rw (section_listed_lem k) (ended_number skip (length (entries_of t 0 (byte_at s 6) s)))
 
-  fault-number : (fault : ℕ) → fault ≢ 0 → isFault (answer_of (said_of skip (toldBy (byte_at s 6) fault (entriesOf t 0 (byte_at s 6) s)) list)) ≡ true
-  fault-number fault z = rw (ne_eqb fault 0 z) (go (eqb fault 1))
+  fault_number : (fault : ℕ) → fault ≢ 0 → is_fault (answer_of (said_of skip (told_by (byte_at s 6) fault (entries_of t 0 (byte_at s 6) s)) list)) ≡ true
+  fault_number fault z = rw (ne_eqb fault 0 z) (go (eqb fault 1))
     where
-      go : (b : Bool) → isFault (answer_of (said_of skip (cond b (other-table (byte_at s 6)) (broken-loop (byte_at s 6) (fault - 1))) list)) ≡ true
+      go : (b : Bool) → is_fault (answer_of (said_of skip (cond b (other_table (byte_at s 6)) (broken_loop (byte_at s 6) (fault - 1))) list)) ≡ true
       go true = refl
       go false = refl
 
   -- .. and only there
-  pub only-whole : isFault (answer_of (readSection t s skip list)) ≡ false → Taken t s
-  unfolding readSection readAs readAt
-  only-whole e = go (faultOf t s) refl
+  pub only_whole : is_fault (answer_of (read_section t s skip list)) ≡ false → Taken t s
+  unfolding read_section read_as read_at
+  only_whole e = go (fault_of t s) refl
     where
-      go : (n : ℕ) → faultOf t s ≡ n → Taken t s
-      go zero f = faultless-taken t s f
-      go (suc n) f = absurd (true≢false (sym (fault-number (faultOf t s) (λ (z : faultOf t s ≡ 0). let q : suc n ≡ 0 = sym f ∙ z in omega arith)) ∙ e))
+      go : (n : ℕ) → fault_of t s ≡ n → Taken t s
+      go zero f = faultless_taken t s f
+      go (suc n) f = absurd (true≢false (sym (fault_number (fault_of t s) (λ (z : fault_of t s ≡ 0). let q : suc n ≡ 0 = sym f ∙ z in omega arith)) ∙ e))
 
 -- ---- the place of 36
 
@@ -128,30 +128,30 @@ BreaksOf Bat s place = NitBreaks s place
 BreaksOf Sdt s place = SdtBreaks s place
 BreaksOf None s place = ⊥
 
-first-of : (t : Table) (s : List ℕ) (place : ℕ) → brokenOf t s ≡ suc place → First (BreaksOf t s) place
-first-of Nit s place e = nit-first-broken s place e
-first-of Bat s place e = nit-first-broken s place e
-first-of Sdt s place e = sdt-first-broken s place e
-first-of None s place e = absurd (omega arith)
+first_of_lem : (t : Table) (s : List ℕ) (place : ℕ) → broken_of t s ≡ suc place → First (BreaksOf t s) place
+first_of_lem Nit s place e = nit_first_broken s place e
+first_of_lem Bat s place e = nit_first_broken s place e
+first_of_lem Sdt s place e = sdt_first_broken s place e
+first_of_lem None s place e = absurd (omega arith)
 
 -- a 36 tells the first place, in byte order, where something does not end where its length says
-pub first-broken : (t : Table) (s : List ℕ) (section place : ℕ) → readAs t s ≡ broken-loop section place → First (BreaksOf t s) place
-unfolding readAs readAt faultOf
-first-broken t s section place e = own (is_of t (byte_at s 0)) (brokenOf t s) refl e
+pub first_broken : (t : Table) (s : List ℕ) (section place : ℕ) → read_as t s ≡ broken_loop section place → First (BreaksOf t s) place
+unfolding read_as read_at fault_of
+first_broken t s section place e = own (is_of t (byte_at s 0)) (broken_of t s) refl e
   where
     -- what a 36 tells, and 1
     place_of : Told → ℕ
-    place_of (other-table n) = 0
-    place_of (broken-loop n p) = suc p
+    place_of (other_table n) = 0
+    place_of (broken_loop n p) = suc p
     place_of (entries es) = 0
 
-    last : (n : ℕ) → brokenOf t s ≡ suc (suc n) → toldBy (byte_at s 6) (suc (suc n)) (entriesOf t 0 (byte_at s 6) s) ≡ broken-loop section place → First (BreaksOf t s) place
+    last : (n : ℕ) → broken_of t s ≡ suc (suc n) → told_by (byte_at s 6) (suc (suc n)) (entries_of t 0 (byte_at s 6) s) ≡ broken_loop section place → First (BreaksOf t s) place
     last n f g =
         let h = rw (ne_eqb (suc (suc n)) 0 (λ (z : suc (suc n) ≡ 0). omega arith), ne_eqb (suc (suc n)) 1 (λ (z : suc (suc n) ≡ 1). omega arith)) at g in
         let q : suc (suc (suc n) - 1) ≡ suc place = ap place_of h in
-        first-of t s place (f ∙ omega arith)
+        first_of_lem t s place (f ∙ omega arith)
 
-    own : (b : Bool) (n : ℕ) → brokenOf t s ≡ n → toldBy (byte_at s 6) (cond b n 1) (entriesOf t 0 (byte_at s 6) s) ≡ broken-loop section place → First (BreaksOf t s) place
+    own : (b : Bool) (n : ℕ) → broken_of t s ≡ n → told_by (byte_at s 6) (cond b n 1) (entries_of t 0 (byte_at s 6) s) ≡ broken_loop section place → First (BreaksOf t s) place
     own false n f g = absurd (let z : ◌≡◌ {A = ℕ} 0 (suc place) = ap place_of g in omega arith)
     own true zero f g = absurd (let z : ◌≡◌ {A = ℕ} 0 (suc place) = ap place_of g in omega arith)
     own true (suc zero) f g = absurd (let z : ◌≡◌ {A = ℕ} 0 (suc place) = ap place_of g in omega arith)
@@ -159,47 +159,47 @@ first-broken t s section place e = own (is_of t (byte_at s 0)) (brokenOf t s) re
 
 -- ---- what is left
 
-told-fault : (skip : ℕ) (t : Told) (list : List ℕ) → isFault (answer_of (said_of skip t list)) ≡ true → is_refused t ≡ true
-told-fault skip (other-table section) list e = refl
-told-fault skip (broken-loop section place) list e = refl
-told-fault skip (entries es) list e = absurd (true≢false (sym e ∙ ended-number skip (length es)))
+told_fault : (skip : ℕ) (t : Told) (list : List ℕ) → is_fault (answer_of (said_of skip t list)) ≡ true → is_refused t ≡ true
+told_fault skip (other_table section) list e = refl
+told_fault skip (broken_loop section place) list e = refl
+told_fault skip (entries es) list e = absurd (true≢false (sym e ∙ ended_number skip (length es)))
 
 -- 35 and 36 leave the list
-pub section-as-before : (t : Table) (s : List ℕ) (skip : ℕ) (list : List ℕ) → isFault (answer_of (readSection t s skip list)) ≡ true → (readSection t s skip list).1 ≡ list
-unfolding readSection
-section-as-before t s skip list e = as_before skip (readAs t s) list (told-fault skip (readAs t s) list e)
+pub section_as_before : (t : Table) (s : List ℕ) (skip : ℕ) (list : List ℕ) → is_fault (answer_of (read_section t s skip list)) ≡ true → (read_section t s skip list).1 ≡ list
+unfolding read_section
+section_as_before t s skip list e = as_before_lem skip (read_as t s) list (told_fault skip (read_as t s) list e)
 
 -- so do 10, 41, 35 and 36 of a set
-abbrev pub isNot : (answer : ℕ) → Bool
-isNot n = eqb n 10 || (eqb n 41 || isFault n)
+abbrev pub is_not : (answer : ℕ) → Bool
+is_not n = eqb n 10 || (eqb n 41 || is_fault n)
 
-ended-not : (skip count : ℕ) → isNot (readNumber (endedAt skip count).answer) ≡ false
-ended-not skip count = go (ltb skip count)
+ended_not : (skip count : ℕ) → is_not (read_number (ended_at skip count).answer) ≡ false
+ended_not skip count = go (ltb skip count)
   where
-    go : (b : Bool) → isNot (readNumber (cond b Yes No)) ≡ false
+    go : (b : Bool) → is_not (read_number (cond b Yes No)) ≡ false
     go true = refl
     go false = refl
 
-told-not : (skip : ℕ) (t : Told) (list : List ℕ) → isNot (answer_of (said_of skip t list)) ≡ true → (said_of skip t list).1 ≡ list
-told-not skip (other-table section) list e = refl
-told-not skip (broken-loop section place) list e = refl
-told-not skip (entries es) list e = absurd (true≢false (sym e ∙ ended-not skip (length es)))
+told_not : (skip : ℕ) (t : Told) (list : List ℕ) → is_not (answer_of (said_of skip t list)) ≡ true → (said_of skip t list).1 ≡ list
+told_not skip (other_table section) list e = refl
+told_not skip (broken_loop section place) list e = refl
+told_not skip (entries es) list e = absurd (true≢false (sym e ∙ ended_not skip (length es)))
 
-pub set-as-before : (t : Table) (s : Store) (row skip : ℕ) (list : List ℕ) → isNot (answer_of (readSet t s row skip list)) ≡ true → (readSet t s row skip list).1 ≡ list
-unfolding readSet
-set-as-before t s row skip list e = go (whole_of s) (withoutPid s.heads s.sets.used) (setOut s.heads s.sets.used row) e
+pub set_as_before : (t : Table) (s : Store) (row skip : ℕ) (list : List ℕ) → is_not (answer_of (read_set t s row skip list)) ≡ true → (read_set t s row skip list).1 ≡ list
+unfolding read_set
+set_as_before t s row skip list e = go (whole_of s) (without_pid s.heads s.sets.used) (set_out_lem s.heads s.sets.used row) e
   where
     told : Told
-    told = slotsTold t s.cells s.sets.size (rowSlots s.heads s.slots row) 0
+    told = slots_told t s.cells s.sets.size (row_slots s.heads s.slots row) 0
 
     said : (b w c : Bool) → Read × List ℕ
     said b w c =
         cond b
-        (cond w (nothingRead (Refused refusal.NoPid), list) (cond c (said_of skip told list) (nothingRead No, list)))
-        (nothingRead (Refused refusal.NotWhole), list)
+        (cond w (nothing_read (Refused refusal.NoPid), list) (cond c (said_of skip told list) (nothing_read No, list)))
+        (nothing_read (Refused refusal.NotWhole), list)
 
-    go : (b w c : Bool) → isNot (answer_of (said b w c)) ≡ true → (said b w c).1 ≡ list
+    go : (b w c : Bool) → is_not (answer_of (said b w c)) ≡ true → (said b w c).1 ≡ list
     go true true c f = refl
-    go true false true f = told-not skip told list f
+    go true false true f = told_not skip told list f
     go true false false f = refl
     go false w c f = refl

@@ -13,129 +13,129 @@ use lib.Dec.{ltb, eqb}
 use borrow.Author.Tests.{ne_eqb, eqb-true, not-false, ltb-false}
 use Rattle.laws.specs.Lists.{any}
 use Rattle.answers.specs.declared.Refusal.TheVariants as refusal
-use Rattle.cells.specs.Cells.{allWhole}
-use Rattle.section.specs.Header.{byte_at, sectionLength}
-use Rattle.rows.specs.Rows.{rowSlots, slotsAt, slotCount, last_of}
+use Rattle.cells.specs.Cells.{all_whole}
+use Rattle.section.specs.Header.{byte_at, section_length}
+use Rattle.rows.specs.Rows.{row_slots, slots_at, slot_count, last_of}
 use Rattle.rows.proofs.Whole.{rows_get}
-use Rattle.without_pid.specs.Pids.{withoutPid}
+use Rattle.without_pid.specs.Pids.{without_pid}
 use Rattle.store.specs.Store.{Store, store, whole_of, Whole}
 use Rattle.store.specs.declared.Sets.{Sets}
-use Rattle.store.proofs.Whole.{is-whole-means}
-use Rattle.handed.specs.Handed.{setOut}
+use Rattle.store.proofs.Whole.{is_whole_means}
+use Rattle.handed.specs.Handed.{set_out_lem}
 use Rattle.handed.proofs.Ways.{in_use}
 use Rattle.rules_networks.specs.declared.Table.{Table}
 use Rattle.rules_networks.specs.declared.Table.TheVariants.{Nit, Bat, Sdt, None}
-use Rattle.rules_networks.specs.Networks.{lengthWrong, faultOf, entriesOf, Told, other-table, broken-loop, entries, toldBy, readAt, readAs}
-use Rattle.rules_networks.proofs.Nit.{nit-passed}
-use Rattle.rules_networks.proofs.Sdt.{sdt-passed}
-use Rattle.network_entries.specs.Entries.{listedFrom, SectionIn}
-use Rattle.network_entries.proofs.Ways.{broken-none, nit-none, bat-none, sdt-none}
+use Rattle.rules_networks.specs.Networks.{length_wrong, fault_of, entries_of, Told, other_table, broken_loop, entries, told_by, read_at, read_as}
+use Rattle.rules_networks.proofs.Nit.{nit_passed}
+use Rattle.rules_networks.proofs.Sdt.{sdt_passed}
+use Rattle.network_entries.specs.Entries.{listed_from, SectionIn}
+use Rattle.network_entries.proofs.Ways.{broken_none, nit_none, bat_none, sdt_none}
 use Rattle.network_sets.specs.declared.Read.{Read}
 use Rattle.network_sets.specs.declared.ReadAnswer.TheVariants.{No, Refused, OtherTable, BrokenLoop}
-use Rattle.network_sets.specs.Sets.{nothingRead, read_of, endedAt, refusedAt, said_of, slotsTold, SlotsIn}
-use Rattle.networks.specs.Store.{readSection, readSet}
+use Rattle.network_sets.specs.Sets.{nothing_read, read_of, ended_at, refused_at, said_of, slots_told, SlotsIn}
+use Rattle.networks.specs.Store.{read_section, read_set}
 
 -- ---- section_length
 
-no_reader : (s : List ℕ) → faultOf None s ≡ 0 → lengthWrong s ≡ false
-unfolding faultOf any
+no_reader : (s : List ℕ) → fault_of None s ≡ 0 → length_wrong s ≡ false
+unfolding fault_of any
 no_reader s e = absurd (let z : ◌≡◌ {A = ℕ} 1 0 = e in omega arith)
 
-exact : (t : Table) (s : List ℕ) → faultOf t s ≡ 0 → lengthWrong s ≡ false
-exact Nit s e = (nit-passed s (nit-none Nit s e refl)).exact
-exact Bat s e = (nit-passed s (bat-none Bat s e refl)).exact
-exact Sdt s e = (sdt-passed s (sdt-none Sdt s e refl)).0
+exact : (t : Table) (s : List ℕ) → fault_of t s ≡ 0 → length_wrong s ≡ false
+exact Nit s e = (nit_passed s (nit_none Nit s e refl)).exact
+exact Bat s e = (nit_passed s (bat_none Bat s e refl)).exact
+exact Sdt s e = (sdt_passed s (sdt_none Sdt s e refl)).0
 exact None s e = no_reader s e
 
-module _ (t : Table) (s : List ℕ) (e : faultOf t s ≡ 0) where
-  right_by : (b c : Bool) → ltb (length s) 3 ≡ b → eqb (length s) (3 + sectionLength s) ≡ c → cond b true (not c) ≡ false → (3 ≤ length s) × (length s ≡ 3 + sectionLength s)
+module _ (t : Table) (s : List ℕ) (e : fault_of t s ≡ 0) where
+  right_by : (b c : Bool) → ltb (length s) 3 ≡ b → eqb (length s) (3 + section_length s) ≡ c → cond b true (not c) ≡ false → (3 ≤ length s) × (length s ≡ 3 + section_length s)
   right_by true c x y z = absurd (true≢false z)
   right_by false false x y z = absurd (true≢false z)
-  right_by false true x y z = (ltb-false (length s) 3 x, eqb-true (length s) (3 + sectionLength s) y)
+  right_by false true x y z = (ltb-false (length s) 3 x, eqb-true (length s) (3 + section_length s) y)
 
-  right : (3 ≤ length s) × (length s ≡ 3 + sectionLength s)
-  unfolding lengthWrong
-  right = right_by (ltb (length s) 3) (eqb (length s) (3 + sectionLength s)) refl refl (exact t s e)
+  right : (3 ≤ length s) × (length s ≡ 3 + section_length s)
+  unfolding length_wrong
+  right = right_by (ltb (length s) 3) (eqb (length s) (3 + section_length s)) refl refl (exact t s e)
 
   pub three : 3 ≤ length s
   three = right.0
 
-  pub length-is : (n : ℕ) → n ≡ sectionLength s → 3 + n ≡ length s
-  length-is n g = let r = right.1 in omega arith
+  pub length_is : (n : ℕ) → n ≡ section_length s → 3 + n ≡ length s
+  length_is n g = let r = right.1 in omega arith
 
 -- ---- a section
 
 -- what the listing of a section asks: it is all that is lent
-pub section-in : (s : List ℕ) (size number : ℕ) → size ≡ length s → size ≤ 4098 → number < 256 → SectionIn (length s) 0 size number 0
-section-in s size number e h k = record { within = omega arith; short = omega arith; numbered = k; few = omega arith }
+pub section_in : (s : List ℕ) (size number : ℕ) → size ≡ length s → size ≤ 4098 → number < 256 → SectionIn (length s) 0 size number 0
+section_in s size number e h k = record { within = omega arith; short = omega arith; numbered = k; few = omega arith }
 
-pub section-whole : (t : Table) (s : List ℕ) (size fault : ℕ) → fault ≡ faultOf t s → fault ≡ 0 → size ≡ length s → faultOf t (take size (drop 0 s)) ≡ 0
-section-whole t s size fault f z e = rw (e, take_all (length s) s (omega arith)) (sym f ∙ z)
+pub section_whole : (t : Table) (s : List ℕ) (size fault : ℕ) → fault ≡ fault_of t s → fault ≡ 0 → size ≡ length s → fault_of t (take size (drop 0 s)) ≡ 0
+section_whole t s size fault f z e = rw (e, take_all (length s) s (omega arith)) (sym f ∙ z)
 
-module _ (t : Table) (s : List ℕ) (skip : ℕ) (list : List ℕ) (number fault : ℕ) (g : number ≡ byte_at s 6) (f : fault ≡ faultOf t s) where
-  refused-by : (d : Bool) → (cond d (read_of OtherTable 0 number 0) (read_of BrokenLoop 0 number (fault - 1)), list) ≡ said_of skip (cond d (other-table number) (broken-loop number (fault - 1))) list
-  refused-by true = refl
-  refused-by false = refl
+module _ (t : Table) (s : List ℕ) (skip : ℕ) (list : List ℕ) (number fault : ℕ) (g : number ≡ byte_at s 6) (f : fault ≡ fault_of t s) where
+  refused_by : (d : Bool) → (cond d (read_of OtherTable 0 number 0) (read_of BrokenLoop 0 number (fault - 1)), list) ≡ said_of skip (cond d (other_table number) (broken_loop number (fault - 1))) list
+  refused_by true = refl
+  refused_by false = refl
 
-  pub section-refused : fault ≢ 0 → (r : Read) → r ≡ refusedAt number fault → (r, list) ≡ readSection t s skip list
-  unfolding readSection readAs readAt
-  section-refused z r e = rw (← g, ← f, ne_eqb fault 0 z, e) (refused-by (eqb fault 1))
+  pub section_refused : fault ≢ 0 → (r : Read) → r ≡ refused_at number fault → (r, list) ≡ read_section t s skip list
+  unfolding read_section read_as read_at
+  section_refused z r e = rw (← g, ← f, ne_eqb fault 0 z, e) (refused_by (eqb fault 1))
 
-  pub section-listed : fault ≡ 0 → (size n : ℕ) (l : List ℕ) (r : Read) → size ≡ length s → (n, l) ≡ listedFrom skip 0 (entriesOf t 0 number (take size (drop 0 s))) list → r ≡ endedAt skip n
-      → (r, l) ≡ readSection t s skip list
-  unfolding readSection readAs readAt listedFrom
-  section-listed z size n l r k e h =
+  pub section_listed_lem : fault ≡ 0 → (size n : ℕ) (l : List ℕ) (r : Read) → size ≡ length s → (n, l) ≡ listed_from skip 0 (entries_of t 0 number (take size (drop 0 s))) list → r ≡ ended_at skip n
+      → (r, l) ≡ read_section t s skip list
+  unfolding read_section read_as read_at listed_from
+  section_listed_lem z size n l r k e h =
       let q : take size (drop 0 s) ≡ s = rw k (take_all (length s) s (omega arith)) in
       let e' = rw q at e in
-      let a : n ≡ length (entriesOf t 0 number s) = ap (λ (x : ℕ × List ℕ). x.0) e' ∙ zero-add (length (entriesOf t 0 number s)) in
+      let a : n ≡ length (entries_of t 0 number s) = ap (λ (x : ℕ × List ℕ). x.0) e' ∙ zero-add (length (entries_of t 0 number s)) in
       rw (← g, ← f, z, h, ap (λ (x : ℕ × List ℕ). x.1) e', a)
 
 -- ---- a set
 
-length-row : (heads slots : List ℕ) (i : ℕ) → length (rowSlots heads slots i) ≤ 256
-unfolding rowSlots
-length-row heads slots i = let e = length-take (slotCount (last_of heads i)) (drop (slotsAt i) slots) in omega arith
+length_row : (heads slots : List ℕ) (i : ℕ) → length (row_slots heads slots i) ≤ 256
+unfolding row_slots
+length_row heads slots i = let e = length-take (slot_count (last_of heads i)) (drop (slots_at i) slots) in omega arith
 
 module _ (s : Sets) (heads slots cells : List ℕ) (b : Bool) (q : b ≡ whole_of (store s heads slots cells)) (t : b ≡ true) where
   whole : Whole s heads slots cells
-  whole = is-whole-means s heads slots cells b q t
+  whole = is_whole_means s heads slots cells b q t
 
-  pub heads-there : s.used * 12 ≤ length heads
-  heads-there = let w = whole in omega arith
+  pub heads_there : s.used * 12 ≤ length heads
+  heads_there = let w = whole in omega arith
 
-  module _ (row : ℕ) (o : Bool) (p : o ≡ setOut heads s.used row) (y : o ≡ true) where
-    pub head-there : row * 12 + 12 ≤ length heads
-    head-there = let w = whole in let h = in_use heads s.used row o p y in omega arith
+  module _ (row : ℕ) (o : Bool) (p : o ≡ set_out_lem heads s.used row) (y : o ≡ true) where
+    pub head_there : row * 12 + 12 ≤ length heads
+    head_there = let w = whole in let h = in_use heads s.used row o p y in omega arith
 
-    pub slots-there : row * 288 + 288 ≤ length slots
-    slots-there = let w = whole in let h = in_use heads s.used row o p y in omega arith
+    pub slots_there : row * 288 + 288 ≤ length slots
+    slots_there = let w = whole in let h = in_use heads s.used row o p y in omega arith
 
-    pub slots-in : (part : List ℕ) → part ≡ rowSlots heads slots row → SlotsIn (length cells) s.size part
-    slots-in part f =
+    pub slots_in : (part : List ℕ) → part ≡ row_slots heads slots row → SlotsIn (length cells) s.size part
+    slots_in part f =
         let w = whole in
         rw f (record {
           count = s.count;
           whole = rows_get heads slots s.count s.size s.used row w.rows (in_use heads s.used row o p y);
-          room = w.cells-long;
-          small = w.size-high;
-          few = length-row heads slots row;
+          room = w.cells_long;
+          small = w.size_high;
+          few = length_row heads slots row;
         })
 
 module _ (t : Table) (s : Store) (row skip : ℕ) (list : List ℕ) (b : Bool) (e : b ≡ whole_of s) where
-  pub set-refused : b ≡ false → (r : Read) → r ≡ nothingRead (Refused refusal.NotWhole) → (r, list) ≡ readSet t s row skip list
-  unfolding readSet
-  set-refused z r f = rw (← e, z, f)
+  pub set_refused : b ≡ false → (r : Read) → r ≡ nothing_read (Refused refusal.NotWhole) → (r, list) ≡ read_set t s row skip list
+  unfolding read_set
+  set_refused z r f = rw (← e, z, f)
 
-  pub set-without : b ≡ true → (w : Bool) → w ≡ withoutPid s.heads s.sets.used → w ≡ true → (r : Read) → r ≡ nothingRead (Refused refusal.NoPid) → (r, list) ≡ readSet t s row skip list
-  unfolding readSet
-  set-without z w p v r f = rw (← e, z, ← p, v, f)
+  pub set_without : b ≡ true → (w : Bool) → w ≡ without_pid s.heads s.sets.used → w ≡ true → (r : Read) → r ≡ nothing_read (Refused refusal.NoPid) → (r, list) ≡ read_set t s row skip list
+  unfolding read_set
+  set_without z w p v r f = rw (← e, z, ← p, v, f)
 
-  module _ (z : b ≡ true) (w : Bool) (p : w ≡ withoutPid s.heads s.sets.used) (v : w ≡ false) (o : Bool) (g : o ≡ setOut s.heads s.sets.used row) where
-    pub set-none : o ≡ false → (r : Read) → r ≡ nothingRead No → (r, list) ≡ readSet t s row skip list
-    unfolding readSet
-    set-none y r f = rw (← e, z, ← p, v, ← g, y, f)
+  module _ (z : b ≡ true) (w : Bool) (p : w ≡ without_pid s.heads s.sets.used) (v : w ≡ false) (o : Bool) (g : o ≡ set_out_lem s.heads s.sets.used row) where
+    pub set_none : o ≡ false → (r : Read) → r ≡ nothing_read No → (r, list) ≡ read_set t s row skip list
+    unfolding read_set
+    set_none y r f = rw (← e, z, ← p, v, ← g, y, f)
 
-    pub set-read : o ≡ true → (part : List ℕ) → part ≡ rowSlots s.heads s.slots row → (r : Read) (l : List ℕ)
-        → (r, l) ≡ said_of skip (slotsTold t s.cells s.sets.size part 0) list → (r, l) ≡ readSet t s row skip list
-    unfolding readSet
-    set-read y part q r l f = rw (← e, z, ← p, v, ← g, y, ← q) f
+    pub set_read_lem : o ≡ true → (part : List ℕ) → part ≡ row_slots s.heads s.slots row → (r : Read) (l : List ℕ)
+        → (r, l) ≡ said_of skip (slots_told t s.cells s.sets.size part 0) list → (r, l) ≡ read_set t s row skip list
+    unfolding read_set
+    set_read_lem y part q r l f = rw (← e, z, ← p, v, ← g, y, ← q) f

@@ -2,9 +2,9 @@
 // descriptor, one entry of twelve words each, into a lent list. The list is a window: it shows entries from `skip` on as far as there is room, and `count` says how many
 // there are. Every call takes any content of what is lent and has one answer; 10, 41, 35 and 36 leave the list as it was.
 ghost use Rattle.std.specs.Prelude.{◌≡◌, ◌≤◌, length};
-ghost use Rattle.rules_networks.specs.Networks.{faultOf};
+ghost use Rattle.rules_networks.specs.Networks.{fault_of};
 ghost use Rattle.store.specs.Store.{store};
-ghost use Rattle.networks.specs.Store.{readSection, readSet};
+ghost use Rattle.networks.specs.Store.{read_section, read_set};
 
 use answers::Refusal;
 use network_sets::{Read, ReadAnswer};
@@ -14,7 +14,7 @@ use store::Sets;
 
 // The length of a section that is not refused, as section_length says it.
 fn own_length(table: Table, s: &[u8]) -> usize
-    requires { faultOf table s.now ≡ 0 }
+    requires { fault_of table s.now ≡ 0 }
     ensures { (result ≡ length s.now) × (result ≤ 4098) }
 {
     3 + bytes::section_length(s)
@@ -22,7 +22,7 @@ fn own_length(table: Table, s: &[u8]) -> usize
 
 // The entries of a section. Its form and its CRC are not judged here: a collector did.
 pub fn entries(table: Table, section: &[u8], skip: usize, list: &mut [u32]) -> Read
-    ensures { (result, list.new) ≡ readSection table section.now skip list.old }
+    ensures { (result, list.new) ≡ read_section table section.now skip list.old }
 {
     let number = network_faults::byte_at(section, 6);
     let fault = network_faults::fault(table, section);
@@ -45,7 +45,7 @@ pub fn entries_of_set(
     skip: usize,
     list: &mut [u32],
 ) -> Read
-    ensures { (result, list.new) ≡ readSet table (store sets heads.now slots.now cells.now) row skip list.old }
+    ensures { (result, list.new) ≡ read_set table (store sets heads.now slots.now cells.now) row skip list.old }
 {
     let whole = store::is_whole(sets, heads, slots, cells);
     if whole {

@@ -9,11 +9,11 @@ use lib.Dec.{ltb}
 use native.Mathlib.Omega.{arith}
 use borrow.Author.Tests.{lt-ltb, le-ltb, not-true, not-false}
 use Rattle.answers.specs.declared.Refusal.TheVariants.{NotWhole, CounterFull, BadPid, BadInput}
-use Rattle.counters.specs.Counters.{anyFull, CanCount}
+use Rattle.counters.specs.Counters.{any_full, CanCount}
 use Rattle.counters.specs.declared.Counters.{Counters}
 use Rattle.section.specs.Facts.{Bytes}
-use Rattle.section.specs.Ids.{origin_of, originMade}
-use Rattle.section.specs.Judged.{ruleOf, judgedOf}
+use Rattle.section.specs.Ids.{origin_of, origin_made}
+use Rattle.section.specs.Judged.{rule_of, judged_of}
 use Rattle.section.specs.declared.ids.Origin.{Origin}
 use Rattle.section.specs.declared.ids.OriginMade.{OriginMade}
 use Rattle.section.specs.declared.ids.OriginMade.TheVariants as origin
@@ -21,8 +21,8 @@ use Rattle.section.specs.declared.header.ChangeRule.{ChangeRule}
 use Rattle.section.specs.declared.header.Parts.{Parts}
 use Rattle.section.specs.declared.header.Judged.{Judged}
 use Rattle.section.specs.declared.header.Judged.TheVariants.{Short, Mismatch, Sound}
-use Rattle.section.proofs.Facts.{judged-table, judged-change, origin-one, origin-none, origin-outside}
-use Rattle.offers.specs.Offers.{arrivalOf, readAs, read_of, verdictOf, Taken, Admissible, VerdictOk}
+use Rattle.section.proofs.Facts.{judged_table, judged_change, origin_one, origin_none, origin_outside}
+use Rattle.offers.specs.Offers.{arrival_of, read_as, read_of, verdict_of, Taken, Admissible, VerdictOk}
 use Rattle.offers.specs.declared.Arrival.{Arrival}
 use Rattle.offers.specs.declared.Failure.{Failure}
 use Rattle.offers.specs.declared.Failure.TheVariants as failure
@@ -32,51 +32,51 @@ use Rattle.offers.specs.declared.Verdict.TheVariants.{Refused, Failed, Arrived}
 
 -- ---- 3
 
-module _ (from : Origin) (rule : ℕ) (c : ChangeRule) (section : List ℕ) (v : Judged) (n : c ≡ ruleOf rule) (e : v ≡ judgedOf c section) where
-  pub read_short : v ≡ Short → Failed (TooShort (length section)) ≡ readAs from (length section) (judgedOf (ruleOf rule) section)
+module _ (from : Origin) (rule : ℕ) (c : ChangeRule) (section : List ℕ) (v : Judged) (n : c ≡ rule_of rule) (e : v ≡ judged_of c section) where
+  pub read_short : v ≡ Short → Failed (TooShort (length section)) ≡ read_as from (length section) (judged_of (rule_of rule) section)
   read_short h = rw (← n, ← e, h)
 
-  pub read-mismatch : (a b : ℕ) → v ≡ Mismatch a b → Failed (failure.Mismatch a b) ≡ readAs from (length section) (judgedOf (ruleOf rule) section)
-  read-mismatch a b h = rw (← n, ← e, h)
+  pub read_mismatch : (a b : ℕ) → v ≡ Mismatch a b → Failed (failure.Mismatch a b) ≡ read_as from (length section) (judged_of (rule_of rule) section)
+  read_mismatch a b h = rw (← n, ← e, h)
 
-  pub read-sound : (p : Parts) (a : Arrival) → v ≡ Sound p → a ≡ arrivalOf from p → Arrived a ≡ readAs from (length section) (judgedOf (ruleOf rule) section)
-  read-sound p a h j = rw (← n, ← e, h, j)
+  pub read_sound : (p : Parts) (a : Arrival) → v ≡ Sound p → a ≡ arrival_of from p → Arrived a ≡ read_as from (length section) (judged_of (rule_of rule) section)
+  read_sound p a h j = rw (← n, ← e, h, j)
 
 -- ---- 12 and 37
 
-module _ (rule input pid : ℕ) (section : List ℕ) (m : OriginMade) (e : m ≡ originMade input pid) where
-  pub read-pid : m ≡ origin.BadPid → Refused BadPid ≡ read_of rule input pid section
+module _ (rule input pid : ℕ) (section : List ℕ) (m : OriginMade) (e : m ≡ origin_made input pid) where
+  pub read_pid : m ≡ origin.BadPid → Refused BadPid ≡ read_of rule input pid section
   unfolding read_of
-  read-pid h = rw (le-ltb pid 8192 (origin-none input pid m e h))
+  read_pid h = rw (le-ltb pid 8192 (origin_none input pid m e h))
 
-  pub read-nowhere : m ≡ origin.BadInput → Refused BadInput ≡ read_of rule input pid section
+  pub read_nowhere : m ≡ origin.BadInput → Refused BadInput ≡ read_of rule input pid section
   unfolding read_of
-  read-nowhere h = let n = origin-outside input pid m e h in rw (lt-ltb pid 8192 n.0, le-ltb input 16 n.1)
+  read_nowhere h = let n = origin_outside input pid m e h in rw (lt-ltb pid 8192 n.0, le-ltb input 16 n.1)
 
-  pub read-section : (from : Origin) (v : Verdict) → m ≡ origin.One from → v ≡ readAs from (length section) (judgedOf (ruleOf rule) section) → v ≡ read_of rule input pid section
+  pub read_section_lem : (from : Origin) (v : Verdict) → m ≡ origin.One from → v ≡ read_as from (length section) (judged_of (rule_of rule) section) → v ≡ read_of rule input pid section
   unfolding read_of
-  read-section from v h k = let n = origin-one input pid m e from h in rw (lt-ltb pid 8192 n.1, lt-ltb input 16 n.2, ← n.0) k
+  read_section_lem from v h k = let n = origin_one input pid m e from h in rw (lt-ltb pid 8192 n.1, lt-ltb input 16 n.2, ← n.0) k
 
 -- ---- 10 and 11
 
 module _ (w : Bool) (c : Counters) (rule input pid : ℕ) (section : List ℕ) where
-  pub judged-broken : not w ≡ true → Refused NotWhole ≡ verdictOf w c rule input pid section
-  unfolding verdictOf
-  judged-broken h = rw (not-true w h)
+  pub judged_broken : not w ≡ true → Refused NotWhole ≡ verdict_of w c rule input pid section
+  unfolding verdict_of
+  judged_broken h = rw (not-true w h)
 
-  module _ (h : not w ≡ false) (f : Bool) (d : f ≡ anyFull c) where
-    pub judged-full : f ≡ true → Refused CounterFull ≡ verdictOf w c rule input pid section
-    unfolding verdictOf
-    judged-full k = rw (not-false w h, ← d, k)
+  module _ (h : not w ≡ false) (f : Bool) (d : f ≡ any_full c) where
+    pub judged_full : f ≡ true → Refused CounterFull ≡ verdict_of w c rule input pid section
+    unfolding verdict_of
+    judged_full k = rw (not-false w h, ← d, k)
 
-    pub judged-read : (v : Verdict) → f ≡ false → v ≡ read_of rule input pid section → v ≡ verdictOf w c rule input pid section
-    unfolding verdictOf
-    judged-read v k j = rw (not-false w h, ← d, k) j
+    pub judged_read : (v : Verdict) → f ≡ false → v ≡ read_of rule input pid section → v ≡ verdict_of w c rule input pid section
+    unfolding verdict_of
+    judged_read v k j = rw (not-false w h, ← d, k) j
 
-  pub judged-ok : not w ≡ false → CanCount c → (v : Verdict) → Taken section v → VerdictOk w c section v
-  judged-ok h n (Refused r) t = tt
-  judged-ok h n (Failed f) t = n
-  judged-ok h n (Arrived a) t = record { whole = not-false w h; counts = n; table = t }
+  pub judged_ok : not w ≡ false → CanCount c → (v : Verdict) → Taken section v → VerdictOk w c section v
+  judged_ok h n (Refused r) t = tt
+  judged_ok h n (Failed f) t = n
+  judged_ok h n (Arrived a) t = record { whole = not-false w h; counts = n; table = t }
 
 -- what a caller learns of a verdict
 module _ (w : Bool) (c : Counters) (section : List ℕ) (v : Verdict) (o : VerdictOk w c section v) where
@@ -89,17 +89,17 @@ module _ (w : Bool) (c : Counters) (section : List ℕ) (v : Verdict) (o : Verdi
 -- ---- what arrives
 
 module _ (section : List ℕ) (rule : ℕ) where
-  section-taken : (from : Origin) (v : Judged) → judgedOf (ruleOf rule) section ≡ v → Taken section (readAs from (length section) v)
-  section-taken from Short e = tt
-  section-taken from (Mismatch a b) e = tt
-  section-taken from (Sound p) e = judged-table (ruleOf rule) section p e
+  section_taken : (from : Origin) (v : Judged) → judged_of (rule_of rule) section ≡ v → Taken section (read_as from (length section) v)
+  section_taken from Short e = tt
+  section_taken from (Mismatch a b) e = tt
+  section_taken from (Sound p) e = judged_table (rule_of rule) section p e
 
   taken : (input pid : ℕ) → Taken section (read_of rule input pid section)
   unfolding read_of
   taken input pid = go (ltb pid 8192) (ltb input 16)
     where
-      go : (b c : Bool) → Taken section (cond b (cond c (readAs (origin_of input pid) (length section) (judgedOf (ruleOf rule) section)) (Refused BadInput)) (Refused BadPid))
-      go true true = section-taken (origin_of input pid) (judgedOf (ruleOf rule) section) refl
+      go : (b c : Bool) → Taken section (cond b (cond c (read_as (origin_of input pid) (length section) (judged_of (rule_of rule) section)) (Refused BadInput)) (Refused BadPid))
+      go true true = section_taken (origin_of input pid) (judged_of (rule_of rule) section) refl
       go true false = tt
       go false c = tt
 
@@ -108,16 +108,16 @@ module _ (section : List ℕ) (rule : ℕ) where
 
   -- of bytes, its change number has 32 bits
   module _ (b : Bytes section) where
-    section-small : (from : Origin) (v : Judged) → judgedOf (ruleOf rule) section ≡ v → (a : Arrival) → readAs from (length section) v ≡ Arrived a → a.change < 2 ^ 32
-    section-small from Short e a h = let z : ◌≡◌ {A = ℕ} 0 1 = cc in absurd (omega arith)
-    section-small from (Mismatch s w) e a h = let z : ◌≡◌ {A = ℕ} 0 1 = cc in absurd (omega arith)
-    section-small from (Sound p) e a h = let q : arrivalOf from p ≡ a = cc in subst (λ (x : Arrival). x.change < 2 ^ 32) q (judged-change (ruleOf rule) section b p e)
+    section_small : (from : Origin) (v : Judged) → judged_of (rule_of rule) section ≡ v → (a : Arrival) → read_as from (length section) v ≡ Arrived a → a.change < 2 ^ 32
+    section_small from Short e a h = let z : ◌≡◌ {A = ℕ} 0 1 = cc in absurd (omega arith)
+    section_small from (Mismatch s w) e a h = let z : ◌≡◌ {A = ℕ} 0 1 = cc in absurd (omega arith)
+    section_small from (Sound p) e a h = let q : arrival_of from p ≡ a = cc in subst (λ (x : Arrival). x.change < 2 ^ 32) q (judged_change (rule_of rule) section b p e)
 
-    pub arrived-small : (input pid : ℕ) (a : Arrival) → read_of rule input pid section ≡ Arrived a → a.change < 2 ^ 32
+    pub arrived_small : (input pid : ℕ) (a : Arrival) → read_of rule input pid section ≡ Arrived a → a.change < 2 ^ 32
     unfolding read_of
-    arrived-small input pid a h = go (ltb pid 8192) (ltb input 16) h
+    arrived_small input pid a h = go (ltb pid 8192) (ltb input 16) h
       where
-        go : (t u : Bool) → cond t (cond u (readAs (origin_of input pid) (length section) (judgedOf (ruleOf rule) section)) (Refused BadInput)) (Refused BadPid) ≡ Arrived a → a.change < 2 ^ 32
-        go true true k = section-small (origin_of input pid) (judgedOf (ruleOf rule) section) refl a k
+        go : (t u : Bool) → cond t (cond u (read_as (origin_of input pid) (length section) (judged_of (rule_of rule) section)) (Refused BadInput)) (Refused BadPid) ≡ Arrived a → a.change < 2 ^ 32
+        go true true k = section_small (origin_of input pid) (judged_of (rule_of rule) section) refl a k
         go true false k = let z : ◌≡◌ {A = ℕ} 0 1 = cc in absurd (omega arith)
         go false u k = let z : ◌≡◌ {A = ℕ} 0 1 = cc in absurd (omega arith)

@@ -1,8 +1,8 @@
 // What an offer to the gate comes to before a row is looked at (docs/RULES.md, "Gate" and "Answers"): 10, 11, 12, 37, a CRC failure with
 // what tells it, or a section that is to be looked up. No slice of the store is lent.
 ghost use Rattle.std.specs.Prelude.{◌≡◌, length};
-ghost use Rattle.section.specs.Judged.{ruleOf, judgedOf};
-ghost use Rattle.offers.specs.Offers.{isShort, arrivalOf, readAs, read_of, Taken, verdictOf, VerdictOk};
+ghost use Rattle.section.specs.Judged.{rule_of, judged_of};
+ghost use Rattle.offers.specs.Offers.{is_short, arrival_of, read_as, read_of, Taken, verdict_of, VerdictOk};
 
 use answers::Refusal;
 use counters::Counters;
@@ -27,7 +27,7 @@ pub enum Failure {
 
 impl Failure {
     pub fn is_short(self) -> bool
-        ensures { result ≡ isShort self }
+        ensures { result ≡ is_short self }
     {
         match self {
             Failure::TooShort(_) => true,
@@ -53,7 +53,7 @@ pub fn judge(
     pid: u16,
     section: &[u8],
 ) -> Verdict
-    ensures value { result ≡ verdictOf whole counters rule input pid section.now }
+    ensures value { result ≡ verdict_of whole counters rule input pid section.now }
     ensures verdict_ok { VerdictOk whole counters section.now result }
 {
     if !whole {
@@ -79,7 +79,7 @@ fn read(rule: u64, input: u8, pid: u16, section: &[u8]) -> Verdict
 
 // 31 where the section is too short for its CRC, 3 where the CRC does not fit.
 fn read_from(from: Origin, rule: u64, section: &[u8]) -> Verdict
-    ensures { result ≡ readAs from (length section.now) (judgedOf (ruleOf rule) section.now) }
+    ensures { result ≡ read_as from (length section.now) (judged_of (rule_of rule) section.now) }
 {
     match section::header::judge(section, ChangeRule::of(rule)) {
         Judged::Short => Verdict::Failed(Failure::TooShort(section.len())),
@@ -89,7 +89,7 @@ fn read_from(from: Origin, rule: u64, section: &[u8]) -> Verdict
 }
 
 fn arrive(from: Origin, parts: Parts) -> Arrival
-    ensures { result ≡ arrivalOf from parts }
+    ensures { result ≡ arrival_of from parts }
 {
     Arrival {
         key: section::header::key(from, parts.table_id, parts.extension, parts.number),

@@ -12,30 +12,30 @@ use Rattle.packet.specs.declared.Packet.{Packet}
 use Rattle.packet.specs.declared.Packet.TheVariants.{Malformed, Nothing, Payload}
 
 -- where the payload begins, by bytes 3 and 4
-abbrev pub payloadAt : ℕ → ℕ → ℕ
-payloadAt control fieldLength = cond (eqb (control / 32 % 2) 1) (5 + fieldLength) 4
+abbrev pub payload_at : ℕ → ℕ → ℕ
+payload_at control field_length = cond (eqb (control / 32 % 2) 1) (5 + field_length) 4
 
 -- not marked as damaged, not scrambled, and with a payload; adaptation_field_control 00 is reserved, and such a packet is passed over
-abbrev pub isReadable : ℕ → ℕ → Bool
-isReadable flags control = eqb (flags / 128) 0 && eqb (control / 64) 0 && eqb (control / 16 % 2) 1
+abbrev pub is_readable : ℕ → ℕ → Bool
+is_readable flags control = eqb (flags / 128) 0 && eqb (control / 64) 0 && eqb (control / 16 % 2) 1
 
-abbrev pub pidOf : ℕ → ℕ → Pid
-pidOf flags low = record { 0 = flags % 32 * 256 + low }
+abbrev pub pid_of : ℕ → ℕ → Pid
+pid_of flags low = record { 0 = flags % 32 * 256 + low }
 
-abbrev pub startsIn : ℕ → Bool
-startsIn flags = eqb (flags / 64 % 2) 1
+abbrev pub starts_in : ℕ → Bool
+starts_in flags = eqb (flags / 64 % 2) 1
 
 abbrev pub load_of : ℕ → ℕ → ℕ → ℕ → Load
-load_of flags low control from = record { pid = pidOf flags low; start = startsIn flags; counter = control % 16; from = from }
+load_of flags low control from = record { pid = pid_of flags low; start = starts_in flags; counter = control % 16; from = from }
 
 -- by bytes 1 to 4
-unfoldable pub packetBy : ℕ → ℕ → ℕ → ℕ → Packet
-packetBy flags low control fieldLength =
-    let from : ℕ = payloadAt control fieldLength in
-    cond (leb from 188) (cond (isReadable flags control) (Payload (load_of flags low control from)) Nothing) Malformed
+unfoldable pub packet_by : ℕ → ℕ → ℕ → ℕ → Packet
+packet_by flags low control field_length =
+    let from : ℕ = payload_at control field_length in
+    cond (leb from 188) (cond (is_readable flags control) (Payload (load_of flags low control from)) Nothing) Malformed
 
-unfoldable pub packetOf : List ℕ → Packet
-packetOf s = cond (eqb (length s) 188 && eqb (get_or s 0 0) 0x47) (packetBy (get_or s 1 0) (get_or s 2 0) (get_or s 3 0) (get_or s 4 0)) Malformed
+unfoldable pub packet_of : List ℕ → Packet
+packet_of s = cond (eqb (length s) 188 && eqb (get_or s 0 0) 0x47) (packet_by (get_or s 1 0) (get_or s 2 0) (get_or s 3 0) (get_or s 4 0)) Malformed
 
 -- what is so of a payload in a packet, whatever its bytes
 pub record IsLoad (l : Load) (packet : List ℕ) : Type 0 where

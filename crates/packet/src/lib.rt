@@ -1,6 +1,6 @@
 // One packet of a transport stream: what its 188 bytes say (ISO/IEC 13818-1, 2.4.3.2 and 2.4.3.3).
 ghost use Rattle.std.specs.Prelude.{◌≡◌, ◌<◌, ◌≤◌, length};
-ghost use Rattle.packet.specs.Packets.{packetOf, payloadAt, isReadable, pidOf, startsIn, load_of};
+ghost use Rattle.packet.specs.Packets.{packet_of, payload_at, is_readable, pid_of, starts_in, load_of};
 
 use section::bytes::wide;
 use section::ids::Pid;
@@ -31,7 +31,7 @@ const SYNC_BYTE: u8 = 0x47;
 // The place of the payload: behind the four bytes of the header and, where adaptation_field_control says that there is one, behind the adaptation
 // field, whose first byte counts those that follow it.
 fn payload_at(control: u8, field_length: u8) -> usize
-    ensures { result ≡ payloadAt control field_length }
+    ensures { result ≡ payload_at control field_length }
 {
     if control / 32 % 2 == 1 {
         5 + wide(field_length)
@@ -42,20 +42,20 @@ fn payload_at(control: u8, field_length: u8) -> usize
 
 // transport_error_indicator 0, transport_scrambling_control 00, and adaptation_field_control with its payload bit.
 fn is_readable(flags: u8, control: u8) -> bool
-    ensures { result ≡ isReadable flags control }
+    ensures { result ≡ is_readable flags control }
 {
     (flags / 128 == 0) & (control / 64 == 0) & (control / 16 % 2 == 1)
 }
 
 fn pid(flags: u8, low: u8) -> Pid
-    ensures { result ≡ pidOf flags low }
+    ensures { result ≡ pid_of flags low }
 {
     Pid((wide(flags) % 32 * 256 + wide(low)) as u16)
 }
 
 // payload_unit_start_indicator
 fn starts(flags: u8) -> bool
-    ensures { result ≡ startsIn flags }
+    ensures { result ≡ starts_in flags }
 {
     flags / 64 % 2 == 1
 }
@@ -73,7 +73,7 @@ fn told(flags: u8, low: u8, control: u8, from: usize) -> Load
 
 // What a packet says. A field past the end makes it malformed whatever its other bits say.
 pub fn read(p: &[u8]) -> Packet
-    ensures { result ≡ packetOf p.now }
+    ensures { result ≡ packet_of p.now }
 {
     if p.len() != PACKET_BYTES {
         return Packet::Malformed;

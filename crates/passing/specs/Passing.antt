@@ -1,37 +1,37 @@
 -- Which packets are passed over, and the words of the PIDs after them (docs/RULES.md, "Packets"). `cond test a b` is a where the test is true, else b.
 use Rattle.std.specs.Prelude.{Bool, true, false, cond, not, List, ℕ, zero, suc, ◌+◌, ◌≤◌, length, take, drop}
-use Rattle.laws.specs.Bits.{hasBit}
+use Rattle.laws.specs.Bits.{has_bit}
 use Rattle.section.specs.declared.ids.Pid.{Pid}
 use Rattle.packet.specs.declared.Packet.{Packet}
 use Rattle.packet.specs.declared.Packet.TheVariants.{Malformed, Nothing, Payload}
-use Rattle.packet.specs.Packets.{packetOf}
+use Rattle.packet.specs.Packets.{packet_of}
 use Rattle.streams.specs.Store.{with_words}
-use Rattle.demux_packets.specs.Plans.{noWords}
+use Rattle.demux_packets.specs.Plans.{no_words}
 
 -- a PID that is not watched, and its words
-abbrev pub pidPasses : (watched : List ℕ) → Pid → Bool
-pidPasses watched pid = not (hasBit watched pid.0)
+abbrev pub pid_passes : (watched : List ℕ) → Pid → Bool
+pid_passes watched pid = not (has_bit watched pid.0)
 
-abbrev pub pidsWithout : (watched : List ℕ) → Pid → List ℕ → List ℕ
-pidsWithout watched pid pids = cond (hasBit watched pid.0) pids (with_words pids pid noWords)
+abbrev pub pids_without : (watched : List ℕ) → Pid → List ℕ → List ℕ
+pids_without watched pid pids = cond (has_bit watched pid.0) pids (with_words pids pid no_words)
 
 -- by what a packet says
-unfoldable pub passesAs : (watched : List ℕ) → Packet → Bool
-passesAs watched Malformed = false
-passesAs watched Nothing = true
-passesAs watched (Payload l) = pidPasses watched l.pid
+unfoldable pub passes_as : (watched : List ℕ) → Packet → Bool
+passes_as watched Malformed = false
+passes_as watched Nothing = true
+passes_as watched (Payload l) = pid_passes watched l.pid
 
-unfoldable pub pidsAs : (watched : List ℕ) → Packet → List ℕ → List ℕ
-pidsAs watched Malformed pids = pids
-pidsAs watched Nothing pids = pids
-pidsAs watched (Payload l) pids = pidsWithout watched l.pid pids
+unfoldable pub pids_as : (watched : List ℕ) → Packet → List ℕ → List ℕ
+pids_as watched Malformed pids = pids
+pids_as watched Nothing pids = pids
+pids_as watched (Payload l) pids = pids_without watched l.pid pids
 
 -- by its bytes
 abbrev pub passes : (watched packet : List ℕ) → Bool
-passes watched packet = passesAs watched (packetOf packet)
+passes watched packet = passes_as watched (packet_of packet)
 
-abbrev pub pidsAfter : (watched packet pids : List ℕ) → List ℕ
-pidsAfter watched packet pids = pidsAs watched (packetOf packet) pids
+abbrev pub pids_after : (watched packet pids : List ℕ) → List ℕ
+pids_after watched packet pids = pids_as watched (packet_of packet) pids
 
 -- how many packets were passed over, and the words of the PIDs then
 pub record Passed : Type 0 where
@@ -41,14 +41,14 @@ pub record Passed : Type 0 where
 abbrev pub passed : ℕ → List ℕ → Passed
 passed n pids = record { number = n; pids = pids }
 
-abbrev pub moreBy : ℕ → Passed → Passed
-moreBy n p = passed (n + p.number) p.pids
+abbrev pub more_by : ℕ → Passed → Passed
+more_by n p = passed (n + p.number) p.pids
 
 -- of the first `most` packets those before the first that is not passed over
-unfoldable pub passedFrom : (most : ℕ) → (watched packets pids : List ℕ) → Passed
-passedFrom zero watched packets pids = passed 0 pids
-passedFrom (suc k) watched packets pids =
-    cond (passes watched (take 188 packets)) (moreBy 1 (passedFrom k watched (drop 188 packets) (pidsAfter watched (take 188 packets) pids))) (passed 0 pids)
+unfoldable pub passed_from : (most : ℕ) → (watched packets pids : List ℕ) → Passed
+passed_from zero watched packets pids = passed 0 pids
+passed_from (suc k) watched packets pids =
+    cond (passes watched (take 188 packets)) (more_by 1 (passed_from k watched (drop 188 packets) (pids_after watched (take 188 packets) pids))) (passed 0 pids)
 
 -- ---- what the functions ask
 

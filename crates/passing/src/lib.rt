@@ -1,7 +1,7 @@
 // The packets at the front of some bytes that are passed over (docs/RULES.md, "Packets"): those without a payload that can be read, and those of PIDs that are not
 // watched, whose words become 0. Over words and bytes that the caller has judged.
 ghost use Rattle.std.specs.Prelude.{◌≡◌, ◌*◌, ◌<◌, ◌≤◌, length};
-ghost use Rattle.passing.specs.Passing.{pidPasses, pidsWithout, passes, pidsAfter, passed, passedFrom, Looks};
+ghost use Rattle.passing.specs.Passing.{pid_passes, pids_without, passes, pids_after, passed, passed_from, Looks};
 
 use packet::Packet;
 use section::ids::Pid;
@@ -9,8 +9,8 @@ use section::ids::Pid;
 fn pass_pid(watched: &[u64], pids: &mut [u64], pid: Pid) -> bool
     requires looks { Looks watched.now pids.old }
     requires pid_bound { pid.0 < 8192 }
-    ensures value { result ≡ pidPasses watched.now pid }
-    ensures pids_after { pids.new ≡ pidsWithout watched.now pid pids.old }
+    ensures value { result ≡ pid_passes watched.now pid }
+    ensures pids_after { pids.new ≡ pids_without watched.now pid pids.old }
 {
     if section::pids::has(watched, pid) {
         return false;
@@ -23,7 +23,7 @@ fn pass_pid(watched: &[u64], pids: &mut [u64], pid: Pid) -> bool
 fn pass(watched: &[u64], pids: &mut [u64], packet: &[u8]) -> bool
     requires { Looks watched.now pids.old }
     ensures value { result ≡ passes watched.now packet.now }
-    ensures pids_after { pids.new ≡ pidsAfter watched.now packet.now pids.old }
+    ensures pids_after { pids.new ≡ pids_after watched.now packet.now pids.old }
 {
     match packet::read(packet) {
         Packet::Malformed => false,
@@ -36,7 +36,7 @@ fn pass(watched: &[u64], pids: &mut [u64], packet: &[u8]) -> bool
 pub fn pass_over(watched: &[u64], pids: &mut [u64], packets: &[u8], most: usize) -> usize
     requires looks { Looks watched.now pids.old }
     requires most_in_bounds { most * 188 ≤ length packets.now }
-    ensures { passed result pids.new ≡ passedFrom most watched.now packets.now pids.old }
+    ensures { passed result pids.new ≡ passed_from most watched.now packets.now pids.old }
 {
     let mut n = 0;
     while n < most {

@@ -2,22 +2,22 @@
 -- current_next, 6 section_number, 7 last_section_number, then groups of four bytes to the CRC, the last four: program_number (16 bits), three
 -- reserved bits, PID (13).
 use Rattle.std.specs.Prelude.{ℕ, ◌+◌, ◌-◌, ◌%◌, List, [], ◌∷◌, Bool, false, cond, ◌&&◌, ◌||◌, length, take, drop, leb, eqb}
-use Rattle.laws.specs.Bits.{addBit, addBits}
-use Rattle.section.specs.Header.{byte_at, longForm, sectionLength, word16}
+use Rattle.laws.specs.Bits.{add_bit, add_bits}
+use Rattle.section.specs.Header.{byte_at, long_form, section_length, word16}
 use Rattle.pat.specs.declared.Pat.{Pat}
 use Rattle.pat.specs.declared.Pat.TheVariants.{Readable, Unreadable}
 
 -- a PID, the low 13 bits of its two bytes
-abbrev pub pidOf : ℕ → ℕ → ℕ
-pidOf c d = word16 (c % 32) d
+abbrev pub pid_of : ℕ → ℕ → ℕ
+pid_of c d = word16 (c % 32) d
 
 -- the PIDs of the groups, in order, but those of program_number 0
-unfoldable pub programPids : List ℕ → List ℕ
-programPids [] = []
-programPids (a ∷ []) = []
-programPids (a ∷ b ∷ []) = []
-programPids (a ∷ b ∷ c ∷ []) = []
-programPids (a ∷ b ∷ c ∷ d ∷ groups) = cond (eqb (word16 a b) 0) (programPids groups) (pidOf c d ∷ programPids groups)
+unfoldable pub program_pids : List ℕ → List ℕ
+program_pids [] = []
+program_pids (a ∷ []) = []
+program_pids (a ∷ b ∷ []) = []
+program_pids (a ∷ b ∷ c ∷ []) = []
+program_pids (a ∷ b ∷ c ∷ d ∷ groups) = cond (eqb (word16 a b) 0) (program_pids groups) (pid_of c d ∷ program_pids groups)
 
 -- the bytes between the header and the CRC
 abbrev pub groups_of : List ℕ → List ℕ
@@ -29,22 +29,22 @@ listed pid [] = false
 listed pid (p ∷ ps) = eqb pid p || listed pid ps
 
 -- the set N of a PAT: the PIDs of its programs other than 0
-abbrev pub setN : List ℕ → ℕ → Bool
-setN s pid = listed pid (programPids (groups_of s))
+abbrev pub set_n : List ℕ → ℕ → Bool
+set_n s pid = listed pid (program_pids (groups_of s))
 
 -- a PAT: at least 12 bytes, table_id 0, long form, as long as its section_length says, and no bytes left over beside the groups
 abbrev pub readable : List ℕ → Bool
 readable s =
     leb 12 (length s)
-    && (eqb (byte_at s 0) 0 && longForm s && eqb (length s) (3 + sectionLength s) && eqb ((length s - 12) % 4) 0)
+    && (eqb (byte_at s 0) 0 && long_form s && eqb (length s) (3 + section_length s) && eqb ((length s - 12) % 4) 0)
 
-unfoldable pub patOf : List ℕ → Pat
-patOf s = cond (readable s) Readable Unreadable
+unfoldable pub pat_of : List ℕ → Pat
+pat_of s = cond (readable s) Readable Unreadable
 
 -- the set n with the PIDs of a PAT's programs; n as it is where the section is no readable PAT
-unfoldable pub withPrograms : List ℕ → List ℕ → List ℕ
-withPrograms s n = cond (readable s) (addBits n (programPids (groups_of s))) n
+unfoldable pub with_programs : List ℕ → List ℕ → List ℕ
+with_programs s n = cond (readable s) (add_bits n (program_pids (groups_of s))) n
 
 -- the set n with the PID of the group at byte i
-unfoldable pub withGroup : List ℕ → ℕ → List ℕ → List ℕ
-withGroup s i n = cond (eqb (word16 (byte_at s i) (byte_at s (i + 1))) 0) n (addBit n (pidOf (byte_at s (i + 2)) (byte_at s (i + 3))))
+unfoldable pub with_group : List ℕ → ℕ → List ℕ → List ℕ
+with_group s i n = cond (eqb (word16 (byte_at s i) (byte_at s (i + 1))) 0) n (add_bit n (pid_of (byte_at s (i + 2)) (byte_at s (i + 3))))

@@ -1,8 +1,8 @@
 // The program association table, ISO/IEC 13818-1 2.4.4.3.
 ghost use Rattle.std.specs.Prelude.{◌≡◌, ◌+◌, ◌≤◌, ◌<◌, length};
-ghost use Rattle.laws.specs.Bits.{addBits};
+ghost use Rattle.laws.specs.Bits.{add_bits};
 ghost use Rattle.section.specs.Header.{byte_at, word16};
-ghost use Rattle.pat.specs.Pat.{pidOf, withGroup, programPids, readable, patOf, withPrograms};
+ghost use Rattle.pat.specs.Pat.{pid_of, with_group, program_pids, readable, pat_of, with_programs};
 
 use section::bytes::{section_length, wide, word};
 use section::ids::{Pid, ProgramNumber};
@@ -17,8 +17,8 @@ pub enum Pat {
 // Adds to the set n the PID of each program that a PAT lists. Program 0 names the network's PID and is left out. What cannot be read as a PAT
 // leaves n as it was.
 pub fn programs(s: &[u8], n: &mut [u64; 128]) -> Pat
-    ensures value { result ≡ patOf s.now }
-    ensures n_after { n.new ≡ withPrograms s.now n.old }
+    ensures value { result ≡ pat_of s.now }
+    ensures n_after { n.new ≡ with_programs s.now n.old }
 {
     if !is_readable(s) {
         return Pat::Unreadable;
@@ -40,7 +40,7 @@ pub fn is_readable(s: &[u8]) -> bool
 
 // Adds the PIDs of the groups, four bytes each.
 fn add_groups(s: &[u8], n: &mut [u64; 128])
-    ensures { n.new ≡ addBits n.old (programPids s.now) }
+    ensures { n.new ≡ add_bits n.old (program_pids s.now) }
 {
     let mut i = 0;
     while 4 <= s.len() - i {
@@ -52,7 +52,7 @@ fn add_groups(s: &[u8], n: &mut [u64; 128])
 // Adds the PID of the group at i, unless it is program 0's.
 fn add_group(s: &[u8], i: usize, n: &mut [u64; 128])
     requires { i + 4 ≤ length s.now }
-    ensures { n.new ≡ withGroup s.now i n.old }
+    ensures { n.new ≡ with_group s.now i n.old }
 {
     let number = program_number(s, i);
     if number.0 != 0 {
@@ -71,7 +71,7 @@ fn program_number(s: &[u8], i: usize) -> ProgramNumber
 // The last 13 bits of the group at i; three bits before them are reserved.
 fn program_pid(s: &[u8], i: usize) -> Pid
     requires { i + 4 ≤ length s.now }
-    ensures { (result.0 ≡ pidOf (byte_at s.now (i + 2)) (byte_at s.now (i + 3))) × (result.0 < 8192) }
+    ensures { (result.0 ≡ pid_of (byte_at s.now (i + 2)) (byte_at s.now (i + 3))) × (result.0 < 8192) }
 {
     Pid((wide(s[i + 2]) % 32 * 256 + wide(s[i + 3])) as u16)
 }

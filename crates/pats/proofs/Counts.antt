@@ -9,22 +9,22 @@ use borrow.Author.Tests.{ne_eqb}
 use lib.Dec.{eqb, ltb}
 use lib.ListN.{length, get_or}
 use Rattle.laws.specs.Lists.{same_list}
-use Rattle.cells.specs.Cells.{keptLength, kept, lowestFree}
+use Rattle.cells.specs.Cells.{kept_length, kept, lowest_free}
 use Rattle.answers.specs.declared.Refusal.TheVariants.{NoCell, TooLong}
-use Rattle.rows.specs.Rows.{row_of, roomIn, roomRenewed, roomNew, oldestOf, last_of, versionOf, slotsAt, goneRow, takenIn}
+use Rattle.rows.specs.Rows.{row_of, room_in, room_renewed, room_new, oldest_of, last_of, version_of, slots_at, gone_row, taken_in}
 use Rattle.rows.specs.declared.Entry.{Entry}
 use Rattle.rows.specs.declared.Room.{Room}
 use Rattle.store.specs.Store.{Store}
-use Rattle.placing.specs.Places.{placeSlot, placeKnown, place_of}
+use Rattle.placing.specs.Places.{place_slot, place_known, place_of}
 use Rattle.placing.specs.declared.Place.{Place}
 use Rattle.placing.specs.declared.Place.TheVariants as place
-use Rattle.sets_plan.specs.Plan.{planKeep, planPlaced, plan_of}
+use Rattle.sets_plan.specs.Plan.{plan_keep, plan_placed, plan_of}
 use Rattle.sets_plan.specs.declared.Plan.{Plan}
 use Rattle.sets_plan.specs.declared.Plan.TheVariants as plan
-use Rattle.sets_settle.specs.Settle.{settled, keptIn, carried}
-use Rattle.sets_push.specs.Pushing.{wholePushed}
-use Rattle.pats.specs.Store.{Record, recordOf, patClock, patMost, patsFull, patStore, pushedIn, followedIn, entered_in, PatsReady, Arrives}
-use Rattle.pats.proofs.Laws.{then-store, enter-by}
+use Rattle.sets_settle.specs.Settle.{settled, kept_in, carried}
+use Rattle.sets_push.specs.Pushing.{whole_pushed}
+use Rattle.pats.specs.Store.{Record, record_of, pat_clock, pat_most, pats_full, pat_store, pushed_in, followed_in, entered_in, PatsReady, Arrives}
+use Rattle.pats.proofs.Laws.{then_store, enter_by}
 
 -- ---- where it goes
 
@@ -47,80 +47,80 @@ module _ (s : Store) (e : Entry) (bytes : List ℕ) where
   abbrev n : ℕ
   n = s.sets.evictions
 
-  slot-few : (i w : ℕ) → FewIn n (placeSlot s bytes i w)
-  unfolding placeSlot
-  slot-few i w = go (eqb (keptLength w) 0) (same_list (kept s.cells s.sets.size w) bytes)
+  slot_few : (i w : ℕ) → FewIn n (place_slot s bytes i w)
+  unfolding place_slot
+  slot_few i w = go (eqb (kept_length w) 0) (same_list (kept s.cells s.sets.size w) bytes)
     where
-      go : (a b : Bool) → FewIn n (cond a (place.Goes (roomIn s.sets.used n i)) (cond b (place.Repeat i) (place.Conflict i)))
+      go : (a b : Bool) → FewIn n (cond a (place.Goes (room_in s.sets.used n i)) (cond b (place.Repeat i) (place.Conflict i)))
       go true b = same n
       go false true = tt
       go false false = tt
 
-  known-few : (i : ℕ) → FewIn n (placeKnown s e bytes i)
-  unfolding placeKnown
-  known-few i = go (eqb (versionOf s.heads i) e.version && eqb (last_of s.heads i) e.last)
+  known_few : (i : ℕ) → FewIn n (place_known s e bytes i)
+  unfolding place_known
+  known_few i = go (eqb (version_of s.heads i) e.version && eqb (last_of s.heads i) e.last)
     where
-      go : (b : Bool) → FewIn n (cond b (placeSlot s bytes i (get_or s.slots (slotsAt i + e.number) 0)) (place.Goes (roomRenewed s.sets.used n i)))
-      go true = slot-few i (get_or s.slots (slotsAt i + e.number) 0)
+      go : (b : Bool) → FewIn n (cond b (place_slot s bytes i (get_or s.slots (slots_at i + e.number) 0)) (place.Goes (room_renewed s.sets.used n i)))
+      go true = slot_few i (get_or s.slots (slots_at i + e.number) 0)
       go false = same n
 
-  new-few : OneMore n (roomNew s.heads s.sets.limit s.sets.used n).evictions
-  unfolding roomNew
-  new-few = go (ltb s.sets.used s.sets.limit)
+  new_few : OneMore n (room_new s.heads s.sets.limit s.sets.used n).evictions
+  unfolding room_new
+  new_few = go (ltb s.sets.used s.sets.limit)
     where
       o : ℕ
-      o = oldestOf s.heads s.sets.used
+      o = oldest_of s.heads s.sets.used
 
-      go : (b : Bool) → OneMore n (cond b (roomRenewed (s.sets.used + 1) n s.sets.used) (roomRenewed s.sets.used (n + 1) o)).evictions
+      go : (b : Bool) → OneMore n (cond b (room_renewed (s.sets.used + 1) n s.sets.used) (room_renewed s.sets.used (n + 1) o)).evictions
       go true = same n
       go false = next n
 
-  place-few : FewIn n (place_of s e bytes)
+  place_few : FewIn n (place_of s e bytes)
   unfolding place_of
-  place-few = go (ltb i s.sets.used)
+  place_few = go (ltb i s.sets.used)
     where
       i : ℕ
       i = row_of s.heads e.key s.sets.used
 
-      go : (b : Bool) → FewIn n (cond b (placeKnown s e bytes i) (place.Goes (roomNew s.heads s.sets.limit s.sets.used n)))
-      go true = known-few i
-      go false = new-few
+      go : (b : Bool) → FewIn n (cond b (place_known s e bytes i) (place.Goes (room_new s.heads s.sets.limit s.sets.used n)))
+      go true = known_few i
+      go false = new_few
 
   -- ---- what is carried out
 
   abbrev Few : Plan → Type 0
   Few p = OneMore n (carried s bytes p).store.sets.evictions
 
-  keep-few : (r : Room) → OneMore n r.evictions → Few (planKeep s e r)
-  unfolding planKeep settled keptIn
-  keep-few r h = go (ltb c s.sets.count)
+  keep_few : (r : Room) → OneMore n r.evictions → Few (plan_keep s e r)
+  unfolding plan_keep settled kept_in
+  keep_few r h = go (ltb c s.sets.count)
     where
       c : ℕ
-      c = lowestFree (takenIn s.heads s.slots (goneRow r s.sets.used) s.sets.used) s.sets.count
+      c = lowest_free (taken_in s.heads s.slots (gone_row r s.sets.used) s.sets.used) s.sets.count
 
       go : (b : Bool) → Few (cond b (plan.Keep (record { entry = e; room = r; cell = c })) (plan.Refuse NoCell))
       go true = h
       go false = same n
 
-  placed-few : (p : Place) → FewIn n p → Few (planPlaced s e p)
+  placed_few : (p : Place) → FewIn n p → Few (plan_placed s e p)
   unfolding settled
-  placed-few (place.Conflict i) h = same n
-  placed-few (place.Repeat i) h = same n
-  placed-few (place.Goes r) h = keep-few r h
+  placed_few (place.Conflict i) h = same n
+  placed_few (place.Repeat i) h = same n
+  placed_few (place.Goes r) h = keep_few r h
 
-  pub pushed-few : OneMore n (wholePushed s e bytes).store.sets.evictions
-  unfolding wholePushed plan_of
-  pushed-few = go (ltb s.sets.size (length bytes)) (eqb s.sets.limit 0)
+  pub pushed_few : OneMore n (whole_pushed s e bytes).store.sets.evictions
+  unfolding whole_pushed plan_of
+  pushed_few = go (ltb s.sets.size (length bytes)) (eqb s.sets.limit 0)
     where
-      go : (a b : Bool) → Few (cond a (plan.Refuse TooLong) (cond b plan.Silent (planPlaced s e (place_of s e bytes))))
+      go : (a b : Bool) → Few (cond a (plan.Refuse TooLong) (cond b plan.Silent (plan_placed s e (place_of s e bytes))))
       go true b = same n
       go false true = same n
-      go false false = placed-few (place_of s e bytes) place-few
+      go false false = placed_few (place_of s e bytes) place_few
 
   -- ---- the clock
 
   rises : (p : Plan) → OneMore s.sets.clock (carried s bytes p).store.sets.clock
-  unfolding settled keptIn
+  unfolding settled kept_in
   rises (plan.Refuse r) = same s.sets.clock
   rises plan.Silent = same s.sets.clock
   rises (plan.Conflict i) = next s.sets.clock
@@ -128,25 +128,25 @@ module _ (s : Store) (e : Entry) (bytes : List ℕ) where
   rises (plan.Keep k) = next s.sets.clock
 
   -- the larger of the two
-  pub pushed_most : OneMore (max n s.sets.clock) (max (wholePushed s e bytes).store.sets.evictions (wholePushed s e bytes).store.sets.clock)
-  unfolding wholePushed
+  pub pushed_most : OneMore (max n s.sets.clock) (max (whole_pushed s e bytes).store.sets.evictions (whole_pushed s e bytes).store.sets.clock)
+  unfolding whole_pushed
   pushed_most =
-      let a = pushed-few in
+      let a = pushed_few in
       let b = rises (plan_of s e bytes) in
       record { least = omega (arith, a.least, b.least); most = omega (arith, a.most, b.most) }
 
 -- ---- the record
 
-pub entered-few : (r : Record) → PatsReady r → (input : ℕ) (section : List ℕ) → get_or section 7 0 < 256 → OneMore (patMost r.words) (patMost (entered_in r input section).words)
-entered-few r o input section b =
-    enter-by r input section b (λ (k : Record). OneMore (patMost r.words) (patMost k.words)) (same (patMost r.words))
-    (λ h e a. subst (λ (s : Store). OneMore (patMost r.words) (max s.sets.evictions s.sets.clock)) (sym (then-store r o section e a)) (pushed_most (patStore r) e section))
+pub entered_few : (r : Record) → PatsReady r → (input : ℕ) (section : List ℕ) → get_or section 7 0 < 256 → OneMore (pat_most r.words) (pat_most (entered_in r input section).words)
+entered_few r o input section b =
+    enter_by r input section b (λ (k : Record). OneMore (pat_most r.words) (pat_most k.words)) (same (pat_most r.words))
+    (λ h e a. subst (λ (s : Store). OneMore (pat_most r.words) (max s.sets.evictions s.sets.clock)) (sym (then_store r o section e a)) (pushed_most (pat_store r) e section))
 
 -- 11 does not come where neither is at its end
-pub not_full : (words : List ℕ) → patMost words < 18446744073709551615 → patsFull words ≡ false
-unfolding patsFull
+pub not_full : (words : List ℕ) → pat_most words < 18446744073709551615 → pats_full words ≡ false
+unfolding pats_full
 not_full words h =
     rw (
       ne_eqb (get_or words 385 0) 18446744073709551615 (λ (e : get_or words 385 0 ≡ 18446744073709551615). omega arith),
-      ne_eqb (patClock words) 18446744073709551615 (λ (e : patClock words ≡ 18446744073709551615). omega arith),
+      ne_eqb (pat_clock words) 18446744073709551615 (λ (e : pat_clock words ≡ 18446744073709551615). omega arith),
     ) refl

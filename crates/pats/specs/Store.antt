@@ -2,23 +2,23 @@
 -- (docs/RULES.md, "Watched PIDs" and "Collectors"; ISO/IEC 13818-1, 2.4.4.3). `cond test a b` is a where the test is true, else b.
 use Rattle.std.specs.Prelude.{ℕ, ◌≤◌, ◌<◌, max, ◌≡◌, List, [], ◌∷◌, Bool, true, cond, ◌&&◌, length, get_or, take, drop, set, leb, eqb}
 use Rattle.std.proofs.Math.Seq.{paste}
-use Rattle.section.specs.Header.{currentNext}
+use Rattle.section.specs.Header.{current_next_of}
 use Rattle.section.specs.declared.ids.MaybePid.TheVariants as maybe
-use Rattle.pat.specs.Pat.{readable, withPrograms}
-use Rattle.watched.specs.Store.{noPids, following}
-use Rattle.cells.specs.Cells.{allWhole}
-use Rattle.rows.specs.Rows.{rowSlots}
+use Rattle.pat.specs.Pat.{readable, with_programs}
+use Rattle.watched.specs.Store.{no_pids, following}
+use Rattle.cells.specs.Cells.{all_whole}
+use Rattle.rows.specs.Rows.{row_slots}
 use Rattle.rows.specs.declared.Entry.{Entry}
-use Rattle.store.specs.Store.{Store, store, whole_of, countersFull, WholeStore}
+use Rattle.store.specs.Store.{Store, store, whole_of, counters_full, WholeStore}
 use Rattle.store.specs.declared.Sets.{Sets}
-use Rattle.arrivals.specs.Arrivals.{setArrival, Taken}
+use Rattle.arrivals.specs.Arrivals.{set_arrival, Taken}
 use Rattle.arrivals.specs.declared.SetArrival.{SetArrival}
 use Rattle.arrivals.specs.declared.SetArrival.TheVariants as arrival
 use Rattle.sets_plan.specs.Plan.{Ready}
-use Rattle.sets_settle.specs.Settle.{Told, done, nothing, handed, refused, SetsAfter, setIn, answer_of}
+use Rattle.sets_settle.specs.Settle.{Told, done, nothing, handed, refused, SetsAfter, set_in, answer_of}
 use Rattle.sets_settle.specs.declared.PushAnswer.{PushAnswer}
 use Rattle.sets_settle.specs.declared.PushAnswer.TheVariants as push-answer
-use Rattle.sets_push.specs.Pushing.{wholePushed}
+use Rattle.sets_push.specs.Pushing.{whole_pushed}
 
 -- ---- the record
 
@@ -29,125 +29,125 @@ pub record Record : Type 0 where
   pub slots : List ℕ
   pub cells : List ℕ
 
-abbrev pub recordOf : List ℕ → List ℕ → List ℕ → Record
-recordOf words slots cells = record { words = words; slots = slots; cells = cells }
+abbrev pub record_of : List ℕ → List ℕ → List ℕ → Record
+record_of words slots cells = record { words = words; slots = slots; cells = cells }
 
 -- the clock of a store of one row is the tick of that row
-abbrev pub patClock : List ℕ → ℕ
-patClock words = cond (eqb (get_or words 384 0) 0) 0 (get_or words 395 0)
+abbrev pub pat_clock : List ℕ → ℕ
+pat_clock words = cond (eqb (get_or words 384 0) 0) 0 (get_or words 395 0)
 
-abbrev pub patSets : List ℕ → Sets
-patSets words = record { limit = 1; size = 1024; count = 256; used = get_or words 384 0; evictions = get_or words 385 0; clock = patClock words }
+abbrev pub pat_sets : List ℕ → Sets
+pat_sets words = record { limit = 1; size = 1024; count = 256; used = get_or words 384 0; evictions = get_or words 385 0; clock = pat_clock words }
 
-abbrev pub patHead : List ℕ → List ℕ
-patHead words = take 12 (drop 386 words)
+abbrev pub pat_head : List ℕ → List ℕ
+pat_head words = take 12 (drop 386 words)
 
 -- the PAT store: a set collector of one key
-abbrev pub patStore : Record → Store
-patStore r = store (patSets r.words) (patHead r.words) r.slots r.cells
+abbrev pub pat_store : Record → Store
+pat_store r = store (pat_sets r.words) (pat_head r.words) r.slots r.cells
 
 -- slices of these lengths are long enough
 abbrev pub room_for : ℕ → ℕ → ℕ → Bool
 room_for words slots cells = leb 398 words && leb 288 slots && leb 262144 cells
 
 -- not 10: long enough, and the PAT store is whole
-unfoldable pub patsWhole : Record → Bool
-patsWhole r = room_for (length r.words) (length r.slots) (length r.cells) && whole_of (patStore r)
+unfoldable pub pats_whole : Record → Bool
+pats_whole r = room_for (length r.words) (length r.slots) (length r.cells) && whole_of (pat_store r)
 
 -- 11: the evictions or the clock are at their end
-unfoldable pub patsFull : List ℕ → Bool
-patsFull words = countersFull (patSets words)
+unfoldable pub pats_full : List ℕ → Bool
+pats_full words = counters_full (pat_sets words)
 
 -- the larger of the two: what is left to it is left to both
-abbrev pub patMost : List ℕ → ℕ
-patMost words = max (get_or words 385 0) (patClock words)
+abbrev pub pat_most : List ℕ → ℕ
+pat_most words = max (get_or words 385 0) (pat_clock words)
 
 -- a PAT store that is opened has no row and has evicted none
-unfoldable pub begunWords : List ℕ → List ℕ
-begunWords words = set (set words 384 0) 385 0
+unfoldable pub begun_words : List ℕ → List ℕ
+begun_words words = set (set words 384 0) 385 0
 
 -- ---- a section enters
 
 -- readable as a PAT, marked current, and no longer than a PAT section may be
 unfoldable pub enters : List ℕ → Bool
-enters section = readable section && currentNext section && leb (length section) 1024
+enters section = readable section && current_next_of section && leb (length section) 1024
 
 -- the set n with the PIDs of the programs of each section
-unfoldable pub withAll : List (List ℕ) → List ℕ → List ℕ
-withAll [] n = n
-withAll (s ∷ ss) n = withAll ss (withPrograms s n)
+unfoldable pub with_all : List (List ℕ) → List ℕ → List ℕ
+with_all [] n = n
+with_all (s ∷ ss) n = with_all ss (with_programs s n)
 
 -- the set N of a PAT in several sections: the PIDs of their programs other than 0
-abbrev pub programsOf : List (List ℕ) → List ℕ
-programsOf sections = withAll sections noPids
+abbrev pub programs_of : List (List ℕ) → List ℕ
+programs_of sections = with_all sections no_pids
 
 -- of the sections that are kept in row 0, in section order
-abbrev pub programsOfRow : Store → List ℕ
-programsOfRow s = programsOf (setIn s 0).sections
+abbrev pub programs_of_row : Store → List ℕ
+programs_of_row s = programs_of (set_in s 0).sections
 
 -- the words with the counts and the head that the PAT store has now
-abbrev pub withStore : List ℕ → Store → List ℕ
-withStore words s = set (set (paste words 386 s.heads 12) 384 s.sets.used) 385 s.sets.evictions
+abbrev pub with_store : List ℕ → Store → List ℕ
+with_store words s = set (set (paste words 386 s.heads 12) 384 s.sets.used) 385 s.sets.evictions
 
 -- what the PAT store told of a section, and the record with what it left
 pub record Entering : Type 0 where
   pub told : Told
   pub then : Record
 
-abbrev pub pushedIn : Record → SetsAfter → Entering
-pushedIn r a = record { told = a.told; then = recordOf (withStore r.words a.store) a.store.slots a.store.cells }
+abbrev pub pushed_in : Record → SetsAfter → Entering
+pushed_in r a = record { told = a.told; then = record_of (with_store r.words a.store) a.store.slots a.store.cells }
 
 -- a PAT that goes out, 5, replaces N; every other answer changes no set of PIDs
-abbrev pub watchAfter : Told → List ℕ → List ℕ
-watchAfter done words = words
-watchAfter nothing words = words
-watchAfter (handed pat) words = following words (programsOf pat.sections)
-watchAfter (refused r) words = words
+abbrev pub watch_after : Told → List ℕ → List ℕ
+watch_after done words = words
+watch_after nothing words = words
+watch_after (handed pat) words = following words (programs_of pat.sections)
+watch_after (refused r) words = words
 
-abbrev pub followedIn : Entering → Record
-followedIn x = recordOf (watchAfter x.told x.then.words) x.then.slots x.then.cells
+abbrev pub followed_in : Entering → Record
+followed_in x = record_of (watch_after x.told x.then.words) x.then.slots x.then.cells
 
 -- as what the section says: a refusal leaves all as it was
-abbrev pub enteredAs : Record → List ℕ → SetArrival → Record
-enteredAs r section (arrival.Refused x) = r
-enteredAs r section (arrival.Arrived e) = followedIn (pushedIn r (wholePushed (patStore r) e section))
+abbrev pub entered_as : Record → List ℕ → SetArrival → Record
+entered_as r section (arrival.Refused x) = r
+entered_as r section (arrival.Arrived e) = followed_in (pushed_in r (whole_pushed (pat_store r) e section))
 
 -- a section of PID 0 on an input
 unfoldable pub entered_in : Record → (input : ℕ) → List ℕ → Record
-entered_in r input section = cond (enters section) (enteredAs r section (setArrival input (maybe.Some 0) section)) r
+entered_in r input section = cond (enters section) (entered_as r section (set_arrival input (maybe.Some 0) section)) r
 
 -- ---- what the functions ask of each other
 
 -- there is room, the PAT store is whole, and its count can go up
 pub record PatsReady (r : Record) : Type 0 where
   pub words : 398 ≤ length r.words
-  pub ready : Ready (patStore r)
+  pub ready : Ready (pat_store r)
 
 -- a section arrived as e, on some input
 pub record Arrives (section : List ℕ) (e : Entry) : Type 0 where
   pub input : ℕ
-  pub read : setArrival input (maybe.Some 0) section ≡ arrival.Arrived e
+  pub read : set_arrival input (maybe.Some 0) section ≡ arrival.Arrived e
   pub taken : Taken section e
 
 -- a set that goes out is in row 0, and that is in use
 abbrev pub RowThere : PushAnswer → Store → Type 0
-RowThere push-answer.Nothing s = Unit {0}
-RowThere (push-answer.Set i) s = (i ≡ 0) × (0 < s.sets.used)
-RowThere (push-answer.Refused r) s = Unit {0}
+RowThere push_answer.Nothing s = Unit {0}
+RowThere (push_answer.Set i) s = (i ≡ 0) × (0 < s.sets.used)
+RowThere (push_answer.Refused r) s = Unit {0}
 
 -- after a push the store is whole
 pub record Pushed (answer : PushAnswer) (r : Record) : Type 0 where
   pub words : 398 ≤ length r.words
-  pub whole : WholeStore (patStore r)
-  pub row : RowThere answer (patStore r)
+  pub whole : WholeStore (pat_store r)
+  pub row : RowThere answer (pat_store r)
 
 -- there is a row, and its slots are whole
 pub record HasRow (r : Record) : Type 0 where
   pub words : 398 ≤ length r.words
   pub slots : 288 ≤ length r.slots
   pub cells : 262144 ≤ length r.cells
-  pub row : allWhole 256 1024 (rowSlots (patHead r.words) r.slots 0) ≡ true
+  pub row : all_whole 256 1024 (row_slots (pat_head r.words) r.slots 0) ≡ true
 
 -- what a push handed back, with the slices as it left them
-abbrev pub pushedBy : PushAnswer → List ℕ → List ℕ → List ℕ → Entering
-pushedBy a words slots cells = record { told = answer_of a (patStore (recordOf words slots cells)); then = recordOf words slots cells }
+abbrev pub pushed_by : PushAnswer → List ℕ → List ℕ → List ℕ → Entering
+pushed_by a words slots cells = record { told = answer_of a (pat_store (record_of words slots cells)); then = record_of words slots cells }

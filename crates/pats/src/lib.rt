@@ -2,14 +2,14 @@
 // complete one is followed. The record of a watch is three lent slices: words, whose first 384 are the three sets of PIDs (crate watched), then the
 // counts and the head of the PAT store; the slots of its one row; its 256 cells of 1,024 bytes.
 ghost use Rattle.std.specs.Prelude.{◌≡◌, true, ◌&&◌, map, ◌≤◌, leb, length, get_or};
-ghost use Rattle.cells.specs.Cells.{kept, slotWhole, allWhole};
-ghost use Rattle.pat.specs.Pat.{withPrograms};
-ghost use Rattle.rows.specs.Rows.{rowsWhole};
+ghost use Rattle.cells.specs.Cells.{kept, slot_whole, all_whole};
+ghost use Rattle.pat.specs.Pat.{with_programs};
+ghost use Rattle.rows.specs.Rows.{rows_whole};
 ghost use Rattle.watched.specs.Store.{following};
 ghost use Rattle.sets_settle.specs.Settle.{answer_of};
-ghost use Rattle.sets_push.specs.Pushing.{wholePushed};
-ghost use Rattle.pats.specs.Store.{recordOf, patClock, patSets, patHead, patStore, room_for, patsWhole, patsFull, begunWords, enters, withAll, programsOfRow};
-ghost use Rattle.pats.specs.Store.{pushedBy, pushedIn, watchAfter, followedIn, entered_in, PatsReady, Arrives, Pushed, HasRow};
+ghost use Rattle.sets_push.specs.Pushing.{whole_pushed};
+ghost use Rattle.pats.specs.Store.{record_of, pat_clock, pat_sets, pat_head, pat_store, room_for, pats_whole, pats_full, begun_words, enters, with_all, programs_of_row};
+ghost use Rattle.pats.specs.Store.{pushed_by, pushed_in, watch_after, followed_in, entered_in, PatsReady, Arrives, Pushed, HasRow};
 
 use arrivals::SetArrival;
 use rows::Entry;
@@ -49,7 +49,7 @@ pub fn has_room(words: usize, slots: usize, cells: usize) -> bool
 // No row, or one whose slots are all whole. Of a collector any number of rows is looked at; here, where every packet asks, one at most.
 fn row_whole(words: &[u64], slots: &[u32]) -> bool
     requires { (398 ≤ length words.now) × (288 ≤ length slots.now) }
-    ensures { result ≡ (leb (get_or words.now 384 0) 1 && rowsWhole (patHead words.now) slots.now 256 1024 (get_or words.now 384 0)) }
+    ensures { result ≡ (leb (get_or words.now 384 0) 1 && rows_whole (pat_head words.now) slots.now 256 1024 (get_or words.now 384 0)) }
 {
     let used = words[USED];
     if used == 0 {
@@ -63,7 +63,7 @@ fn row_whole(words: &[u64], slots: &[u32]) -> bool
 
 // Whether the slices are long enough and the PAT store is whole: if not, a call answers 10.
 pub fn is_whole(words: &[u64], slots: &[u32], cells: &[u8]) -> bool
-    ensures { result ≡ patsWhole (recordOf words.now slots.now cells.now) }
+    ensures { result ≡ pats_whole (record_of words.now slots.now cells.now) }
 {
     if has_room(words.len(), slots.len(), cells.len()) {
         return row_whole(words, slots);
@@ -74,7 +74,7 @@ pub fn is_whole(words: &[u64], slots: &[u32], cells: &[u8]) -> bool
 // Whether the evictions or the clock of the PAT store are at their end: a call answers 11.
 pub fn is_full(words: &[u64]) -> bool
     requires { 398 ≤ length words.now }
-    ensures { result ≡ patsFull words.now }
+    ensures { result ≡ pats_full words.now }
 {
     store::counters_full(pat_sets(words))
 }
@@ -82,7 +82,7 @@ pub fn is_full(words: &[u64]) -> bool
 // Opens the PAT store: no row, no eviction. Its head, its slots and its cells are not written.
 pub fn begin(words: &mut [u64])
     requires { 398 ≤ length words.old }
-    ensures { words.new ≡ begunWords words.old }
+    ensures { words.new ≡ begun_words words.old }
 {
     words[USED] = 0;
     words[EVICTIONS] = 0;
@@ -90,8 +90,8 @@ pub fn begin(words: &mut [u64])
 
 // A sound section of PID 0 on an input. Where it is a current PAT it is collected, and the PAT that it completes is followed.
 pub fn enter(words: &mut [u64], slots: &mut [u32], cells: &mut [u8], input: u8, section: &[u8])
-    requires { PatsReady (recordOf words.old slots.old cells.old) }
-    ensures { recordOf words.new slots.new cells.new ≡ entered_in (recordOf words.old slots.old cells.old) input section.now }
+    requires { PatsReady (record_of words.old slots.old cells.old) }
+    ensures { record_of words.new slots.new cells.new ≡ entered_in (record_of words.old slots.old cells.old) input section.now }
 {
     if may_enter(section) {
         match arrivals::set_arrival(input, MaybePid::Some(0), section) {
@@ -104,7 +104,7 @@ pub fn enter(words: &mut [u64], slots: &mut [u32], cells: &mut [u8], input: u8, 
 // The clock of the PAT store: it has one row at most, so that is the row's tick. 0 where there is no row.
 pub fn clock_of(words: &[u64]) -> u64
     requires { 398 ≤ length words.now }
-    ensures { result ≡ patClock words.now }
+    ensures { result ≡ pat_clock words.now }
 {
     if words[USED] == 0 {
         return 0;
@@ -115,7 +115,7 @@ pub fn clock_of(words: &[u64]) -> u64
 // The settings and counts of the PAT store.
 fn pat_sets(words: &[u64]) -> Sets
     requires { 398 ≤ length words.now }
-    ensures { result ≡ patSets words.now }
+    ensures { result ≡ pat_sets words.now }
 {
     Sets {
         limit: 1,
@@ -139,9 +139,9 @@ fn may_enter(section: &[u8]) -> bool
 
 // A section that arrived is collected, and what it completes is followed.
 fn collect(words: &mut [u64], slots: &mut [u32], cells: &mut [u8], e: Entry, section: &[u8])
-    requires pats_ready { PatsReady (recordOf words.old slots.old cells.old) }
+    requires pats_ready { PatsReady (record_of words.old slots.old cells.old) }
     requires arrives { Arrives section.now e }
-    ensures { recordOf words.new slots.new cells.new ≡ followedIn (pushedIn (recordOf words.old slots.old cells.old) (wholePushed (patStore (recordOf words.old slots.old cells.old)) e section.now)) }
+    ensures { record_of words.new slots.new cells.new ≡ followed_in (pushed_in (record_of words.old slots.old cells.old) (whole_pushed (pat_store (record_of words.old slots.old cells.old)) e section.now)) }
 {
     let answer = push(words, slots, cells, e, section);
     follow(words, slots, cells, answer);
@@ -155,10 +155,10 @@ fn push(
     e: Entry,
     section: &[u8],
 ) -> PushAnswer
-    requires pats_ready { PatsReady (recordOf words.old slots.old cells.old) }
+    requires pats_ready { PatsReady (record_of words.old slots.old cells.old) }
     requires arrives { Arrives section.now e }
-    ensures cells_after { pushedBy result words.new slots.new cells.new ≡ pushedIn (recordOf words.old slots.old cells.old) (wholePushed (patStore (recordOf words.old slots.old cells.old)) e section.now) }
-    ensures pushed { Pushed result (recordOf words.new slots.new cells.new) }
+    ensures cells_after { pushed_by result words.new slots.new cells.new ≡ pushed_in (record_of words.old slots.old cells.old) (whole_pushed (pat_store (record_of words.old slots.old cells.old)) e section.now) }
+    ensures pushed { Pushed result (record_of words.new slots.new cells.new) }
 {
     let sets = pat_sets(words);
     let pushed = sets_push::push_whole(sets, &mut words[HEAD..WORDS], slots, cells, e, section);
@@ -170,8 +170,8 @@ fn push(
 
 // A PAT that goes out replaces the PIDs of the last one; any other answer changes no set of PIDs.
 fn follow(words: &mut [u64], slots: &[u32], cells: &[u8], answer: PushAnswer)
-    requires { Pushed answer (recordOf words.old slots.now cells.now) }
-    ensures { words.new ≡ watchAfter (answer_of answer (patStore (recordOf words.old slots.now cells.now))) words.old }
+    requires { Pushed answer (record_of words.old slots.now cells.now) }
+    ensures { words.new ≡ watch_after (answer_of answer (pat_store (record_of words.old slots.now cells.now))) words.old }
 {
     match answer {
         PushAnswer::Nothing => {}
@@ -182,8 +182,8 @@ fn follow(words: &mut [u64], slots: &[u32], cells: &[u8], answer: PushAnswer)
 
 // Follows the PAT whose sections are kept.
 fn follow_row(words: &mut [u64], slots: &[u32], cells: &[u8])
-    requires { HasRow (recordOf words.old slots.now cells.now) }
-    ensures { words.new ≡ following words.old (programsOfRow (patStore (recordOf words.old slots.now cells.now))) }
+    requires { HasRow (record_of words.old slots.now cells.now) }
+    ensures { words.new ≡ following words.old (programs_of_row (pat_store (record_of words.old slots.now cells.now))) }
 {
     let mut n = [0u64; 128];
     let row = rows::row_slots(&words[HEAD..WORDS], slots, 0);
@@ -193,9 +193,9 @@ fn follow_row(words: &mut [u64], slots: &[u32], cells: &[u8])
 
 // Adds the PIDs of the programs of each section that a row's slots name.
 fn add_programs(n: &mut [u64; 128], row: &[u32], cells: &[u8])
-    requires row_value { allWhole 256 1024 row.now ≡ true }
+    requires row_value { all_whole 256 1024 row.now ≡ true }
     requires in_bounds { 262144 ≤ length cells.now }
-    ensures { n.new ≡ withAll (map (kept cells.now 1024) row.now) n.old }
+    ensures { n.new ≡ with_all (map (kept cells.now 1024) row.now) n.old }
 {
     let mut j = 0;
     while j < row.len() {
@@ -206,9 +206,9 @@ fn add_programs(n: &mut [u64; 128], row: &[u32], cells: &[u8])
 
 // Adds the PIDs of the programs of the section that a slot names.
 fn add_section(n: &mut [u64; 128], w: u32, cells: &[u8])
-    requires w_value { slotWhole 256 1024 w ≡ true }
+    requires w_value { slot_whole 256 1024 w ≡ true }
     requires in_bounds { 262144 ≤ length cells.now }
-    ensures { n.new ≡ withPrograms (kept cells.now 1024 w) n.old }
+    ensures { n.new ≡ with_programs (kept cells.now 1024 w) n.old }
 {
     let at = cells::cell_number(w) * SIZE;
     pat::programs(cells::part(cells, at, cells::kept_length(w)), n);

@@ -37,11 +37,11 @@ abbrev pub ended_of : Bytes → Bytes → Bytes
 ended_of u part = first_of (gather false u part).sections
 
 -- its bytes that are under way then; behind a start there are none: it is dropped
-abbrev pub goingOf : Bool → Bytes → Bytes → Bytes
-goingOf start u part = cond start [] (gather false u part).under
+abbrev pub going_of : Bool → Bytes → Bytes → Bytes
+going_of start u part = cond start [] (gather false u part).under
 
-abbrev pub goneOf : Bool → Bytes → Bytes → Gone
-goneOf start u part = record { ended = length (ended_of u part); under = length (goingOf start u part) }
+abbrev pub gone_of : Bool → Bytes → Bytes → Gone
+gone_of start u part = record { ended = length (ended_of u part); under = length (going_of start u part) }
 
 -- bytes under way lie in the buffer, are no whole section yet, and there is room for the part behind them
 pub record Lies (buffer : Bytes) (under : Span) (part : Bytes) : Type 0 where
@@ -76,12 +76,12 @@ abbrev pub placed : List ℕ → ℕ → ℕ → ℕ → ℕ → List ℕ
 placed places k whence first size = set (set (set places (k * 6 + 3) whence) (k * 6 + 4) first) (k * 6 + 5) size
 
 -- sections one behind another in the packet, the first of them at `at`, told from place k on
-unfoldable pub toldFrom : List ℕ → ℕ → ℕ → List Bytes → List ℕ
-toldFrom places k at [] = places
-toldFrom places k at (s ∷ ss) = toldFrom (placed places k 0 at (length s)) (k + 1) (at + length s) ss
+unfoldable pub told_from : List ℕ → ℕ → ℕ → List Bytes → List ℕ
+told_from places k at [] = places
+told_from places k at (s ∷ ss) = told_from (placed places k 0 at (length s)) (k + 1) (at + length s) ss
 
-abbrev pub begunOf : ℕ → Read → Begun
-begunOf count r = record { count = count + length r.sections; under = length r.under }
+abbrev pub begun_of : ℕ → Read → Begun
+begun_of count r = record { count = count + length r.sections; under = length r.under }
 
 -- a place for each 3 bytes of the packet from `begin` on: no section is shorter
 pub record HasPlaces (packet : Bytes) (begin : ℕ) (places : List ℕ) (count : ℕ) : Type 0 where

@@ -2,7 +2,7 @@
 // copied in whole parts: how many bytes finish a section is decided before one is copied, so a section that is dropped writes nothing.
 ghost use Rattle.std.specs.Prelude.{◌≡◌, true, [], ◌++◌, ◌+◌, ◌-◌, ◌*◌, ◌<◌, ◌≤◌, length, take, drop, get_or};
 ghost use Rattle.transport.specs.Rules.{gather};
-ghost use Rattle.payload.specs.Payload.{total_of, end_of, front, bytes_of, parts_of, goneOf, ended_of, goingOf, placed, toldFrom, begunOf};
+ghost use Rattle.payload.specs.Payload.{total_of, end_of, front, bytes_of, parts_of, gone_of, ended_of, going_of, placed, told_from, begun_of};
 ghost use Rattle.payload.specs.Payload.{Lies, Joins, HasPlaces};
 
 use section::bytes::wide;
@@ -55,7 +55,7 @@ fn total(high: u8, low: u8) -> usize
 }
 
 // How long the section is that stands whole at the front of the bytes, 0 where none does.
-pub fn whole_in(bytes: &[u8]) -> usize
+pub fn whole_in_lem(bytes: &[u8]) -> usize
     ensures { (result ≡ end_of bytes.now) × (result < 4099) }
 {
     if bytes.len() < HEADER_BYTES {
@@ -79,7 +79,7 @@ fn byte_of(buffer: &[u8], first: usize, size: usize, part: &[u8], i: usize) -> u
     part[i - size]
 }
 
-// The same as `whole_in`, of such a section.
+// The same as `whole_in_lem`, of such a section.
 fn end_in(buffer: &[u8], first: usize, size: usize, part: &[u8]) -> usize
     requires { first + size ≤ length buffer.now }
     ensures { (result ≡ end_of (take size (drop first buffer.now) ++ part.now)) × (result < 4099) }
@@ -126,8 +126,8 @@ fn join(buffer: &mut [u8], first: usize, size: usize, part: &[u8])
 // The part of a payload that belongs to the section under way: it is finished, or goes on, or is dropped where a start says that its end was here.
 pub fn go_on(buffer: &mut [u8], under: Span, part: &[u8], start: bool) -> Gone
     requires { Lies buffer.old under part.now }
-    ensures value { result ≡ goneOf start (bytes_of buffer.old under) part.now }
-    ensures buffer_after { buffer.new ≡ front (ended_of (bytes_of buffer.old under) part.now ++ goingOf start (bytes_of buffer.old under) part.now) buffer.old }
+    ensures value { result ≡ gone_of start (bytes_of buffer.old under) part.now }
+    ensures buffer_after { buffer.new ≡ front (ended_of (bytes_of buffer.old under) part.now ++ going_of start (bytes_of buffer.old under) part.now) buffer.old }
 {
     let first = under.first;
     let size = under.size;
@@ -213,8 +213,8 @@ pub fn place(places: &mut [u64], k: usize, whence: u64, first: usize, size: usiz
 // The sections that begin in a packet, one behind another from `begin` on: those that end in it are told from place `count` on.
 pub fn begin_in(packet: &[u8], begin: usize, places: &mut [u64], count: usize) -> Begun
     requires { HasPlaces packet.now begin places.old count }
-    ensures value { result ≡ begunOf count (gather true [] (drop begin packet.now)) }
-    ensures places_after { places.new ≡ toldFrom places.old count begin (gather true [] (drop begin packet.now)).sections }
+    ensures value { result ≡ begun_of count (gather true [] (drop begin packet.now)) }
+    ensures places_after { places.new ≡ told_from places.old count begin (gather true [] (drop begin packet.now)).sections }
 {
     let mut at = begin;
     let mut k = count;
@@ -222,7 +222,7 @@ pub fn begin_in(packet: &[u8], begin: usize, places: &mut [u64], count: usize) -
         if packet[at] == STUFFING {
             return Begun { count: k, under: 0 };
         }
-        let size = whole_in(&packet[at..]);
+        let size = whole_in_lem(&packet[at..]);
         if size == 0 {
             return Begun {
                 count: k,

@@ -4,8 +4,8 @@
 use Prim.Native.Nat.{ℕ}
 use mathlib.Core.Path.{◌≡◌}
 use mathlib.Core.List.{List}
-use Rattle.laws.proofs.Unique.{one-result}
-use Rattle.crc.specs.Crc.{crcOf}
+use Rattle.laws.proofs.Unique.{one_result}
+use Rattle.crc.specs.Crc.{crc_of}
 
-pub unique-crc : (bytes : List ℕ) (r s : ℕ) → r ≡ crcOf bytes → s ≡ crcOf bytes → r ≡ s
-unique-crc bytes r s = one-result (crcOf bytes)
+pub unique_crc : (bytes : List ℕ) (r s : ℕ) → r ≡ crc_of bytes → s ≡ crc_of bytes → r ≡ s
+unique_crc bytes r s = one_result (crc_of bytes)

@@ -2,31 +2,31 @@
 // pointer and a count of its elements. Each function takes any content of what is lent, answers the number that docs/RULES.md, "Answers", has, and leaves what its promise says.
 // `include/petrizolu.h` has the words of each array as structs.
 ghost use Rattle.std.specs.Prelude.{◌≡◌};
-ghost use Rattle.crc.specs.Crc.{crcOf};
-ghost use Rattle.host_gate.specs.Calls.{begun, gateOpened, left, gateOffered, watchOpened, watchAsked};
+ghost use Rattle.crc.specs.Crc.{crc_of};
+ghost use Rattle.host_gate.specs.Calls.{begun, gate_opened, left, gate_offered, watch_opened, watch_asked};
 ghost use Rattle.host_indexed.specs.Calls as indexed;
-ghost use Rattle.host_streams.specs.Calls as streamCalls;
+ghost use Rattle.host_streams.specs.Calls as stream_calls;
 ghost use Rattle.host_feed.specs.Calls as packets;
-ghost use Rattle.host_feed_indexed_calls.specs.Calls as indexedPackets;
+ghost use Rattle.host_feed_indexed_calls.specs.Calls as indexed_packets;
 ghost use Rattle.host_pass.specs.Calls as passes;
-ghost use Rattle.host_pass_indexed.specs.Calls as indexedPasses;
+ghost use Rattle.host_pass_indexed.specs.Calls as indexed_passes;
 ghost use Rattle.host_words.specs.Answers.{words};
-ghost use Rattle.pats.specs.Store.{recordOf};
-ghost use Rattle.host_sets.specs.Calls.{setsLeft, setsOpened, setsPushed, setsCleared, setsNext};
-ghost use Rattle.host_sets_all.specs.Calls.{allLeft, setsPushedAll};
-ghost use Rattle.host_networks.specs.Calls.{sectionRead, setRead};
-ghost use Rattle.host_showing.specs.Calls.{listing, sectionListed, setListed, tableListed, dateNumber};
-ghost use Rattle.host_guides.specs.Calls.{comparison, setsCompared, comparisons, schedulesCompared, heldByOne};
-ghost use Rattle.host_logs.specs.Calls.{checkLeft, logChecked, writeLeft, logWritten};
-ghost use Rattle.host_log_records.specs.Calls.{logRead, made, offerMade, setMade};
+ghost use Rattle.pats.specs.Store.{record_of};
+ghost use Rattle.host_sets.specs.Calls.{sets_left, sets_opened, sets_pushed, sets_cleared, sets_next};
+ghost use Rattle.host_sets_all.specs.Calls.{all_left, sets_pushed_all};
+ghost use Rattle.host_networks.specs.Calls.{section_read, set_read};
+ghost use Rattle.host_showing.specs.Calls.{listing, section_listed, set_listed, table_listed, date_number};
+ghost use Rattle.host_guides.specs.Calls.{comparison, sets_compared, comparisons, schedules_compared, held_by_one};
+ghost use Rattle.host_logs.specs.Calls.{check_left, log_checked, write_left, log_written};
+ghost use Rattle.host_log_records.specs.Calls.{log_read, made, offer_made, set_made};
 ghost use Rattle.log_sections.specs.Steps.{memory};
-ghost use Rattle.host_eit_all.specs.Calls.{allLeft as eitAllLeft, eitPushedAll};
-ghost use Rattle.host_eit.specs.Calls.{eitOpened, eitLeft, eitPushed, eitCleared, eitDroppedTo, eitDropped, eitNext, eitNextIn};
+ghost use Rattle.host_eit_all.specs.Calls.{all_left as eit_all_left, eit_pushed_all};
+ghost use Rattle.host_eit.specs.Calls.{eit_opened, eit_left, eit_pushed, eit_cleared, eit_dropped_to, eit_dropped, eit_next, eit_next_in};
 
 // The CRC of ISO/IEC 13818-1, Annex A.
 #[unsafe(no_mangle)]
 pub extern "C" fn petrizolu_crc(bytes: &[u8]) -> u32
-    ensures { result ≡ crcOf bytes.now }
+    ensures { result ≡ crc_of bytes.now }
 {
     crc::crc(bytes)
 }
@@ -46,7 +46,7 @@ pub extern "C" fn petrizolu_gate_open(
     pat_slots: &[u32],
     pat_cells: &[u8],
 ) -> u8
-    ensures { begun result gate.new watch.new ≡ gateOpened gate.old capacity settings change_rule extra.now keys.now changes.now pat_slots.now pat_cells.now watch.old }
+    ensures { begun result gate.new watch.new ≡ gate_opened gate.old capacity settings change_rule extra.now keys.now changes.now pat_slots.now pat_cells.now watch.old }
 {
     host_gate::open(
         gate,
@@ -76,7 +76,7 @@ pub extern "C" fn petrizolu_gate_offer(
     section: &[u8],
     failure: &mut [u64; 3],
 ) -> u8
-    ensures { left result gate.new keys.new changes.new (recordOf watch.new pat_slots.new pat_cells.new) failure.new ≡ gateOffered gate.old keys.old changes.old (recordOf watch.old pat_slots.old pat_cells.old) input pid section.now failure.old }
+    ensures { left result gate.new keys.new changes.new (record_of watch.new pat_slots.new pat_cells.new) failure.new ≡ gate_offered gate.old keys.old changes.old (record_of watch.old pat_slots.old pat_cells.old) input pid section.now failure.old }
 {
     host_gate::offer(
         gate, keys, changes, watch, pat_slots, pat_cells, input, pid, section, failure,
@@ -92,7 +92,7 @@ pub extern "C" fn petrizolu_watch_open(
     pat_slots: &[u32],
     pat_cells: &[u8],
 ) -> u8
-    ensures { words result watch.new ≡ watchOpened settings extra.now pat_slots.now pat_cells.now watch.old }
+    ensures { words result watch.new ≡ watch_opened settings extra.now pat_slots.now pat_cells.now watch.old }
 {
     host_gate::open_watch(settings, extra, watch, pat_slots, pat_cells)
 }
@@ -100,7 +100,7 @@ pub extern "C" fn petrizolu_watch_open(
 // Whether a PID is watched: 8, 9, 10 or 12.
 #[unsafe(no_mangle)]
 pub extern "C" fn petrizolu_watch_ask(watch: &[u64], pid: u32) -> u8
-    ensures { result ≡ watchAsked watch.now pid }
+    ensures { result ≡ watch_asked watch.now pid }
 {
     host_gate::ask(watch, pid)
 }
@@ -121,7 +121,7 @@ pub extern "C" fn petrizolu_indexed_open(
     pat_slots: &[u32],
     pat_cells: &[u8],
 ) -> u8
-    ensures { indexed.begun result gate.new buckets.new watch.new ≡ indexed.gateOpened gate.old capacity settings change_rule extra.now keys.now changes.now buckets.old links.now pat_slots.now pat_cells.now watch.old }
+    ensures { indexed.begun result gate.new buckets.new watch.new ≡ indexed.gate_opened gate.old capacity settings change_rule extra.now keys.now changes.now buckets.old links.now pat_slots.now pat_cells.now watch.old }
 {
     host_indexed::open(
         gate,
@@ -155,7 +155,7 @@ pub extern "C" fn petrizolu_indexed_offer(
     section: &[u8],
     failure: &mut [u64; 3],
 ) -> u8
-    ensures { indexed.left result gate.new keys.new changes.new buckets.new links.new (recordOf watch.new pat_slots.new pat_cells.new) failure.new ≡ indexed.gateOffered gate.old keys.old changes.old buckets.old links.old (recordOf watch.old pat_slots.old pat_cells.old) input pid section.now failure.old }
+    ensures { indexed.left result gate.new keys.new changes.new buckets.new links.new (record_of watch.new pat_slots.new pat_cells.new) failure.new ≡ indexed.gate_offered gate.old keys.old changes.old buckets.old links.old (record_of watch.old pat_slots.old pat_cells.old) input pid section.now failure.old }
 {
     host_indexed::offer(
         gate, keys, changes, buckets, links, watch, pat_slots, pat_cells, input, pid, section,
@@ -171,7 +171,7 @@ pub extern "C" fn petrizolu_streams_open(
     pids: &mut [u64],
     buffers: &[u8],
 ) -> u8
-    ensures { streamCalls.begun result streams.new pids.new ≡ streamCalls.streamsOpened streams.old count pids.old buffers.now }
+    ensures { streamCalls.begun result streams.new pids.new ≡ streamCalls.streams_opened streams.old count pids.old buffers.now }
 {
     host_streams::open(streams, count, pids, buffers)
 }
@@ -193,7 +193,7 @@ pub extern "C" fn petrizolu_feed(
     places: &mut [u64],
     finished: &mut [u64; 1],
 ) -> u8
-    ensures { packets.left result gate.new streams.new keys.new changes.new (recordOf watch.new pat_slots.new pat_cells.new) pids.new buffers.new places.new finished.new ≡ packets.packetFed gate.old streams.old keys.old changes.old (recordOf watch.old pat_slots.old pat_cells.old) pids.old buffers.old input packet.now places.old finished.old }
+    ensures { packets.left result gate.new streams.new keys.new changes.new (record_of watch.new pat_slots.new pat_cells.new) pids.new buffers.new places.new finished.new ≡ packets.packet_fed gate.old streams.old keys.old changes.old (record_of watch.old pat_slots.old pat_cells.old) pids.old buffers.old input packet.now places.old finished.old }
 {
     host_feed::feed(
         gate, streams, keys, changes, watch, pat_slots, pat_cells, pids, buffers, input, packet,
@@ -217,7 +217,7 @@ pub extern "C" fn petrizolu_pass(
     packets: &[u8],
     places: &[u64],
 ) -> u64
-    ensures { passes.left result streams.new pids.new ≡ passes.packetsPassed gate.now streams.old keys.now changes.now (recordOf watch.now pat_slots.now pat_cells.now) pids.old buffers.now input packets.now places.now }
+    ensures { passes.left result streams.new pids.new ≡ passes.packets_passed gate.now streams.old keys.now changes.now (record_of watch.now pat_slots.now pat_cells.now) pids.old buffers.now input packets.now places.now }
 {
     host_pass::pass(
         gate, streams, keys, changes, watch, pat_slots, pat_cells, pids, buffers, input, packets,
@@ -244,7 +244,7 @@ pub extern "C" fn petrizolu_indexed_feed(
     places: &mut [u64],
     finished: &mut [u64; 1],
 ) -> u8
-    ensures { indexedPackets.left result gate.new streams.new keys.new changes.new buckets.new links.new (recordOf watch.new pat_slots.new pat_cells.new) pids.new buffers.new places.new finished.new ≡ indexedPackets.packetFed gate.old streams.old keys.old changes.old buckets.old links.old (recordOf watch.old pat_slots.old pat_cells.old) pids.old buffers.old input packet.now places.old finished.old }
+    ensures { indexedPackets.left result gate.new streams.new keys.new changes.new buckets.new links.new (record_of watch.new pat_slots.new pat_cells.new) pids.new buffers.new places.new finished.new ≡ indexedPackets.packet_fed gate.old streams.old keys.old changes.old buckets.old links.old (record_of watch.old pat_slots.old pat_cells.old) pids.old buffers.old input packet.now places.old finished.old }
 {
     host_feed_indexed::feed(
         gate, streams, keys, changes, buckets, links, watch, pat_slots, pat_cells, pids, buffers,
@@ -270,7 +270,7 @@ pub extern "C" fn petrizolu_indexed_pass(
     packets: &[u8],
     places: &[u64],
 ) -> u64
-    ensures { passes.left result streams.new pids.new ≡ indexedPasses.packetsPassed gate.now streams.old keys.now changes.now buckets.now links.now (recordOf watch.now pat_slots.now pat_cells.now) pids.old buffers.now input packets.now places.now }
+    ensures { passes.left result streams.new pids.new ≡ indexedPasses.packets_passed gate.now streams.old keys.now changes.now buckets.now links.now (record_of watch.now pat_slots.now pat_cells.now) pids.old buffers.now input packets.now places.now }
 {
     host_pass_indexed::pass(
         gate, streams, keys, changes, buckets, links, watch, pat_slots, pat_cells, pids, buffers,
@@ -289,7 +289,7 @@ pub extern "C" fn petrizolu_sets_open(
     slots: &[u32],
     cells: &[u8],
 ) -> u8
-    ensures { words result sets.new ≡ setsOpened sets.old limit size count heads.now slots.now cells.now }
+    ensures { words result sets.new ≡ sets_opened sets.old limit size count heads.now slots.now cells.now }
 {
     host_sets::open(sets, limit, size, count, heads, slots, cells)
 }
@@ -306,7 +306,7 @@ pub extern "C" fn petrizolu_sets_push(
     section: &[u8],
     row: &mut [u64; 1],
 ) -> u8
-    ensures { setsLeft result sets.new heads.new slots.new cells.new row.new ≡ setsPushed sets.old heads.old slots.old cells.old input pid section.now row.old }
+    ensures { sets_left result sets.new heads.new slots.new cells.new row.new ≡ sets_pushed sets.old heads.old slots.old cells.old input pid section.now row.old }
 {
     host_sets::push(sets, heads, slots, cells, input, pid, section, row)
 }
@@ -323,7 +323,7 @@ pub extern "C" fn petrizolu_sets_push_all(
     row: &mut [u64; 1],
     taken: &mut [u64; 1],
 ) -> u8
-    ensures { allLeft (setsLeft result sets.new heads.new slots.new cells.new row.new) taken.new ≡ setsPushedAll sets.old heads.old slots.old cells.old list.now row.old }
+    ensures { all_left (sets_left result sets.new heads.new slots.new cells.new row.new) taken.new ≡ sets_pushed_all sets.old heads.old slots.old cells.old list.now row.old }
 {
     host_sets_all::push_all(sets, heads, slots, cells, list, row, taken)
 }
@@ -336,7 +336,7 @@ pub extern "C" fn petrizolu_sets_clear(
     slots: &[u32],
     cells: &[u8],
 ) -> u8
-    ensures { words result sets.new ≡ setsCleared sets.old heads.now slots.now cells.now }
+    ensures { words result sets.new ≡ sets_cleared sets.old heads.now slots.now cells.now }
 {
     host_sets::clear(sets, heads, slots, cells)
 }
@@ -352,7 +352,7 @@ pub extern "C" fn petrizolu_sets_next(
     from: u64,
     next: &mut [u64; 3],
 ) -> u8
-    ensures { words result next.new ≡ setsNext sets.now heads.now slots.now cells.now row from next.old }
+    ensures { words result next.new ≡ sets_next sets.now heads.now slots.now cells.now row from next.old }
 {
     host_sets::next(sets, heads, slots, cells, row, from, next)
 }
@@ -370,7 +370,7 @@ pub extern "C" fn petrizolu_eit_open(
     schedule_heads: &[u64],
     units: &[u32],
 ) -> u8
-    ensures { words result eit.new ≡ eitOpened eit.old limit size count heads.now slots.now cells.now schedule_heads.now units.now }
+    ensures { words result eit.new ≡ eit_opened eit.old limit size count heads.now slots.now cells.now schedule_heads.now units.now }
 {
     host_eit::open(
         eit,
@@ -399,7 +399,7 @@ pub extern "C" fn petrizolu_eit_push(
     section: &[u8],
     row: &mut [u64; 1],
 ) -> u8
-    ensures { eitLeft result eit.new heads.new slots.new cells.new schedule_heads.new units.new row.new ≡ eitPushed eit.old heads.old slots.old cells.old schedule_heads.old units.old input pid section.now row.old }
+    ensures { eit_left result eit.new heads.new slots.new cells.new schedule_heads.new units.new row.new ≡ eit_pushed eit.old heads.old slots.old cells.old schedule_heads.old units.old input pid section.now row.old }
 {
     host_eit::push(
         eit,
@@ -428,7 +428,7 @@ pub extern "C" fn petrizolu_eit_push_all(
     row: &mut [u64; 1],
     taken: &mut [u64; 1],
 ) -> u8
-    ensures { eitAllLeft (eitLeft result eit.new heads.new slots.new cells.new schedule_heads.new units.new row.new) taken.new ≡ eitPushedAll eit.old heads.old slots.old cells.old schedule_heads.old units.old list.now row.old }
+    ensures { eitAllLeft (eit_left result eit.new heads.new slots.new cells.new schedule_heads.new units.new row.new) taken.new ≡ eit_pushed_all eit.old heads.old slots.old cells.old schedule_heads.old units.old list.now row.old }
 {
     host_eit_all::push_all(
         eit,
@@ -453,7 +453,7 @@ pub extern "C" fn petrizolu_eit_clear(
     schedule_heads: &[u64],
     units: &[u32],
 ) -> u8
-    ensures { words result eit.new ≡ eitCleared eit.old heads.now slots.now cells.now schedule_heads.now units.now }
+    ensures { words result eit.new ≡ eit_cleared eit.old heads.now slots.now cells.now schedule_heads.now units.now }
 {
     host_eit::clear(eit, heads, slots, cells, schedule_heads, units)
 }
@@ -470,7 +470,7 @@ pub extern "C" fn petrizolu_eit_drop(
     units: &mut [u32],
     filter: &[u64; 7],
 ) -> u8
-    ensures { eitDroppedTo result eit.new heads.new slots.new schedule_heads.new units.new ≡ eitDropped eit.old heads.old slots.old cells.now schedule_heads.old units.old filter.now }
+    ensures { eit_dropped_to result eit.new heads.new slots.new schedule_heads.new units.new ≡ eit_dropped eit.old heads.old slots.old cells.now schedule_heads.old units.old filter.now }
 {
     host_eit::drop(eit, heads, slots, cells, schedule_heads, units, filter)
 }
@@ -488,7 +488,7 @@ pub extern "C" fn petrizolu_eit_next(
     from: u64,
     next: &mut [u64; 3],
 ) -> u8
-    ensures { words result next.new ≡ eitNext eit.now heads.now slots.now cells.now schedule_heads.now units.now row from next.old }
+    ensures { words result next.new ≡ eit_next eit.now heads.now slots.now cells.now schedule_heads.now units.now row from next.old }
 {
     host_eit::next(
         eit,
@@ -517,7 +517,7 @@ pub extern "C" fn petrizolu_eit_next_in_schedule(
     from: u64,
     next: &mut [u64; 3],
 ) -> u8
-    ensures { words result next.new ≡ eitNextIn eit.now heads.now slots.now cells.now schedule_heads.now units.now row table from next.old }
+    ensures { words result next.new ≡ eit_next_in eit.now heads.now slots.now cells.now schedule_heads.now units.now row table from next.old }
 {
     host_eit::next_in_schedule(
         eit,
@@ -542,7 +542,7 @@ pub extern "C" fn petrizolu_events(
     list: &mut [u32],
     listed: &mut [u64; 3],
 ) -> u8
-    ensures { listing result listed.new list.new ≡ sectionListed section.now skip list.old listed.old }
+    ensures { listing result listed.new list.new ≡ section_listed section.now skip list.old listed.old }
 {
     host_showing::events(section, skip, list, listed)
 }
@@ -561,7 +561,7 @@ pub extern "C" fn petrizolu_eit_events(
     list: &mut [u32],
     listed: &mut [u64; 3],
 ) -> u8
-    ensures { listing result listed.new list.new ≡ setListed eit.now heads.now slots.now cells.now schedule_heads.now units.now row skip list.old listed.old }
+    ensures { listing result listed.new list.new ≡ set_listed eit.now heads.now slots.now cells.now schedule_heads.now units.now row skip list.old listed.old }
 {
     host_showing::eit_events(
         eit,
@@ -592,7 +592,7 @@ pub extern "C" fn petrizolu_eit_events_in_schedule(
     list: &mut [u32],
     listed: &mut [u64; 3],
 ) -> u8
-    ensures { listing result listed.new list.new ≡ tableListed eit.now heads.now slots.now cells.now schedule_heads.now units.now row table skip list.old listed.old }
+    ensures { listing result listed.new list.new ≡ table_listed eit.now heads.now slots.now cells.now schedule_heads.now units.now row table skip list.old listed.old }
 {
     host_showing::eit_events_in_schedule(
         eit,
@@ -612,7 +612,7 @@ pub extern "C" fn petrizolu_eit_events_in_schedule(
 // The calendar date of a modified Julian day in eight decimal digits; 0 where there is none.
 #[unsafe(no_mangle)]
 pub extern "C" fn petrizolu_date(day: u32) -> u32
-    ensures { result ≡ dateNumber day }
+    ensures { result ≡ date_number day }
 {
     host_showing::date(day)
 }
@@ -627,7 +627,7 @@ pub extern "C" fn petrizolu_entries(
     list: &mut [u32],
     listed: &mut [u64; 3],
 ) -> u8
-    ensures { listing result listed.new list.new ≡ sectionRead reader section.now skip list.old listed.old }
+    ensures { listing result listed.new list.new ≡ section_read reader section.now skip list.old listed.old }
 {
     host_networks::entries(reader, section, skip, list, listed)
 }
@@ -645,7 +645,7 @@ pub extern "C" fn petrizolu_sets_entries(
     list: &mut [u32],
     listed: &mut [u64; 3],
 ) -> u8
-    ensures { listing result listed.new list.new ≡ setRead reader sets.now heads.now slots.now cells.now row skip list.old listed.old }
+    ensures { listing result listed.new list.new ≡ set_read reader sets.now heads.now slots.now cells.now row skip list.old listed.old }
 {
     host_networks::sets_entries(reader, sets, heads, slots, cells, row, skip, list, listed)
 }
@@ -661,7 +661,7 @@ pub extern "C" fn petrizolu_compare(
     list: &mut [u32],
     compared: &mut [u64; 3],
 ) -> u8
-    ensures { comparison result compared.new list.new ≡ setsCompared first.now first_pid second.now second_pid list.old compared.old }
+    ensures { comparison result compared.new list.new ≡ sets_compared first.now first_pid second.now second_pid list.old compared.old }
 {
     host_guides::compare(first, first_pid, second, second_pid, list, compared)
 }
@@ -677,7 +677,7 @@ pub extern "C" fn petrizolu_compare_schedules(
     list: &mut [u32],
     compared: &mut [u64; 3],
 ) -> u8
-    ensures { comparisons result compared.new tables.new list.new ≡ schedulesCompared first.now first_pid second.now second_pid tables.old list.old compared.old }
+    ensures { comparisons result compared.new tables.new list.new ≡ schedules_compared first.now first_pid second.now second_pid tables.old list.old compared.old }
 {
     host_guides::compare_schedules(first, first_pid, second, second_pid, tables, list, compared)
 }
@@ -690,7 +690,7 @@ pub extern "C" fn petrizolu_held_by_one(
     number: u64,
     held: &mut [u64; 3],
 ) -> u8
-    ensures { words result held.new ≡ heldByOne first.now second.now number held.old }
+    ensures { words result held.new ≡ held_by_one first.now second.now number held.old }
 {
     host_guides::held_by_one(first, second, number, held)
 }
@@ -709,7 +709,7 @@ pub extern "C" fn petrizolu_log_check(
     cells: &mut [u8],
     place: &mut [u64; 1],
 ) -> u8
-    ensures { checkLeft result place.new (memory keys.new changes.new heads.new slots.new cells.new) ≡ logChecked settings.now sections.now log.now (memory keys.old changes.old heads.old slots.old cells.old) place.old }
+    ensures { check_left result place.new (memory keys.new changes.new heads.new slots.new cells.new) ≡ log_checked settings.now sections.now log.now (memory keys.old changes.old heads.old slots.old cells.old) place.old }
 {
     host_logs::check(
         settings, sections, log, keys, changes, heads, slots, cells, place,
@@ -729,7 +729,7 @@ pub extern "C" fn petrizolu_log_write(
     cells: &mut [u8],
     length: &mut [u64; 1],
 ) -> u8
-    ensures { writeLeft result length.new room.new (memory keys.new changes.new heads.new slots.new cells.new) ≡ logWritten settings.now sections.now room.old (memory keys.old changes.old heads.old slots.old cells.old) length.old }
+    ensures { write_left result length.new room.new (memory keys.new changes.new heads.new slots.new cells.new) ≡ log_written settings.now sections.now room.old (memory keys.old changes.old heads.old slots.old cells.old) length.old }
 {
     host_logs::write(
         settings, sections, room, keys, changes, heads, slots, cells, length,
@@ -747,7 +747,7 @@ pub extern "C" fn petrizolu_log_offer_record(
     bytes: &mut [u8; 13],
     told: &mut [u64; 1],
 ) -> u8
-    ensures { made result bytes.new told.new ≡ offerMade answer change_rule input pid section.now bytes.old told.old }
+    ensures { made result bytes.new told.new ≡ offer_made answer change_rule input pid section.now bytes.old told.old }
 {
     host_log_records::offer_record(answer, change_rule, input, pid, section, bytes, told)
 }
@@ -761,7 +761,7 @@ pub extern "C" fn petrizolu_log_set_record(
     bytes: &mut [u8; 10],
     told: &mut [u64; 1],
 ) -> u8
-    ensures { made result bytes.new told.new ≡ setMade input pid section.now bytes.old }
+    ensures { made result bytes.new told.new ≡ set_made input pid section.now bytes.old }
 {
     host_log_records::set_record(input, pid, section, bytes, told)
 }
@@ -769,7 +769,7 @@ pub extern "C" fn petrizolu_log_set_record(
 // The record at a place of a log: 8 writes its twelve words; 9, 38 and 39 leave them.
 #[unsafe(no_mangle)]
 pub extern "C" fn petrizolu_log_read(log: &[u8], place: u64, fields: &mut [u64; 12]) -> u8
-    ensures { words result fields.new ≡ logRead log.now place fields.old }
+    ensures { words result fields.new ≡ log_read log.now place fields.old }
 {
     host_log_records::read(log, place, fields)
 }

@@ -2,8 +2,8 @@
 -- another question: that depends on what else names cells.
 use Rattle.std.specs.Prelude.{ℕ, ◌+◌, ◌≤◌, ◌<◌, max, ◌≡◌, List, Bool, true, false, cond, ◌&&◌, get_or, ltb, eqb}
 use Rattle.laws.specs.Lists.{same_list}
-use Rattle.cells.specs.Cells.{keptLength, kept}
-use Rattle.rows.specs.Rows.{row_of, roomIn, roomRenewed, roomNew, slotsAt, last_of, versionOf}
+use Rattle.cells.specs.Cells.{kept_length, kept}
+use Rattle.rows.specs.Rows.{row_of, room_in, room_renewed, room_new, slots_at, last_of, version_of}
 use Rattle.rows.specs.declared.Entry.{Entry}
 use Rattle.rows.specs.declared.Room.{Room}
 use Rattle.store.specs.Store.{Store}
@@ -12,24 +12,24 @@ use Rattle.placing.specs.declared.Place.{Place}
 use Rattle.placing.specs.declared.Place.TheVariants.{Conflict, Repeat, Goes}
 
 -- row i has the section's key, version and last number, and the section's slot the word w: identical bytes are ignored, others conflict
-unfoldable pub placeSlot : Store → List ℕ → ℕ → ℕ → Place
-placeSlot s bytes i w =
-    cond (eqb (keptLength w) 0) (Goes (roomIn s.sets.used s.sets.evictions i))
+unfoldable pub place_slot : Store → List ℕ → ℕ → ℕ → Place
+place_slot s bytes i w =
+    cond (eqb (kept_length w) 0) (Goes (room_in s.sets.used s.sets.evictions i))
     (cond (same_list (kept s.cells s.sets.size w) bytes) (Repeat i) (Conflict i))
 
 -- row i has the section's key: a differing version or last number empties it
-unfoldable pub placeKnown : Store → Entry → List ℕ → ℕ → Place
-placeKnown s e bytes i =
-    cond (eqb (versionOf s.heads i) e.version && eqb (last_of s.heads i) e.last)
-    (placeSlot s bytes i (get_or s.slots (slotsAt i + e.number) 0))
-    (Goes (roomRenewed s.sets.used s.sets.evictions i))
+unfoldable pub place_known : Store → Entry → List ℕ → ℕ → Place
+place_known s e bytes i =
+    cond (eqb (version_of s.heads i) e.version && eqb (last_of s.heads i) e.last)
+    (place_slot s bytes i (get_or s.slots (slots_at i + e.number) 0))
+    (Goes (room_renewed s.sets.used s.sets.evictions i))
 
 -- a new key takes a further row, or at a full limit the least recently touched one
 unfoldable pub place_of : Store → Entry → List ℕ → Place
 place_of s e bytes =
     let i : ℕ = row_of s.heads e.key s.sets.used in
-    cond (ltb i s.sets.used) (placeKnown s e bytes i)
-    (Goes (roomNew s.heads s.sets.limit s.sets.used s.sets.evictions))
+    cond (ltb i s.sets.used) (place_known s e bytes i)
+    (Goes (room_new s.heads s.sets.limit s.sets.used s.sets.evictions))
 
 -- where a section may go: a row in use, or the next one
 pub record RoomOk (s : Sets) (r : Room) : Type 0 where

@@ -1,11 +1,11 @@
 // Where a section goes among the rows of a collector: it is in its slot already, it conflicts with what is there, or it is kept, and then in
 // which row. Nothing is written, and no cell is looked for: the set collector and the EIT collector differ in what else names cells.
 ghost use Rattle.std.specs.Prelude.{◌≡◌, true, ◌<◌};
-ghost use Rattle.cells.specs.Cells.{slotWhole};
-ghost use Rattle.rows.specs.Rows.{roomIn, roomRenewed};
+ghost use Rattle.cells.specs.Cells.{slot_whole};
+ghost use Rattle.rows.specs.Rows.{room_in, room_renewed};
 ghost use Rattle.arrivals.specs.Arrivals.{Numbered};
 ghost use Rattle.store.specs.Store.{store, Whole};
-ghost use Rattle.placing.specs.Places.{placeSlot, placeKnown, place_of};
+ghost use Rattle.placing.specs.Places.{place_slot, place_known, place_of};
 
 use rows::{Entry, Room};
 use store::Sets;
@@ -19,7 +19,7 @@ pub enum Place {
 
 // Row i as it is.
 pub fn room_in(used: usize, evictions: u64, i: usize) -> Room
-    ensures { result ≡ roomIn used evictions i }
+    ensures { result ≡ room_in used evictions i }
 {
     Room {
         row: i,
@@ -31,7 +31,7 @@ pub fn room_in(used: usize, evictions: u64, i: usize) -> Room
 
 // Row i begun anew.
 pub fn room_renewed(used: usize, evictions: u64, i: usize) -> Room
-    ensures { result ≡ roomRenewed used evictions i }
+    ensures { result ≡ room_renewed used evictions i }
 {
     Room {
         row: i,
@@ -52,15 +52,15 @@ fn place_slot(
     w: u32,
 ) -> Place
     requires whole { Whole sets heads.now slots.now cells.now }
-    requires w_value { slotWhole sets.count sets.size w ≡ true }
-    ensures { result ≡ placeSlot (store sets heads.now slots.now cells.now) bytes.now i w }
+    requires w_value { slot_whole sets.count sets.size w ≡ true }
+    ensures { result ≡ place_slot (store sets heads.now slots.now cells.now) bytes.now i w }
 {
     let n = cells::kept_length(w);
     let at = cells::cell_number(w) * sets.size;
     if n == 0 {
         return Place::Goes(room_in(sets.used, sets.evictions, i));
     }
-    if cells::same_bytes(&cells[at..at + n], bytes) {
+    if cells::same_bytes_lem(&cells[at..at + n], bytes) {
         Place::Repeat(i)
     } else {
         Place::Conflict(i)
@@ -80,7 +80,7 @@ pub fn place_known(
     requires whole { Whole sets heads.now slots.now cells.now }
     requires numbered { Numbered e }
     requires i_lt_used { i < sets.used }
-    ensures { result ≡ placeKnown (store sets heads.now slots.now cells.now) e bytes.now i }
+    ensures { result ≡ place_known (store sets heads.now slots.now cells.now) e bytes.now i }
 {
     let same = (rows::version(heads, i) == e.version) & (rows::last(heads, i) == e.last);
     if same {

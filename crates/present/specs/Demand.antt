@@ -7,7 +7,7 @@ use Rattle.std.proofs.Math.Option.{some}
 use Rattle.rules_shared.specs.Cells.{Settings}
 use Rattle.laws.specs.Runs.{answers, At, Never, GivenBy}
 use Rattle.rules_eit.specs.Keys.{Kind, kind_of}
-use Rattle.rules_eit.specs.Segments.{segmentOf, segmentEnd}
+use Rattle.rules_eit.specs.Segments.{segment_of, segment_end}
 use Rattle.answers.specs.declared.Refusal.TheVariants as refusal
 use Rattle.rules_eit.specs.Rules.{Section, key_of, Call, clear, offer, Whole, Answer, refused, handout, tells, acts, opened}
 
@@ -17,8 +17,8 @@ run o calls = answers (tells o) (acts o) opened calls
 
 -- "equal cell size, one with a key limit no larger than the other's"
 pub record Smaller (small large : Settings) : Type 0 where
-  pub sameCells : small.cellSize ≡ large.cellSize
-  pub noLarger : small.limit ≤ large.limit
+  pub same_cells : small.cell_size ≡ large.cell_size
+  pub no_larger : small.limit ≤ large.limit
 
 -- "refuses no section as conflicting": 22 is no answer
 abbrev pub NoConflict : List Answer → Type 0
@@ -28,17 +28,17 @@ NoConflict as' = Never (refused refusal.Conflict) as'
 pub record Accepted (o : Settings) (calls : List Call) (x : Section) (kind : Kind) : Type 0 where
   pub at : ℕ
   pub call : At calls at (offer x)
-  pub kinded : kind_of x.tableId ≡ some kind
-  pub short : length x.bytes ≤ o.cellSize
+  pub kinded : kind_of x.table_id_of ≡ some kind
+  pub short : length x.bytes ≤ o.cell_size
 
 -- ".. of one segment in the same set, version and last section number give the same segment_last_section_number"
 abbrev pub SegmentsAgree : Settings → List Call → Type 0
 SegmentsAgree o calls = (x y : Section) (k j : Kind) → Accepted o calls x k → Accepted o calls y j → key_of x k ≡ key_of y j
-    → x.version ≡ y.version → x.last ≡ y.last → segmentOf x.number ≡ segmentOf y.number → x.segmentLast ≡ y.segmentLast
+    → x.version ≡ y.version → x.last ≡ y.last → segment_of x.number ≡ segment_of y.number → x.segment_last ≡ y.segment_last
 
 -- ".. and none has a section number above the segment end " (docs/RULES.md, "Collectors")
 abbrev pub InsideSegments : Settings → List Call → Type 0
-InsideSegments o calls = (x : Section) (k : Kind) → Accepted o calls x k → x.number ≤ segmentEnd (8 * segmentOf x.number) x.segmentLast x.last
+InsideSegments o calls = (x : Section) (k : Kind) → Accepted o calls x k → x.number ≤ segment_end (8 * segment_of x.number) x.segment_last x.last
 
 -- things may be dropped by filter: that nothing is need not be asked
 abbrev pub PresentFollowing : Type 0

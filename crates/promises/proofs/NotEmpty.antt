@@ -5,22 +5,22 @@ use mathlib.Core.Path.{◌≡◌, refl, ap, ◌∙◌}
 use mathlib.Core.List.{List, [], ◌∷◌, map}
 use native.Mathlib.Omega.{arith}
 use lib.ListN.{get_elem?}
-use Rattle.laws.specs.Lists.{every, firstFrom}
+use Rattle.laws.specs.Lists.{every, first_from}
 use Rattle.laws.proofs.Facts.{any_of}
 use Rattle.rules_shared.specs.Same.{Bytes}
 use Rattle.rules_shared.specs.Touch.{untouched}
-use Rattle.crc.specs.Crc.{crcFrom, bitsIn, bitIn}
-use Rattle.section.specs.Header.{storedCrc, workedCrc, headerOf}
-use Rattle.section.specs.Judged.{malformed, collectedLong, collectedOf}
+use Rattle.crc.specs.Crc.{crc_from, bits_in, bit_in}
+use Rattle.section.specs.Header.{stored_crc, worked_crc, header_of}
+use Rattle.section.specs.Judged.{malformed, collected_long, collected_of}
 use Rattle.rules_sets.specs.Rules.{Call, Whole, Answer, nothing, handout, number_of}
 use Rattle.rules_sets.proofs.Examples.{replies}
-use Rattle.ticks.specs.Order.{listed, at_tick, inOrder, rowsSeen}
-use Rattle.ticks.specs.Slots.{up_from, cellsSeen}
+use Rattle.ticks.specs.Order.{listed, at_tick, in_order, rows_seen}
+use Rattle.ticks.specs.Slots.{up_from, cells_seen}
 use Rattle.sets.specs.Store.{opened_of}
-use Rattle.ties_sets.specs.View.{readsAs, readSection, reads, seen}
-use Rattle.promises.specs.Demand3.{Collector, StartsEmpty, EqualCellSize, LimitNoLarger, Calls, SectionsOfBytes, answersOf, RefusesNoneAsConflicting, RefusesNoneForItsStore, HandsOut}
+use Rattle.ties_sets.specs.View.{reads_as, read_section, reads, seen}
+use Rattle.promises.specs.Demand3.{Collector, StartsEmpty, EqualCellSize, LimitNoLarger, Calls, SectionsOfBytes, answers_of, RefusesNoneAsConflicting, RefusesNoneForItsStore, HandsOut}
 use Rattle.promises.proofs.Demand3.{read_all}
-use Rattle.promises.proofs.Runs.{numbered, on, said, set-of, bytesIn, of-bytes, collector, shown, runs, no-conflict, unrefused}
+use Rattle.promises.proofs.Runs.{numbered, on, said, set_of, bytes_in, of_bytes, collector, shown, runs, no_conflict, unrefused}
 
 -- ---- the sections: each twelve bytes, the last four the CRC
 
@@ -43,18 +43,18 @@ abbrev read : List Call
 read = said 0x40 0 1 A₀ ∷ said 0x42 0 0 B₀ ∷ said 0x40 1 1 A₁ ∷ said 0x40 0 1 A₀ ∷ []
 
 reads_so : read_all calls ≡ read
-unfolding reads readSection readsAs collectedOf collectedLong malformed headerOf storedCrc workedCrc crcFrom bitsIn bitIn
+unfolding reads read_section reads_as collected_of collected_long malformed header_of stored_crc worked_crc crc_from bits_in bit_in
 reads_so = refl
 
-bytes-so : bytesIn given ≡ mathlib.Core.Bool.true
+bytes_so : bytes_in given ≡ mathlib.Core.Bool.true
 unfolding every
-bytes-so = refl
+bytes_so = refl
 
-abbrev pub set-A : Whole
-set-A = set-of 0x40 1 (A₀ ∷ A₁ ∷ [])
+abbrev pub set_A : Whole
+set_A = set_of 0x40 1 (A₀ ∷ A₁ ∷ [])
 
-abbrev pub set-B : Whole
-set-B = set-of 0x42 0 (B₀ ∷ [])
+abbrev pub set_B : Whole
+set_B = set_of 0x42 0 (B₀ ∷ [])
 
 -- ---- the collectors, with cells of 16 bytes
 
@@ -64,65 +64,65 @@ smaller = collector 1 16 2
 abbrev pub larger : Collector
 larger = collector 2 16 3
 
-smaller-opened : StartsEmpty smaller
+smaller_opened : StartsEmpty smaller
 unfolding opened_of
-smaller-opened = record { opened = record { opened = refl; none = refl }; evictions = refl; clock = refl }
+smaller_opened = record { opened = record { opened = refl; none = refl }; evictions = refl; clock = refl }
 
-larger-opened : StartsEmpty larger
+larger_opened : StartsEmpty larger
 unfolding opened_of
-larger-opened = record { opened = record { opened = refl; none = refl }; evictions = refl; clock = refl }
+larger_opened = record { opened = record { opened = refl; none = refl }; evictions = refl; clock = refl }
 
-smaller-seen : seen smaller ≡ shown 1 16 2
-unfolding seen untouched rowsSeen inOrder listed at_tick firstFrom cellsSeen up_from
-smaller-seen = refl
+smaller_seen : seen smaller ≡ shown 1 16 2
+unfolding seen untouched rows_seen in_order listed at_tick first_from cells_seen up_from
+smaller_seen = refl
 
-larger-seen : seen larger ≡ shown 2 16 3
-unfolding seen untouched rowsSeen inOrder listed at_tick firstFrom cellsSeen up_from
-larger-seen = refl
+larger_seen : seen larger ≡ shown 2 16 3
+unfolding seen untouched rows_seen in_order listed at_tick first_from cells_seen up_from
+larger_seen = refl
 
 -- ---- the answers
 
-by-smaller : replies (shown 1 16 2) read ≡ nothing ∷ handout set-B ∷ nothing ∷ handout set-A ∷ []
+by_smaller : replies (shown 1 16 2) read ≡ nothing ∷ handout set_B ∷ nothing ∷ handout set_A ∷ []
 unfolding replies
-by-smaller = refl
+by_smaller = refl
 
-by-larger : replies (shown 2 16 3) read ≡ nothing ∷ handout set-B ∷ handout set-A ∷ nothing ∷ []
+by_larger : replies (shown 2 16 3) read ≡ nothing ∷ handout set_B ∷ handout set_A ∷ nothing ∷ []
 unfolding replies
-by-larger = refl
+by_larger = refl
 
-pub smaller-answers : answersOf smaller calls ≡ nothing ∷ handout set-B ∷ nothing ∷ handout set-A ∷ []
-smaller-answers = runs smaller smaller-opened (shown 1 16 2) smaller-seen given bytes-so read reads_so ∙ by-smaller
+pub smaller_answers : answers_of smaller calls ≡ nothing ∷ handout set_B ∷ nothing ∷ handout set_A ∷ []
+smaller_answers = runs smaller smaller_opened (shown 1 16 2) smaller_seen given bytes_so read reads_so ∙ by_smaller
 
-pub larger-answers : answersOf larger calls ≡ nothing ∷ handout set-B ∷ handout set-A ∷ nothing ∷ []
-larger-answers = runs larger larger-opened (shown 2 16 3) larger-seen given bytes-so read reads_so ∙ by-larger
+pub larger_answers : answers_of larger calls ≡ nothing ∷ handout set_B ∷ handout set_A ∷ nothing ∷ []
+larger_answers = runs larger larger_opened (shown 2 16 3) larger_seen given bytes_so read reads_so ∙ by_larger
 
 -- ---- what demand 3 asks holds, and the smaller hands out
 
 pub record Holds : Type 0 where
-  pub smaller-empty : StartsEmpty smaller
-  pub larger-empty : StartsEmpty larger
-  pub equal-cell-size : EqualCellSize smaller larger
-  pub limit-no-larger : LimitNoLarger smaller larger
-  pub sections-of-bytes : SectionsOfBytes calls
-  pub larger-no-conflict : RefusesNoneAsConflicting larger calls
-  pub smaller-unrefused : RefusesNoneForItsStore smaller calls
-  pub larger-unrefused : RefusesNoneForItsStore larger calls
-  pub hands_out : HandsOut smaller calls 3 set-A
+  pub smaller_empty : StartsEmpty smaller
+  pub larger_empty : StartsEmpty larger
+  pub equal_cell_size : EqualCellSize smaller larger
+  pub limit_no_larger : LimitNoLarger smaller larger
+  pub sections_of_bytes : SectionsOfBytes calls
+  pub larger_no_conflict : RefusesNoneAsConflicting larger calls
+  pub smaller_unrefused : RefusesNoneForItsStore smaller calls
+  pub larger_unrefused : RefusesNoneForItsStore larger calls
+  pub hands_out : HandsOut smaller calls 3 set_A
 
 pub holds : Holds
 unfolding any_of numbered number_of
 holds = record {
-  smaller-empty = smaller-opened;
-  larger-empty = larger-opened;
-  equal-cell-size = refl;
-  limit-no-larger = omega arith;
-  sections-of-bytes = of-bytes given bytes-so;
-  larger-no-conflict = no-conflict larger calls _ larger-answers refl;
-  smaller-unrefused = unrefused smaller calls _ smaller-answers refl;
-  larger-unrefused = unrefused larger calls _ larger-answers refl;
-  hands_out = ap (λ (as' : List Answer). get_elem? as' 3) smaller-answers;
+  smaller_empty = smaller_opened;
+  larger_empty = larger_opened;
+  equal_cell_size = refl;
+  limit_no_larger = omega arith;
+  sections_of_bytes = of_bytes given bytes_so;
+  larger_no_conflict = no_conflict larger calls _ larger_answers refl;
+  smaller_unrefused = unrefused smaller calls _ smaller_answers refl;
+  larger_unrefused = unrefused larger calls _ larger_answers refl;
+  hands_out = ap (λ (as' : List Answer). get_elem? as' 3) smaller_answers;
 }
 
 -- not at that section: the larger handed it out at the one before
-pub one-call-earlier : HandsOut larger calls 2 set-A
-one-call-earlier = ap (λ (as' : List Answer). get_elem? as' 2) larger-answers
+pub one_call_earlier : HandsOut larger calls 2 set_A
+one_call_earlier = ap (λ (as' : List Answer). get_elem? as' 2) larger_answers

@@ -11,7 +11,7 @@
 use Rattle.std.specs.Prelude.{ℕ, ◌≤◌, ◌≡◌, List}
 use Rattle.laws.specs.Runs.{answers, At, Never, GivenBy}
 use Rattle.rules_shared.specs.Same.{Bytes}
-use Rattle.rules_sets.specs.Rules.{Whole, Answer, handout, conflict, notWhole, counterFull, noCell}
+use Rattle.rules_sets.specs.Rules.{Whole, Answer, handout, conflict, not_whole, counter_full, no_cell}
 use Rattle.section.specs.declared.ids.MaybePid.TheVariants as maybe
 use Rattle.store.specs.Store.{Store}
 use Rattle.sets.specs.History as sets
@@ -63,28 +63,28 @@ abbrev pub SectionsOfBytes : Calls → Type 0
 SectionsOfBytes calls = (t : ℕ) (i : Given) → At calls t i → OfBytes i
 
 -- ".. and nothing else writes to their stores": the answers where each call finds the memory as the call before it left it
-abbrev pub answersOf : Collector → Calls → List Answer
-answersOf s calls = answers tells acts s calls
+abbrev pub answers_of : Collector → Calls → List Answer
+answers_of s calls = answers tells acts s calls
 
 -- "the larger refuses no section as conflicting": 22 is no answer
 abbrev pub RefusesNoneAsConflicting : Collector → Calls → Type 0
-RefusesNoneAsConflicting s calls = Never conflict (answersOf s calls)
+RefusesNoneAsConflicting s calls = Never conflict (answers_of s calls)
 
 -- "neither refuses for want of cells, a full counter or a store not whole": neither 21 nor 11 nor 10 is an answer
 pub record RefusesNoneForItsStore (s : Collector) (calls : Calls) : Type 0 where
-  pub cells : Never noCell (answersOf s calls)
-  pub counter : Never counterFull (answersOf s calls)
-  pub wholeness : Never notWhole (answersOf s calls)
+  pub cells : Never no_cell (answers_of s calls)
+  pub counter : Never counter_full (answers_of s calls)
+  pub wholeness : Never not_whole (answers_of s calls)
 
 -- "each set the smaller hands out": the answer to call number t is 5, with this set: its key, its version, its last_section_number and its sections'
 -- bytes, in section order
 abbrev pub HandsOut : Collector → Calls → ℕ → Whole → Type 0
-HandsOut s calls t set = At (answersOf s calls) t (handout set)
+HandsOut s calls t set = At (answers_of s calls) t (handout set)
 
 -- ".. has, since the last clear, been handed out by the larger at that section or an earlier one, byte for byte": some call, number t or before it, was
 -- answered 5 with the same set, and no call from that one to number t is a clear
 abbrev pub HandedOutSinceTheLastClear : Collector → Calls → ℕ → Whole → Type 0
-HandedOutSinceTheLastClear s calls t set = GivenBy clears handout (answersOf s calls) calls t set
+HandedOutSinceTheLastClear s calls t set = GivenBy clears handout (answers_of s calls) calls t set
 
 abbrev pub Demand3 : Type 0
 Demand3 = (smaller larger : Collector) → StartsEmpty smaller → StartsEmpty larger → EqualCellSize smaller larger → LimitNoLarger smaller larger

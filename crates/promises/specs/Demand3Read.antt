@@ -2,20 +2,20 @@
 -- as `next_section` of the crate sets and `section_part` of the crate readers are proved to give them.
 -- Assumes nothing.
 use Rattle.std.specs.Prelude.{ℕ, suc, ◌≤◌, ◌≡◌, List, take}
-use Rattle.laws.specs.Runs.{answers, storeAfter, At, Without}
+use Rattle.laws.specs.Runs.{answers, store_after, At, Without}
 use Rattle.answers.specs.declared.Reply.TheVariants.{No}
 use Rattle.rules_sets.specs.Rules.{Whole}
-use Rattle.rows.specs.Rows.{key_at, versionOf, last_of}
+use Rattle.rows.specs.Rows.{key_at, version_of, last_of}
 use Rattle.reading.specs.Reading.{Reads}
 use Rattle.sets_settle.specs.Settle.{Handed, Told, handed}
 use Rattle.sets.specs.Store.{next_of}
 use Rattle.sets.specs.History.{called}
-use Rattle.ties_sets.specs.View.{keyShown}
+use Rattle.ties_sets.specs.View.{key_shown}
 use Rattle.promises.specs.Demand3.{Collector, StartsEmpty, EqualCellSize, LimitNoLarger, clears, made, acts, Calls, SectionsOfBytes, RefusesNoneAsConflicting, RefusesNoneForItsStore}
 
 -- the collector with its memory as call number t left it
 abbrev pub after : Collector → Calls → ℕ → Collector
-after s calls t = storeAfter acts s (take (suc t) calls)
+after s calls t = store_after acts s (take (suc t) calls)
 
 -- call number t was answered 5 and told this row
 abbrev pub TellsRow : Collector → Calls → ℕ → (row : ℕ) → Type 0
@@ -26,8 +26,8 @@ TellsRow s calls t row = (h : Handed) × At (answers (λ c i. (called c (made i)
 pub record ReadsOut (s : Collector) (calls : Calls) (t : ℕ) (set : Whole) : Type 0 where
   pub row : ℕ
   pub told : TellsRow s calls t row
-  pub key : keyShown (key_at (after s calls t).heads row) ≡ set.key
-  pub version : versionOf (after s calls t).heads row ≡ set.version
+  pub key : key_shown (key_at (after s calls t).heads row) ≡ set.key
+  pub version : version_of (after s calls t).heads row ≡ set.version
   pub last : last_of (after s calls t).heads row ≡ set.last
   pub sections : Reads (next_of (after s calls t) row) (after s calls t).cells 0 set.sections No
 

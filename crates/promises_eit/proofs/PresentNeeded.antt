@@ -10,38 +10,38 @@ use native.Mathlib.Omega.{arith}
 use native.Mathlib.Nat.{le_of_eq}
 use lib.Dec.{eqb, ltb}
 use lib.ListN.{length, get_elem?, replicate, drop as skip}
-use Rattle.laws.specs.Lists.{every, firstFrom}
-use Rattle.laws.proofs.Tests.{none≢some, and-true}
-use Rattle.laws.proofs.Facts.{any_of, not-among}
-use Rattle.rules_shared.specs.Same.{Bytes, sameBytes}
-use Rattle.rules_shared.specs.Slots.{someHeld, everyHeld, onSlots}
-use Rattle.rules_shared.specs.Touch.{someRow, everyRow, seenAs, untouched, onOrder}
-use Rattle.rules_shared.specs.Row.{onRow}
-use Rattle.rules_shared.specs.Cells.{bytes_of, names, lowest, write, placeNew, placeHeld, place, roomWhole, heldWhole, atEnd}
+use Rattle.laws.specs.Lists.{every, first_from}
+use Rattle.laws.proofs.Tests.{none≢some, and_true}
+use Rattle.laws.proofs.Facts.{any_of, not_among}
+use Rattle.rules_shared.specs.Same.{Bytes, same_bytes}
+use Rattle.rules_shared.specs.Slots.{some_held, every_held, on_slots}
+use Rattle.rules_shared.specs.Touch.{some_row, every_row, seen_as, untouched, on_order}
+use Rattle.rules_shared.specs.Row.{on_row}
+use Rattle.rules_shared.specs.Cells.{bytes_of, names, lowest, write, place_new, place_held, place, room_whole, held_whole, at_end}
 use Rattle.laws.specs.Runs.{answers, At, Never}
 use Rattle.rules_shared.specs.Cells.{Settings}
-use Rattle.crc.specs.Crc.{crcFrom, bitsIn, bitIn}
-use Rattle.section.specs.Header.{storedCrc, workedCrc, headerOf}
-use Rattle.section.specs.Judged.{malformed, collectedLong, collectedOf}
-use Rattle.eit_section.specs.Eit.{eitAs, eitOf}
-use Rattle.eit_section.specs.Segment.{segmentEnd}
-use Rattle.laws.specs.Entries.{wholeEntries, entriesIn}
-use Rattle.answers.specs.Answers.{refusalNo}
+use Rattle.crc.specs.Crc.{crc_from, bits_in, bit_in}
+use Rattle.section.specs.Header.{stored_crc, worked_crc, header_of}
+use Rattle.section.specs.Judged.{malformed, collected_long, collected_of}
+use Rattle.eit_section.specs.Eit.{eit_as, eit_of}
+use Rattle.eit_section.specs.Segment.{segment_end}
+use Rattle.laws.specs.Entries.{whole_entries, entries_in}
+use Rattle.answers.specs.Answers.{refusal_no}
 use Rattle.answers.specs.declared.Refusal.TheVariants as refusal
-use Rattle.rules_eit.specs.Keys.{presentActual}
+use Rattle.rules_eit.specs.Keys.{present_actual}
 use Rattle.rules_eit.specs.Rules.{Section, Call, clear, drop, refuse, offer, Whole, Answer, done, refused, nothing, handout, schedule, number_of}
-use Rattle.rules_eit.specs.Cells.{Store as Shown, onCopy, onSchedule, onEit, onWhole, onGuide, onAnswer, setTakes, copyTakes, scheduleTakes, taken, storeWhole, anyAtEnd, ended, shows, rest, room_for, place_of, carry, pushIn, admitIn, offerIn, dropIn, good, guarded, call, callTells, callActs}
+use Rattle.rules_eit.specs.Cells.{Store as Shown, on_copy, on_schedule, on_eit, on_whole, on_guide, on_answer, set_takes, copy_takes, schedule_takes, taken, store_whole, any_at_end, ended, shows, rest, room_for, place_of, carry, push_in, admit_in, offer_in, drop_in, good, guarded, call, call_tells, call_acts}
 use Rattle.rules_eit.proofs.Examples.{gives}
-use Rattle.ticks.specs.Order.{listed, at_tick, inOrder, rowsSeen}
-use Rattle.ticks.specs.Slots.{up_from, cellsSeen}
+use Rattle.ticks.specs.Order.{listed, at_tick, in_order, rows_seen}
+use Rattle.ticks.specs.Slots.{up_from, cells_seen}
 use Rattle.eit_state.specs.State.{store, asked}
 use Rattle.eit.specs.Store.{opened_of}
 use Rattle.ties_eit.specs.View as ties
-use Rattle.ties_eit.specs.View.{settingsOf, sectionOf, readsEit, readsAs, readSection, seen}
-use Rattle.ties_eit.proofs.History.{opened-reached, acts-settings}
-use Rattle.promises.proofs.Runs.{bytesIn, byte-test}
-use Rattle.promises_eit.specs.PresentFollowing.{Collector, StartsEmpty, EqualCellSize, LimitNoLarger, Given, section, drops, made, Fitting, reads, acts, Calls, CallsFit, answersOf, RefusesNoneAsConflicting, RefusesNoneForItsStore, NothingDropped, Accepted, OfOneSegment, SegmentsAgree, NoneAboveItsSegment, HandsOut, HandedOutSinceTheLastClear}
-use Rattle.promises_eit.proofs.PresentFollowing.{same-answers}
+use Rattle.ties_eit.specs.View.{settings_of, section_of, reads_eit, reads_as, read_section, seen}
+use Rattle.ties_eit.proofs.History.{opened_reached, acts_settings}
+use Rattle.promises.proofs.Runs.{bytes_in, byte_test}
+use Rattle.promises_eit.specs.PresentFollowing.{Collector, StartsEmpty, EqualCellSize, LimitNoLarger, Given, section, drops, made, Fitting, reads, acts, Calls, CallsFit, answers_of, RefusesNoneAsConflicting, RefusesNoneForItsStore, NothingDropped, Accepted, OfOneSegment, SegmentsAgree, NoneAboveItsSegment, HandsOut, HandedOutSinceTheLastClear}
+use Rattle.promises_eit.proofs.PresentFollowing.{same_answers}
 
 -- ---- sections: present/following actual, PID 0x12, transport stream 1, network 1, version 0, current
 
@@ -69,37 +69,37 @@ z0 = 0x4E ∷ 0xB0 ∷ 0x0F ∷ 0x00 ∷ 0x01 ∷ 0xC1 ∷ 0x00 ∷ 0x01 ∷ 0x0
 abbrev on : Bytes → Given
 on bytes = section 0 0x12 bytes
 
-abbrev says : (service number last segmentLast lastTable : ℕ) → Bytes → Section
-says service number last segmentLast lastTable bytes = record {
+abbrev says : (service number last segment_last last_table : ℕ) → Bytes → Section
+says service number last segment_last last_table bytes = record {
   from = record { input = 0; pid = 0x12 };
-  tableId = 0x4E;
-  serviceId = service;
-  transportStreamId = 1;
-  originalNetworkId = 1;
-  currentNext = true;
+  table_id_of = 0x4E;
+  service_id = service;
+  transport_stream_id = 1;
+  original_network_id = 1;
+  current_next_of = true;
   version = 0;
   number = number;
   last = last;
-  segmentLast = segmentLast;
-  lastTable = lastTable;
+  segment_last = segment_last;
+  last_table = last_table;
   bytes = bytes;
 }
 
-abbrev said : (service number last segmentLast lastTable : ℕ) → Bytes → Call
-said service number last segmentLast lastTable bytes = offer (says service number last segmentLast lastTable bytes)
+abbrev said : (service number last segment_last last_table : ℕ) → Bytes → Call
+said service number last segment_last last_table bytes = offer (says service number last segment_last last_table bytes)
 
-abbrev set-of : (service last : ℕ) → List Bytes → Whole
-set-of service last sections = record {
-  key = record { schedule = record { from = record { input = 0; pid = 0x12 }; kind = presentActual; serviceId = service; transportStreamId = 1; originalNetworkId = 1; currentNext = true }; tableId = 0x4E };
+abbrev set_of : (service last : ℕ) → List Bytes → Whole
+set_of service last sections = record {
+  key = record { schedule = record { from = record { input = 0; pid = 0x12 }; kind = present_actual; service_id = service; transport_stream_id = 1; original_network_id = 1; current_next_of = true }; table_id_of = 0x4E };
   version = 0;
   last = last;
   sections = sections;
 }
 
-fit : (bs : List Bytes) → bytesIn bs ≡ true → CallsFit (map on bs)
+fit : (bs : List Bytes) → bytes_in bs ≡ true → CallsFit (map on bs)
 fit [] h t i e = absurd (none≢some refl e)
-fit (b ∷ bs) h zero i e = subst Fitting (some-injective (on b) i e) (byte-test b (and-true (every (λ (x : ℕ). ltb x 256) b) (bytesIn bs) h).0)
-fit (b ∷ bs) h (suc t) i e = fit bs (and-true (every (λ (x : ℕ). ltb x 256) b) (bytesIn bs) h).1 t i e
+fit (b ∷ bs) h zero i e = subst Fitting (some-injective (on b) i e) (byte_test b (and_true (every (λ (x : ℕ). ltb x 256) b) (bytes_in bs) h).0)
+fit (b ∷ bs) h (suc t) i e = fit bs (and_true (every (λ (x : ℕ). ltb x 256) b) (bytes_in bs) h).1 t i e
 
 none_dropped : (bs : List Bytes) → NothingDropped (map on bs)
 none_dropped [] f t e = none≢some refl e
@@ -123,8 +123,8 @@ at_read (j ∷ js) (suc t) i e = at_read js t i e
 pick : (P : Section → Type 0) (x y : Section) → offer y ≡ offer x → P y → P x
 pick P x y e p = let q : y ≡ x = cc in subst P q p
 
-accepted-among : (P : Section → Type 0) (s : Collector) (calls : Calls) (as' : List Call) → map reads calls ≡ as' → EachOffer P as' → (x : Section) → Accepted s calls x → P x
-accepted-among P s calls as' e all x a =
+accepted_among : (P : Section → Type 0) (s : Collector) (calls : Calls) (as' : List Call) → map reads calls ≡ as' → EachOffer P as' → (x : Section) → Accepted s calls x → P x
+accepted_among P s calls as' e all x a =
     go as' a.at (subst (λ (l : List Call). At l a.at (offer x)) e (subst (λ (i : Call). At (map reads calls) a.at i) a.says (at_read calls a.at a.call a.given))) all
   where
     go : (is : List Call) (t : ℕ) → At is t (offer x) → EachOffer P is → P x
@@ -139,11 +139,11 @@ accepted-among P s calls as' e all x a =
     go (refuse n b ∷ is) (suc t) h p = go is t h p
 
 -- all give the same segment_last_section_number
-agreeing : (m : ℕ) (s : Collector) (calls : Calls) (as' : List Call) → map reads calls ≡ as' → EachOffer (λ (x : Section). x.segmentLast ≡ m) as' → SegmentsAgree s calls
-agreeing m s calls as' e all x y a b o = accepted-among _ s calls as' e all x a ∙ sym (accepted-among _ s calls as' e all y b)
+agreeing : (m : ℕ) (s : Collector) (calls : Calls) (as' : List Call) → map reads calls ≡ as' → EachOffer (λ (x : Section). x.segment_last ≡ m) as' → SegmentsAgree s calls
+agreeing m s calls as' e all x y a b o = accepted_among _ s calls as' e all x a ∙ sym (accepted_among _ s calls as' e all y b)
 
 abbrev Within : Section → Type 0
-Within x = x.number ≤ segmentEnd (8 * (x.number / 8)) x.segmentLast x.last
+Within x = x.number ≤ segment_end (8 * (x.number / 8)) x.segment_last x.last
 
 -- ---- collectors over memory that held sevens, with three cells of 20 bytes
 
@@ -151,32 +151,32 @@ abbrev collector : ℕ → Collector
 collector limit = store (asked limit 20 3) (replicate (limit * 12) 7) (replicate (limit * 288) 7) (replicate 60 7) (replicate (limit * 12) 7) (replicate (limit * 4608) 7)
 
 abbrev shown : ℕ → Shown
-shown limit = record { settings = record { limit = limit; cellSize = 20 }; eit = record { sets = untouched; schedules = untouched }; cells = replicate 3 (replicate 20 7); clock = 0 }
+shown limit = record { settings = record { limit = limit; cell_size = 20 }; eit = record { sets = untouched; schedules = untouched }; cells = replicate 3 (replicate 20 7); clock = 0 }
 
-opened-1 : StartsEmpty (collector 1)
+opened_1 : StartsEmpty (collector 1)
 unfolding opened_of
-opened-1 = record { opened = refl; sets = refl; evictions = refl; clock = refl; schedules = refl; schedule-evictions = refl }
+opened_1 = record { opened = refl; sets = refl; evictions = refl; clock = refl; schedules = refl; schedule_evictions = refl }
 
-opened-2 : StartsEmpty (collector 2)
+opened_2 : StartsEmpty (collector 2)
 unfolding opened_of
-opened-2 = record { opened = refl; sets = refl; evictions = refl; clock = refl; schedules = refl; schedule-evictions = refl }
+opened_2 = record { opened = refl; sets = refl; evictions = refl; clock = refl; schedules = refl; schedule_evictions = refl }
 
-seen-1 : seen (collector 1) ≡ shown 1
-unfolding seen untouched rowsSeen inOrder listed at_tick firstFrom cellsSeen up_from
-seen-1 = refl
+seen_1 : seen (collector 1) ≡ shown 1
+unfolding seen untouched rows_seen in_order listed at_tick first_from cells_seen up_from
+seen_1 = refl
 
-seen-2 : seen (collector 2) ≡ shown 2
-unfolding seen untouched rowsSeen inOrder listed at_tick firstFrom cellsSeen up_from
-seen-2 = refl
+seen_2 : seen (collector 2) ≡ shown 2
+unfolding seen untouched rows_seen in_order listed at_tick first_from cells_seen up_from
+seen_2 = refl
 
 unfoldable replies : Shown → List Call → List Answer
-unfolding gives someHeld everyHeld onSlots someRow everyRow seenAs onOrder onRow bytes_of names lowest write placeNew placeHeld place roomWhole heldWhole atEnd onCopy onSchedule onEit onWhole onGuide onAnswer setTakes copyTakes scheduleTakes taken storeWhole anyAtEnd ended shows rest room_for place_of carry pushIn admitIn offerIn dropIn good guarded call callTells callActs
-replies s calls = answers callTells callActs s calls
+unfolding gives some_held every_held on_slots some_row every_row seen_as on_order on_row bytes_of names lowest write place_new place_held place room_whole held_whole at_end on_copy on_schedule on_eit on_whole on_guide on_answer set_takes copy_takes schedule_takes taken store_whole any_at_end ended shows rest room_for place_of carry push_in admit_in offer_in drop_in good guarded call call_tells call_acts
+replies s calls = answers call_tells call_acts s calls
 
-runs : (s : Collector) → StartsEmpty s → (v : Shown) → seen s ≡ v → (bs : List Bytes) → bytesIn bs ≡ true → (is : List Call) → map reads (map on bs) ≡ is → answersOf s (map on bs) ≡ replies v is
+runs : (s : Collector) → StartsEmpty s → (v : Shown) → seen s ≡ v → (bs : List Bytes) → bytes_in bs ≡ true → (is : List Call) → map reads (map on bs) ≡ is → answers_of s (map on bs) ≡ replies v is
 unfolding replies
 runs s o v e bs b is r =
-    same-answers (map on bs) (fit bs b) s (opened-reached s o) ∙ ap (λ (q : Shown). answers callTells callActs q (map reads (map on bs))) e ∙ ap (answers callTells callActs v) r
+    same_answers (map on bs) (fit bs b) s (opened_reached s o) ∙ ap (λ (q : Shown). answers call_tells call_acts q (map reads (map on bs))) e ∙ ap (answers call_tells call_acts v) r
 
 -- 10, 11 and 21
 abbrev memory : Answer → Bool
@@ -187,24 +187,24 @@ abbrev conflicts : Answer → Bool
 conflicts a = eqb (number_of a) 22
 
 -- a set of so many sections
-abbrev count-is : ℕ → List Bytes → Bool
-count-is n bs = eqb (length bs) n
+abbrev count_is : ℕ → List Bytes → Bool
+count_is n bs = eqb (length bs) n
 
 abbrev begins : Bytes → List Bytes → Bool
 begins bytes [] = false
-begins bytes (b ∷ bs) = sameBytes b bytes
+begins bytes (b ∷ bs) = same_bytes b bytes
 
 -- the answer hands out a set of n sections that begins with these bytes
 abbrev hands : ℕ → Bytes → Answer → Bool
-hands n bytes (handout w) = count-is n w.sections && begins bytes w.sections
+hands n bytes (handout w) = count_is n w.sections && begins bytes w.sections
 hands n bytes done = false
 hands n bytes (refused r) = false
 hands n bytes nothing = false
 hands n bytes (schedule g) = false
 
-module _ (s : Collector) (calls : Calls) (as' : List Answer) (e : answersOf s calls ≡ as') where
-  never : (test : Answer → Bool) → any_of test as' ≡ false → (a : Answer) → test a ≡ true → Never a (answersOf s calls)
-  never test h a p t q = not-among test a p as' h t (subst (λ (l : List Answer). At l t a) e q)
+module _ (s : Collector) (calls : Calls) (as' : List Answer) (e : answers_of s calls ≡ as') where
+  never : (test : Answer → Bool) → any_of test as' ≡ false → (a : Answer) → test a ≡ true → Never a (answers_of s calls)
+  never test h a p t q = not_among test a p as' h t (subst (λ (l : List Answer). At l t a) e q)
 
   stored : any_of memory as' ≡ false → RefusesNoneForItsStore s calls
   unfolding number_of
@@ -218,186 +218,186 @@ module _ (s : Collector) (calls : Calls) (as' : List Answer) (e : answersOf s ca
 abbrev apart : List Bytes
 apart = x1 ∷ B ∷ x0 ∷ []
 
-abbrev apart-said : List Call
-apart-said = said 1 1 1 1 0x4E x1 ∷ said 2 0 0 0 0x4E B ∷ said 1 0 1 0 0x4E x0 ∷ []
+abbrev apart_said : List Call
+apart_said = said 1 1 1 1 0x4E x1 ∷ said 2 0 0 0 0x4E B ∷ said 1 0 1 0 0x4E x0 ∷ []
 
-apart-reads : map reads (map on apart) ≡ apart-said
-unfolding ties.reads readSection readsAs readsEit sectionOf collectedOf collectedLong malformed headerOf storedCrc workedCrc crcFrom bitsIn bitIn eitOf eitAs wholeEntries entriesIn
-apart-reads = refl
+apart_reads : map reads (map on apart) ≡ apart_said
+unfolding ties.reads read_section reads_as reads_eit section_of collected_of collected_long malformed header_of stored_crc worked_crc crc_from bits_in bit_in eit_of eit_as whole_entries entries_in
+apart_reads = refl
 
-apart-bytes : bytesIn apart ≡ true
+apart_bytes : bytes_in apart ≡ true
 unfolding every
-apart-bytes = refl
+apart_bytes = refl
 
-apart-small-replies : replies (shown 1) apart-said ≡ nothing ∷ handout (set-of 2 0 (B ∷ [])) ∷ handout (set-of 1 1 (x0 ∷ [])) ∷ []
+apart_small_replies : replies (shown 1) apart_said ≡ nothing ∷ handout (set_of 2 0 (B ∷ [])) ∷ handout (set_of 1 1 (x0 ∷ [])) ∷ []
 unfolding replies
-apart-small-replies = refl
+apart_small_replies = refl
 
-apart-small : answersOf (collector 1) (map on apart) ≡ nothing ∷ handout (set-of 2 0 (B ∷ [])) ∷ handout (set-of 1 1 (x0 ∷ [])) ∷ []
-apart-small = runs (collector 1) opened-1 (shown 1) seen-1 apart apart-bytes apart-said apart-reads ∙ apart-small-replies
+apart_small : answers_of (collector 1) (map on apart) ≡ nothing ∷ handout (set_of 2 0 (B ∷ [])) ∷ handout (set_of 1 1 (x0 ∷ [])) ∷ []
+apart_small = runs (collector 1) opened_1 (shown 1) seen_1 apart apart_bytes apart_said apart_reads ∙ apart_small_replies
 
-apart-large-replies : replies (shown 2) apart-said ≡ nothing ∷ handout (set-of 2 0 (B ∷ [])) ∷ handout (set-of 1 1 (x0 ∷ x1 ∷ [])) ∷ []
+apart_large_replies : replies (shown 2) apart_said ≡ nothing ∷ handout (set_of 2 0 (B ∷ [])) ∷ handout (set_of 1 1 (x0 ∷ x1 ∷ [])) ∷ []
 unfolding replies
-apart-large-replies = refl
+apart_large_replies = refl
 
-apart-large : answersOf (collector 2) (map on apart) ≡ nothing ∷ handout (set-of 2 0 (B ∷ [])) ∷ handout (set-of 1 1 (x0 ∷ x1 ∷ [])) ∷ []
-apart-large = runs (collector 2) opened-2 (shown 2) seen-2 apart apart-bytes apart-said apart-reads ∙ apart-large-replies
+apart_large : answers_of (collector 2) (map on apart) ≡ nothing ∷ handout (set_of 2 0 (B ∷ [])) ∷ handout (set_of 1 1 (x0 ∷ x1 ∷ [])) ∷ []
+apart_large = runs (collector 2) opened_2 (shown 2) seen_2 apart apart_bytes apart_said apart_reads ∙ apart_large_replies
 
-pub agreement-needed : ¬ ((smaller larger : Collector) → StartsEmpty smaller → StartsEmpty larger → EqualCellSize smaller larger → LimitNoLarger smaller larger → (calls : Calls) → CallsFit calls → RefusesNoneAsConflicting larger calls → RefusesNoneForItsStore smaller calls → RefusesNoneForItsStore larger calls → NothingDropped calls → NoneAboveItsSegment larger calls → (t : ℕ) (set : Whole) → HandsOut smaller calls t set → HandedOutSinceTheLastClear larger calls t set)
-unfolding any_of sameBytes segmentEnd number_of
-agreement-needed f =
-    unlike (collector 2) (map on apart) _ apart-large (hands 1 x0) refl 2 (set-of 1 1 (x0 ∷ [])) refl
-    (f (collector 1) (collector 2) opened-1 opened-2 refl (omega arith) (map on apart) (fit apart apart-bytes)
-    (never (collector 2) (map on apart) _ apart-large conflicts refl (refused refusal.Conflict) refl) (stored (collector 1) (map on apart) _ apart-small refl) (stored (collector 2) (map on apart) _ apart-large refl)
-    (none_dropped apart) (accepted-among Within (collector 2) (map on apart) apart-said apart-reads (omega arith, (omega arith, (omega arith, tt))))
-    2 (set-of 1 1 (x0 ∷ [])) (ap (λ (as' : List Answer). get_elem? as' 2) apart-small))
+pub agreement_needed : ¬ ((smaller larger : Collector) → StartsEmpty smaller → StartsEmpty larger → EqualCellSize smaller larger → LimitNoLarger smaller larger → (calls : Calls) → CallsFit calls → RefusesNoneAsConflicting larger calls → RefusesNoneForItsStore smaller calls → RefusesNoneForItsStore larger calls → NothingDropped calls → NoneAboveItsSegment larger calls → (t : ℕ) (set : Whole) → HandsOut smaller calls t set → HandedOutSinceTheLastClear larger calls t set)
+unfolding any_of same_bytes segment_end number_of
+agreement_needed f =
+    unlike (collector 2) (map on apart) _ apart_large (hands 1 x0) refl 2 (set_of 1 1 (x0 ∷ [])) refl
+    (f (collector 1) (collector 2) opened_1 opened_2 refl (omega arith) (map on apart) (fit apart apart_bytes)
+    (never (collector 2) (map on apart) _ apart_large conflicts refl (refused refusal.Conflict) refl) (stored (collector 1) (map on apart) _ apart_small refl) (stored (collector 2) (map on apart) _ apart_large refl)
+    (none_dropped apart) (accepted_among Within (collector 2) (map on apart) apart_said apart_reads (omega arith, (omega arith, (omega arith, tt))))
+    2 (set_of 1 1 (x0 ∷ [])) (ap (λ (as' : List Answer). get_elem? as' 2) apart_small))
 
 -- ---- a section above its segment: section 1, where both say that the segment ends at 0
 
 abbrev above : List Bytes
 above = y1 ∷ B ∷ x0 ∷ []
 
-abbrev above-said : List Call
-above-said = said 1 1 1 0 0x4E y1 ∷ said 2 0 0 0 0x4E B ∷ said 1 0 1 0 0x4E x0 ∷ []
+abbrev above_said : List Call
+above_said = said 1 1 1 0 0x4E y1 ∷ said 2 0 0 0 0x4E B ∷ said 1 0 1 0 0x4E x0 ∷ []
 
-above-reads : map reads (map on above) ≡ above-said
-unfolding ties.reads readSection readsAs readsEit sectionOf collectedOf collectedLong malformed headerOf storedCrc workedCrc crcFrom bitsIn bitIn eitOf eitAs wholeEntries entriesIn
-above-reads = refl
+above_reads : map reads (map on above) ≡ above_said
+unfolding ties.reads read_section reads_as reads_eit section_of collected_of collected_long malformed header_of stored_crc worked_crc crc_from bits_in bit_in eit_of eit_as whole_entries entries_in
+above_reads = refl
 
-above_bytes : bytesIn above ≡ true
+above_bytes : bytes_in above ≡ true
 unfolding every
 above_bytes = refl
 
-above-small-replies : replies (shown 1) above-said ≡ nothing ∷ handout (set-of 2 0 (B ∷ [])) ∷ handout (set-of 1 1 (x0 ∷ [])) ∷ []
+above_small_replies : replies (shown 1) above_said ≡ nothing ∷ handout (set_of 2 0 (B ∷ [])) ∷ handout (set_of 1 1 (x0 ∷ [])) ∷ []
 unfolding replies
-above-small-replies = refl
+above_small_replies = refl
 
-above-small : answersOf (collector 1) (map on above) ≡ nothing ∷ handout (set-of 2 0 (B ∷ [])) ∷ handout (set-of 1 1 (x0 ∷ [])) ∷ []
-above-small = runs (collector 1) opened-1 (shown 1) seen-1 above above_bytes above-said above-reads ∙ above-small-replies
+above_small : answers_of (collector 1) (map on above) ≡ nothing ∷ handout (set_of 2 0 (B ∷ [])) ∷ handout (set_of 1 1 (x0 ∷ [])) ∷ []
+above_small = runs (collector 1) opened_1 (shown 1) seen_1 above above_bytes above_said above_reads ∙ above_small_replies
 
-above-large-replies : replies (shown 2) above-said ≡ nothing ∷ handout (set-of 2 0 (B ∷ [])) ∷ handout (set-of 1 1 (x0 ∷ y1 ∷ [])) ∷ []
+above_large_replies : replies (shown 2) above_said ≡ nothing ∷ handout (set_of 2 0 (B ∷ [])) ∷ handout (set_of 1 1 (x0 ∷ y1 ∷ [])) ∷ []
 unfolding replies
-above-large-replies = refl
+above_large_replies = refl
 
-above-large : answersOf (collector 2) (map on above) ≡ nothing ∷ handout (set-of 2 0 (B ∷ [])) ∷ handout (set-of 1 1 (x0 ∷ y1 ∷ [])) ∷ []
-above-large = runs (collector 2) opened-2 (shown 2) seen-2 above above_bytes above-said above-reads ∙ above-large-replies
+above_large : answers_of (collector 2) (map on above) ≡ nothing ∷ handout (set_of 2 0 (B ∷ [])) ∷ handout (set_of 1 1 (x0 ∷ y1 ∷ [])) ∷ []
+above_large = runs (collector 2) opened_2 (shown 2) seen_2 above above_bytes above_said above_reads ∙ above_large_replies
 
-pub inside-needed : ¬ ((smaller larger : Collector) → StartsEmpty smaller → StartsEmpty larger → EqualCellSize smaller larger → LimitNoLarger smaller larger → (calls : Calls) → CallsFit calls → RefusesNoneAsConflicting larger calls → RefusesNoneForItsStore smaller calls → RefusesNoneForItsStore larger calls → NothingDropped calls → SegmentsAgree larger calls → (t : ℕ) (set : Whole) → HandsOut smaller calls t set → HandedOutSinceTheLastClear larger calls t set)
-unfolding any_of sameBytes number_of
-inside-needed f =
-    unlike (collector 2) (map on above) _ above-large (hands 1 x0) refl 2 (set-of 1 1 (x0 ∷ [])) refl
-    (f (collector 1) (collector 2) opened-1 opened-2 refl (omega arith) (map on above) (fit above above_bytes)
-    (never (collector 2) (map on above) _ above-large conflicts refl (refused refusal.Conflict) refl) (stored (collector 1) (map on above) _ above-small refl) (stored (collector 2) (map on above) _ above-large refl)
-    (none_dropped above) (agreeing 0 (collector 2) (map on above) above-said above-reads (refl, (refl, (refl, tt))))
-    2 (set-of 1 1 (x0 ∷ [])) (ap (λ (as' : List Answer). get_elem? as' 2) above-small))
+pub inside_needed : ¬ ((smaller larger : Collector) → StartsEmpty smaller → StartsEmpty larger → EqualCellSize smaller larger → LimitNoLarger smaller larger → (calls : Calls) → CallsFit calls → RefusesNoneAsConflicting larger calls → RefusesNoneForItsStore smaller calls → RefusesNoneForItsStore larger calls → NothingDropped calls → SegmentsAgree larger calls → (t : ℕ) (set : Whole) → HandsOut smaller calls t set → HandedOutSinceTheLastClear larger calls t set)
+unfolding any_of same_bytes number_of
+inside_needed f =
+    unlike (collector 2) (map on above) _ above_large (hands 1 x0) refl 2 (set_of 1 1 (x0 ∷ [])) refl
+    (f (collector 1) (collector 2) opened_1 opened_2 refl (omega arith) (map on above) (fit above above_bytes)
+    (never (collector 2) (map on above) _ above_large conflicts refl (refused refusal.Conflict) refl) (stored (collector 1) (map on above) _ above_small refl) (stored (collector 2) (map on above) _ above_large refl)
+    (none_dropped above) (agreeing 0 (collector 2) (map on above) above_said above_reads (refl, (refl, (refl, tt))))
+    2 (set_of 1 1 (x0 ∷ [])) (ap (λ (as' : List Answer). get_elem? as' 2) above_small))
 
 -- ---- the larger refuses a section as conflicting
 
 abbrev clash : List Bytes
 clash = c0 ∷ B ∷ c1 ∷ []
 
-abbrev clash-said : List Call
-clash-said = said 1 0 0 0 0x4E c0 ∷ said 2 0 0 0 0x4E B ∷ said 1 0 0 0 0x4F c1 ∷ []
+abbrev clash_said : List Call
+clash_said = said 1 0 0 0 0x4E c0 ∷ said 2 0 0 0 0x4E B ∷ said 1 0 0 0 0x4F c1 ∷ []
 
-clash-reads : map reads (map on clash) ≡ clash-said
-unfolding ties.reads readSection readsAs readsEit sectionOf collectedOf collectedLong malformed headerOf storedCrc workedCrc crcFrom bitsIn bitIn eitOf eitAs wholeEntries entriesIn
-clash-reads = refl
+clash_reads : map reads (map on clash) ≡ clash_said
+unfolding ties.reads read_section reads_as reads_eit section_of collected_of collected_long malformed header_of stored_crc worked_crc crc_from bits_in bit_in eit_of eit_as whole_entries entries_in
+clash_reads = refl
 
-clash-bytes : bytesIn clash ≡ true
+clash_bytes : bytes_in clash ≡ true
 unfolding every
-clash-bytes = refl
+clash_bytes = refl
 
-clash-small-replies : replies (shown 1) clash-said ≡ handout (set-of 1 0 (c0 ∷ [])) ∷ handout (set-of 2 0 (B ∷ [])) ∷ handout (set-of 1 0 (c1 ∷ [])) ∷ []
+clash_small_replies : replies (shown 1) clash_said ≡ handout (set_of 1 0 (c0 ∷ [])) ∷ handout (set_of 2 0 (B ∷ [])) ∷ handout (set_of 1 0 (c1 ∷ [])) ∷ []
 unfolding replies
-clash-small-replies = refl
+clash_small_replies = refl
 
-clash-small : answersOf (collector 1) (map on clash) ≡ handout (set-of 1 0 (c0 ∷ [])) ∷ handout (set-of 2 0 (B ∷ [])) ∷ handout (set-of 1 0 (c1 ∷ [])) ∷ []
-clash-small = runs (collector 1) opened-1 (shown 1) seen-1 clash clash-bytes clash-said clash-reads ∙ clash-small-replies
+clash_small : answers_of (collector 1) (map on clash) ≡ handout (set_of 1 0 (c0 ∷ [])) ∷ handout (set_of 2 0 (B ∷ [])) ∷ handout (set_of 1 0 (c1 ∷ [])) ∷ []
+clash_small = runs (collector 1) opened_1 (shown 1) seen_1 clash clash_bytes clash_said clash_reads ∙ clash_small_replies
 
-clash-large-replies : replies (shown 2) clash-said ≡ handout (set-of 1 0 (c0 ∷ [])) ∷ handout (set-of 2 0 (B ∷ [])) ∷ refused refusal.Conflict ∷ []
+clash_large_replies : replies (shown 2) clash_said ≡ handout (set_of 1 0 (c0 ∷ [])) ∷ handout (set_of 2 0 (B ∷ [])) ∷ refused refusal.Conflict ∷ []
 unfolding replies
-clash-large-replies = refl
+clash_large_replies = refl
 
-clash-large : answersOf (collector 2) (map on clash) ≡ handout (set-of 1 0 (c0 ∷ [])) ∷ handout (set-of 2 0 (B ∷ [])) ∷ refused refusal.Conflict ∷ []
-clash-large = runs (collector 2) opened-2 (shown 2) seen-2 clash clash-bytes clash-said clash-reads ∙ clash-large-replies
+clash_large : answers_of (collector 2) (map on clash) ≡ handout (set_of 1 0 (c0 ∷ [])) ∷ handout (set_of 2 0 (B ∷ [])) ∷ refused refusal.Conflict ∷ []
+clash_large = runs (collector 2) opened_2 (shown 2) seen_2 clash clash_bytes clash_said clash_reads ∙ clash_large_replies
 
-pub no-conflict-needed : ¬ ((smaller larger : Collector) → StartsEmpty smaller → StartsEmpty larger → EqualCellSize smaller larger → LimitNoLarger smaller larger → (calls : Calls) → CallsFit calls → RefusesNoneForItsStore smaller calls → RefusesNoneForItsStore larger calls → NothingDropped calls → SegmentsAgree larger calls → NoneAboveItsSegment larger calls → (t : ℕ) (set : Whole) → HandsOut smaller calls t set → HandedOutSinceTheLastClear larger calls t set)
-unfolding any_of sameBytes segmentEnd number_of
-no-conflict-needed f =
-    unlike (collector 2) (map on clash) _ clash-large (hands 1 c1) refl 2 (set-of 1 0 (c1 ∷ [])) refl
-    (f (collector 1) (collector 2) opened-1 opened-2 refl (omega arith) (map on clash) (fit clash clash-bytes)
-    (stored (collector 1) (map on clash) _ clash-small refl) (stored (collector 2) (map on clash) _ clash-large refl)
-    (none_dropped clash) (agreeing 0 (collector 2) (map on clash) clash-said clash-reads (refl, (refl, (refl, tt))))
-    (accepted-among Within (collector 2) (map on clash) clash-said clash-reads (omega arith, (omega arith, (omega arith, tt))))
-    2 (set-of 1 0 (c1 ∷ [])) (ap (λ (as' : List Answer). get_elem? as' 2) clash-small))
+pub no_conflict_needed : ¬ ((smaller larger : Collector) → StartsEmpty smaller → StartsEmpty larger → EqualCellSize smaller larger → LimitNoLarger smaller larger → (calls : Calls) → CallsFit calls → RefusesNoneForItsStore smaller calls → RefusesNoneForItsStore larger calls → NothingDropped calls → SegmentsAgree larger calls → NoneAboveItsSegment larger calls → (t : ℕ) (set : Whole) → HandsOut smaller calls t set → HandedOutSinceTheLastClear larger calls t set)
+unfolding any_of same_bytes segment_end number_of
+no_conflict_needed f =
+    unlike (collector 2) (map on clash) _ clash_large (hands 1 c1) refl 2 (set_of 1 0 (c1 ∷ [])) refl
+    (f (collector 1) (collector 2) opened_1 opened_2 refl (omega arith) (map on clash) (fit clash clash_bytes)
+    (stored (collector 1) (map on clash) _ clash_small refl) (stored (collector 2) (map on clash) _ clash_large refl)
+    (none_dropped clash) (agreeing 0 (collector 2) (map on clash) clash_said clash_reads (refl, (refl, (refl, tt))))
+    (accepted_among Within (collector 2) (map on clash) clash_said clash_reads (omega arith, (omega arith, (omega arith, tt))))
+    2 (set_of 1 0 (c1 ∷ [])) (ap (λ (as' : List Answer). get_elem? as' 2) clash_small))
 
 -- ---- it is not empty: all that it asks holds of these four, and the smaller hands out service 1 one call after the larger
 
 abbrev later : List Bytes
 later = z0 ∷ B ∷ x1 ∷ z0 ∷ []
 
-abbrev later-said : List Call
-later-said = said 1 0 1 1 0x4E z0 ∷ said 2 0 0 0 0x4E B ∷ said 1 1 1 1 0x4E x1 ∷ said 1 0 1 1 0x4E z0 ∷ []
+abbrev later_said : List Call
+later_said = said 1 0 1 1 0x4E z0 ∷ said 2 0 0 0 0x4E B ∷ said 1 1 1 1 0x4E x1 ∷ said 1 0 1 1 0x4E z0 ∷ []
 
-later-reads : map reads (map on later) ≡ later-said
-unfolding ties.reads readSection readsAs readsEit sectionOf collectedOf collectedLong malformed headerOf storedCrc workedCrc crcFrom bitsIn bitIn eitOf eitAs wholeEntries entriesIn
-later-reads = refl
+later_reads : map reads (map on later) ≡ later_said
+unfolding ties.reads read_section reads_as reads_eit section_of collected_of collected_long malformed header_of stored_crc worked_crc crc_from bits_in bit_in eit_of eit_as whole_entries entries_in
+later_reads = refl
 
-later-bytes : bytesIn later ≡ true
+later_bytes : bytes_in later ≡ true
 unfolding every
-later-bytes = refl
+later_bytes = refl
 
-later-small-replies : replies (shown 1) later-said ≡ nothing ∷ handout (set-of 2 0 (B ∷ [])) ∷ nothing ∷ handout (set-of 1 1 (z0 ∷ x1 ∷ [])) ∷ []
+later_small_replies : replies (shown 1) later_said ≡ nothing ∷ handout (set_of 2 0 (B ∷ [])) ∷ nothing ∷ handout (set_of 1 1 (z0 ∷ x1 ∷ [])) ∷ []
 unfolding replies
-later-small-replies = refl
+later_small_replies = refl
 
-later-small : answersOf (collector 1) (map on later) ≡ nothing ∷ handout (set-of 2 0 (B ∷ [])) ∷ nothing ∷ handout (set-of 1 1 (z0 ∷ x1 ∷ [])) ∷ []
-later-small = runs (collector 1) opened-1 (shown 1) seen-1 later later-bytes later-said later-reads ∙ later-small-replies
+later_small : answers_of (collector 1) (map on later) ≡ nothing ∷ handout (set_of 2 0 (B ∷ [])) ∷ nothing ∷ handout (set_of 1 1 (z0 ∷ x1 ∷ [])) ∷ []
+later_small = runs (collector 1) opened_1 (shown 1) seen_1 later later_bytes later_said later_reads ∙ later_small_replies
 
-later-large-replies : replies (shown 2) later-said ≡ nothing ∷ handout (set-of 2 0 (B ∷ [])) ∷ handout (set-of 1 1 (z0 ∷ x1 ∷ [])) ∷ nothing ∷ []
+later_large_replies : replies (shown 2) later_said ≡ nothing ∷ handout (set_of 2 0 (B ∷ [])) ∷ handout (set_of 1 1 (z0 ∷ x1 ∷ [])) ∷ nothing ∷ []
 unfolding replies
-later-large-replies = refl
+later_large_replies = refl
 
-later-large : answersOf (collector 2) (map on later) ≡ nothing ∷ handout (set-of 2 0 (B ∷ [])) ∷ handout (set-of 1 1 (z0 ∷ x1 ∷ [])) ∷ nothing ∷ []
-later-large = runs (collector 2) opened-2 (shown 2) seen-2 later later-bytes later-said later-reads ∙ later-large-replies
+later_large : answers_of (collector 2) (map on later) ≡ nothing ∷ handout (set_of 2 0 (B ∷ [])) ∷ handout (set_of 1 1 (z0 ∷ x1 ∷ [])) ∷ nothing ∷ []
+later_large = runs (collector 2) opened_2 (shown 2) seen_2 later later_bytes later_said later_reads ∙ later_large_replies
 
 -- here service 1 says 1 and service 2 says 0
 abbrev SaidHere : Section → Type 0
-SaidHere x = x.serviceId + x.segmentLast ≡ 2
+SaidHere x = x.service_id + x.segment_last ≡ 2
 
-later-here : EachOffer SaidHere later-said
-later-here = (refl, (refl, (refl, (refl, tt))))
+later_here : EachOffer SaidHere later_said
+later_here = (refl, (refl, (refl, (refl, tt))))
 
-said-alike : (x y : Section) → SaidHere x → SaidHere y → OfOneSegment x y → x.segmentLast ≡ y.segmentLast
-said-alike x y p q o = let r = o.service-id in omega arith
+said_alike : (x y : Section) → SaidHere x → SaidHere y → OfOneSegment x y → x.segment_last ≡ y.segment_last
+said_alike x y p q o = let r = o.service_id_lem in omega arith
 
 pub record NotEmpty : Type 0 where
-  pub smaller-opened : StartsEmpty (collector 1)
-  pub larger-opened : StartsEmpty (collector 2)
+  pub smaller_opened : StartsEmpty (collector 1)
+  pub larger_opened : StartsEmpty (collector 2)
   pub fits : CallsFit (map on later)
   pub unconflicting : RefusesNoneAsConflicting (collector 2) (map on later)
-  pub smaller-stores : RefusesNoneForItsStore (collector 1) (map on later)
-  pub larger-stores : RefusesNoneForItsStore (collector 2) (map on later)
+  pub smaller_stores : RefusesNoneForItsStore (collector 1) (map on later)
+  pub larger_stores : RefusesNoneForItsStore (collector 2) (map on later)
   pub undropped : NothingDropped (map on later)
   pub agree : SegmentsAgree (collector 2) (map on later)
   pub inside : NoneAboveItsSegment (collector 2) (map on later)
-  pub first : HandsOut (collector 2) (map on later) 2 (set-of 1 1 (z0 ∷ x1 ∷ []))
-  pub then : HandsOut (collector 1) (map on later) 3 (set-of 1 1 (z0 ∷ x1 ∷ []))
+  pub first : HandsOut (collector 2) (map on later) 2 (set_of 1 1 (z0 ∷ x1 ∷ []))
+  pub then : HandsOut (collector 1) (map on later) 3 (set_of 1 1 (z0 ∷ x1 ∷ []))
 
-pub not-empty : NotEmpty
-unfolding any_of segmentEnd number_of
-not-empty = record {
-  smaller-opened = opened-1;
-  larger-opened = opened-2;
-  fits = fit later later-bytes;
-  unconflicting = never (collector 2) (map on later) _ later-large conflicts refl (refused refusal.Conflict) refl;
-  smaller-stores = stored (collector 1) (map on later) _ later-small refl;
-  larger-stores = stored (collector 2) (map on later) _ later-large refl;
+pub not_empty : NotEmpty
+unfolding any_of segment_end number_of
+not_empty = record {
+  smaller_opened = opened_1;
+  larger_opened = opened_2;
+  fits = fit later later_bytes;
+  unconflicting = never (collector 2) (map on later) _ later_large conflicts refl (refused refusal.Conflict) refl;
+  smaller_stores = stored (collector 1) (map on later) _ later_small refl;
+  larger_stores = stored (collector 2) (map on later) _ later_large refl;
   undropped = none_dropped later;
-  agree = λ x y a b o. said-alike x y (accepted-among SaidHere (collector 2) (map on later) later-said later-reads (later-here) x a) (accepted-among SaidHere (collector 2) (map on later) later-said later-reads (later-here) y b) o;
-  inside = accepted-among Within (collector 2) (map on later) later-said later-reads (omega arith, (omega arith, (omega arith, (omega arith, tt))));
-  first = ap (λ (as' : List Answer). get_elem? as' 2) later-large;
-  then = ap (λ (as' : List Answer). get_elem? as' 3) later-small;
+  agree = λ x y a b o. said_alike x y (accepted_among SaidHere (collector 2) (map on later) later_said later_reads (later_here) x a) (accepted_among SaidHere (collector 2) (map on later) later_said later_reads (later_here) y b) o;
+  inside = accepted_among Within (collector 2) (map on later) later_said later_reads (omega arith, (omega arith, (omega arith, (omega arith, tt))));
+  first = ap (λ (as' : List Answer). get_elem? as' 2) later_large;
+  then = ap (λ (as' : List Answer). get_elem? as' 3) later_small;
 }
 
 -- ---- limits the other way: the one with limit 2 hands out service 1, which the one with limit 1 has lost
@@ -405,105 +405,105 @@ not-empty = record {
 abbrev soon : List Bytes
 soon = z0 ∷ B ∷ x1 ∷ []
 
-abbrev soon-said : List Call
-soon-said = said 1 0 1 1 0x4E z0 ∷ said 2 0 0 0 0x4E B ∷ said 1 1 1 1 0x4E x1 ∷ []
+abbrev soon_said : List Call
+soon_said = said 1 0 1 1 0x4E z0 ∷ said 2 0 0 0 0x4E B ∷ said 1 1 1 1 0x4E x1 ∷ []
 
-soon-reads : map reads (map on soon) ≡ soon-said
-unfolding ties.reads readSection readsAs readsEit sectionOf collectedOf collectedLong malformed headerOf storedCrc workedCrc crcFrom bitsIn bitIn eitOf eitAs wholeEntries entriesIn
-soon-reads = refl
+soon_reads : map reads (map on soon) ≡ soon_said
+unfolding ties.reads read_section reads_as reads_eit section_of collected_of collected_long malformed header_of stored_crc worked_crc crc_from bits_in bit_in eit_of eit_as whole_entries entries_in
+soon_reads = refl
 
-soon-bytes : bytesIn soon ≡ true
+soon_bytes : bytes_in soon ≡ true
 unfolding every
-soon-bytes = refl
+soon_bytes = refl
 
-soon-2-replies : replies (shown 2) soon-said ≡ nothing ∷ handout (set-of 2 0 (B ∷ [])) ∷ handout (set-of 1 1 (z0 ∷ x1 ∷ [])) ∷ []
+soon_2_replies : replies (shown 2) soon_said ≡ nothing ∷ handout (set_of 2 0 (B ∷ [])) ∷ handout (set_of 1 1 (z0 ∷ x1 ∷ [])) ∷ []
 unfolding replies
-soon-2-replies = refl
+soon_2_replies = refl
 
-soon-2 : answersOf (collector 2) (map on soon) ≡ nothing ∷ handout (set-of 2 0 (B ∷ [])) ∷ handout (set-of 1 1 (z0 ∷ x1 ∷ [])) ∷ []
-soon-2 = runs (collector 2) opened-2 (shown 2) seen-2 soon soon-bytes soon-said soon-reads ∙ soon-2-replies
+soon_2 : answers_of (collector 2) (map on soon) ≡ nothing ∷ handout (set_of 2 0 (B ∷ [])) ∷ handout (set_of 1 1 (z0 ∷ x1 ∷ [])) ∷ []
+soon_2 = runs (collector 2) opened_2 (shown 2) seen_2 soon soon_bytes soon_said soon_reads ∙ soon_2_replies
 
-soon-1-replies : replies (shown 1) soon-said ≡ nothing ∷ handout (set-of 2 0 (B ∷ [])) ∷ nothing ∷ []
+soon_1_replies : replies (shown 1) soon_said ≡ nothing ∷ handout (set_of 2 0 (B ∷ [])) ∷ nothing ∷ []
 unfolding replies
-soon-1-replies = refl
+soon_1_replies = refl
 
-soon-1 : answersOf (collector 1) (map on soon) ≡ nothing ∷ handout (set-of 2 0 (B ∷ [])) ∷ nothing ∷ []
-soon-1 = runs (collector 1) opened-1 (shown 1) seen-1 soon soon-bytes soon-said soon-reads ∙ soon-1-replies
+soon_1 : answers_of (collector 1) (map on soon) ≡ nothing ∷ handout (set_of 2 0 (B ∷ [])) ∷ nothing ∷ []
+soon_1 = runs (collector 1) opened_1 (shown 1) seen_1 soon soon_bytes soon_said soon_reads ∙ soon_1_replies
 
-soon-here : EachOffer SaidHere soon-said
-soon-here = (refl, (refl, (refl, tt)))
+soon_here : EachOffer SaidHere soon_said
+soon_here = (refl, (refl, (refl, tt)))
 
-pub limit-needed : ¬ ((smaller larger : Collector) → StartsEmpty smaller → StartsEmpty larger → EqualCellSize smaller larger → (calls : Calls) → CallsFit calls → RefusesNoneAsConflicting larger calls → RefusesNoneForItsStore smaller calls → RefusesNoneForItsStore larger calls → NothingDropped calls → SegmentsAgree larger calls → NoneAboveItsSegment larger calls → (t : ℕ) (set : Whole) → HandsOut smaller calls t set → HandedOutSinceTheLastClear larger calls t set)
-unfolding any_of sameBytes segmentEnd number_of
-limit-needed f =
-    unlike (collector 1) (map on soon) _ soon-1 (hands 2 z0) refl 2 (set-of 1 1 (z0 ∷ x1 ∷ [])) refl
-    (f (collector 2) (collector 1) opened-2 opened-1 refl (map on soon) (fit soon soon-bytes)
-    (never (collector 1) (map on soon) _ soon-1 conflicts refl (refused refusal.Conflict) refl) (stored (collector 2) (map on soon) _ soon-2 refl) (stored (collector 1) (map on soon) _ soon-1 refl)
+pub limit_needed : ¬ ((smaller larger : Collector) → StartsEmpty smaller → StartsEmpty larger → EqualCellSize smaller larger → (calls : Calls) → CallsFit calls → RefusesNoneAsConflicting larger calls → RefusesNoneForItsStore smaller calls → RefusesNoneForItsStore larger calls → NothingDropped calls → SegmentsAgree larger calls → NoneAboveItsSegment larger calls → (t : ℕ) (set : Whole) → HandsOut smaller calls t set → HandedOutSinceTheLastClear larger calls t set)
+unfolding any_of same_bytes segment_end number_of
+limit_needed f =
+    unlike (collector 1) (map on soon) _ soon_1 (hands 2 z0) refl 2 (set_of 1 1 (z0 ∷ x1 ∷ [])) refl
+    (f (collector 2) (collector 1) opened_2 opened_1 refl (map on soon) (fit soon soon_bytes)
+    (never (collector 1) (map on soon) _ soon_1 conflicts refl (refused refusal.Conflict) refl) (stored (collector 2) (map on soon) _ soon_2 refl) (stored (collector 1) (map on soon) _ soon_1 refl)
     (none_dropped soon)
-    (λ x y a b o. said-alike x y (accepted-among SaidHere (collector 1) (map on soon) soon-said soon-reads (soon-here) x a) (accepted-among SaidHere (collector 1) (map on soon) soon-said soon-reads (soon-here) y b) o)
-    (accepted-among Within (collector 1) (map on soon) soon-said soon-reads (omega arith, (omega arith, (omega arith, tt))))
-    2 (set-of 1 1 (z0 ∷ x1 ∷ [])) (ap (λ (as' : List Answer). get_elem? as' 2) soon-2))
+    (λ x y a b o. said_alike x y (accepted_among SaidHere (collector 1) (map on soon) soon_said soon_reads (soon_here) x a) (accepted_among SaidHere (collector 1) (map on soon) soon_said soon_reads (soon_here) y b) o)
+    (accepted_among Within (collector 1) (map on soon) soon_said soon_reads (omega arith, (omega arith, (omega arith, tt))))
+    2 (set_of 1 1 (z0 ∷ x1 ∷ [])) (ap (λ (as' : List Answer). get_elem? as' 2) soon_2))
 
 -- ---- the smaller does not start empty: it has service 1's first section
 
 abbrev both : List Bytes
 both = z0 ∷ x1 ∷ []
 
-abbrev both-said : List Call
-both-said = said 1 0 1 1 0x4E z0 ∷ said 1 1 1 1 0x4E x1 ∷ []
+abbrev both_said : List Call
+both_said = said 1 0 1 1 0x4E z0 ∷ said 1 1 1 1 0x4E x1 ∷ []
 
-both-reads : map reads (map on both) ≡ both-said
-unfolding ties.reads readSection readsAs readsEit sectionOf collectedOf collectedLong malformed headerOf storedCrc workedCrc crcFrom bitsIn bitIn eitOf eitAs wholeEntries entriesIn
-both-reads = refl
+both_reads : map reads (map on both) ≡ both_said
+unfolding ties.reads read_section reads_as reads_eit section_of collected_of collected_long malformed header_of stored_crc worked_crc crc_from bits_in bit_in eit_of eit_as whole_entries entries_in
+both_reads = refl
 
-both_bytes : bytesIn both ≡ true
+both_bytes : bytes_in both ≡ true
 unfolding every
 both_bytes = refl
 
-both-replies : replies (shown 1) both-said ≡ nothing ∷ handout (set-of 1 1 (z0 ∷ x1 ∷ [])) ∷ []
+both_replies : replies (shown 1) both_said ≡ nothing ∷ handout (set_of 1 1 (z0 ∷ x1 ∷ [])) ∷ []
 unfolding replies
-both-replies = refl
+both_replies = refl
 
-both-answers : answersOf (collector 1) (map on both) ≡ nothing ∷ handout (set-of 1 1 (z0 ∷ x1 ∷ [])) ∷ []
-both-answers = runs (collector 1) opened-1 (shown 1) seen-1 both both_bytes both-said both-reads ∙ both-replies
+both_answers : answers_of (collector 1) (map on both) ≡ nothing ∷ handout (set_of 1 1 (z0 ∷ x1 ∷ [])) ∷ []
+both_answers = runs (collector 1) opened_1 (shown 1) seen_1 both both_bytes both_said both_reads ∙ both_replies
 
 abbrev second : List Bytes
 second = x1 ∷ []
 
-abbrev second-said : List Call
-second-said = said 1 1 1 1 0x4E x1 ∷ []
+abbrev second_said : List Call
+second_said = said 1 1 1 1 0x4E x1 ∷ []
 
-second_reads : map reads (map on second) ≡ second-said
-unfolding ties.reads readSection readsAs readsEit sectionOf collectedOf collectedLong malformed headerOf storedCrc workedCrc crcFrom bitsIn bitIn eitOf eitAs wholeEntries entriesIn
+second_reads : map reads (map on second) ≡ second_said
+unfolding ties.reads read_section reads_as reads_eit section_of collected_of collected_long malformed header_of stored_crc worked_crc crc_from bits_in bit_in eit_of eit_as whole_entries entries_in
 second_reads = refl
 
-second-bytes : bytesIn second ≡ true
+second_bytes : bytes_in second ≡ true
 unfolding every
-second-bytes = refl
+second_bytes = refl
 
-second-replies : replies (shown 1) second-said ≡ nothing ∷ []
+second_replies : replies (shown 1) second_said ≡ nothing ∷ []
 unfolding replies
-second-replies = refl
+second_replies = refl
 
-second-answers : answersOf (collector 1) (map on second) ≡ nothing ∷ []
-second-answers = runs (collector 1) opened-1 (shown 1) seen-1 second second-bytes second-said second_reads ∙ second-replies
+second_answers : answers_of (collector 1) (map on second) ≡ nothing ∷ []
+second_answers = runs (collector 1) opened_1 (shown 1) seen_1 second second_bytes second_said second_reads ∙ second_replies
 
 abbrev begun : Collector
 begun = acts (collector 1) (on z0)
 
-begun-answers : answersOf begun (map on second) ≡ handout (set-of 1 1 (z0 ∷ x1 ∷ [])) ∷ []
+begun_answers : answers_of begun (map on second) ≡ handout (set_of 1 1 (z0 ∷ x1 ∷ [])) ∷ []
 unfolding answers
-begun-answers = ap (λ (as' : List Answer). skip 1 as') both-answers
+begun_answers = ap (λ (as' : List Answer). skip 1 as') both_answers
 
-settings-stay : settingsOf begun ≡ settingsOf (collector 1)
-settings-stay = acts-settings (collector 1) (opened-reached (collector 1) opened-1) (made (on z0)) (fit both both_bytes 0 (on z0) refl)
+settings_stay : settings_of begun ≡ settings_of (collector 1)
+settings_stay = acts_settings (collector 1) (opened_reached (collector 1) opened_1) (made (on z0)) (fit both both_bytes 0 (on z0) refl)
 
-pub empty-start-needed : ¬ ((smaller larger : Collector) → StartsEmpty larger → EqualCellSize smaller larger → LimitNoLarger smaller larger → (calls : Calls) → CallsFit calls → RefusesNoneAsConflicting larger calls → RefusesNoneForItsStore smaller calls → RefusesNoneForItsStore larger calls → NothingDropped calls → SegmentsAgree larger calls → NoneAboveItsSegment larger calls → (t : ℕ) (set : Whole) → HandsOut smaller calls t set → HandedOutSinceTheLastClear larger calls t set)
-unfolding any_of sameBytes segmentEnd number_of
-empty-start-needed f =
-    unlike (collector 1) (map on second) _ second-answers (hands 2 z0) refl 0 (set-of 1 1 (z0 ∷ x1 ∷ [])) refl
-    (f begun (collector 1) opened-1 (ap (λ (o : Settings). o.cellSize) settings-stay) (le_of_eq (ap (λ (o : Settings). o.limit) settings-stay)) (map on second) (fit second second-bytes)
-    (never (collector 1) (map on second) _ second-answers conflicts refl (refused refusal.Conflict) refl) (stored begun (map on second) _ begun-answers refl) (stored (collector 1) (map on second) _ second-answers refl)
-    (none_dropped second) (agreeing 1 (collector 1) (map on second) second-said second_reads (refl, tt))
-    (accepted-among Within (collector 1) (map on second) second-said second_reads (omega arith, tt))
-    0 (set-of 1 1 (z0 ∷ x1 ∷ [])) (ap (λ (as' : List Answer). get_elem? as' 0) begun-answers))
+pub empty_start_needed : ¬ ((smaller larger : Collector) → StartsEmpty larger → EqualCellSize smaller larger → LimitNoLarger smaller larger → (calls : Calls) → CallsFit calls → RefusesNoneAsConflicting larger calls → RefusesNoneForItsStore smaller calls → RefusesNoneForItsStore larger calls → NothingDropped calls → SegmentsAgree larger calls → NoneAboveItsSegment larger calls → (t : ℕ) (set : Whole) → HandsOut smaller calls t set → HandedOutSinceTheLastClear larger calls t set)
+unfolding any_of same_bytes segment_end number_of
+empty_start_needed f =
+    unlike (collector 1) (map on second) _ second_answers (hands 2 z0) refl 0 (set_of 1 1 (z0 ∷ x1 ∷ [])) refl
+    (f begun (collector 1) opened_1 (ap (λ (o : Settings). o.cell_size) settings_stay) (le_of_eq (ap (λ (o : Settings). o.limit) settings_stay)) (map on second) (fit second second_bytes)
+    (never (collector 1) (map on second) _ second_answers conflicts refl (refused refusal.Conflict) refl) (stored begun (map on second) _ begun_answers refl) (stored (collector 1) (map on second) _ second_answers refl)
+    (none_dropped second) (agreeing 1 (collector 1) (map on second) second_said second_reads (refl, tt))
+    (accepted_among Within (collector 1) (map on second) second_said second_reads (omega arith, tt))
+    0 (set_of 1 1 (z0 ∷ x1 ∷ [])) (ap (λ (as' : List Answer). get_elem? as' 0) begun_answers))

@@ -10,7 +10,7 @@
 -- Assumes nothing.
 use Rattle.std.specs.Prelude.{ℕ, ◌*◌, ◌/◌, ◌≤◌, ◌≡◌, ◌⊎◌, List}
 use Rattle.laws.specs.Runs.{answers, At, Never, GivenBy}
-use Rattle.eit_section.specs.Segment.{segmentEnd}
+use Rattle.eit_section.specs.Segment.{segment_end}
 use Rattle.answers.specs.declared.Refusal.{Refusal}
 use Rattle.answers.specs.declared.Refusal.TheVariants as refusal
 use Rattle.rules_shared.specs.Same.{Bytes}
@@ -70,18 +70,18 @@ abbrev pub CallsFit : Calls → Type 0
 CallsFit calls = (t : ℕ) (i : Given) → At calls t i → Fitting i
 
 -- "nothing else writes to their stores": the answers where each call finds the memory as the call before it left it
-abbrev pub answersOf : Collector → Calls → List Answer
-answersOf s calls = answers tells acts s calls
+abbrev pub answers_of : Collector → Calls → List Answer
+answers_of s calls = answers tells acts s calls
 
 -- "the larger refuses no section as conflicting": 22 is no answer
 abbrev pub RefusesNoneAsConflicting : Collector → Calls → Type 0
-RefusesNoneAsConflicting s calls = Never (refused refusal.Conflict) (answersOf s calls)
+RefusesNoneAsConflicting s calls = Never (refused refusal.Conflict) (answers_of s calls)
 
 -- "neither refuses for want of cells, a full counter or a store not whole": neither 21 nor 11 nor 10 is an answer
 pub record RefusesNoneForItsStore (s : Collector) (calls : Calls) : Type 0 where
-  pub cells : Never (refused refusal.NoCell) (answersOf s calls)
-  pub counter : Never (refused refusal.CounterFull) (answersOf s calls)
-  pub wholeness : Never (refused refusal.NotWhole) (answersOf s calls)
+  pub cells : Never (refused refusal.NoCell) (answers_of s calls)
+  pub counter : Never (refused refusal.CounterFull) (answers_of s calls)
+  pub wholeness : Never (refused refusal.NotWhole) (answers_of s calls)
 
 -- "nothing is dropped by filter"
 abbrev pub NothingDropped : Calls → Type 0
@@ -93,36 +93,36 @@ pub record Accepted (s : Collector) (calls : Calls) (x : Section) : Type 0 where
   pub call : Given
   pub given : At calls at call
   pub says : reads call ≡ offer x
-  pub taken : (r : Refusal) → At (answersOf s calls) at (refused r) → r ≡ refusal.Range
+  pub taken : (r : Refusal) → At (answers_of s calls) at (refused r) → r ≡ refusal.Range
 
 -- ".. of one segment in the same set, version and last section number"
 pub record OfOneSegment (x y : Section) : Type 0 where
   pub from : x.from ≡ y.from
-  pub table-id : x.tableId ≡ y.tableId
-  pub service-id : x.serviceId ≡ y.serviceId
-  pub transport-stream-id : x.transportStreamId ≡ y.transportStreamId
-  pub original-network-id : x.originalNetworkId ≡ y.originalNetworkId
-  pub current-next : x.currentNext ≡ y.currentNext
+  pub table_id : x.table_id_of ≡ y.table_id_of
+  pub service_id_lem : x.service_id ≡ y.service_id
+  pub transport_stream_id_lem : x.transport_stream_id ≡ y.transport_stream_id
+  pub original_network_id_lem : x.original_network_id ≡ y.original_network_id
+  pub current_next : x.current_next_of ≡ y.current_next_of
   pub version : x.version ≡ y.version
-  pub last-section-number : x.last ≡ y.last
+  pub last_section_number_lem : x.last ≡ y.last
   pub segment : x.number / 8 ≡ y.number / 8
 
 -- ".. give the same segment_last_section_number"
 abbrev pub SegmentsAgree : Collector → Calls → Type 0
-SegmentsAgree s calls = (x y : Section) → Accepted s calls x → Accepted s calls y → OfOneSegment x y → x.segmentLast ≡ y.segmentLast
+SegmentsAgree s calls = (x y : Section) → Accepted s calls x → Accepted s calls y → OfOneSegment x y → x.segment_last ≡ y.segment_last
 
 -- ".. and none has a section number above the segment end (docs/RULES.md, "Collectors")"
 abbrev pub NoneAboveItsSegment : Collector → Calls → Type 0
-NoneAboveItsSegment s calls = (x : Section) → Accepted s calls x → x.number ≤ segmentEnd (8 * (x.number / 8)) x.segmentLast x.last
+NoneAboveItsSegment s calls = (x : Section) → Accepted s calls x → x.number ≤ segment_end (8 * (x.number / 8)) x.segment_last x.last
 
 -- "each present/following set the smaller hands out": the answer to call number t is 5, with this set
 abbrev pub HandsOut : Collector → Calls → ℕ → Whole → Type 0
-HandsOut s calls t set = At (answersOf s calls) t (handout set)
+HandsOut s calls t set = At (answers_of s calls) t (handout set)
 
 -- ".. has, since the last clear, come from the larger at the same section or before, with the same bytes": some call, number t or before it, was answered 5 with the same
 -- set, and no call from that one to number t is a clear
 abbrev pub HandedOutSinceTheLastClear : Collector → Calls → ℕ → Whole → Type 0
-HandedOutSinceTheLastClear s calls t set = GivenBy clears handout (answersOf s calls) calls t set
+HandedOutSinceTheLastClear s calls t set = GivenBy clears handout (answers_of s calls) calls t set
 
 abbrev pub PresentFollowing : Type 0
 PresentFollowing = (smaller larger : Collector) → StartsEmpty smaller → StartsEmpty larger → EqualCellSize smaller larger → LimitNoLarger smaller larger
@@ -141,7 +141,7 @@ PresentFollowingWithDrops = (smaller larger : Collector) → StartsEmpty smaller
 
 -- .. and where 10 is not asked about: it never occurs
 abbrev pub NeverCellsOrCounter : Collector → Calls → Type 0
-NeverCellsOrCounter s calls = Never (refused refusal.NoCell) (answersOf s calls) × Never (refused refusal.CounterFull) (answersOf s calls)
+NeverCellsOrCounter s calls = Never (refused refusal.NoCell) (answers_of s calls) × Never (refused refusal.CounterFull) (answers_of s calls)
 
 abbrev pub PresentFollowingOpened : Type 0
 PresentFollowingOpened = (smaller larger : Collector) → StartsEmpty smaller → StartsEmpty larger → EqualCellSize smaller larger → LimitNoLarger smaller larger
@@ -153,4 +153,4 @@ PresentFollowingOpened = (smaller larger : Collector) → StartsEmpty smaller �
 -- "present/following": in every history a set that answer 5 comes with has table_id 0x4E or 0x4F (EN 300 468, table 2)
 abbrev pub FiveIsPresentFollowing : Type 0
 FiveIsPresentFollowing = (s : Collector) → StartsEmpty s → (calls : Calls) → CallsFit calls
-    → (t : ℕ) (set : Whole) → HandsOut s calls t set → (set.key.tableId ≡ 0x4E) ⊎ (set.key.tableId ≡ 0x4F)
+    → (t : ℕ) (set : Whole) → HandsOut s calls t set → (set.key.table_id_of ≡ 0x4E) ⊎ (set.key.table_id_of ≡ 0x4F)

@@ -5,5 +5,5 @@ use mathlib.Core.List.{List}
 use Prim.Native.Nat.{ℕ}
 
 -- two parts that meet the promise hold the same words
-pub unique-slots : (x p q : List ℕ) → p ≡ x → q ≡ x → p ≡ q
-unique-slots x p q a b = a ∙ sym b
+pub unique_slots : (x p q : List ℕ) → p ≡ x → q ≡ x → p ≡ q
+unique_slots x p q a b = a ∙ sym b

@@ -2,8 +2,8 @@
 // table of a schedule in use. None else. While they are lent the store can't change, so a host asks once for a whole set.
 ghost use Rattle.std.specs.Prelude.{◌≡◌, [], ◌+◌, ◌*◌, ◌≤◌, length};
 ghost use Rattle.store.specs.Store.{store};
-ghost use Rattle.eit_state.specs.State.{store as eitStore};
-ghost use Rattle.reader_rows.specs.Rows.{setSlots, eitSlots, unitTaken, tableSlots};
+ghost use Rattle.eit_state.specs.State.{store as eit_store};
+ghost use Rattle.reader_rows.specs.Rows.{set_slots, eit_slots, unit_taken, table_slots};
 
 use eit_state::Eit;
 use store::Sets;
@@ -22,7 +22,7 @@ pub fn set_slots<'a>(
     cells: &[u8],
     row: usize,
 ) -> &'a [u32]
-    ensures { result.now ≡ setSlots (store sets heads.now slots.now cells.now) row }
+    ensures { result.now ≡ set_slots (store sets heads.now slots.now cells.now) row }
 {
     if store::is_whole(sets, heads, slots, cells) {
         if without_pid::any_without_pid(heads, sets.used) {
@@ -46,7 +46,7 @@ pub fn eit_slots<'a>(
     units: &[u32],
     row: usize,
 ) -> &'a [u32]
-    ensures { result.now ≡ eitSlots (eitStore eit heads.now slots.now cells.now schedule_heads.now units.now) row }
+    ensures { result.now ≡ eit_slots (eitStore eit heads.now slots.now cells.now schedule_heads.now units.now) row }
 {
     let held = eit.sets;
     if eit_state::is_whole(eit, heads, slots, cells, schedule_heads, units) {
@@ -64,7 +64,7 @@ pub fn eit_slots<'a>(
 // Of unit u, where it is present.
 fn unit_taken<'a>(units: &'a [u32], u: usize) -> &'a [u32]
     requires { u * 288 + 288 ≤ length units.now }
-    ensures { result.now ≡ unitTaken units.now u }
+    ensures { result.now ≡ unit_taken units.now u }
 {
     if units::is_present(units, u) {
         return units::unit_slots(units, u);
@@ -83,7 +83,7 @@ pub fn table_slots<'a>(
     row: usize,
     table: usize,
 ) -> &'a [u32]
-    ensures { result.now ≡ tableSlots (eitStore eit heads.now slots.now cells.now schedule_heads.now units.now) row table }
+    ensures { result.now ≡ table_slots (eitStore eit heads.now slots.now cells.now schedule_heads.now units.now) row table }
 {
     if eit_state::is_whole(eit, heads, slots, cells, schedule_heads, units) {
         if eit_pids::any_row_without_pid(eit, heads, schedule_heads) {

@@ -9,12 +9,12 @@ use Rattle.readers.specs.declared.Step.{Step}
 use Rattle.readers.specs.Reader.{Held, held}
 
 -- two parts that meet the promise hold the same bytes
-pub unique-part : (cells : List ℕ) (start size : ℕ) (p q : List ℕ) → p ≡ part_of cells start size → q ≡ part_of cells start size → p ≡ q
-unique-part cells start size p q a b = a ∙ sym b
+pub unique_part : (cells : List ℕ) (start size : ℕ) (p q : List ℕ) → p ≡ part_of cells start size → q ≡ part_of cells start size → p ≡ q
+unique_part cells start size p q a b = a ∙ sym b
 
 -- two readers that meet the promise hold the same
-pub unique-reader : (h : Held) (p q : SetReader) → held p ≡ h → held q ≡ h → held p ≡ held q
-unique-reader h p q a b = a ∙ sym b
+pub unique_reader : (h : Held) (p q : SetReader) → held p ≡ h → held q ≡ h → held p ≡ held q
+unique_reader h p q a b = a ∙ sym b
 
-pub unique-step : (x p q : Step) → p ≡ x → q ≡ x → p ≡ q
-unique-step x p q a b = a ∙ sym b
+pub unique_step : (x p q : Step) → p ≡ x → q ≡ x → p ≡ q
+unique_step x p q a b = a ∙ sym b

@@ -10,36 +10,36 @@ use mir.Val.{Fits}
 use mir.Syntax.{w64}
 use lib.Dec.{lit<}
 use lib.ListN.{length, get_or}
-use Rattle.laws.specs.Lists.{firstFrom}
+use Rattle.laws.specs.Lists.{first_from}
 use Rattle.answers.specs.declared.Reply.TheVariants.{Yes, No}
-use Rattle.cells.specs.Cells.{keptLength, cellNumber, nextFilled}
+use Rattle.cells.specs.Cells.{kept_length, cell_number, next_filled}
 use Rattle.readers.specs.declared.Next.{Next}
-use Rattle.readers.specs.Next.{noSection, slotTold}
+use Rattle.readers.specs.Next.{no_section, slot_told}
 
 product : (a b m n : ℕ) → a ≤ m → b ≤ n → a * b ≤ m * n
 product a b m n h k = le_trans (mul-le-mul_right b h) (mul-le-mul_left m k)
 
 -- a cell's place
-pub product-fits : (a b : ℕ) → a ≤ 65535 → b ≤ 4096 → Fits w64 (a * b)
-product-fits a b h k = record { fits = lt_of_le_of_lt (product a b 65535 4096 h k) (lit< tt) }
+pub product_fits : (a b : ℕ) → a ≤ 65535 → b ≤ 4096 → Fits w64 (a * b)
+product_fits a b h k = record { fits = lt_of_le_of_lt (product a b 65535 4096 h k) (lit< tt) }
 
 module _ (slots : List ℕ) (size j : ℕ) where
-  pub told-yes : (n c : ℕ) → j < length slots → n ≡ keptLength (get_or slots j 0) → c ≡ cellNumber (get_or slots j 0)
-      → ◌≡◌ {A = Next} (record { answer = Yes; number = j; start = c * size; length = n }) (slotTold size slots j)
-  unfolding slotTold
-  told-yes n c h e f = rw (lt-ltb j (length slots) h, e, f)
+  pub told_yes : (n c : ℕ) → j < length slots → n ≡ kept_length (get_or slots j 0) → c ≡ cell_number (get_or slots j 0)
+      → ◌≡◌ {A = Next} (record { answer = Yes; number = j; start = c * size; length = n }) (slot_told size slots j)
+  unfolding slot_told
+  told_yes n c h e f = rw (lt-ltb j (length slots) h, e, f)
 
-  pub told-no : (q : Next) → length slots ≤ j → q ≡ noSection No → q ≡ slotTold size slots j
-  unfolding slotTold
-  told-no q h e = rw (le-ltb j (length slots) h) e
+  pub told_no_lem : (q : Next) → length slots ≤ j → q ≡ no_section No → q ≡ slot_told size slots j
+  unfolding slot_told
+  told_no_lem q h e = rw (le-ltb j (length slots) h) e
 
-pub slot_next : (slots : List ℕ) (size from j : ℕ) (q : Next) → j ≡ nextFilled slots from → q ≡ slotTold size slots j → q ≡ slotTold size slots (nextFilled slots from)
+pub slot_next : (slots : List ℕ) (size from j : ℕ) (q : Next) → j ≡ next_filled slots from → q ≡ slot_told size slots j → q ≡ slot_told size slots (next_filled slots from)
 slot_next slots size from j q e f = rw (← e) f
 
 -- past the last slot there is none
-past : (slots : List ℕ) (from : ℕ) → length slots ≤ from → nextFilled slots from ≡ from
-unfolding firstFrom
+past : (slots : List ℕ) (from : ℕ) → length slots ≤ from → next_filled slots from ≡ from
+unfolding first_from
 past slots from h = let z : length slots - from ≡ 0 = omega arith in rw z
 
-pub slot-past : (slots : List ℕ) (size from : ℕ) (q : Next) → length slots ≤ from → q ≡ noSection No → q ≡ slotTold size slots (nextFilled slots from)
-slot-past slots size from q h e = rw (past slots from h) (told-no slots size from q h e)
+pub slot_past : (slots : List ℕ) (size from : ℕ) (q : Next) → length slots ≤ from → q ≡ no_section No → q ≡ slot_told size slots (next_filled slots from)
+slot_past slots size from q h e = rw (past slots from h) (told_no_lem slots size from q h e)

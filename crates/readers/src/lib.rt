@@ -1,9 +1,9 @@
 // The sections of a row, one after another (docs/RULES.md, "Collectors"): where the next one's bytes are in the lent cells, and a reader that
 // hands them out as parts of the cells. Shared by all collectors, which say which row's slots are looked at.
 ghost use Rattle.std.specs.Prelude.{◌≡◌, ◌≤◌};
-ghost use Rattle.cells.specs.Cells.{nextFilled, part_of};
-ghost use Rattle.readers.specs.Next.{noSection, slotTold};
-ghost use Rattle.readers.specs.Reader.{noStep, step_of, held, begun, movedOn};
+ghost use Rattle.cells.specs.Cells.{next_filled, part_of};
+ghost use Rattle.readers.specs.Next.{no_section, slot_told};
+ghost use Rattle.readers.specs.Reader.{no_step, step_of, held, begun, moved_on};
 
 use answers::Reply;
 
@@ -17,7 +17,7 @@ pub struct Next {
 }
 
 pub fn no_section(answer: Reply) -> Next
-    ensures { result ≡ noSection answer }
+    ensures { result ≡ no_section answer }
 {
     Next {
         answer,
@@ -30,7 +30,7 @@ pub fn no_section(answer: Reply) -> Next
 // Slot j of a row's slots, where there is one.
 fn told(slots: &[u32], size: usize, j: usize) -> Next
     requires { size ≤ 4096 }
-    ensures { result ≡ slotTold size slots.now j }
+    ensures { result ≡ slot_told size slots.now j }
 {
     if j < slots.len() {
         let w = slots[j];
@@ -47,7 +47,7 @@ fn told(slots: &[u32], size: usize, j: usize) -> Next
 // The first filled slot at or after `from`.
 pub fn next_slot(slots: &[u32], size: usize, from: usize) -> Next
     requires { size ≤ 4096 }
-    ensures { result ≡ slotTold size slots.now (nextFilled slots.now from) }
+    ensures { result ≡ slot_told size slots.now (next_filled slots.now from) }
 {
     if from < slots.len() {
         return told(slots, size, cells::next_filled(slots, from));
@@ -70,8 +70,8 @@ pub struct Step {
     pub next: usize,
 }
 
-fn no_step(from: usize) -> Step
-    ensures { result ≡ noStep from }
+fn no_step_lem(from: usize) -> Step
+    ensures { result ≡ no_step from }
 {
     Step {
         start: 0,
@@ -85,7 +85,7 @@ pub fn step_from(row: &[u32], size: usize, from: usize) -> Step
     ensures { result ≡ step_of size row.now from }
 {
     if 4096 < size {
-        return no_step(from);
+        return no_step_lem(from);
     }
     let found = next_slot(row, size, from);
     let answer = found.answer;
@@ -97,7 +97,7 @@ pub fn step_from(row: &[u32], size: usize, from: usize) -> Step
             next,
         };
     }
-    no_step(from)
+    no_step_lem(from)
 }
 
 // A reader over a complete set: the lent cells, the slot to look at next, and the section that it handed out last, which is a part of the cells and
@@ -122,7 +122,7 @@ pub fn reader<'a>(cells: &'a [u8]) -> SetReader<'a>
 
 // The next section of a row, whose slots are given: the reader, moved on behind it, with its bytes; at the end with an empty part.
 pub fn next_part<'a>(r: SetReader<'a>, row: &'a [u32], size: usize) -> SetReader<'a>
-    ensures { held result ≡ movedOn size row.now (held r.entry) }
+    ensures { held result ≡ moved_on size row.now (held r.entry) }
 {
     let step = step_from(row, size, r.next);
     SetReader {

@@ -11,94 +11,94 @@ use lib.ListN.{length, get_or, drop, length-drop}
 use lib.Seq.{length-take-le}
 use lib.Dec.{ltb, leb, eqb}
 use borrow.Author.Tests.{ltb-true, le-leb, ne_eqb}
-use Rattle.laws.specs.Lists.{firstFrom}
-use Rattle.laws.proofs.Search.{every_get, first_passes, first-from}
-use Rattle.placing.proofs.Fits.{slot-bounds}
-use Rattle.answers.specs.Answers.{replyNo}
+use Rattle.laws.specs.Lists.{first_from}
+use Rattle.laws.proofs.Search.{every_get, first_passes, first_from_lem}
+use Rattle.placing.proofs.Fits.{slot_bounds}
+use Rattle.answers.specs.Answers.{reply_no}
 use Rattle.answers.specs.declared.Reply.{Reply}
 use Rattle.answers.specs.declared.Reply.TheVariants.{Yes, No, Refused}
-use Rattle.cells.specs.Cells.{keptLength, cellNumber, filled, nextFilled, slotWhole, allWhole, kept, part_of}
-use Rattle.readers.specs.Next.{slotTold}
-use Rattle.readers.specs.Reader.{Held, noStep, step_of, stepped, movedOn}
-use Rattle.readers.proofs.Steps.{empty-part}
+use Rattle.cells.specs.Cells.{kept_length, cell_number, filled, next_filled, slot_whole, all_whole, kept, part_of}
+use Rattle.readers.specs.Next.{slot_told}
+use Rattle.readers.specs.Reader.{Held, no_step, step_of, stepped, moved_on}
+use Rattle.readers.proofs.Steps.{empty_part}
 use Rattle.readers.specs.declared.Next.{Next}
 use Rattle.readers.specs.declared.Step.{Step}
-use Rattle.reading.proofs.Reading.{no≢yes, part-kept}
-use Rattle.reading.specs.Reading.{asks, Reads, ends, goesOn, HandsOut, stops, hands}
+use Rattle.reading.proofs.Reading.{no≢yes, part_kept}
+use Rattle.reading.specs.Reading.{asks, Reads, ends, goes_on, HandsOut, stops, hands}
 
 -- what one reader hands out is one list
-pub one-handing : {size : ℕ} {slots : List ℕ} {h : Held} {p q : List (List ℕ)} → HandsOut size slots h p → HandsOut size slots h q → p ≡ q
-one-handing (stops e) (stops f) = refl
-one-handing (stops e) (hands n r) = absurd (n e)
-one-handing (hands n r) (stops e) = absurd (n e)
-one-handing {size = size} {slots = slots} {h = h} (hands n r) (hands m s) = ap (λ (l : List (List ℕ)). (movedOn size slots h).part ∷ l) (one-handing r s)
+pub one_handing : {size : ℕ} {slots : List ℕ} {h : Held} {p q : List (List ℕ)} → HandsOut size slots h p → HandsOut size slots h q → p ≡ q
+one_handing (stops e) (stops f) = refl
+one_handing (stops e) (hands n r) = absurd (n e)
+one_handing (hands n r) (stops e) = absurd (n e)
+one_handing {size = size} {slots = slots} {h = h} (hands n r) (hands m s) = ap (λ (l : List (List ℕ)). (moved_on size slots h).part ∷ l) (one_handing r s)
 
 module _ (size : ℕ) (slots : List ℕ) (small : size ≤ 4096) where
   -- a step, by what a question is answered
-  step-yes : (from : ℕ) → (asks size slots from).answer ≡ Yes
+  step_yes : (from : ℕ) → (asks size slots from).answer ≡ Yes
       → step_of size slots from ≡ record { start = (asks size slots from).start; length = (asks size slots from).length; next = (asks size slots from).number + 1 }
   unfolding step_of
-  step-yes from e = rw (le-leb size 4096 small, e) refl
+  step_yes from e = rw (le-leb size 4096 small, e) refl
 
-  step-no : (from : ℕ) → (asks size slots from).answer ≢ Yes → step_of size slots from ≡ noStep from
-  unfolding step_of slotTold
-  step-no from n = go (ltb (nextFilled slots from) (length slots)) refl
+  step_no : (from : ℕ) → (asks size slots from).answer ≢ Yes → step_of size slots from ≡ no_step from
+  unfolding step_of slot_told
+  step_no from n = go (ltb (next_filled slots from) (length slots)) refl
     where
-      go : (b : Bool) → ltb (nextFilled slots from) (length slots) ≡ b → step_of size slots from ≡ noStep from
+      go : (b : Bool) → ltb (next_filled slots from) (length slots) ≡ b → step_of size slots from ≡ no_step from
       go true h = absurd (n (rw h refl))
       go false h = rw (le-leb size 4096 small, h) refl
 
-  module _ (count : ℕ) (cells : List ℕ) (whole : allWhole count size slots ≡ true) (room : count * size ≤ length cells) where
+  module _ (count : ℕ) (cells : List ℕ) (whole : all_whole count size slots ≡ true) (room : count * size ≤ length cells) where
     -- what a filled slot that is whole keeps is not empty
-    keeps-bytes : (w : ℕ) → slotWhole count size w ≡ true → filled w ≡ true → part_of cells (cellNumber w * size) (keptLength w) ≢ []
-    keeps-bytes w h f e =
-        let b = slot-bounds count size w h (λ z. true≢false (sym f ∙ ap (λ (k : ℕ). not (eqb k 0)) z)) in
-        let m : (cellNumber w + 1) * size ≤ count * size = mul-le-mul_right size (omega (arith, b.1)) in
-        let d : length (drop (cellNumber w * size) cells) ≡ length cells - cellNumber w * size = length-drop (cellNumber w * size) cells in
-        let l : length (kept cells size w) ≡ keptLength w = length-take-le (keptLength w) (drop (cellNumber w * size) cells) (omega (arith, d, m, room, b.0)) in
-        let z : keptLength w ≡ 0 = sym l ∙ ap length (sym (part-kept count size w cells h f room) ∙ e) in
+    keeps_bytes : (w : ℕ) → slot_whole count size w ≡ true → filled w ≡ true → part_of cells (cell_number w * size) (kept_length w) ≢ []
+    keeps_bytes w h f e =
+        let b = slot_bounds count size w h (λ z. true≢false (sym f ∙ ap (λ (k : ℕ). not (eqb k 0)) z)) in
+        let m : (cell_number w + 1) * size ≤ count * size = mul-le-mul_right size (omega (arith, b.1)) in
+        let d : length (drop (cell_number w * size) cells) ≡ length cells - cell_number w * size = length-drop (cell_number w * size) cells in
+        let l : length (kept cells size w) ≡ kept_length w = length-take-le (kept_length w) (drop (cell_number w * size) cells) (omega (arith, d, m, room, b.0)) in
+        let z : kept_length w ≡ 0 = sym l ∙ ap length (sym (part_kept count size w cells h f room) ∙ e) in
         true≢false (sym f ∙ ap (λ (k : ℕ). not (eqb k 0)) z)
 
     -- so has a section that is told of
-    has-bytes : (from : ℕ) → (asks size slots from).answer ≡ Yes → part_of cells (asks size slots from).start (asks size slots from).length ≢ []
-    unfolding slotTold
-    has-bytes from e = go (ltb (nextFilled slots from) (length slots)) refl
+    has_bytes : (from : ℕ) → (asks size slots from).answer ≡ Yes → part_of cells (asks size slots from).start (asks size slots from).length ≢ []
+    unfolding slot_told
+    has_bytes from e = go (ltb (next_filled slots from) (length slots)) refl
       where
-        go : (b : Bool) → ltb (nextFilled slots from) (length slots) ≡ b → part_of cells (asks size slots from).start (asks size slots from).length ≢ []
+        go : (b : Bool) → ltb (next_filled slots from) (length slots) ≡ b → part_of cells (asks size slots from).start (asks size slots from).length ≢ []
         go true h =
-            let l = ltb-true (nextFilled slots from) (length slots) h in
-            let low = first-from (λ (j : ℕ). filled (get_or slots j 0)) (length slots - from) from in
+            let l = ltb-true (next_filled slots from) (length slots) h in
+            let low = first_from_lem (λ (j : ℕ). filled (get_or slots j 0)) (length slots - from) from in
             let f = first_passes (λ (j : ℕ). filled (get_or slots j 0)) (length slots - from) from (omega (arith, l, low)) in
-            let w = every_get (slotWhole count size) slots 0 (nextFilled slots from) whole l in
-            rw h (keeps-bytes (get_or slots (nextFilled slots from) 0) w f)
+            let w = every_get (slot_whole count size) slots 0 (next_filled slots from) whole l in
+            rw h (keeps_bytes (get_or slots (next_filled slots from) 0) w f)
         go false h = let z : No ≡ Yes = sym (rw h refl) ∙ e in absurd (no≢yes z)
 
     -- what is read by asking from a slot on, a reader at that slot hands out
-    pub reader-hands : {from : ℕ} {parts : List (List ℕ)} {last : Reply} (before : List ℕ) → Reads (asks size slots) cells from parts last
+    pub reader_hands : {from : ℕ} {parts : List (List ℕ)} {last : Reply} (before : List ℕ) → Reads (asks size slots) cells from parts last
         → HandsOut size slots (record { cells = cells; next = from; part = before }) parts
-    unfolding movedOn
-    reader-hands {from = from} before (ends n) = stops (ap (λ (x : Step). part_of cells x.start x.length) (step-no from n) ∙ empty-part cells)
-    reader-hands {from = from} before (goesOn {parts = parts} e r) =
+    unfolding moved_on
+    reader_hands {from = from} before (ends n) = stops (ap (λ (x : Step). part_of cells x.start x.length) (step_no from n) ∙ empty_part cells)
+    reader_hands {from = from} before (goes_on {parts = parts} e r) =
         let h : Held = record { cells = cells; next = from; part = before } in
-        let p : movedOn size slots h ≡ record { cells = cells; next = (asks size slots from).number + 1; part = part_of cells (asks size slots from).start (asks size slots from).length } =
-        ap (stepped h) (step-yes from e) in
+        let p : moved_on size slots h ≡ record { cells = cells; next = (asks size slots from).number + 1; part = part_of cells (asks size slots from).start (asks size slots from).length } =
+        ap (stepped h) (step_yes from e) in
         subst (λ (x : List ℕ). HandsOut size slots h (x ∷ parts)) (ap (λ (x : Held). x.part) p)
-        (hands (λ z. has-bytes from e (sym (ap (λ (x : Held). x.part) p) ∙ z))
-        (subst (λ (x : Held). HandsOut size slots x parts) (sym p) (reader-hands (part_of cells (asks size slots from).start (asks size slots from).length) r)))
+        (hands (λ z. has_bytes from e (sym (ap (λ (x : Held). x.part) p) ∙ z))
+        (subst (λ (x : Held). HandsOut size slots x parts) (sym p) (reader_hands (part_of cells (asks size slots from).start (asks size slots from).length) r)))
 
 -- a reader over no slots hands out nothing
-no_step : (size from : ℕ) (slots : List ℕ) → slots ≡ [] → step_of size slots from ≡ noStep from
-unfolding step_of slotTold
-no_step size from slots z = go (leb size 4096) (ltb (nextFilled slots from) (length slots)) refl refl
+no_step_lem : (size from : ℕ) (slots : List ℕ) → slots ≡ [] → step_of size slots from ≡ no_step from
+unfolding step_of slot_told
+no_step_lem size from slots z = go (leb size 4096) (ltb (next_filled slots from) (length slots)) refl refl
   where
-    go : (b c : Bool) → leb size 4096 ≡ b → ltb (nextFilled slots from) (length slots) ≡ c → step_of size slots from ≡ noStep from
+    go : (b c : Bool) → leb size 4096 ≡ b → ltb (next_filled slots from) (length slots) ≡ c → step_of size slots from ≡ no_step from
     go true true e h =
-        let l = ltb-true (nextFilled slots from) (length slots) h in
+        let l = ltb-true (next_filled slots from) (length slots) h in
         let n : length slots ≡ 0 = ap length z in
         absurd (omega (arith, l, n))
     go true false e h = rw (e, h) refl
     go false c e h = rw e refl
 
-pub none-handed : (size : ℕ) (h : Held) → HandsOut size [] h []
-unfolding movedOn
-none-handed size h = stops (ap (λ (x : Step). part_of h.cells x.start x.length) (no_step size h.next [] refl) ∙ empty-part h.cells)
+pub none_handed : (size : ℕ) (h : Held) → HandsOut size [] h []
+unfolding moved_on
+none_handed size h = stops (ap (λ (x : Step). part_of h.cells x.start x.length) (no_step_lem size h.next [] refl) ∙ empty_part h.cells)

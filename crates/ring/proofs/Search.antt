@@ -13,14 +13,14 @@ use Rattle.ring.specs.Store.{row_of}
 row_here : (l : List ℕ) (i key : ℕ) → i < length l → get_or l i 0 ≡ key → row_of (drop i l) key ≡ 0
 row_here l i key h e = rw (drop-cons l i 0) (simp (eq-eqb _ _ e))
 
-row_next : (l : List ℕ) (i key : ℕ) → i < length l → (get_or l i 0 ≡ key → ⊥) → row_of (drop i l) key ≡ suc (row_of (drop (suc i) l) key)
-row_next l i key h e = rw (drop-cons l i 0) (simp (ne_eqb _ _ e))
+row_next_lem : (l : List ℕ) (i key : ℕ) → i < length l → (get_or l i 0 ≡ key → ⊥) → row_of (drop i l) key ≡ suc (row_of (drop (suc i) l) key)
+row_next_lem l i key h e = rw (drop-cons l i 0) (simp (ne_eqb _ _ e))
 
 -- The search over the first used keys, which is to give `whole`: found at i; not at i; at the end.
 module _ (keys : List ℕ) (used key whole : ℕ) (fits : used ≤ length keys) where
   module _ (i : ℕ) (inv : whole ≡ i + row_of (drop i (take used keys)) key) where
-    pub row-found : i < used → get_or keys i 0 ≡ key → i ≡ whole
-    row-found h e =
+    pub row_found : i < used → get_or keys i 0 ≡ key → i ≡ whole
+    row_found h e =
         let n : length (take used keys) ≡ used = length-take-le used keys fits in
         let z : row_of (drop i (take used keys)) key ≡ 0 = row_here (take used keys) i key (omega arith) (get_or-take used keys i 0 h ∙ e) in
         omega arith
@@ -29,15 +29,15 @@ module _ (keys : List ℕ) (used key whole : ℕ) (fits : used ≤ length keys) 
     row_more h e =
         let n : length (take used keys) ≡ used = length-take-le used keys fits in
         let z : row_of (drop i (take used keys)) key ≡ suc (row_of (drop (suc i) (take used keys)) key) =
-        row_next (take used keys) i key (omega arith) (λ q. e (sym (get_or-take used keys i 0 h) ∙ q)) in
+        row_next_lem (take used keys) i key (omega arith) (λ q. e (sym (get_or-take used keys i 0 h) ∙ q)) in
         rw add-one (omega arith)
 
     -- the same, the next row by another name
-    row-more-to : (j : ℕ) → j ≡ i + 1 → i < used → (get_or keys i 0 ≡ key → ⊥) → whole ≡ j + row_of (drop j (take used keys)) key
-    row-more-to j e h ne = rw e (row_more h ne)
+    row_more_to : (j : ℕ) → j ≡ i + 1 → i < used → (get_or keys i 0 ≡ key → ⊥) → whole ≡ j + row_of (drop j (take used keys)) key
+    row_more_to j e h ne = rw e (row_more h ne)
 
-    pub row-none : used ≤ i → i ≤ used → i ≡ whole
-    row-none h g =
+    pub row_none : used ≤ i → i ≤ used → i ≡ whole
+    row_none h g =
         let n : length (take used keys) ≡ used = length-take-le used keys fits in
         let z : row_of (drop i (take used keys)) key ≡ 0 = rw (drop_of_length-le (take used keys) {i = i} (omega arith)) in
         omega arith
@@ -48,28 +48,28 @@ module _ (keys : List ℕ) (used key whole : ℕ) (fits : used ≤ length keys) 
 
   -- four rows a turn: found at the first, the second, the third, the fourth; at none of them
   pub first_found : (i : ℕ) → whole ≡ i + row_of (drop i (take used keys)) key → 4 ≤ used - i → get_or keys i 0 ≡ key → i ≡ whole
-  first_found i inv four = row-found i inv (omega arith)
+  first_found i inv four = row_found i inv (omega arith)
 
   module _ (i : ℕ) (inv : whole ≡ i + row_of (drop i (take used keys)) key) (four : 4 ≤ used - i) (first : get_or keys i 0 ≡ key → ⊥) where
     past_first : whole ≡ i + 1 + row_of (drop (i + 1) (take used keys)) key
     past_first = row_more i inv (omega arith) first
 
-    pub second-found : get_or keys (i + 1) 0 ≡ key → i + 1 ≡ whole
-    second-found = row-found (i + 1) past_first (omega arith)
+    pub second_found : get_or keys (i + 1) 0 ≡ key → i + 1 ≡ whole
+    second_found = row_found (i + 1) past_first (omega arith)
 
     module _ (second : get_or keys (i + 1) 0 ≡ key → ⊥) where
-      past-second : whole ≡ i + 2 + row_of (drop (i + 2) (take used keys)) key
-      past-second = row-more-to (i + 1) past_first (i + 2) (omega arith) (omega arith) second
+      past_second : whole ≡ i + 2 + row_of (drop (i + 2) (take used keys)) key
+      past_second = row_more_to (i + 1) past_first (i + 2) (omega arith) (omega arith) second
 
-      pub third-found : get_or keys (i + 2) 0 ≡ key → i + 2 ≡ whole
-      third-found = row-found (i + 2) past-second (omega arith)
+      pub third_found : get_or keys (i + 2) 0 ≡ key → i + 2 ≡ whole
+      third_found = row_found (i + 2) past_second (omega arith)
 
       module _ (third : get_or keys (i + 2) 0 ≡ key → ⊥) where
-        past-third : whole ≡ i + 3 + row_of (drop (i + 3) (take used keys)) key
-        past-third = row-more-to (i + 2) past-second (i + 3) (omega arith) (omega arith) third
+        past_third : whole ≡ i + 3 + row_of (drop (i + 3) (take used keys)) key
+        past_third = row_more_to (i + 2) past_second (i + 3) (omega arith) (omega arith) third
 
-        pub fourth-found : get_or keys (i + 3) 0 ≡ key → i + 3 ≡ whole
-        fourth-found = row-found (i + 3) past-third (omega arith)
+        pub fourth_found : get_or keys (i + 3) 0 ≡ key → i + 3 ≡ whole
+        fourth_found = row_found (i + 3) past_third (omega arith)
 
-        pub four-more : (get_or keys (i + 3) 0 ≡ key → ⊥) → whole ≡ i + 4 + row_of (drop (i + 4) (take used keys)) key
-        four-more = row-more-to (i + 3) past-third (i + 4) (omega arith) (omega arith)
+        pub four_more : (get_or keys (i + 3) 0 ≡ key → ⊥) → whole ≡ i + 4 + row_of (drop (i + 4) (take used keys)) key
+        four_more = row_more_to (i + 3) past_third (i + 4) (omega arith) (omega arith)

@@ -33,16 +33,16 @@ abbrev pub changed : Row → List Row → Bool
 changed n rows = not (has n rows)
 
 -- the held keys are at least the capacity and any are held
-abbrev pub atCapacity : ℕ → List Row → Bool
-atCapacity capacity rows = leb capacity (length rows) && ltb 0 (length rows)
+abbrev pub at_capacity : ℕ → List Row → Bool
+at_capacity capacity rows = leb capacity (length rows) && ltb 0 (length rows)
 
 -- for a new key at the capacity the first in order leaves: one eviction
 abbrev pub evicts : ℕ → Row → List Row → Bool
-evicts capacity n rows = not (holds n.key rows) && atCapacity capacity rows
+evicts capacity n rows = not (holds n.key rows) && at_capacity capacity rows
 
 -- the held rows after an offer
-unfoldable pub offeredTo : ℕ → Row → List Row → List Row
-offeredTo capacity n rows = cond (holds n.key rows) (updated n rows) (cond (atCapacity capacity rows) (later rows) rows ++ (n ∷ []))
+unfoldable pub offered_to : ℕ → Row → List Row → List Row
+offered_to capacity n rows = cond (holds n.key rows) (updated n rows) (cond (at_capacity capacity rows) (later rows) rows ++ (n ∷ []))
 
 -- ---- rows by place, for memory that came from no history: there the first match is the one with the lowest place
 
@@ -53,13 +53,13 @@ pub record Laid : Type 0 where
 
 -- the rows after an offer: a known key is updated in the first row that has it; a new key goes behind the last row, or at the capacity to the
 -- place of the row that leaves, and then the next place is the one behind it, the first behind the last
-unfoldable pub laidAfter : ℕ → Row → Laid → Laid
-laidAfter capacity n l =
+unfoldable pub laid_after : ℕ → Row → Laid → Laid
+laid_after capacity n l =
     cond (holds n.key l.rows) (record { rows = updated n l.rows; next = l.next })
-    (cond (atCapacity capacity l.rows) (record { rows = set l.rows l.next n; next = (l.next + 1) % length l.rows })
+    (cond (at_capacity capacity l.rows) (record { rows = set l.rows l.next n; next = (l.next + 1) % length l.rows })
     (record { rows = l.rows ++ (n ∷ []); next = l.next }))
 
 -- how many rows have the key
-abbrev pub countKey : ℕ → List Row → ℕ
-countKey k [] = 0
-countKey k (r ∷ rows) = cond (eqb r.key k) (suc (countKey k rows)) (countKey k rows)
+abbrev pub count_key : ℕ → List Row → ℕ
+count_key k [] = 0
+count_key k (r ∷ rows) = cond (eqb r.key k) (suc (count_key k rows)) (count_key k rows)

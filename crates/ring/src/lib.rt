@@ -2,7 +2,7 @@
 // at each index. While rows are free a new key takes the next one; after that it replaces the key that came first, so that the rows are a ring.
 // A known key keeps its place.
 ghost use Rattle.std.specs.Prelude.{◌≡◌, Bool, ◌+◌, ◌<◌, ◌≤◌, length, take, drop, set};
-ghost use Rattle.ring.specs.Store.{roomOf, whole_of, Whole, stampOf, row_of, freeRow, renewed, arrived, seenOf, keysAfter, changesAfter};
+ghost use Rattle.ring.specs.Store.{room_of, whole_of, Whole, stamp_of, row_of, free_row, renewed, arrived, seen_of, keys_after, changes_after};
 
 #[derive(Drop)]
 pub struct Ring {
@@ -24,7 +24,7 @@ pub struct Seen {
 
 // How many rows a ring of this capacity has.
 pub fn room(capacity: u64) -> usize
-    ensures { result ≡ roomOf capacity }
+    ensures { result ≡ room_of capacity }
 {
     if capacity == 0 { 1 } else { capacity as usize }
 }
@@ -47,9 +47,9 @@ pub fn admit(
     change: u32,
 ) -> Seen
     requires { Whole ring (length keys.old) (length changes.old) }
-    ensures value { result ≡ seenOf ring keys.old changes.old key (stampOf version change) }
-    ensures keys_after { keys.new ≡ keysAfter ring keys.old key }
-    ensures changes_after { changes.new ≡ changesAfter ring keys.old changes.old key (stampOf version change) }
+    ensures value { result ≡ seen_of ring keys.old changes.old key (stamp_of version change) }
+    ensures keys_after { keys.new ≡ keys_after ring keys.old key }
+    ensures changes_after { changes.new ≡ changes_after ring keys.old changes.old key (stamp_of version change) }
 {
     let used = ring.used;
     let number = stamp(version, change);
@@ -63,7 +63,7 @@ pub fn admit(
 
 // A version and a change number as the one number that a row holds.
 pub fn stamp(version: u8, change: u32) -> u64
-    ensures { result ≡ stampOf version change }
+    ensures { result ≡ stamp_of version change }
 {
     (version as u64) * 4294967296 + (change as u64)
 }
@@ -126,8 +126,8 @@ pub fn renew(ring: Ring, changes: &mut [u64], i: usize, number: u64) -> Seen
 pub fn arrive(ring: Ring, keys: &mut [u64], changes: &mut [u64], key: u64, number: u64) -> Seen
     requires { Whole ring (length keys.old) (length changes.old) }
     ensures value { result ≡ arrived ring }
-    ensures keys_after { keys.new ≡ set keys.old (freeRow ring) key }
-    ensures changes_after { changes.new ≡ set changes.old (freeRow ring) number }
+    ensures keys_after { keys.new ≡ set keys.old (free_row ring) key }
+    ensures changes_after { changes.new ≡ set changes.old (free_row ring) number }
 {
     let all = room(ring.capacity);
     let used = ring.used;

@@ -11,7 +11,7 @@ use lib.Seq.{get_or-set_same, get_or-set_other}
 use lib.Dec.{ltb, eqb}
 use native.Mathlib.Omega.{arith}
 use borrow.Author.Tests.{eqb-true, eqb-false, eq-eqb, ne_eqb, lt-ltb, le-ltb}
-use Rattle.ring_index.specs.Store.{Index, index_of, ends, walk_of, linked, unlinked, priorOf}
+use Rattle.ring_index.specs.Store.{Index, index_of, ends, walk_of, linked, unlinked, prior_of}
 
 -- every row of a list
 pub data All (P : ℕ → Type 0) : List ℕ → Type 0 where
@@ -32,9 +32,9 @@ module _ {P : ℕ → Type 0} where
   all_append none b = b
   all_append (more p a) b = more p (all_append a b)
 
-  pub all_left : (l m : List ℕ) → All P (l ++ m) → All P l
-  all_left [] m a = none
-  all_left (x ∷ l) m (more p a) = more p (all_left l m a)
+  pub all_left_lem : (l m : List ℕ) → All P (l ++ m) → All P l
+  all_left_lem [] m a = none
+  all_left_lem (x ∷ l) m (more p a) = more p (all_left_lem l m a)
 
   pub all_right : (l m : List ℕ) → All P (l ++ m) → All P m
   all_right [] m a = a
@@ -65,15 +65,15 @@ named : (used at i : ℕ) → at ≡ i + 1 → i < used → ends used at ≡ fal
 named used at i e h = rw (ne_eqb at 0 (λ q. omega arith), le-ltb used at (omega arith))
 
 -- a walk along a chain
-pub walk-reads :
+pub walk_reads :
     (words links : List ℕ) (used value left at : ℕ) (l : List ℕ) → Reads links at l → length l ≤ left → All (λ x. x < used) l →
     walk_of words links used value left at ≡ pick_of words used value l
-walk-reads words links used value zero at [] r h a = refl
-walk-reads words links used value (suc n) at [] r h a = rw (eq-eqb at 0 r)
-walk-reads words links used value zero at (x ∷ l) r h a = absurd (omega arith)
-walk-reads words links used value (suc n) at (x ∷ l) r h (more p a) =
+walk_reads words links used value zero at [] r h a = refl
+walk_reads words links used value (suc n) at [] r h a = rw (eq-eqb at 0 r)
+walk_reads words links used value zero at (x ∷ l) r h a = absurd (omega arith)
+walk_reads words links used value (suc n) at (x ∷ l) r h (more p a) =
     let q : at - 1 ≡ x = omega (arith, r.0) in
-    rw (named used at x r.0 p, q, walk-reads words links used value n (get_or links x 0) l r.1 (omega arith) a)
+    rw (named used at x r.0 p, q, walk_reads words links used value n (get_or links x 0) l r.1 (omega arith) a)
 
 -- ---- a row at the end of a chain
 
@@ -81,51 +81,51 @@ abbrev last_of : ℕ → List ℕ → ℕ
 last_of y [] = y
 last_of y (z ∷ l) = last_of z l
 
-all-last : {P : ℕ → Type 0} (y : ℕ) (l : List ℕ) → All P (y ∷ l) → P (last_of y l)
-all-last y [] (more p a) = p
-all-last y (z ∷ l) (more p a) = all-last z l a
+all_last : {P : ℕ → Type 0} (y : ℕ) (l : List ℕ) → All P (y ∷ l) → P (last_of y l)
+all_last y [] (more p a) = p
+all_last y (z ∷ l) (more p a) = all_last z l a
 
 module _ (links : List ℕ) (f : ℕ) where
-  end-link : (at : ℕ) (l : List ℕ) → Reads links at (l ++ (f ∷ [])) → get_or links f 0 ≡ 0
-  end-link at [] r = r.1
-  end-link at (x ∷ l) r = end-link (get_or links x 0) l r.1
+  end_link : (at : ℕ) (l : List ℕ) → Reads links at (l ++ (f ∷ [])) → get_or links f 0 ≡ 0
+  end_link at [] r = r.1
+  end_link at (x ∷ l) r = end_link (get_or links x 0) l r.1
 
-  last-link : (at y : ℕ) (l : List ℕ) → Reads links at (y ∷ l ++ (f ∷ [])) → get_or links (last_of y l) 0 ≡ f + 1
-  last-link at y [] r = r.1.0
-  last-link at y (z ∷ l) r = last-link (get_or links y 0) z l r.1
+  last_link : (at y : ℕ) (l : List ℕ) → Reads links at (y ∷ l ++ (f ∷ [])) → get_or links (last_of y l) 0 ≡ f + 1
+  last_link at y [] r = r.1.0
+  last_link at y (z ∷ l) r = last_link (get_or links y 0) z l r.1
 
   -- the row whose link names the last is the one before it
-  prior-last :
+  prior_last :
       (used at y : ℕ) (l : List ℕ) → Reads links at (y ∷ l ++ (f ∷ [])) → Lacks f (y ∷ l) → pick_of links used (f + 1) (y ∷ l ++ (f ∷ [])) ≡ last_of y l
-  prior-last used at y [] r a = rw (eq-eqb _ _ r.1.0)
-  prior-last used at y (z ∷ l) r (more p (more q a)) =
+  prior_last used at y [] r a = rw (eq-eqb _ _ r.1.0)
+  prior_last used at y (z ∷ l) r (more p (more q a)) =
       let h : get_or links y 0 ≡ z + 1 = r.1.0 in
-      rw (ne_eqb (get_or links y 0) (f + 1) (λ e. q (omega arith))) (prior-last used (get_or links y 0) z l r.1 (more q a))
+      rw (ne_eqb (get_or links y 0) (f + 1) (λ e. q (omega arith))) (prior_last used (get_or links y 0) z l r.1 (more q a))
 
   -- with its link 0 the chain ends there
-  cut-last :
+  cut_last :
       (at y : ℕ) (l : List ℕ) → Reads links at (y ∷ l ++ (f ∷ [])) → Lacks f (y ∷ l) → last_of y l < length links → Reads (set links (last_of y l) 0) at (y ∷ l)
-  cut-last at y [] r a h = (r.0, get_or-set_same links y 0 0 h)
-  cut-last at y (z ∷ l) r (more p (more q a)) h =
+  cut_last at y [] r a h = (r.0, get_or-set_same links y 0 0 h)
+  cut_last at y (z ∷ l) r (more p (more q a)) h =
       let s : get_or links y 0 ≡ z + 1 = r.1.0 in
-      let t : get_or links (last_of z l) 0 ≡ f + 1 = last-link (get_or links y 0) z l r.1 in
+      let t : get_or links (last_of z l) 0 ≡ f + 1 = last_link (get_or links y 0) z l r.1 in
       let n : y ≡ last_of z l → ⊥ = λ e. q (omega (arith, ap (λ (k : ℕ). get_or links k 0) e)) in
-      (r.0, rw (get_or-set_other links (last_of z l) y 0 0 n) (cut-last (get_or links y 0) z l r.1 (more q a) h))
+      (r.0, rw (get_or-set_other links (last_of z l) y 0 0 n) (cut_last (get_or links y 0) z l r.1 (more q a) h))
 
 -- ---- the rows of a bucket
 
 module _ (home : ℕ → ℕ) (b : ℕ) where
-  pub all-chain : {P : ℕ → Type 0} (l : List ℕ) → All P l → All P (chain home b l)
-  all-chain [] a = none
-  all-chain {P} (x ∷ l) (more p a) = go (eqb (home x) b) (all-chain l a)
+  pub all_chain : {P : ℕ → Type 0} (l : List ℕ) → All P l → All P (chain home b l)
+  all_chain [] a = none
+  all_chain {P} (x ∷ l) (more p a) = go (eqb (home x) b) (all_chain l a)
     where
       go : (t : Bool) {m : List ℕ} → All P m → All P (cond t (x ∷ m) m)
       go true r = more p r
       go false r = r
 
-  pub chain-home : (l : List ℕ) → All (λ x. home x ≡ b) (chain home b l)
-  chain-home [] = none
-  chain-home (x ∷ l) = go (eqb (home x) b) refl (chain-home l)
+  pub chain_home : (l : List ℕ) → All (λ x. home x ≡ b) (chain home b l)
+  chain_home [] = none
+  chain_home (x ∷ l) = go (eqb (home x) b) refl (chain_home l)
     where
       go : (t : Bool) → eqb (home x) b ≡ t → {m : List ℕ} → All (λ x. home x ≡ b) m → All (λ x. home x ≡ b) (cond t (x ∷ m) m)
       go true e r = more (eqb-true _ _ e) r
@@ -139,19 +139,19 @@ module _ (home : ℕ → ℕ) (b : ℕ) where
       go true m h = omega arith
       go false m h = omega arith
 
-  chain-append : (l m : List ℕ) → chain home b (l ++ m) ≡ chain home b l ++ chain home b m
-  chain-append [] m = refl
-  chain-append (x ∷ l) m = go (eqb (home x) b) (chain home b l) (chain home b m) (chain-append l m)
+  chain_append : (l m : List ℕ) → chain home b (l ++ m) ≡ chain home b l ++ chain home b m
+  chain_append [] m = refl
+  chain_append (x ∷ l) m = go (eqb (home x) b) (chain home b l) (chain home b m) (chain_append l m)
     where
       go : (t : Bool) (d e : List ℕ) {c : List ℕ} → c ≡ d ++ e → cond t (x ∷ c) c ≡ cond t (x ∷ d) d ++ e
       go true d e q = ap (λ (k : List ℕ). x ∷ k) q
       go false d e q = q
 
-  chain-end : (l : List ℕ) (f : ℕ) → eqb (home f) b ≡ true → chain home b (l ++ (f ∷ [])) ≡ chain home b l ++ (f ∷ [])
-  chain-end l f e = chain-append l (f ∷ []) ∙ rw e
+  chain_end : (l : List ℕ) (f : ℕ) → eqb (home f) b ≡ true → chain home b (l ++ (f ∷ [])) ≡ chain home b l ++ (f ∷ [])
+  chain_end l f e = chain_append l (f ∷ []) ∙ rw e
 
-  chain-past : (l : List ℕ) (f : ℕ) → eqb (home f) b ≡ false → chain home b (l ++ (f ∷ [])) ≡ chain home b l
-  chain-past l f e = chain-append l (f ∷ []) ∙ rw e (append-nil (chain home b l))
+  chain_past : (l : List ℕ) (f : ℕ) → eqb (home f) b ≡ false → chain home b (l ++ (f ∷ [])) ≡ chain home b l
+  chain_past l f e = chain_append l (f ∷ []) ∙ rw e (append-nil (chain home b l))
 
 -- a row that is not in the list may change its bucket
 chain_same :
@@ -165,17 +165,17 @@ abbrev pub Holds : Index → (ℕ → ℕ) → List ℕ → ℕ → Type 0
 Holds x home rows room = (b : ℕ) → b < room → Reads x.links (get_or x.buckets b 0) (chain home b rows)
 
 -- a row is put at the head of its chain
-pub link-holds :
+pub link_holds :
     (x : Index) (home new : ℕ → ℕ) (rows : List ℕ) (room f : ℕ) → Holds x home rows room → Lacks f rows → ((i : ℕ) → (i ≡ f → ⊥) → new i ≡ home i) →
     new f < length x.buckets → f < length x.links → Holds (linked x (new f) f) new (f ∷ rows) room
 unfolding linked
-link-holds x home new rows room f holds lacks same hb hl b h = go (eqb (new f) b) refl
+link_holds x home new rows room f holds lacks same hb hl b h = go (eqb (new f) b) refl
   where
     head : ℕ
     head = get_or x.buckets (new f) 0
 
     others : (at : ℕ) → Reads x.links at (chain home b rows) → Reads (set x.links f head) at (chain new b rows)
-    others at r = rw (chain_same home new b f rows same lacks) (reads_other x.links f head at (chain home b rows) r (all-chain home b rows lacks))
+    others at r = rw (chain_same home new b f rows same lacks) (reads_other x.links f head at (chain home b rows) r (all_chain home b rows lacks))
 
     go :
         (t : Bool) → eqb (new f) b ≡ t →
@@ -189,48 +189,48 @@ link-holds x home new rows room f holds lacks same hb hl b h = go (eqb (new f) b
     go false e =
         rw (get_or-set_other x.buckets (new f) b (f + 1) 0 (λ q. eqb-false (new f) b e (sym q))) (others (get_or x.buckets b 0) (holds b h))
 
-pub linked-buckets : (x : Index) (b f : ℕ) → length (linked x b f).buckets ≡ length x.buckets
+pub linked_buckets : (x : Index) (b f : ℕ) → length (linked x b f).buckets ≡ length x.buckets
 unfolding linked
-linked-buckets x b f = length-set x.buckets b (f + 1)
+linked_buckets x b f = length-set x.buckets b (f + 1)
 
-pub linked-links : (x : Index) (b f : ℕ) → length (linked x b f).links ≡ length x.links
+pub linked_links : (x : Index) (b f : ℕ) → length (linked x b f).links ≡ length x.links
 unfolding linked
-linked-links x b f = length-set x.links f (get_or x.buckets b 0)
+linked_links x b f = length-set x.links f (get_or x.buckets b 0)
 
 module _ (x : Index) (used room b f : ℕ) where
-  unlinked-head :
+  unlinked_head :
       get_or x.buckets b 0 ≡ f + 1 → get_or x.links f 0 ≡ 0 → unlinked x used room b f ≡ index_of (set x.buckets b 0) x.links
   unfolding unlinked
-  unlinked-head e z = rw (eq-eqb _ _ e, z)
+  unlinked_head e z = rw (eq-eqb _ _ e, z)
 
-  unlinked-next :
-      (p : ℕ) → (get_or x.buckets b 0 ≡ f + 1 → ⊥) → priorOf x used room b f ≡ p → p < used → get_or x.links f 0 ≡ 0 →
+  unlinked_next :
+      (p : ℕ) → (get_or x.buckets b 0 ≡ f + 1 → ⊥) → prior_of x used room b f ≡ p → p < used → get_or x.links f 0 ≡ 0 →
       unlinked x used room b f ≡ index_of x.buckets (set x.links p 0)
   unfolding unlinked
-  unlinked-next p e q h z = rw (ne_eqb _ _ e, q, lt-ltb _ _ h, z)
+  unlinked_next p e q h z = rw (ne_eqb _ _ e, q, lt-ltb _ _ h, z)
 
-  pub unlinked-buckets : length (unlinked x used room b f).buckets ≡ length x.buckets
+  pub unlinked_buckets : length (unlinked x used room b f).buckets ≡ length x.buckets
   unfolding unlinked
-  unlinked-buckets = go (eqb (get_or x.buckets b 0) (f + 1)) (ltb (priorOf x used room b f) used)
+  unlinked_buckets = go (eqb (get_or x.buckets b 0) (f + 1)) (ltb (prior_of x used room b f) used)
     where
       go :
           (s t : Bool) →
-          length (cond s (index_of (set x.buckets b (get_or x.links f 0)) x.links) (cond t (index_of x.buckets (set x.links (priorOf x used room b f) (get_or x.links f 0))) x)).buckets ≡
+          length (cond s (index_of (set x.buckets b (get_or x.links f 0)) x.links) (cond t (index_of x.buckets (set x.links (prior_of x used room b f) (get_or x.links f 0))) x)).buckets ≡
           length x.buckets
       go true t = length-set x.buckets b (get_or x.links f 0)
       go false true = refl
       go false false = refl
 
-  pub unlinked-links : length (unlinked x used room b f).links ≡ length x.links
+  pub unlinked_links : length (unlinked x used room b f).links ≡ length x.links
   unfolding unlinked
-  unlinked-links = go (eqb (get_or x.buckets b 0) (f + 1)) (ltb (priorOf x used room b f) used)
+  unlinked_links = go (eqb (get_or x.buckets b 0) (f + 1)) (ltb (prior_of x used room b f) used)
     where
       go :
           (s t : Bool) →
-          length (cond s (index_of (set x.buckets b (get_or x.links f 0)) x.links) (cond t (index_of x.buckets (set x.links (priorOf x used room b f) (get_or x.links f 0))) x)).links ≡
+          length (cond s (index_of (set x.buckets b (get_or x.links f 0)) x.links) (cond t (index_of x.buckets (set x.links (prior_of x used room b f) (get_or x.links f 0))) x)).links ≡
           length x.links
       go true t = refl
-      go false true = length-set x.links (priorOf x used room b f) (get_or x.links f 0)
+      go false true = length-set x.links (prior_of x used room b f) (get_or x.links f 0)
       go false false = refl
 
 -- the last of the rows is taken off its chain
@@ -241,28 +241,28 @@ module _
     (used room f : ℕ)
     (holds : Holds x home (rest ++ (f ∷ [])) room)
     (lacks : Lacks f rest)
-    (inUse : All (λ x. x < used) (rest ++ (f ∷ [])))
+    (in_use : All (λ x. x < used) (rest ++ (f ∷ [])))
     (short : length (rest ++ (f ∷ [])) ≤ room)
-    (links-long : used ≤ length x.links)
+    (links_long : used ≤ length x.links)
     (inside : home f < room)
-    (buckets-long : room ≤ length x.buckets)
+    (buckets_long : room ≤ length x.buckets)
   where
     head : ℕ
     head = get_or x.buckets (home f) 0
 
     mine : Reads x.links head (chain home (home f) rest ++ (f ∷ []))
     unfolding head
-    mine = rw (chain-end home (home f) rest f (eq-eqb (home f) (home f) refl)) at (holds (home f) inside)
+    mine = rw (chain_end home (home f) rest f (eq-eqb (home f) (home f) refl)) at (holds (home f) inside)
 
     theirs : (b : ℕ) → b < room → eqb (home f) b ≡ false → Reads x.links (get_or x.buckets b 0) (chain home b rest)
-    theirs b h e = rw (chain-past home b rest f e) at (holds b h)
+    theirs b h e = rw (chain_past home b rest f e) at (holds b h)
 
     -- it was the only one
     only : chain home (home f) rest ≡ [] → Holds (unlinked x used room (home f) f) home rest room
     unfolding head
     only e b h =
         let r : Reads x.links head (f ∷ []) = rw e at mine in
-        rw (unlinked-head x used room (home f) f r.0 r.1) (go (eqb (home f) b) refl)
+        rw (unlinked_head x used room (home f) f r.0 r.1) (go (eqb (home f) b) refl)
       where
         go : (t : Bool) → eqb (home f) b ≡ t → Reads x.links (get_or (set x.buckets (home f) 0) b 0) (chain home b rest)
         go true q =
@@ -276,25 +276,25 @@ module _
     unfolding head
     others y l e b h =
         let r : Reads x.links head (y ∷ l ++ (f ∷ [])) = rw e at mine in
-        let a : Lacks f (y ∷ l) = rw e at (all-chain home (home f) rest lacks) in
-        let w : All (λ x. home x ≡ home f) (y ∷ l) = rw e at (chain-home home (home f) rest) in
-        let v : All (λ x. x < used) (y ∷ l) = rw e at (all-chain home (home f) rest (all_left rest (f ∷ []) inUse)) in
-        let z : get_or x.links f 0 ≡ 0 = end-link x.links f head (y ∷ l) r in
-        let p : last_of y l < used = all-last y l v in
-        rw (unlinked-next x used room (home f) f (last_of y l) (first r a) (prior r a v) p z) (go r a w (omega arith) (eqb (home f) b) refl)
+        let a : Lacks f (y ∷ l) = rw e at (all_chain home (home f) rest lacks) in
+        let w : All (λ x. home x ≡ home f) (y ∷ l) = rw e at (chain_home home (home f) rest) in
+        let v : All (λ x. x < used) (y ∷ l) = rw e at (all_chain home (home f) rest (all_left_lem rest (f ∷ []) in_use)) in
+        let z : get_or x.links f 0 ≡ 0 = end_link x.links f head (y ∷ l) r in
+        let p : last_of y l < used = all_last y l v in
+        rw (unlinked_next x used room (home f) f (last_of y l) (first r a) (prior r a v) p z) (go r a w (omega arith) (eqb (home f) b) refl)
       where
         first : Reads x.links head (y ∷ l ++ (f ∷ [])) → Lacks f (y ∷ l) → head ≡ f + 1 → ⊥
         first r (more q a) n = q (omega (arith, r.0))
 
         prior :
-            Reads x.links head (y ∷ l ++ (f ∷ [])) → Lacks f (y ∷ l) → All (λ x. x < used) (y ∷ l) → priorOf x used room (home f) f ≡ last_of y l
+            Reads x.links head (y ∷ l ++ (f ∷ [])) → Lacks f (y ∷ l) → All (λ x. x < used) (y ∷ l) → prior_of x used room (home f) f ≡ last_of y l
         prior r a v =
             let n : length (chain home (home f) rest) ≤ length rest = chain_length home (home f) rest in
             let k : length (y ∷ l) ≤ length rest = rw e at n in
             let i = length-append rest (f ∷ []) in
             let j = length-append (y ∷ l) (f ∷ []) in
-            walk-reads x.links x.links used (f + 1) room head (y ∷ l ++ (f ∷ [])) r (omega arith) (all_append v (all_right rest (f ∷ []) inUse))
-            ∙ prior-last x.links f used head y l r a
+            walk_reads x.links x.links used (f + 1) room head (y ∷ l ++ (f ∷ [])) r (omega arith) (all_append v (all_right rest (f ∷ []) in_use))
+            ∙ prior_last x.links f used head y l r a
 
         go :
             Reads x.links head (y ∷ l ++ (f ∷ [])) → Lacks f (y ∷ l) → All (λ x. home x ≡ home f) (y ∷ l) → last_of y l < length x.links →
@@ -302,14 +302,14 @@ module _
         go r a w p true q =
             let c : home f ≡ b = eqb-true _ _ q in
             let u : chain home b rest ≡ y ∷ l = ap (λ (k : ℕ). chain home k rest) (sym c) ∙ e in
-            rw (u, ← c) (cut-last x.links f head y l r a p)
+            rw (u, ← c) (cut_last x.links f head y l r a p)
         go r a w p false q =
-            let c : home (last_of y l) ≡ home f = all-last y l w in
+            let c : home (last_of y l) ≡ home f = all_last y l w in
             reads_other x.links (last_of y l) 0 (get_or x.buckets b 0) (chain home b rest) (theirs b h q)
-            (all_map (λ k g i. eqb-false (home f) b q (sym c ∙ ap home (sym i) ∙ g)) (chain-home home b rest))
+            (all_map (λ k g i. eqb-false (home f) b q (sym c ∙ ap home (sym i) ∙ g)) (chain_home home b rest))
 
-    pub unlink-holds : Holds (unlinked x used room (home f) f) home rest room
-    unlink-holds = go (chain home (home f) rest) refl
+    pub unlink_holds : Holds (unlinked x used room (home f) f) home rest room
+    unlink_holds = go (chain home (home f) rest) refl
       where
         go : (l : List ℕ) → chain home (home f) rest ≡ l → Holds (unlinked x used room (home f) f) home rest room
         go [] e = only e

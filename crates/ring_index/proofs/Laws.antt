@@ -8,11 +8,11 @@ use lib.ListN.{length, get_or, set}
 use lib.Dec.{ltb, eqb}
 use native.Mathlib.Omega.{arith}
 use borrow.Author.Tests.{ltb-false, eqb-false, eq-eqb, ne_eqb, lt-ltb, le-ltb}
-use Rattle.laws.proofs.Tests.{or-false}
-use Rattle.ring.specs.Store.{roomOf, freeRow, renewed, arrived}
+use Rattle.laws.proofs.Tests.{or_false}
+use Rattle.ring.specs.Store.{room_of, free_row, renewed, arrived}
 use Rattle.ring.specs.declared.Ring.{Ring}
 use Rattle.ring.specs.declared.Seen.{Seen}
-use Rattle.ring_index.specs.Store.{bucketOf, Index, index_of, ends, walk_of, clearedBy, linked, unlinked, entered, foundBy, seenBy, keysBy, changesBy, index_by}
+use Rattle.ring_index.specs.Store.{bucket_of, Index, index_of, ends, walk_of, cleared_by, linked, unlinked, entered, found_by, seen_by, keys_by, changes_by, index_by}
 
 pub record Names (used at : ℕ) : Type 0 where
   pub some : 1 ≤ at
@@ -21,7 +21,7 @@ pub record Names (used at : ℕ) : Type 0 where
 -- a word that does not end the chain names a row in use
 pub names : (used at : ℕ) → ends used at ≡ false → Names used at
 names used at e =
-    let p = or-false (eqb at 0) (ltb used at) e in
+    let p = or_false (eqb at 0) (ltb used at) e in
     let q : at ≡ 0 → ⊥ = eqb-false at 0 p.0 in
     record { some = omega arith; within = ltb-false used at p.1 }
 
@@ -35,8 +35,8 @@ module _ (words links : List ℕ) (used value whole left at : ℕ) (more : 0 < l
   walk_end e = rw e at (sym (turn left refl more))
 
   module _ (e : ends used at ≡ false) where
-    pub walk-found : get_or words (at - 1) 0 ≡ value → at - 1 ≡ whole
-    walk-found h = rw (e, eq-eqb _ _ h) at (sym (turn left refl more))
+    pub walk_found : get_or words (at - 1) 0 ≡ value → at - 1 ≡ whole
+    walk_found h = rw (e, eq-eqb _ _ h) at (sym (turn left refl more))
 
     pub walk_more : (get_or words (at - 1) 0 ≡ value → ⊥) → whole ≡ walk_of words links used value (left - 1) (get_or links (at - 1) 0)
     walk_more h = rw (e, ne_eqb _ _ h) at (turn left refl more)
@@ -45,82 +45,82 @@ pub walk_none : (words links : List ℕ) (used value whole left at : ℕ) → le
 walk_none words links used value whole zero at h e = sym e
 walk_none words links used value whole (suc n) at h e = absurd (omega arith)
 
-pub clear-turn : (whole l : List ℕ) (n : ℕ) → 0 < n → whole ≡ clearedBy n l → whole ≡ clearedBy (n - 1) (set l (n - 1) 0)
-clear-turn whole l zero h e = absurd (omega arith)
-clear-turn whole l (suc n) h e = let q : suc n - 1 ≡ n = omega arith in rw q e
+pub clear_turn : (whole l : List ℕ) (n : ℕ) → 0 < n → whole ≡ cleared_by n l → whole ≡ cleared_by (n - 1) (set l (n - 1) 0)
+clear_turn whole l zero h e = absurd (omega arith)
+clear_turn whole l (suc n) h e = let q : suc n - 1 ≡ n = omega arith in rw q e
 
-pub clear-end : (whole l : List ℕ) (n : ℕ) → n ≤ 0 → whole ≡ clearedBy n l → l ≡ whole
-clear-end whole l zero h e = sym e
-clear-end whole l (suc n) h e = absurd (omega arith)
+pub clear_end : (whole l : List ℕ) (n : ℕ) → n ≤ 0 → whole ≡ cleared_by n l → l ≡ whole
+clear_end whole l zero h e = sym e
+clear_end whole l (suc n) h e = absurd (omega arith)
 
 module _ (buckets links : List ℕ) (used room home row : ℕ) where
-  pub unlink-head :
+  pub unlink_head :
       get_or buckets home 0 ≡ row + 1 → index_of (set buckets home (get_or links row 0)) links ≡ unlinked (index_of buckets links) used room home row
   unfolding unlinked
-  unlink-head e = rw (eq-eqb _ _ e)
+  unlink_head e = rw (eq-eqb _ _ e)
 
   module _ (e : get_or buckets home 0 ≡ row + 1 → ⊥) (p : ℕ) (q : p ≡ walk_of links links used (row + 1) room (get_or buckets home 0)) where
-    pub unlink-next : p < used → index_of buckets (set links p (get_or links row 0)) ≡ unlinked (index_of buckets links) used room home row
+    pub unlink_next : p < used → index_of buckets (set links p (get_or links row 0)) ≡ unlinked (index_of buckets links) used room home row
     unfolding unlinked
-    unlink-next h = rw (ne_eqb _ _ e, ← q, lt-ltb _ _ h)
+    unlink_next h = rw (ne_eqb _ _ e, ← q, lt-ltb _ _ h)
 
-    pub unlink-none : used ≤ p → index_of buckets links ≡ unlinked (index_of buckets links) used room home row
+    pub unlink_none : used ≤ p → index_of buckets links ≡ unlinked (index_of buckets links) used room home row
     unfolding unlinked
-    unlink-none h = rw (ne_eqb _ _ e, ← q, le-ltb _ _ h)
+    unlink_none h = rw (ne_eqb _ _ e, ← q, le-ltb _ _ h)
 
-module _ (g : Ring) (keys : List ℕ) (x y : Index) (home room : ℕ) (e : room ≡ roomOf g.capacity) where
-  pub enter-free : g.used < room → y ≡ linked x home g.used → y ≡ entered g keys x home
+module _ (g : Ring) (keys : List ℕ) (x y : Index) (home room : ℕ) (e : room ≡ room_of g.capacity) where
+  pub enter_free : g.used < room → y ≡ linked x home g.used → y ≡ entered g keys x home
   unfolding entered
-  enter-free h j = rw (← e, lt-ltb _ _ h) j
+  enter_free h j = rw (← e, lt-ltb _ _ h) j
 
-  pub enter-full :
-      (old : ℕ) (z : Index) → room ≤ g.used → old ≡ bucketOf (get_or keys g.first 0) room → z ≡ unlinked x g.used room old g.first →
+  pub enter_full :
+      (old : ℕ) (z : Index) → room ≤ g.used → old ≡ bucket_of (get_or keys g.first 0) room → z ≡ unlinked x g.used room old g.first →
       y ≡ linked z home g.first → y ≡ entered g keys x home
   unfolding entered
-  enter-full old z h o k j = rw (← e, le-ltb _ _ h, ← o, ← k) j
+  enter_full old z h o k j = rw (← e, le-ltb _ _ h, ← o, ← k) j
 
 module _
     (g : Ring)
     (keys changes buckets links : List ℕ)
     (key number room home i n : ℕ)
-    (r : room ≡ roomOf g.capacity)
-    (b : home ≡ bucketOf key room)
+    (r : room ≡ room_of g.capacity)
+    (b : home ≡ bucket_of key room)
     (w : i ≡ walk_of keys links g.used key room (get_or buckets home 0))
   where
-    found : foundBy g keys (index_of buckets links) key ≡ i
+    found : found_by g keys (index_of buckets links) key ≡ i
     found = rw (← r, ← b) (sym w)
 
     module _ (h : i < g.used) where
-      pub seen-found : (o : Seen) → n ≡ number → o ≡ renewed g changes i n → o ≡ seenBy g keys changes (index_of buckets links) key number
-      unfolding seenBy
-      seen-found o q j = rw (found, lt-ltb _ _ h, ← q) j
+      pub seen_found : (o : Seen) → n ≡ number → o ≡ renewed g changes i n → o ≡ seen_by g keys changes (index_of buckets links) key number
+      unfolding seen_by
+      seen_found o q j = rw (found, lt-ltb _ _ h, ← q) j
 
-      pub keys_found : keys ≡ keysBy g keys (index_of buckets links) key
-      unfolding keysBy
+      pub keys_found : keys ≡ keys_by g keys (index_of buckets links) key
+      unfolding keys_by
       keys_found = rw (found, lt-ltb _ _ h)
 
-      pub changes-found : (ms : List ℕ) → n ≡ number → ms ≡ set changes i n → ms ≡ changesBy g keys changes (index_of buckets links) key number
-      unfolding changesBy
-      changes-found ms q j = rw (found, lt-ltb _ _ h, ← q) j
+      pub changes_found : (ms : List ℕ) → n ≡ number → ms ≡ set changes i n → ms ≡ changes_by g keys changes (index_of buckets links) key number
+      unfolding changes_by
+      changes_found ms q j = rw (found, lt-ltb _ _ h, ← q) j
 
-      pub index-found : index_of buckets links ≡ index_by g keys (index_of buckets links) key
+      pub index_found : index_of buckets links ≡ index_by g keys (index_of buckets links) key
       unfolding index_by
-      index-found = rw (found, lt-ltb _ _ h)
+      index_found = rw (found, lt-ltb _ _ h)
 
     module _ (h : g.used ≤ i) where
-      pub seen-arrived : (o : Seen) → o ≡ arrived g → o ≡ seenBy g keys changes (index_of buckets links) key number
-      unfolding seenBy
-      seen-arrived o j = rw (found, le-ltb _ _ h) j
+      pub seen_arrived : (o : Seen) → o ≡ arrived g → o ≡ seen_by g keys changes (index_of buckets links) key number
+      unfolding seen_by
+      seen_arrived o j = rw (found, le-ltb _ _ h) j
 
-      pub keys-arrived : (ks : List ℕ) → ks ≡ set keys (freeRow g) key → ks ≡ keysBy g keys (index_of buckets links) key
-      unfolding keysBy
-      keys-arrived ks j = rw (found, le-ltb _ _ h) j
+      pub keys_arrived : (ks : List ℕ) → ks ≡ set keys (free_row g) key → ks ≡ keys_by g keys (index_of buckets links) key
+      unfolding keys_by
+      keys_arrived ks j = rw (found, le-ltb _ _ h) j
 
-      pub changes-arrived :
-          (ms : List ℕ) → n ≡ number → ms ≡ set changes (freeRow g) n → ms ≡ changesBy g keys changes (index_of buckets links) key number
-      unfolding changesBy
-      changes-arrived ms q j = rw (found, le-ltb _ _ h, ← q) j
+      pub changes_arrived :
+          (ms : List ℕ) → n ≡ number → ms ≡ set changes (free_row g) n → ms ≡ changes_by g keys changes (index_of buckets links) key number
+      unfolding changes_by
+      changes_arrived ms q j = rw (found, le-ltb _ _ h, ← q) j
 
-      pub index-arrived : (y : Index) → y ≡ entered g keys (index_of buckets links) home → y ≡ index_by g keys (index_of buckets links) key
+      pub index_arrived : (y : Index) → y ≡ entered g keys (index_of buckets links) home → y ≡ index_by g keys (index_of buckets links) key
       unfolding index_by
-      index-arrived y j = rw (found, le-ltb _ _ h, ← r, ← b) j
+      index_arrived y j = rw (found, le-ltb _ _ h, ← r, ← b) j

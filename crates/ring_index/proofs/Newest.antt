@@ -14,10 +14,10 @@ use native.Mathlib.Decide.{dec_lt}
 use native.Mathlib.Omega.{arith}
 use borrow.Author.Tests.{eqb-true, eqb-false, eq-eqb, ne_eqb}
 use Rattle.ring.specs.Store.{row_of}
-use Rattle.ring.specs.Rules.{countKey}
+use Rattle.ring.specs.Rules.{count_key}
 use Rattle.ring.specs.View.{rows_of}
-use Rattle.ring_index.specs.Store.{bucketOf}
-use Rattle.ring_index.proofs.Chains.{All, none, more, Lacks, all_append, all_left, all_right, chain, pick_of}
+use Rattle.ring_index.specs.Store.{bucket_of}
+use Rattle.ring_index.proofs.Chains.{All, none, more, Lacks, all_append, all_left_lem, all_right, chain, pick_of}
 
 -- n rows from a on, the last first
 abbrev pub span : ℕ → ℕ → List ℕ
@@ -25,25 +25,25 @@ span a zero = []
 span a (suc n) = (a + n) ∷ span a n
 
 module _ {P : ℕ → Type 0} where
-  all-span : (a n : ℕ) → ((i : ℕ) → a ≤ i → i < a + n → P i) → All P (span a n)
-  all-span a zero f = none
-  all-span a (suc n) f = more (f (a + n) (omega arith) (omega arith)) (all-span a n (λ i g h. f i g (omega arith)))
+  all_span : (a n : ℕ) → ((i : ℕ) → a ≤ i → i < a + n → P i) → All P (span a n)
+  all_span a zero f = none
+  all_span a (suc n) f = more (f (a + n) (omega arith) (omega arith)) (all_span a n (λ i g h. f i g (omega arith)))
 
-  span-at : (a n i : ℕ) → All P (span a n) → a ≤ i → i < a + n → P i
-  span-at a zero i s g h = absurd (omega arith)
-  span-at a (suc n) i (more p s) g h = go (eqb i (a + n)) refl (span-at a n i s)
+  span_at : (a n i : ℕ) → All P (span a n) → a ≤ i → i < a + n → P i
+  span_at a zero i s g h = absurd (omega arith)
+  span_at a (suc n) i (more p s) g h = go (eqb i (a + n)) refl (span_at a n i s)
     where
       go : (t : Bool) → eqb i (a + n) ≡ t → (a ≤ i → i < a + n → P i) → P i
       go true e f = rw (eqb-true i (a + n) e) p
       go false e f = let q : i ≡ a + n → ⊥ = eqb-false _ _ e in f g (omega arith)
 
-length-span : (a n : ℕ) → length (span a n) ≡ n
-length-span a zero = refl
-length-span a (suc n) = ap suc (length-span a n)
+length_span : (a n : ℕ) → length (span a n) ≡ n
+length_span a zero = refl
+length_span a (suc n) = ap suc (length_span a n)
 
-span-end : (a n : ℕ) → span a (suc n) ≡ span (suc a) n ++ (a ∷ [])
-span-end a zero = let e : a + 0 ≡ a = omega arith in ap (λ (k : ℕ). k ∷ []) e
-span-end a (suc n) = let e : a + suc n ≡ suc a + n = omega arith in rw (span-end a n) (ap (λ (k : ℕ). k ∷ (span (suc a) n ++ (a ∷ []))) e)
+span_end : (a n : ℕ) → span a (suc n) ≡ span (suc a) n ++ (a ∷ [])
+span_end a zero = let e : a + 0 ≡ a = omega arith in ap (λ (k : ℕ). k ∷ []) e
+span_end a (suc n) = let e : a + suc n ≡ suc a + n = omega arith in rw (span_end a n) (ap (λ (k : ℕ). k ∷ (span (suc a) n ++ (a ∷ []))) e)
 
 -- the rows in use, the newest first: down from the row before the first of all, and then down to it
 abbrev pub newest : ℕ → ℕ → List ℕ
@@ -54,21 +54,21 @@ abbrev pub newer : ℕ → ℕ → List ℕ
 newer first used = span 0 first ++ span (suc first) (used - suc first)
 
 module _ (first used : ℕ) (h : first ≤ used) where
-  pub newest-used : All (λ x. x < used) (newest first used)
-  newest-used = all_append (all-span 0 first (λ i p q. omega arith)) (all-span first (used - first) (λ i p q. omega arith))
+  pub newest_used : All (λ x. x < used) (newest first used)
+  newest_used = all_append (all_span 0 first (λ i p q. omega arith)) (all_span first (used - first) (λ i p q. omega arith))
 
-  pub newest-length : length (newest first used) ≡ used
-  newest-length = omega (arith, length-append (span 0 first) (span first (used - first)), length-span 0 first, length-span first (used - first))
+  pub newest_length : length (newest first used) ≡ used
+  newest_length = omega (arith, length-append (span 0 first) (span first (used - first)), length_span 0 first, length_span first (used - first))
 
-  pub newest-at : {P : ℕ → Type 0} (i : ℕ) → i < used → All P (newest first used) → P i
-  newest-at {P} i l a = go (dec_lt i first)
+  pub newest_at : {P : ℕ → Type 0} (i : ℕ) → i < used → All P (newest first used) → P i
+  newest_at {P} i l a = go (dec_lt i first)
     where
       go : Dec (i < first) → P i
-      go (yes q) = span-at 0 first i (all_left (span 0 first) (span first (used - first)) a) (omega arith) (omega arith)
-      go (no q) = span-at first (used - first) i (all_right (span 0 first) (span first (used - first)) a) (omega arith) (omega arith)
+      go (yes q) = span_at 0 first i (all_left_lem (span 0 first) (span first (used - first)) a) (omega arith) (omega arith)
+      go (no q) = span_at first (used - first) i (all_right (span 0 first) (span first (used - first)) a) (omega arith) (omega arith)
 
-pub newest-free : (used : ℕ) → newest 0 (used + 1) ≡ used ∷ newest 0 used
-newest-free used =
+pub newest_free : (used : ℕ) → newest 0 (used + 1) ≡ used ∷ newest 0 used
+newest_free used =
     let a : used + 1 - 0 ≡ suc used = omega arith in
     let b : used - 0 ≡ used = omega arith in
     let c : 0 + used ≡ used = omega arith in
@@ -78,14 +78,14 @@ module _ (first used : ℕ) (h : first < used) where
   count : used - first ≡ suc (used - suc first)
   count = omega arith
 
-  pub newest-full : newest first used ≡ newer first used ++ (first ∷ [])
-  newest-full = rw (count, span-end first (used - suc first)) (sym (append_assoc (span 0 first) (span (suc first) (used - suc first)) (first ∷ [])))
+  pub newest_full : newest first used ≡ newer first used ++ (first ∷ [])
+  newest_full = rw (count, span_end first (used - suc first)) (sym (append_assoc (span 0 first) (span (suc first) (used - suc first)) (first ∷ [])))
 
-  pub newer-lacks : Lacks first (newer first used)
-  newer-lacks = all_append (all-span 0 first (λ i p q e. omega arith)) (all-span (suc first) (used - suc first) (λ i p q e. omega arith))
+  pub newer_lacks : Lacks first (newer first used)
+  newer_lacks = all_append (all_span 0 first (λ i p q e. omega arith)) (all_span (suc first) (used - suc first) (λ i p q e. omega arith))
 
-  pub newest-turned : newest ((first + 1) % used) used ≡ first ∷ newer first used
-  newest-turned = go (dec_lt (first + 1) used)
+  pub newest_turned : newest ((first + 1) % used) used ≡ first ∷ newer first used
+  newest_turned = go (dec_lt (first + 1) used)
     where
       same : 0 + first ≡ first
       same = omega arith
@@ -101,14 +101,14 @@ module _ (first used : ℕ) (h : first < used) where
 -- ---- the row of a key
 
 -- the rows of other buckets have other keys
-pub pick-chain :
+pub pick_chain :
     (keys : List ℕ) (used key room : ℕ) (l : List ℕ) →
-    pick_of keys used key (chain (λ i. bucketOf (get_or keys i 0) room) (bucketOf key room) l) ≡ pick_of keys used key l
-pick-chain keys used key room [] = refl
-pick-chain keys used key room (x ∷ l) = go (eqb (get_or keys x 0) key) refl (pick-chain keys used key room l)
+    pick_of keys used key (chain (λ i. bucket_of (get_or keys i 0) room) (bucket_of key room) l) ≡ pick_of keys used key l
+pick_chain keys used key room [] = refl
+pick_chain keys used key room (x ∷ l) = go (eqb (get_or keys x 0) key) refl (pick_chain keys used key room l)
   where
     c : List ℕ
-    c = chain (λ i. bucketOf (get_or keys i 0) room) (bucketOf key room) l
+    c = chain (λ i. bucket_of (get_or keys i 0) room) (bucket_of key room) l
 
     take : (t : Bool) → t ≡ true → eqb (get_or keys x 0) key ≡ true → pick_of keys used key (cond t (x ∷ c) c) ≡ x
     take true q e = rw e
@@ -120,16 +120,16 @@ pick-chain keys used key room (x ∷ l) = go (eqb (get_or keys x 0) key) refl (p
 
     go :
         (t : Bool) → eqb (get_or keys x 0) key ≡ t → pick_of keys used key c ≡ pick_of keys used key l →
-        pick_of keys used key (cond (eqb (bucketOf (get_or keys x 0) room) (bucketOf key room)) (x ∷ c) c) ≡ cond t x (pick_of keys used key l)
-    go true e ih = take (eqb (bucketOf (get_or keys x 0) room) (bucketOf key room)) (eq-eqb _ _ (ap (λ (k : ℕ). bucketOf k room) (eqb-true _ _ e))) e
-    go false e ih = skip (eqb (bucketOf (get_or keys x 0) room) (bucketOf key room)) e ih
+        pick_of keys used key (cond (eqb (bucket_of (get_or keys x 0) room) (bucket_of key room)) (x ∷ c) c) ≡ cond t x (pick_of keys used key l)
+    go true e ih = take (eqb (bucket_of (get_or keys x 0) room) (bucket_of key room)) (eq-eqb _ _ (ap (λ (k : ℕ). bucket_of k room) (eqb-true _ _ e))) e
+    go false e ih = skip (eqb (bucket_of (get_or keys x 0) room) (bucket_of key room)) e ih
 
 -- where a key stands in one row at most
 module _ (keys : List ℕ) (used key row : ℕ) (once : (j : ℕ) → j < used → get_or keys j 0 ≡ key → row ≡ j) where
-  pick-none : (l : List ℕ) → All (λ x. x < used) l → used ≤ row → pick_of keys used key l ≡ used
-  pick-none [] a h = refl
-  pick-none (x ∷ l) (more p a) h =
-      rw (ne_eqb (get_or keys x 0) key (λ e. let q : row ≡ x = once x p e in omega arith)) (pick-none l a h)
+  pick_none : (l : List ℕ) → All (λ x. x < used) l → used ≤ row → pick_of keys used key l ≡ used
+  pick_none [] a h = refl
+  pick_none (x ∷ l) (more p a) h =
+      rw (ne_eqb (get_or keys x 0) key (λ e. let q : row ≡ x = once x p e in omega arith)) (pick_none l a h)
 
   pick_some : (l : List ℕ) → get_or keys row 0 ≡ key → All (λ x. x < used) l → (pick_of keys used key l ≡ row) ⊎ Lacks row l
   pick_some [] k a = inr none
@@ -140,17 +140,17 @@ module _ (keys : List ℕ) (used key row : ℕ) (once : (j : ℕ) → j < used �
       go false e (inl s) = inl s
       go false e (inr s) = inr (more (λ q. eqb-false (get_or keys x 0) key e (ap (λ (i : ℕ). get_or keys i 0) q ∙ k)) s)
 
-  pub pick-newest :
+  pub pick_newest :
       (first : ℕ) → first ≤ used → row ≤ used → (row < used → get_or keys row 0 ≡ key) → pick_of keys used key (newest first used) ≡ row
-  pick-newest first h w k = go (dec_lt row used)
+  pick_newest first h w k = go (dec_lt row used)
     where
       some : row < used → (pick_of keys used key (newest first used) ≡ row) ⊎ Lacks row (newest first used) → pick_of keys used key (newest first used) ≡ row
       some q (inl e) = e
-      some q (inr a) = absurd (newest-at first used h row q a refl)
+      some q (inr a) = absurd (newest_at first used h row q a refl)
 
       go : Dec (row < used) → pick_of keys used key (newest first used) ≡ row
-      go (yes q) = some q (pick_some (newest first used) (k q) (newest-used first used h))
-      go (no q) = pick-none (newest first used) (newest-used first used h) (omega arith) ∙ omega arith
+      go (yes q) = some q (pick_some (newest first used) (k q) (newest_used first used h))
+      go (no q) = pick_none (newest first used) (newest_used first used h) (omega arith) ∙ omega arith
 
 -- the ring's row of a key
 pub row_within : (l : List ℕ) (key : ℕ) → row_of l key ≤ length l
@@ -161,9 +161,9 @@ row_within (x ∷ l) key = go (eqb x key) (row_within l key)
     go true h = omega arith
     go false h = omega arith
 
-pub row-key : (l : List ℕ) (key : ℕ) → row_of l key < length l → get_or l (row_of l key) 0 ≡ key
-row-key [] key h = absurd (omega arith)
-row-key (x ∷ l) key h = go (eqb x key) refl h (row-key l key)
+pub row_key_lem : (l : List ℕ) (key : ℕ) → row_of l key < length l → get_or l (row_of l key) 0 ≡ key
+row_key_lem [] key h = absurd (omega arith)
+row_key_lem (x ∷ l) key h = go (eqb x key) refl h (row_key_lem l key)
   where
     go :
         (t : Bool) → eqb x key ≡ t → cond t 0 (suc (row_of l key)) < suc (length l) → (row_of l key < length l → get_or l (row_of l key) 0 ≡ key) →
@@ -171,7 +171,7 @@ row-key (x ∷ l) key h = go (eqb x key) refl h (row-key l key)
     go true e h f = eqb-true _ _ e
     go false e h f = f (omega arith)
 
-count_at : (ks ms : List ℕ) (key j : ℕ) → length ks ≡ length ms → j < length ks → get_or ks j 0 ≡ key → 1 ≤ countKey key (rows_of ks ms)
+count_at : (ks ms : List ℕ) (key j : ℕ) → length ks ≡ length ms → j < length ks → get_or ks j 0 ≡ key → 1 ≤ count_key key (rows_of ks ms)
 count_at [] ms key j e h k = absurd (omega arith)
 count_at (x ∷ ks) [] key j e h k = absurd (omega arith)
 count_at (x ∷ ks) (m ∷ ms) key zero e h k = rw (eq-eqb x key k) (omega arith)
@@ -181,13 +181,13 @@ count_at (x ∷ ks) (m ∷ ms) key (suc j) e h k = go (eqb x key) (count_at ks m
     go true h = omega arith
     go false h = h
 
-pub row-once :
-    (ks ms : List ℕ) (key j : ℕ) → length ks ≡ length ms → countKey key (rows_of ks ms) ≤ 1 → j < length ks → get_or ks j 0 ≡ key → row_of ks key ≡ j
-row-once [] ms key j e c h k = absurd (omega arith)
-row-once (x ∷ ks) [] key j e c h k = absurd (omega arith)
-row-once (x ∷ ks) (m ∷ ms) key zero e c h k = rw (eq-eqb x key k)
-row-once (x ∷ ks) (m ∷ ms) key (suc j) e c h k =
-    go (eqb x key) c (count_at ks ms key j (omega arith) (omega arith) k) (λ d. row-once ks ms key j (omega arith) d (omega arith) k)
+pub row_once :
+    (ks ms : List ℕ) (key j : ℕ) → length ks ≡ length ms → count_key key (rows_of ks ms) ≤ 1 → j < length ks → get_or ks j 0 ≡ key → row_of ks key ≡ j
+row_once [] ms key j e c h k = absurd (omega arith)
+row_once (x ∷ ks) [] key j e c h k = absurd (omega arith)
+row_once (x ∷ ks) (m ∷ ms) key zero e c h k = rw (eq-eqb x key k)
+row_once (x ∷ ks) (m ∷ ms) key (suc j) e c h k =
+    go (eqb x key) c (count_at ks ms key j (omega arith) (omega arith) k) (λ d. row_once ks ms key j (omega arith) d (omega arith) k)
   where
     go : (t : Bool) {n : ℕ} → cond t (suc n) n ≤ 1 → 1 ≤ n → (n ≤ 1 → row_of ks key ≡ j) → cond t 0 (suc (row_of ks key)) ≡ suc j
     go true c o f = absurd (omega arith)

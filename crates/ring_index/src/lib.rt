@@ -4,15 +4,15 @@
 // The hash is fixed and public, so whoever chooses the keys can choose keys of one bucket. All rows are then one chain, and a walk, cut at as many
 // steps as there are rows, costs what a search through the rows costs: a key is never lost, and no offer takes longer than in order of the capacity.
 ghost use Rattle.std.specs.Prelude.{◌≡◌, ◌<◌, ◌≤◌, length, set, get_or};
-ghost use Rattle.ring.specs.Store.{roomOf, Whole, stampOf};
-ghost use Rattle.ring_index.specs.Store.{bucketOf, Covers, index_of, walk_of, clearedBy, linked, unlinked, entered, seenBy, keysBy, changesBy, index_by};
+ghost use Rattle.ring.specs.Store.{room_of, Whole, stamp_of};
+ghost use Rattle.ring_index.specs.Store.{bucket_of, Covers, index_of, walk_of, cleared_by, linked, unlinked, entered, seen_by, keys_by, changes_by, index_by};
 
 use ring::{Ring, Seen};
 
 // The bucket of a key among so many.
 pub fn bucket(key: u64, room: usize) -> usize
     requires { 0 < room }
-    ensures value { result ≡ bucketOf key room }
+    ensures value { result ≡ bucket_of key room }
     ensures upper_bound { result < room }
 {
     let low = key % 4294967296;
@@ -23,7 +23,7 @@ pub fn bucket(key: u64, room: usize) -> usize
 // No row is in a chain.
 pub fn clear(buckets: &mut [u64], room: usize)
     requires { room ≤ length buckets.old }
-    ensures { buckets.new ≡ clearedBy room buckets.old }
+    ensures { buckets.new ≡ cleared_by room buckets.old }
 {
     let mut n = room;
     while n > 0 {
@@ -96,10 +96,10 @@ pub fn unlink(
 // its own chain for it.
 pub fn enter(ring: Ring, keys: &[u64], buckets: &mut [u64], links: &mut [u64], home: usize)
     requires covers { Covers ring (length buckets.old) (length links.old) }
-    requires used_bound { ring.used ≤ roomOf ring.capacity }
-    requires first_bound { ring.first < roomOf ring.capacity }
-    requires capacity_in_bounds { roomOf ring.capacity ≤ length keys.now }
-    requires home_bound { home < roomOf ring.capacity }
+    requires used_bound { ring.used ≤ room_of ring.capacity }
+    requires first_bound { ring.first < room_of ring.capacity }
+    requires capacity_in_bounds { room_of ring.capacity ≤ length keys.now }
+    requires home_bound { home < room_of ring.capacity }
     ensures { index_of buckets.new links.new ≡ entered ring keys.now (index_of buckets.old links.old) home }
 {
     let room = ring::room(ring.capacity);
@@ -127,9 +127,9 @@ pub fn admit(
 ) -> Seen
     requires whole { Whole ring (length keys.old) (length changes.old) }
     requires covers { Covers ring (length buckets.old) (length links.old) }
-    ensures value { result ≡ seenBy ring keys.old changes.old (index_of buckets.old links.old) key (stampOf version change) }
-    ensures keys_after { keys.new ≡ keysBy ring keys.old (index_of buckets.old links.old) key }
-    ensures changes_after { changes.new ≡ changesBy ring keys.old changes.old (index_of buckets.old links.old) key (stampOf version change) }
+    ensures value { result ≡ seen_by ring keys.old changes.old (index_of buckets.old links.old) key (stamp_of version change) }
+    ensures keys_after { keys.new ≡ keys_by ring keys.old (index_of buckets.old links.old) key }
+    ensures changes_after { changes.new ≡ changes_by ring keys.old changes.old (index_of buckets.old links.old) key (stamp_of version change) }
     ensures links_after { index_of buckets.new links.new ≡ index_by ring keys.old (index_of buckets.old links.old) key }
 {
     let room = ring::room(ring.capacity);

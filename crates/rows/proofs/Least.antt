@@ -10,36 +10,36 @@ use native.Mathlib.Decide.{ℕ_discrete}
 use native.Mathlib.Omega.{arith}
 use borrow.Author.Tests.{ltb-true, ltb-false}
 use lib.Dec.{ltb}
-use Rattle.rows.specs.Rows.{tickOf, earlierOf, oldestOf}
+use Rattle.rows.specs.Rows.{tick_of, earlier_of, oldest_of}
 
-elder-least : (heads : List ℕ) (b n : ℕ) → (tickOf heads (earlierOf heads b n) ≤ tickOf heads b) × (tickOf heads (earlierOf heads b n) ≤ tickOf heads n)
-unfolding earlierOf
-elder-least heads b n = go (ltb (tickOf heads n) (tickOf heads b)) refl
+elder_least : (heads : List ℕ) (b n : ℕ) → (tick_of heads (earlier_of heads b n) ≤ tick_of heads b) × (tick_of heads (earlier_of heads b n) ≤ tick_of heads n)
+unfolding earlier_of
+elder_least heads b n = go (ltb (tick_of heads n) (tick_of heads b)) refl
   where
-    go : (t : Bool) → ltb (tickOf heads n) (tickOf heads b) ≡ t → (tickOf heads (cond t n b) ≤ tickOf heads b) × (tickOf heads (cond t n b) ≤ tickOf heads n)
-    go true e = let l : tickOf heads n < tickOf heads b = ltb-true _ _ e in (omega arith, omega arith)
+    go : (t : Bool) → ltb (tick_of heads n) (tick_of heads b) ≡ t → (tick_of heads (cond t n b) ≤ tick_of heads b) × (tick_of heads (cond t n b) ≤ tick_of heads n)
+    go true e = let l : tick_of heads n < tick_of heads b = ltb-true _ _ e in (omega arith, omega arith)
     go false e = (omega arith, ltb-false _ _ e)
 
 -- "the least recently touched": no row in use was touched before it
-pub oldest-least : (heads : List ℕ) (n j : ℕ) → j < n → tickOf heads (oldestOf heads n) ≤ tickOf heads j
-unfolding oldestOf
-oldest-least heads zero j h = absurd (not-suc-le-zero h)
-oldest-least heads (suc n) j h = go (ℕ_discrete j n) (λ q. oldest-least heads n j q) (elder-least heads (oldestOf heads n) n)
+pub oldest_least : (heads : List ℕ) (n j : ℕ) → j < n → tick_of heads (oldest_of heads n) ≤ tick_of heads j
+unfolding oldest_of
+oldest_least heads zero j h = absurd (not-suc-le-zero h)
+oldest_least heads (suc n) j h = go (ℕ_discrete j n) (λ q. oldest_least heads n j q) (elder_least heads (oldest_of heads n) n)
   where
     o : ℕ
-    o = oldestOf heads n
+    o = oldest_of heads n
 
-    go : Dec (j ≡ n) → (j < n → tickOf heads o ≤ tickOf heads j) → (tickOf heads (earlierOf heads o n) ≤ tickOf heads o) × (tickOf heads (earlierOf heads o n) ≤ tickOf heads n)
-        → tickOf heads (earlierOf heads o n) ≤ tickOf heads j
+    go : Dec (j ≡ n) → (j < n → tick_of heads o ≤ tick_of heads j) → (tick_of heads (earlier_of heads o n) ≤ tick_of heads o) × (tick_of heads (earlier_of heads o n) ≤ tick_of heads n)
+        → tick_of heads (earlier_of heads o n) ≤ tick_of heads j
     go (yes q) ih l = rw q l.1
     go (no d) ih l = let k = ih (omega arith) in omega (arith, l.0)
 
-pub oldest-below : (heads : List ℕ) (n : ℕ) → 0 < n → oldestOf heads n < n
-unfolding oldestOf earlierOf
-oldest-below heads zero h = h
-oldest-below heads (suc n) h = go (ltb (tickOf heads n) (tickOf heads (oldestOf heads n))) (ℕ_discrete n 0) (λ l. oldest-below heads n l)
+pub oldest_below : (heads : List ℕ) (n : ℕ) → 0 < n → oldest_of heads n < n
+unfolding oldest_of earlier_of
+oldest_below heads zero h = h
+oldest_below heads (suc n) h = go (ltb (tick_of heads n) (tick_of heads (oldest_of heads n))) (ℕ_discrete n 0) (λ l. oldest_below heads n l)
   where
-    go : (b : Bool) → Dec (n ≡ 0) → (0 < n → oldestOf heads n < n) → cond b n (oldestOf heads n) < suc n
+    go : (b : Bool) → Dec (n ≡ 0) → (0 < n → oldest_of heads n < n) → cond b n (oldest_of heads n) < suc n
     go true d ih = omega arith
     go false (yes q) ih = rw q (omega arith)
     go false (no ne) ih = let z : n ≢ 0 = ne in let l = ih (omega arith) in omega arith

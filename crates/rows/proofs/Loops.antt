@@ -11,161 +11,161 @@ use borrow.Author.Tests.{lt-ltb, le-ltb, eq-eqb, ne_eqb}
 use lib.Dec.{ltb, eqb}
 use lib.ListN.{length, get_or, take, drop, set, replicate, length-drop, length-replicate}
 use lib.Seq.{paste, set-get_or, length-take-le, take_all, drop-drop}
-use Rattle.laws.proofs.Lists.{paste-end}
-use Rattle.cells.specs.Cells.{slotWhole, allWhole, allFilled, markedAll}
-use Rattle.cells.proofs.Laws.{one-slot}
+use Rattle.laws.proofs.Lists.{paste_end}
+use Rattle.cells.specs.Cells.{slot_whole, all_whole, all_filled, marked_all}
+use Rattle.cells.proofs.Laws.{one_slot}
 use Rattle.rows.specs.declared.Origin.{Origin}
 use Rattle.rows.specs.declared.Key.{Key}
 use Rattle.rows.specs.declared.Entry.{Entry}
 use Rattle.rows.specs.declared.Room.{Room}
-use Rattle.rows.specs.Rows.{word, originAt, sameOrigin, key_at, sameKey, earlierOf, oldestOf, freshHead, roomNew, keptHeads, slotsAt, slotCount, rowSlots, emptied, keptSlots, rowsWhole, markedRow, markedRows, tickOf, last_of, withMark}
+use Rattle.rows.specs.Rows.{word, origin_at, same_origin, key_at, same_key, earlier_of, oldest_of, fresh_head, room_new, kept_heads, slots_at, slot_count, row_slots, emptied, kept_slots, rows_whole, marked_row, marked_rows, tick_of, last_of, with_mark}
 
 pub before : (n : ℕ) → 0 < n → n ≡ suc (n - 1)
 before n h = omega arith
 
 -- ---- find
 
-pub origin-words : (heads : List ℕ) (i a b : ℕ) → a ≡ word heads i 10 → b ≡ word heads i 0 → ◌≡◌ {A = Origin} (record { input = a; pid = b }) (originAt heads i)
-origin-words heads i a b p q = rw (p, q)
+pub origin_words_lem : (heads : List ℕ) (i a b : ℕ) → a ≡ word heads i 10 → b ≡ word heads i 0 → ◌≡◌ {A = Origin} (record { input = a; pid = b }) (origin_at heads i)
+origin_words_lem heads i a b p q = rw (p, q)
 
-pub key-words : (heads : List ℕ) (i : ℕ) (a : Origin) (b c d e f : ℕ) → a ≡ originAt heads i → b ≡ word heads i 1 → c ≡ word heads i 2 → d ≡ word heads i 3 → e ≡ word heads i 4 → f ≡ word heads i 5
+pub key_words_lem : (heads : List ℕ) (i : ℕ) (a : Origin) (b c d e f : ℕ) → a ≡ origin_at heads i → b ≡ word heads i 1 → c ≡ word heads i 2 → d ≡ word heads i 3 → e ≡ word heads i 4 → f ≡ word heads i 5
     → ◌≡◌ {A = Key} (record { from = a; table_id = b; extension = c; current_next = d; transport_stream_id = e; original_network_id = f }) (key_at heads i)
-key-words heads i a b c d e f p q r s t u = rw (p, q, r, s, t, u)
+key_words_lem heads i a b c d e f p q r s t u = rw (p, q, r, s, t, u)
 
-pub keys-same : (a b : Key) (o : Bool) → o ≡ sameOrigin a.from b.from
+pub keys_same : (a b : Key) (o : Bool) → o ≡ same_origin a.from b.from
     → (o && eqb a.table_id b.table_id && eqb a.extension b.extension && eqb a.current_next b.current_next && eqb a.transport_stream_id b.transport_stream_id
-    && eqb a.original_network_id b.original_network_id) ≡ sameKey a b
-unfolding sameKey
-keys-same a b o e = rw e
+    && eqb a.original_network_id b.original_network_id) ≡ same_key a b
+unfolding same_key
+keys_same a b o e = rw e
 
 -- ---- oldest
 
-pub elder-new : (heads : List ℕ) (best i a b : ℕ) → a ≡ tickOf heads i → b ≡ tickOf heads best → a < b → i ≡ earlierOf heads best i
-unfolding earlierOf
-elder-new heads best i a b p q h = rw (← p, ← q, lt-ltb a b h)
+pub elder_new : (heads : List ℕ) (best i a b : ℕ) → a ≡ tick_of heads i → b ≡ tick_of heads best → a < b → i ≡ earlier_of heads best i
+unfolding earlier_of
+elder_new heads best i a b p q h = rw (← p, ← q, lt-ltb a b h)
 
-pub elder-old : (heads : List ℕ) (best i a b : ℕ) → a ≡ tickOf heads i → b ≡ tickOf heads best → b ≤ a → best ≡ earlierOf heads best i
-unfolding earlierOf
-elder-old heads best i a b p q h = rw (← p, ← q, le-ltb a b h)
+pub elder_old : (heads : List ℕ) (best i a b : ℕ) → a ≡ tick_of heads i → b ≡ tick_of heads best → b ≤ a → best ≡ earlier_of heads best i
+unfolding earlier_of
+elder_old heads best i a b p q h = rw (← p, ← q, le-ltb a b h)
 
-pub oldest-start : (heads : List ℕ) → 0 ≡ oldestOf heads 0
-unfolding oldestOf
-oldest-start heads = refl
+pub oldest_start : (heads : List ℕ) → 0 ≡ oldest_of heads 0
+unfolding oldest_of
+oldest_start heads = refl
 
-pub oldest-turn : (heads : List ℕ) (i b b' : ℕ) → b ≡ oldestOf heads i → b' ≡ earlierOf heads b i → b' ≡ oldestOf heads (i + 1)
-unfolding oldestOf
-oldest-turn heads i b b' e k = rw (add-one i, ← e) k
+pub oldest_turn : (heads : List ℕ) (i b b' : ℕ) → b ≡ oldest_of heads i → b' ≡ earlier_of heads b i → b' ≡ oldest_of heads (i + 1)
+unfolding oldest_of
+oldest_turn heads i b b' e k = rw (add-one i, ← e) k
 
-pub elder-within : (heads : List ℕ) (b i r : ℕ) → r ≡ earlierOf heads b i → b ≤ i → r ≤ i + 1
-unfolding earlierOf
-elder-within heads b i r e h = rw e (go (ltb (tickOf heads i) (tickOf heads b)))
+pub elder_within : (heads : List ℕ) (b i r : ℕ) → r ≡ earlier_of heads b i → b ≤ i → r ≤ i + 1
+unfolding earlier_of
+elder_within heads b i r e h = rw e (go (ltb (tick_of heads i) (tick_of heads b)))
   where
     go : (t : Bool) → cond t i b ≤ i + 1
     go true = omega arith
     go false = omega arith
 
-pub oldest-end : (heads : List ℕ) (i b used : ℕ) → b ≡ oldestOf heads i → used ≤ i → i ≤ used → b ≡ oldestOf heads used
-oldest-end heads i b used e h k = let s : i ≡ used = omega arith in rw (← s) e
+pub oldest_end : (heads : List ℕ) (i b used : ℕ) → b ≡ oldest_of heads i → used ≤ i → i ≤ used → b ≡ oldest_of heads used
+oldest_end heads i b used e h k = let s : i ≡ used = omega arith in rw (← s) e
 
-pub key-is : (heads : List ℕ) (i : ℕ) (key k : Key) (r : Bool) → k ≡ key_at heads i → r ≡ sameKey k key → r ≡ sameKey (key_at heads i) key
-key-is heads i key k r e q = rw (← e) q
+pub key_is : (heads : List ℕ) (i : ℕ) (key k : Key) (r : Bool) → k ≡ key_at heads i → r ≡ same_key k key → r ≡ same_key (key_at heads i) key
+key_is heads i key k r e q = rw (← e) q
 
 -- one word that differs is enough
-pub key-differs : (heads : List ℕ) (i : ℕ) (key : Key) (w : ℕ) → w ≡ word heads i 2 → (w ≡ key.extension → ⊥) → false ≡ sameKey (key_at heads i) key
-unfolding sameKey
-key-differs heads i key w e h =
-    rw (← e, ne_eqb w key.extension h, and-false (sameOrigin (originAt heads i) key.from && eqb (word heads i 1) key.table_id))
+pub key_differs : (heads : List ℕ) (i : ℕ) (key : Key) (w : ℕ) → w ≡ word heads i 2 → (w ≡ key.extension → ⊥) → false ≡ same_key (key_at heads i) key
+unfolding same_key
+key_differs heads i key w e h =
+    rw (← e, ne_eqb w key.extension h, and-false (same_origin (origin_at heads i) key.from && eqb (word heads i 1) key.table_id))
 
 -- ---- a row for a section
 
-pub words-end : (h₀ h words : List ℕ) (at k : ℕ) → h ≡ paste h₀ at words k → length words ≤ k → k ≤ length words → h ≡ paste h₀ at words (length words)
-words-end h₀ h words at k e a b = paste-end h₀ h at words k (length words) e (omega arith)
+pub words_end : (h₀ h words : List ℕ) (at k : ℕ) → h ≡ paste h₀ at words k → length words ≤ k → k ≤ length words → h ≡ paste h₀ at words (length words)
+words_end h₀ h words at k e a b = paste_end h₀ h at words k (length words) e (omega arith)
 
-pub room-added : (heads : List ℕ) (limit used evictions : ℕ) → used < limit
-    → ◌≡◌ {A = Room} (record { row = used; fresh = true; used = used + 1; evictions = evictions }) (roomNew heads limit used evictions)
-unfolding roomNew
-room-added heads limit used evictions h = rw (lt-ltb used limit h)
+pub room_added : (heads : List ℕ) (limit used evictions : ℕ) → used < limit
+    → ◌≡◌ {A = Room} (record { row = used; fresh = true; used = used + 1; evictions = evictions }) (room_new heads limit used evictions)
+unfolding room_new
+room_added heads limit used evictions h = rw (lt-ltb used limit h)
 
-pub room-evicted : (heads : List ℕ) (limit used evictions o : ℕ) → limit ≤ used → o ≡ oldestOf heads used
-    → ◌≡◌ {A = Room} (record { row = o; fresh = true; used = used; evictions = evictions + 1 }) (roomNew heads limit used evictions)
-unfolding roomNew
-room-evicted heads limit used evictions o h e = rw (le-ltb used limit h, ← e)
+pub room_evicted : (heads : List ℕ) (limit used evictions o : ℕ) → limit ≤ used → o ≡ oldest_of heads used
+    → ◌≡◌ {A = Room} (record { row = o; fresh = true; used = used; evictions = evictions + 1 }) (room_new heads limit used evictions)
+unfolding room_new
+room_evicted heads limit used evictions o h e = rw (le-ltb used limit h, ← e)
 
-pub head-fresh : (r : Room) (e : Entry) (h h' : List ℕ) → r.fresh ≡ true → h' ≡ freshHead r.row e h → h' ≡ keptHeads r e h
-unfolding keptHeads
-head-fresh r e h h' t q = rw t q
+pub head_fresh : (r : Room) (e : Entry) (h h' : List ℕ) → r.fresh ≡ true → h' ≡ fresh_head r.row e h → h' ≡ kept_heads r e h
+unfolding kept_heads
+head_fresh r e h h' t q = rw t q
 
-pub head-known : (r : Room) (e : Entry) (h h' : List ℕ) → r.fresh ≡ false → h' ≡ withMark r.row 0 h → h' ≡ keptHeads r e h
-unfolding keptHeads
-head-known r e h h' t q = rw t q
+pub head_known : (r : Room) (e : Entry) (h h' : List ℕ) → r.fresh ≡ false → h' ≡ with_mark r.row 0 h → h' ≡ kept_heads r e h
+unfolding kept_heads
+head_known r e h h' t q = rw t q
 
 -- ---- slots
 
-pub row-part : (heads slots : List ℕ) (i w n : ℕ) → w ≡ last_of heads i → n ≡ slotCount w → take (i * 288 + 32 + n - (i * 288 + 32)) (drop (i * 288 + 32) slots) ≡ rowSlots heads slots i
-unfolding rowSlots
-row-part heads slots i w n e f = let s : i * 288 + 32 + n - (i * 288 + 32) ≡ n = omega arith in rw (s, f, e)
+pub row_part : (heads slots : List ℕ) (i w n : ℕ) → w ≡ last_of heads i → n ≡ slot_count w → take (i * 288 + 32 + n - (i * 288 + 32)) (drop (i * 288 + 32) slots) ≡ row_slots heads slots i
+unfolding row_slots
+row_part heads slots i w n e f = let s : i * 288 + 32 + n - (i * 288 + 32) ≡ n = omega arith in rw (s, f, e)
 
-pub part-emptied : (slots part : List ℕ) (at n : ℕ) → at + n ≤ length slots → part ≡ replicate (length (take (at + n - at) (drop at slots))) 0
+pub part_emptied : (slots part : List ℕ) (at n : ℕ) → at + n ≤ length slots → part ≡ replicate (length (take (at + n - at) (drop at slots))) 0
     → take at slots ++ (part ++ drop (at + n - at) (drop at slots)) ≡ emptied at n slots
-part-emptied slots part at n h e =
+part_emptied slots part at n h e =
     let s : at + n - at ≡ n = omega arith in
     let l : length (take n (drop at slots)) ≡ n = length-take-le n (drop at slots) (rw (length-drop at slots) (omega arith)) in
     let r : length (replicate {A = ℕ} n 0) ≤ n = le_of_eq (length-replicate n 0) in
     rw (e, s, l, drop-drop n at slots, take_all n (replicate n 0) r) (sym (append_assoc (take at slots) (replicate n 0) (drop (at + n) slots)))
 
-pub slot_kept : (r : Room) (e : Entry) (w : ℕ) (l l' l'' : List ℕ) → l' ≡ cond r.fresh (emptied (slotsAt r.row) (e.last + 1) l) l → l'' ≡ set l' (r.row * 288 + 32 + e.number) w → l'' ≡ keptSlots r e w l
-unfolding keptSlots
+pub slot_kept : (r : Room) (e : Entry) (w : ℕ) (l l' l'' : List ℕ) → l' ≡ cond r.fresh (emptied (slots_at r.row) (e.last + 1) l) l → l'' ≡ set l' (r.row * 288 + 32 + e.number) w → l'' ≡ kept_slots r e w l
+unfolding kept_slots
 slot_kept r e w l l' l'' p q = rw (← p) q
 
 -- ---- all rows in use
 
-pub rows-turn : (heads slots : List ℕ) (count size used i : ℕ) (ok r : Bool) → 0 < i → r ≡ allWhole count size (rowSlots heads slots (i - 1))
-    → rowsWhole heads slots count size used ≡ (ok && rowsWhole heads slots count size i)
-    → rowsWhole heads slots count size used ≡ (ok && r && rowsWhole heads slots count size (i - 1))
-unfolding rowsWhole
-rows-turn heads slots count size used i ok r p e q =
-    q ∙ ap (λ (k : ℕ). ok && rowsWhole heads slots count size k) (before i p)
-    ∙ sym (and_assoc ok (allWhole count size (rowSlots heads slots (i - 1))) (rowsWhole heads slots count size (i - 1))) ∙ rw e
+pub rows_turn : (heads slots : List ℕ) (count size used i : ℕ) (ok r : Bool) → 0 < i → r ≡ all_whole count size (row_slots heads slots (i - 1))
+    → rows_whole heads slots count size used ≡ (ok && rows_whole heads slots count size i)
+    → rows_whole heads slots count size used ≡ (ok && r && rows_whole heads slots count size (i - 1))
+unfolding rows_whole
+rows_turn heads slots count size used i ok r p e q =
+    q ∙ ap (λ (k : ℕ). ok && rows_whole heads slots count size k) (before i p)
+    ∙ sym (and_assoc ok (all_whole count size (row_slots heads slots (i - 1))) (rows_whole heads slots count size (i - 1))) ∙ rw e
 
-pub rows_end : (heads slots : List ℕ) (count size used i : ℕ) (ok : Bool) → i ≤ 0 → rowsWhole heads slots count size used ≡ (ok && rowsWhole heads slots count size i)
-    → ok ≡ rowsWhole heads slots count size used
-unfolding rowsWhole
+pub rows_end : (heads slots : List ℕ) (count size used i : ℕ) (ok : Bool) → i ≤ 0 → rows_whole heads slots count size used ≡ (ok && rows_whole heads slots count size i)
+    → ok ≡ rows_whole heads slots count size used
+unfolding rows_whole
 rows_end heads slots count size used i ok p q = let s : i ≡ 0 = omega arith in sym (q ∙ rw s (and-true ok))
 
-pub row-marked : (heads slots : List ℕ) (gone i : ℕ) (part m m' : List ℕ) → part ≡ rowSlots heads slots i → (i ≡ gone → ⊥) → m' ≡ markedAll part m → m' ≡ markedRow heads slots gone i m
-row-marked heads slots gone i part m m' d h e = rw (ne_eqb i gone h, ← d) e
+pub row_marked : (heads slots : List ℕ) (gone i : ℕ) (part m m' : List ℕ) → part ≡ row_slots heads slots i → (i ≡ gone → ⊥) → m' ≡ marked_all part m → m' ≡ marked_row heads slots gone i m
+row_marked heads slots gone i part m m' d h e = rw (ne_eqb i gone h, ← d) e
 
-pub row-passed : (heads slots : List ℕ) (gone i : ℕ) (m : List ℕ) → i ≡ gone → m ≡ markedRow heads slots gone i m
-row-passed heads slots gone i m h = rw (eq-eqb i gone h)
+pub row_passed : (heads slots : List ℕ) (gone i : ℕ) (m : List ℕ) → i ≡ gone → m ≡ marked_row heads slots gone i m
+row_passed heads slots gone i m h = rw (eq-eqb i gone h)
 
-pub marked_turn : (heads slots : List ℕ) (gone used i : ℕ) (m₀ m m' : List ℕ) → 0 < i → m' ≡ markedRow heads slots gone (i - 1) m → markedRows heads slots gone used m₀ ≡ markedRows heads slots gone i m
-    → markedRows heads slots gone used m₀ ≡ markedRows heads slots gone (i - 1) m'
-unfolding markedRows
-marked_turn heads slots gone used i m₀ m m' p e q = q ∙ ap (λ (k : ℕ). markedRows heads slots gone k m) (before i p) ∙ rw e
+pub marked_turn : (heads slots : List ℕ) (gone used i : ℕ) (m₀ m m' : List ℕ) → 0 < i → m' ≡ marked_row heads slots gone (i - 1) m → marked_rows heads slots gone used m₀ ≡ marked_rows heads slots gone i m
+    → marked_rows heads slots gone used m₀ ≡ marked_rows heads slots gone (i - 1) m'
+unfolding marked_rows
+marked_turn heads slots gone used i m₀ m m' p e q = q ∙ ap (λ (k : ℕ). marked_rows heads slots gone k m) (before i p) ∙ rw e
 
-pub marked-end : (heads slots : List ℕ) (gone used i : ℕ) (m₀ m : List ℕ) → i ≤ 0 → markedRows heads slots gone used m₀ ≡ markedRows heads slots gone i m → m ≡ markedRows heads slots gone used m₀
-unfolding markedRows
-marked-end heads slots gone used i m₀ m p q = let s : i ≡ 0 = omega arith in sym (q ∙ rw s)
+pub marked_end : (heads slots : List ℕ) (gone used i : ℕ) (m₀ m : List ℕ) → i ≤ 0 → marked_rows heads slots gone used m₀ ≡ marked_rows heads slots gone i m → m ≡ marked_rows heads slots gone used m₀
+unfolding marked_rows
+marked_end heads slots gone used i m₀ m p q = let s : i ≡ 0 = omega arith in sym (q ∙ rw s)
 
-pub where-fresh : (fresh : Bool) (l l' : List ℕ) (at n : ℕ) → fresh ≡ true → l' ≡ emptied at n l → l' ≡ cond fresh (emptied at n l) l
-where-fresh fresh l l' at n t e = rw t e
+pub where_fresh : (fresh : Bool) (l l' : List ℕ) (at n : ℕ) → fresh ≡ true → l' ≡ emptied at n l → l' ≡ cond fresh (emptied at n l) l
+where_fresh fresh l l' at n t e = rw t e
 
-pub where-not : (fresh : Bool) (l : List ℕ) (at n : ℕ) → fresh ≡ false → l ≡ cond fresh (emptied at n l) l
-where-not fresh l at n t = rw t
+pub where_not : (fresh : Bool) (l : List ℕ) (at n : ℕ) → fresh ≡ false → l ≡ cond fresh (emptied at n l) l
+where_not fresh l at n t = rw t
 
-pub full-row : (heads slots : List ℕ) (i : ℕ) (part : List ℕ) (r : Bool) → part ≡ rowSlots heads slots i → r ≡ allFilled part → r ≡ allFilled (rowSlots heads slots i)
-full-row heads slots i part r e q = rw (← e) q
+pub full_row : (heads slots : List ℕ) (i : ℕ) (part : List ℕ) (r : Bool) → part ≡ row_slots heads slots i → r ≡ all_filled part → r ≡ all_filled (row_slots heads slots i)
+full_row heads slots i part r e q = rw (← e) q
 
 -- ---- a row of one slot, which is filled
 
-pub row-single : (heads slots : List ℕ) (count size i l w : ℕ) (r : Bool) → l ≡ last_of heads i → l ≡ 0 → i * 288 + 288 ≤ length slots → w ≡ get_or slots (slotsAt i + 0) 0
-    → (r ≡ true → slotWhole count size w ≡ true) → r ≡ true → true ≡ allWhole count size (rowSlots heads slots i)
-unfolding rowSlots
-row-single heads slots count size i l w r e z h f g t =
-    let s : slotsAt i + 0 ≡ slotsAt i = omega arith in
+pub row_single : (heads slots : List ℕ) (count size i l w : ℕ) (r : Bool) → l ≡ last_of heads i → l ≡ 0 → i * 288 + 288 ≤ length slots → w ≡ get_or slots (slots_at i + 0) 0
+    → (r ≡ true → slot_whole count size w ≡ true) → r ≡ true → true ≡ all_whole count size (row_slots heads slots i)
+unfolding row_slots
+row_single heads slots count size i l w r e z h f g t =
+    let s : slots_at i + 0 ≡ slots_at i = omega arith in
     let one : last_of heads i ≡ 0 = sym e ∙ z in
-    let ok : slotWhole count size (get_or slots (slotsAt i) 0) ≡ true = rw (← s, ← f) (g t) in
-    rw one (sym (one-slot slots (slotsAt i) count size (omega arith) ok))
+    let ok : slot_whole count size (get_or slots (slots_at i) 0) ≡ true = rw (← s, ← f) (g t) in
+    rw one (sym (one_slot slots (slots_at i) count size (omega arith) ok))
 
-pub row-each : (heads slots : List ℕ) (count size i : ℕ) (part : List ℕ) (r : Bool) → part ≡ rowSlots heads slots i → r ≡ allWhole count size part → r ≡ allWhole count size (rowSlots heads slots i)
-row-each heads slots count size i part r e q = rw (← e) q
+pub row_each : (heads slots : List ℕ) (count size i : ℕ) (part : List ℕ) (r : Bool) → part ≡ row_slots heads slots i → r ≡ all_whole count size part → r ≡ all_whole count size (row_slots heads slots i)
+row_each heads slots count size i part r e q = rw (← e) q

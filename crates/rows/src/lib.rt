@@ -3,9 +3,9 @@
 // complete, what an answer is) is its own; how it finds, touches, evicts, empties and scans rows is here.
 ghost use Rattle.std.specs.Prelude.{◌≡◌, true, cond, ◌+◌, ◌-◌, ◌*◌, ◌<◌, ◌≤◌, length, get_or};
 ghost use Rattle.std.proofs.Math.Seq.{paste};
-ghost use Rattle.cells.specs.Cells.{allWhole, allFilled};
-ghost use Rattle.rows.specs.Rows.{roomNew, goneRow, keptHeads, slotsAt, slotCount, rowSlots, emptied, keptSlots, rowsWhole, markedRow, markedRows, tickOf, last_of, mark_of, versionOf, withMark};
-ghost use Rattle.rows.specs.Rows.{word, put, originAt, sameOrigin, key_at, sameKey, row_of, earlierOf, oldestOf, touched, freshHead};
+ghost use Rattle.cells.specs.Cells.{all_whole, all_filled};
+ghost use Rattle.rows.specs.Rows.{room_new, gone_row, kept_heads, slots_at, slot_count, row_slots, emptied, kept_slots, rows_whole, marked_row, marked_rows, tick_of, last_of, mark_of, version_of, with_mark};
+ghost use Rattle.rows.specs.Rows.{word, put, origin_at, same_origin, key_at, same_key, row_of, earlier_of, oldest_of, touched, fresh_head};
 
 // Where a row's sections came from, in the words of a head.
 #[derive(Drop)]
@@ -85,7 +85,7 @@ fn change(heads: &mut [u64], i: usize, k: usize, v: u64)
 
 pub fn version(heads: &[u64], i: usize) -> u64
     requires { i * 12 + 12 ≤ length heads.now }
-    ensures { result ≡ versionOf heads.now i }
+    ensures { result ≡ version_of heads.now i }
 {
     get(heads, i, VERSION)
 }
@@ -106,21 +106,21 @@ pub fn mark(heads: &[u64], i: usize) -> u64
 
 fn tick(heads: &[u64], i: usize) -> u64
     requires { i * 12 + 12 ≤ length heads.now }
-    ensures { result ≡ tickOf heads.now i }
+    ensures { result ≡ tick_of heads.now i }
 {
     get(heads, i, TICK)
 }
 
 pub fn set_mark(heads: &mut [u64], i: usize, v: u64)
     requires { i * 12 + 12 ≤ length heads.old }
-    ensures { heads.new ≡ withMark i v heads.old }
+    ensures { heads.new ≡ with_mark i v heads.old }
 {
     change(heads, i, MARK, v);
 }
 
 fn origin_at(heads: &[u64], i: usize) -> Origin
     requires { i * 12 + 12 ≤ length heads.now }
-    ensures { result ≡ originAt heads.now i }
+    ensures { result ≡ origin_at heads.now i }
 {
     Origin {
         input: get(heads, i, INPUT),
@@ -143,13 +143,13 @@ pub fn key_at(heads: &[u64], i: usize) -> Key
 }
 
 fn same_origin(a: Origin, b: Origin) -> bool
-    ensures { result ≡ sameOrigin a b }
+    ensures { result ≡ same_origin a b }
 {
     (a.input == b.input) & (a.pid == b.pid)
 }
 
-pub fn same_key(a: Key, b: Key) -> bool
-    ensures { result ≡ sameKey a b }
+pub fn same_key_lem(a: Key, b: Key) -> bool
+    ensures { result ≡ same_key a b }
 {
     same_origin(a.from, b.from)
         & (a.table_id == b.table_id)
@@ -162,12 +162,12 @@ pub fn same_key(a: Key, b: Key) -> bool
 // Whether row i has the key. Rows differ most often in the extension: of those that do, one word is read.
 fn key_is(heads: &[u64], i: usize, key: Key) -> bool
     requires { i * 12 + 12 ≤ length heads.now }
-    ensures { result ≡ sameKey (key_at heads.now i) key }
+    ensures { result ≡ same_key (key_at heads.now i) key }
 {
     if get(heads, i, EXTENSION) != key.extension {
         return false;
     }
-    same_key(key_at(heads, i), key)
+    same_key_lem(key_at(heads, i), key)
 }
 
 // The first row in use that has the key, or used where none has it.
@@ -190,7 +190,7 @@ pub fn find(heads: &[u64], key: Key, used: usize) -> usize
 // Row i where it was touched before the row best, else best.
 fn elder(heads: &[u64], best: usize, i: usize) -> usize
     requires { (best * 12 + 12 ≤ length heads.now) × (i * 12 + 12 ≤ length heads.now) }
-    ensures { result ≡ earlierOf heads.now best i }
+    ensures { result ≡ earlier_of heads.now best i }
 {
     if tick(heads, i) < tick(heads, best) {
         i
@@ -202,7 +202,7 @@ fn elder(heads: &[u64], best: usize, i: usize) -> usize
 // The first of the rows in use that have the smallest tick, 0 where none is in use.
 pub fn oldest(heads: &[u64], used: usize) -> usize
     requires { used * 12 ≤ length heads.now }
-    ensures { result ≡ oldestOf heads.now used }
+    ensures { result ≡ oldest_of heads.now used }
 {
     let mut best = 0;
     let mut i = 0;
@@ -238,7 +238,7 @@ fn put_words(heads: &mut [u64], at: usize, words: &[u64])
 // Row i begins anew with the section, with no mark; its tick is 0 until it is touched.
 pub fn fresh_head(heads: &mut [u64], i: usize, e: Entry)
     requires { i * 12 + 12 ≤ length heads.old }
-    ensures { heads.new ≡ freshHead i e heads.old }
+    ensures { heads.new ≡ fresh_head i e heads.old }
 {
     let k = e.key;
     let from = k.from;
@@ -262,7 +262,7 @@ pub fn fresh_head(heads: &mut [u64], i: usize, e: Entry)
 // Room for a key that no row in use has.
 pub fn room_new(heads: &[u64], limit: usize, used: usize, evictions: u64) -> Room
     requires { (used * 12 ≤ length heads.now) × (evictions < 18446744073709551615) }
-    ensures { result ≡ roomNew heads.now limit used evictions }
+    ensures { result ≡ room_new heads.now limit used evictions }
 {
     if used < limit {
         Room {
@@ -284,7 +284,7 @@ pub fn room_new(heads: &[u64], limit: usize, used: usize, evictions: u64) -> Roo
 
 // The row whose slots no longer count, or used where there is none.
 pub fn gone_row(room: Room, used: usize) -> usize
-    ensures { result ≡ goneRow room used }
+    ensures { result ≡ gone_row room used }
 {
     if room.fresh { room.row } else { used }
 }
@@ -292,7 +292,7 @@ pub fn gone_row(room: Room, used: usize) -> usize
 // The head of the section's row.
 pub fn keep_head(heads: &mut [u64], room: Room, e: Entry)
     requires { room.row * 12 + 12 ≤ length heads.old }
-    ensures { heads.new ≡ keptHeads room e heads.old }
+    ensures { heads.new ≡ kept_heads room e heads.old }
 {
     if room.fresh {
         fresh_head(heads, room.row, e);
@@ -305,7 +305,7 @@ pub fn keep_head(heads: &mut [u64], room: Room, e: Entry)
 
 // How many slots a row has. A last_section_number above 255 is no section's: such a row has 256 until the next section empties it.
 pub fn slot_count(last: u64) -> usize
-    ensures { (result ≡ slotCount last) × (0 < result) × (result ≤ 256) }
+    ensures { (result ≡ slot_count last) × (0 < result) × (result ≤ 256) }
 {
     if last < 255 { last as usize + 1 } else { 256 }
 }
@@ -313,7 +313,7 @@ pub fn slot_count(last: u64) -> usize
 // The slots of row i.
 pub fn row_slots<'a>(heads: &[u64], slots: &'a [u32], i: usize) -> &'a [u32]
     requires { (i * 12 + 12 ≤ length heads.now) × (i * 288 + 288 ≤ length slots.now) }
-    ensures { result.now ≡ rowSlots heads.now slots.now i }
+    ensures { result.now ≡ row_slots heads.now slots.now i }
 {
     let n = slot_count(last(heads, i));
     let at = i * ROW_WORDS + SEGMENT_WORDS;
@@ -323,7 +323,7 @@ pub fn row_slots<'a>(heads: &[u64], slots: &'a [u32], i: usize) -> &'a [u32]
 // The word of slot j of row i.
 pub fn slot(slots: &[u32], i: usize, j: usize) -> u32
     requires { (i * 288 + 288 ≤ length slots.now) × (j < 256) }
-    ensures { result ≡ get_or slots.now (slotsAt i + j) 0 }
+    ensures { result ≡ get_or slots.now (slots_at i + j) 0 }
 {
     slots[i * ROW_WORDS + SEGMENT_WORDS + j]
 }
@@ -349,7 +349,7 @@ pub fn empty_where(slots: &mut [u32], fresh: bool, at: usize, n: usize)
 // The section's slot gets the word w; a row that begins anew is emptied first.
 pub fn keep_slot(slots: &mut [u32], room: Room, e: Entry, w: u32)
     requires { (room.row * 288 + 288 ≤ length slots.old) × (e.number ≤ e.last) × (e.last < 256) }
-    ensures { slots.new ≡ keptSlots room e w slots.old }
+    ensures { slots.new ≡ kept_slots room e w slots.old }
 {
     let at = room.row * ROW_WORDS + SEGMENT_WORDS;
     empty_where(slots, room.fresh, at, e.last as usize + 1);
@@ -360,7 +360,7 @@ pub fn keep_slot(slots: &mut [u32], room: Room, e: Entry, w: u32)
 // Whether each slot of row i is filled.
 pub fn row_full(heads: &[u64], slots: &[u32], i: usize) -> bool
     requires { (i * 12 + 12 ≤ length heads.now) × (i * 288 + 288 ≤ length slots.now) }
-    ensures { result ≡ allFilled (rowSlots heads.now slots.now i) }
+    ensures { result ≡ all_filled (row_slots heads.now slots.now i) }
 {
     cells::all_filled(row_slots(heads, slots, i))
 }
@@ -369,14 +369,14 @@ pub fn row_full(heads: &[u64], slots: &[u32], i: usize) -> bool
 // loop over the slots is for the others.
 pub fn row_whole(heads: &[u64], slots: &[u32], count: u16, size: u16, i: usize) -> bool
     requires { (i * 12 + 12 ≤ length heads.now) × (i * 288 + 288 ≤ length slots.now) × (12 ≤ size) × (size ≤ 4096) }
-    ensures { result ≡ allWhole count size (rowSlots heads.now slots.now i) }
+    ensures { result ≡ all_whole count size (row_slots heads.now slots.now i) }
 {
     if last(heads, i) == 0 {
         if cells::filled_whole(slot(slots, i, 0), count, size) {
             return true;
         }
     }
-    cells::all_whole(row_slots(heads, slots, i), count, size)
+    cells::all_whole_lem(row_slots(heads, slots, i), count, size)
 }
 
 // ---- all rows in use
@@ -384,7 +384,7 @@ pub fn row_whole(heads: &[u64], slots: &[u32], count: u16, size: u16, i: usize) 
 // Adds each cell that a slot of row i names, unless it is the row `gone`.
 fn mark_row(map: &mut [u64; 1024], heads: &[u64], slots: &[u32], gone: usize, i: usize)
     requires { (i * 12 + 12 ≤ length heads.now) × (i * 288 + 288 ≤ length slots.now) }
-    ensures { map.new ≡ markedRow heads.now slots.now gone i map.old }
+    ensures { map.new ≡ marked_row heads.now slots.now gone i map.old }
 {
     if i != gone {
         cells::mark_all(map, row_slots(heads, slots, i));
@@ -394,7 +394,7 @@ fn mark_row(map: &mut [u64; 1024], heads: &[u64], slots: &[u32], gone: usize, i:
 // Adds each cell that a slot of a row in use, other than the row `gone`, names.
 pub fn mark_rows(map: &mut [u64; 1024], heads: &[u64], slots: &[u32], gone: usize, used: usize)
     requires { (used * 12 ≤ length heads.now) × (used * 288 ≤ length slots.now) }
-    ensures { map.new ≡ markedRows heads.now slots.now gone used map.old }
+    ensures { map.new ≡ marked_rows heads.now slots.now gone used map.old }
 {
     let mut i = used;
     while i > 0 {

@@ -11,43 +11,43 @@ use native.Mathlib.Omega.{arith}
 use borrow.Author.Tests.{leb-true}
 use lib.Dec.{leb, eqb}
 use lib.ListN.{length}
-use Rattle.laws.proofs.Tests.{and-true, none≢some}
+use Rattle.laws.proofs.Tests.{and_true, none≢some}
 use Rattle.rules_shared.specs.Touch.{Rows, leaves, find, evicts}
-use Rattle.rules_eit.specs.Keys.{Kind, presentActual, presentOther, scheduleActual, scheduleOther, between, kind_of, first_of, ScheduleKey, sameSchedule}
+use Rattle.rules_eit.specs.Keys.{Kind, present_actual, present_other, schedule_actual, schedule_other, between, kind_of, first_of, ScheduleKey, same_schedule}
 use Rattle.rules_eit.specs.Rules.{Eit}
 
-pub never-below : (t : ℕ) (k : Kind) (first : ℕ) → kind_of t ≡ some k → first_of k ≡ some first → (first ≤ t) × (t ≤ first + 15)
+pub never_below : (t : ℕ) (k : Kind) (first : ℕ) → kind_of t ≡ some k → first_of k ≡ some first → (first ≤ t) × (t ≤ first + 15)
 unfolding kind_of first_of between
-never-below t k first h f = go (eqb t 0x4e) (eqb t 0x4f) (between 0x50 t 0x5f) (between 0x60 t 0x6f) refl refl h
+never_below t k first h f = go (eqb t 0x4e) (eqb t 0x4f) (between 0x50 t 0x5f) (between 0x60 t 0x6f) refl refl h
   where
     same_first : (j : Kind) (n : ℕ) → some j ≡ some k → first_of j ≡ some n → first ≡ n
     same_first j n e g = some-injective first n (sym f ∙ ap first_of (sym (some-injective j k e)) ∙ g)
 
-    not-present : (j : Kind) → some j ≡ some k → first_of j ≡ none → ⊥
-    not-present j e g = none≢some {a = first} (ap first_of (sym (some-injective j k e)) ∙ g) f
+    not_present : (j : Kind) → some j ≡ some k → first_of j ≡ none → ⊥
+    not_present j e g = none≢some {a = first} (ap first_of (sym (some-injective j k e)) ∙ g) f
 
     pair : (low high : ℕ) → between low t high ≡ true → (low ≤ t) × (t ≤ high)
-    pair low high e = let p = and-true (leb low t) (leb t high) e in (leb-true low t p.0, leb-true t high p.1)
+    pair low high e = let p = and_true (leb low t) (leb t high) e in (leb-true low t p.0, leb-true t high p.1)
 
     go : (a b c d : Bool) → between 0x50 t 0x5f ≡ c → between 0x60 t 0x6f ≡ d
-        → cond a (some presentActual) (cond b (some presentOther) (cond c (some scheduleActual) (cond d (some scheduleOther) none))) ≡ some k → (first ≤ t) × (t ≤ first + 15)
-    go true b c d r s q = absurd (not-present presentActual q refl)
-    go false true c d r s q = absurd (not-present presentOther q refl)
-    go false false true d r s q = let x = pair 0x50 0x5f r in let e = same_first scheduleActual 0x50 q refl in (omega arith, omega arith)
-    go false false false true r s q = let x = pair 0x60 0x6f s in let e = same_first scheduleOther 0x60 q refl in (omega arith, omega arith)
+        → cond a (some present_actual) (cond b (some present_other) (cond c (some schedule_actual) (cond d (some schedule_other) none))) ≡ some k → (first ≤ t) × (t ≤ first + 15)
+    go true b c d r s q = absurd (not_present present_actual q refl)
+    go false true c d r s q = absurd (not_present present_other q refl)
+    go false false true d r s q = let x = pair 0x50 0x5f r in let e = same_first schedule_actual 0x50 q refl in (omega arith, omega arith)
+    go false false false true r s q = let x = pair 0x60 0x6f s in let e = same_first schedule_other 0x60 q refl in (omega arith, omega arith)
     go false false false false r s q = absurd (none≢some refl q)
 
 -- where a key has to leave at a limit above 0, there are as many rows as the limit
-evicts-some : {K R : Type 0} (same : K → K → Bool) (n : ℕ) (k : K) (rs : Rows K R) → evicts same (suc n) k rs ≡ true → suc n ≤ length rs
+evicts_some : {K R : Type 0} (same : K → K → Bool) (n : ℕ) (k : K) (rs : Rows K R) → evicts same (suc n) k rs ≡ true → suc n ≤ length rs
 unfolding evicts leaves
-evicts-some {R = R} same n k rs h = go (find same k rs) (leb (suc n) (length rs)) refl h
+evicts_some {R = R} same n k rs h = go (find same k rs) (leb (suc n) (length rs)) refl h
   where
     go : (o : Option R) (b : Bool) → leb (suc n) (length rs) ≡ b → leaves b o ≡ true → suc n ≤ length rs
     go (some v) b e j = absurd (true≢false (sym j))
     go none b e j = leb-true (suc n) (length rs) (e ∙ j)
 
-pub never-empty : (d : Eit) (n : ℕ) (l : ScheduleKey) → evicts sameSchedule (suc n) l d.schedules.rows ≡ true → d.schedules.rows ≢ []
-never-empty d n l h e =
-    let p = evicts-some sameSchedule n l d.schedules.rows h in
+pub never_empty : (d : Eit) (n : ℕ) (l : ScheduleKey) → evicts same_schedule (suc n) l d.schedules.rows ≡ true → d.schedules.rows ≢ []
+never_empty d n l h e =
+    let p = evicts_some same_schedule n l d.schedules.rows h in
     let z : length d.schedules.rows ≡ 0 = ap length e in
     omega arith

@@ -10,44 +10,44 @@ use native.Mathlib.Omega.{arith}
 use lib.ListN.{length, get_or, take}
 use Rattle.rules_shared.specs.Slots.{is_held}
 use Rattle.rules_shared.specs.Touch.{Rows, find}
-use Rattle.rules_eit.specs.Keys.{ScheduleKey, SetKey, sameSet}
-use Rattle.rules_eit.specs.Segments.{SetOf, heldFrom}
-use Rattle.rules_eit.specs.Schedules.{CopyOf, ScheduleOf, table_of, copied, refill, allTables, wholes, guide}
+use Rattle.rules_eit.specs.Keys.{ScheduleKey, SetKey, same_set}
+use Rattle.rules_eit.specs.Segments.{SetOf, held_from}
+use Rattle.rules_eit.specs.Schedules.{CopyOf, ScheduleOf, table_of, copied, refill, all_tables, wholes, guide}
 
 -- the refill, place by place: table_id t + n has place n
 module _ {A : Type 0} (others : Rows SetKey (SetOf A)) (l : ScheduleKey) (last : ℕ) where
   -- inside the new range, the set that is complete
-  pub refill-inside : (m t n : ℕ) → n < m → t + n ≤ last → get_or (refill others l last t m) n none ≡ copied (find sameSet (table_of l (t + n)) others)
+  pub refill_inside : (m t n : ℕ) → n < m → t + n ≤ last → get_or (refill others l last t m) n none ≡ copied (find same_set (table_of l (t + n)) others)
   unfolding refill
-  refill-inside zero t n h k = absurd (omega arith)
-  refill-inside (suc m) t zero h k =
+  refill_inside zero t n h k = absurd (omega arith)
+  refill_inside (suc m) t zero h k =
       let e : t + 0 ≡ t = omega arith in
       rw (e, le-leb t last (omega arith)) refl
-  refill-inside (suc m) t (suc n) h k =
+  refill_inside (suc m) t (suc n) h k =
       let e : t + suc n ≡ suc t + n = omega arith in
-      rw e (refill-inside m (suc t) n (omega arith) (omega arith))
+      rw e (refill_inside m (suc t) n (omega arith) (omega arith))
 
   -- past it, nothing
-  pub refill-past : (m t n : ℕ) → last < t + n → get_or (refill others l last t m) n none ≡ none
+  pub refill_past : (m t n : ℕ) → last < t + n → get_or (refill others l last t m) n none ≡ none
   unfolding refill
-  refill-past zero t n h = refl
-  refill-past (suc m) t zero h = rw (lt-leb t last (omega arith)) refl
-  refill-past (suc m) t (suc n) h = refill-past m (suc t) n (omega arith)
+  refill_past zero t n h = refl
+  refill_past (suc m) t zero h = rw (lt-leb t last (omega arith)) refl
+  refill_past (suc m) t (suc n) h = refill_past m (suc t) n (omega arith)
 
 module _ {A : Type 0} where
-  held-tail : (c : Option (CopyOf A)) (cs : List (Option (CopyOf A))) (a n : ℕ) → heldFrom (c ∷ cs) (suc a) n ≡ heldFrom cs a n
-  unfolding heldFrom
-  held-tail c cs a zero = refl
-  held-tail c cs a (suc n) = rw (held-tail c cs (suc a) n) refl
+  held_tail : (c : Option (CopyOf A)) (cs : List (Option (CopyOf A))) (a n : ℕ) → held_from (c ∷ cs) (suc a) n ≡ held_from cs a n
+  unfolding held_from
+  held_tail c cs a zero = refl
+  held_tail c cs a (suc n) = rw (held_tail c cs (suc a) n) refl
 
-  shows-each : (l : ScheduleKey) (t n : ℕ) (cs : List (Option (CopyOf A))) → heldFrom cs 0 n ≡ true → length (wholes l t (take n cs)) ≡ n
-  unfolding wholes heldFrom is_held
-  shows-each l t zero cs h = refl
-  shows-each l t (suc n) [] h = absurd (true≢false (sym h))
-  shows-each l t (suc n) (none ∷ cs) h = absurd (true≢false (sym h))
-  shows-each l t (suc n) (some c ∷ cs) h = ap suc (shows-each l (suc t) n cs (sym (held-tail (some c) cs 0 n) ∙ h))
+  shows_each : (l : ScheduleKey) (t n : ℕ) (cs : List (Option (CopyOf A))) → held_from cs 0 n ≡ true → length (wholes l t (take n cs)) ≡ n
+  unfolding wholes held_from is_held
+  shows_each l t zero cs h = refl
+  shows_each l t (suc n) [] h = absurd (true≢false (sym h))
+  shows_each l t (suc n) (none ∷ cs) h = absurd (true≢false (sym h))
+  shows_each l t (suc n) (some c ∷ cs) h = ap suc (shows_each l (suc t) n cs (sym (held_tail (some c) cs 0 n) ∙ h))
 
   -- a schedule with all tables shows as many as there are from the first of the kind to last_table_id
-  pub all_shown : (l : ScheduleKey) (first : ℕ) (s : ScheduleOf A) → allTables first s ≡ true → length (guide l first s).tables ≡ suc (s.lastTable - first)
-  unfolding allTables guide
-  all_shown l first s h = shows-each l first (suc (s.lastTable - first)) s.copies h
+  pub all_shown : (l : ScheduleKey) (first : ℕ) (s : ScheduleOf A) → all_tables first s ≡ true → length (guide l first s).tables ≡ suc (s.last_table - first)
+  unfolding all_tables guide
+  all_shown l first s h = shows_each l first (suc (s.last_table - first)) s.copies h

@@ -6,14 +6,14 @@ use Rattle.rules_logs.specs.Records.{Bytes}
 use Rattle.rules_logs.specs.Sections.{Given}
 use Rattle.rules_log_run.specs.Run.{Settings, Kept, entry_of}
 
-unfoldable pub rulesGive : Settings → Kept → Given → List Bytes
-rulesGive o k g = (entry_of o k g).records
+unfoldable pub rules_give : Settings → Kept → Given → List Bytes
+rules_give o k g = (entry_of o k g).records
 
-unfoldable pub rulesLeave : Settings → Kept → Given → Kept
-rulesLeave o k g = (entry_of o k g).kept
+unfoldable pub rules_leave : Settings → Kept → Given → Kept
+rules_leave o k g = (entry_of o k g).kept
 
-abbrev pub entriesFrom : Settings → Kept → List Given → List (List Bytes)
-entriesFrom o k gs = answers (rulesGive o) (rulesLeave o) k gs
+abbrev pub entries_from : Settings → Kept → List Given → List (List Bytes)
+entries_from o k gs = answers (rules_give o) (rules_leave o) k gs
 
 -- the records of entries, in order
 unfoldable pub joined : List (List Bytes) → List Bytes

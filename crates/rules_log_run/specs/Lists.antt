@@ -6,7 +6,7 @@ use Rattle.rules_logs.specs.Sections.{Given}
 
 -- of bytes, and at most 4,098 of them
 pub record Takable (g : Given) : Type 0 where
-  pub of-bytes : OfBytes g.section
+  pub of_bytes : OfBytes g.section
   pub short : length g.section ≤ 4098
 
 abbrev pub AllTakable : List Given → Type 0

@@ -11,8 +11,8 @@ use lib.Seq.{take_at, drop_at, length-take-le}
 use borrow.Author.Tests.{eq-eqb, ne_eqb, eqb-false, lt-ltb, le-ltb, ltb-true, ltb-false, eqb-true}
 use Rattle.laws.specs.Lists.{same_list}
 use Rattle.laws.proofs.Search.{same_true, same_refl}
-use Rattle.rules_logs.specs.Records.{Bytes, recordSize}
-use Rattle.rules_logs.specs.Verdict.{Verdict, yes, unknown, cutOff, missing, tooMany, differs, headed, verdict, logOf, IsRecord, AllRecords, Says, ends, is-missing, is-unknown, is_cut, is-over, is-other, passes}
+use Rattle.rules_logs.specs.Records.{Bytes, record_size}
+use Rattle.rules_logs.specs.Verdict.{Verdict, yes, unknown, cut_off, missing, too_many, differs, headed, verdict, log_of, IsRecord, AllRecords, Says, ends, is_missing, is_unknown, is_cut, is_over, is_other, passes}
 
 -- lists that are not equal are not the same
 same_false : (a b : Bytes) → (a ≡ b → ⊥) → same_list a b ≡ false
@@ -25,101 +25,101 @@ same_false a b h = go (same_list a b) refl
 -- ---- a record that begins here
 
 -- of no kind
-head-unknown : (p k left : ℕ) (v : Verdict) → recordSize k ≡ 0 → headed p k left v ≡ unknown p
-head-unknown p k left v h = rw (eq-eqb (recordSize k) 0 h) refl
+head_unknown : (p k left : ℕ) (v : Verdict) → record_size k ≡ 0 → headed p k left v ≡ unknown p
+head_unknown p k left v h = rw (eq-eqb (record_size k) 0 h) refl
 
-head-cut : (p k left : ℕ) (v : Verdict) → 0 < recordSize k → left < recordSize k → headed p k left v ≡ cutOff p
-head-cut p k left v h l = rw (ne_eqb (recordSize k) 0 (λ e. omega (arith, h, e)), lt-ltb left (recordSize k) l) refl
+head_cut : (p k left : ℕ) (v : Verdict) → 0 < record_size k → left < record_size k → headed p k left v ≡ cut_off p
+head_cut p k left v h l = rw (ne_eqb (record_size k) 0 (λ e. omega (arith, h, e)), lt-ltb left (record_size k) l) refl
 
-head-whole : (p k left : ℕ) (v : Verdict) → 0 < recordSize k → recordSize k ≤ left → headed p k left v ≡ v
-head-whole p k left v h l = rw (ne_eqb (recordSize k) 0 (λ e. omega (arith, h, e)), le-ltb left (recordSize k) l) refl
+head_whole : (p k left : ℕ) (v : Verdict) → 0 < record_size k → record_size k ≤ left → headed p k left v ≡ v
+head_whole p k left v h l = rw (ne_eqb (record_size k) 0 (λ e. omega (arith, h, e)), le-ltb left (record_size k) l) refl
 
 -- ---- what is said is said once
 
-pub said-once : {p : ℕ} {log : Bytes} {es : List Bytes} {v : Verdict} → Says p log es v → verdict p log es ≡ v
+pub said_once : {p : ℕ} {log : Bytes} {es : List Bytes} {v : Verdict} → Says p log es v → verdict p log es ≡ v
 unfolding verdict
-said-once ends = refl
-said-once (is-missing e es) = refl
-said-once {p = p} (is-unknown k log [] h) = head-unknown p k _ _ h
-said-once {p = p} (is-unknown k log (e ∷ es) h) = head-unknown p k _ _ h
-said-once {p = p} (is_cut k log [] h l) = head-cut p k _ _ h l
-said-once {p = p} (is_cut k log (e ∷ es) h l) = head-cut p k _ _ h l
-said-once {p = p} (is-over k log h l) = head-whole p k _ _ h l
-said-once {p = p} (is-other k log e es h l n) = head-whole p k _ _ h l ∙ rw (same_false (take (recordSize k) (k ∷ log)) e n) refl
-said-once {p = p} (passes [] log es r s) = absurd (omega (arith, r.known))
-said-once {p = p} {v = v} (passes (k ∷ e) log es r s) =
-    let t : take (recordSize k) (k ∷ (e ++ log)) ≡ k ∷ e = take_at (k ∷ e) log (recordSize k) r.sized in
-    let d : drop (recordSize k) (k ∷ (e ++ log)) ≡ log = drop_at (k ∷ e) log (recordSize k) r.sized in
-    let long : recordSize k ≤ length (k ∷ (e ++ log)) = omega (arith, r.sized, length-append (k ∷ e) log) in
-    head-whole p k _ _ r.known long
-    ∙ rw (t, d, same_refl (k ∷ e), ← r.sized) (said-once s)
+said_once ends = refl
+said_once (is_missing e es) = refl
+said_once {p = p} (is_unknown k log [] h) = head_unknown p k _ _ h
+said_once {p = p} (is_unknown k log (e ∷ es) h) = head_unknown p k _ _ h
+said_once {p = p} (is_cut k log [] h l) = head_cut p k _ _ h l
+said_once {p = p} (is_cut k log (e ∷ es) h l) = head_cut p k _ _ h l
+said_once {p = p} (is_over k log h l) = head_whole p k _ _ h l
+said_once {p = p} (is_other k log e es h l n) = head_whole p k _ _ h l ∙ rw (same_false (take (record_size k) (k ∷ log)) e n) refl
+said_once {p = p} (passes [] log es r s) = absurd (omega (arith, r.known))
+said_once {p = p} {v = v} (passes (k ∷ e) log es r s) =
+    let t : take (record_size k) (k ∷ (e ++ log)) ≡ k ∷ e = take_at (k ∷ e) log (record_size k) r.sized in
+    let d : drop (record_size k) (k ∷ (e ++ log)) ≡ log = drop_at (k ∷ e) log (record_size k) r.sized in
+    let long : record_size k ≤ length (k ∷ (e ++ log)) = omega (arith, r.sized, length-append (k ∷ e) log) in
+    head_whole p k _ _ r.known long
+    ∙ rw (t, d, same_refl (k ∷ e), ← r.sized) (said_once s)
 
 -- ---- something is said of every log
 
 module _ (e : Bytes) (es : List Bytes) (r : IsRecord e) where
   -- a record as expected, whole, at the start of what is left
-  pass_on : (p k : ℕ) (log : Bytes) (v : Verdict) → take (recordSize k) (k ∷ log) ≡ e → recordSize k ≤ length (k ∷ log)
-      → Says (p + recordSize k) (drop (recordSize k) (k ∷ log)) es v → Says p (k ∷ log) (e ∷ es) v
+  pass_on : (p k : ℕ) (log : Bytes) (v : Verdict) → take (record_size k) (k ∷ log) ≡ e → record_size k ≤ length (k ∷ log)
+      → Says (p + record_size k) (drop (record_size k) (k ∷ log)) es v → Says p (k ∷ log) (e ∷ es) v
   pass_on p k log v h l s =
-      let n : length e ≡ recordSize k = ap length (sym h) ∙ length-take-le (recordSize k) (k ∷ log) l in
-      let w : e ++ drop (recordSize k) (k ∷ log) ≡ k ∷ log = rw (← h) (take-append-drop (recordSize k) (k ∷ log)) in
+      let n : length e ≡ record_size k = ap length (sym h) ∙ length-take-le (record_size k) (k ∷ log) l in
+      let w : e ++ drop (record_size k) (k ∷ log) ≡ k ∷ log = rw (← h) (take-append-drop (record_size k) (k ∷ log)) in
       subst (λ (x : Bytes). Says p x (e ∷ es) v) w
-      (passes e (drop (recordSize k) (k ∷ log)) es r (subst (λ (m : ℕ). Says (p + m) (drop (recordSize k) (k ∷ log)) es v) (sym n) s))
+      (passes e (drop (record_size k) (k ∷ log)) es r (subst (λ (m : ℕ). Says (p + m) (drop (record_size k) (k ∷ log)) es v) (sym n) s))
 
 pub is_said : (p : ℕ) (log : Bytes) (es : List Bytes) → AllRecords es → Says p log es (verdict p log es)
 unfolding verdict
 is_said p [] [] rs = ends
-is_said p [] (e ∷ es) rs = is-missing e es
-is_said p (k ∷ log) [] rs = size (eqb (recordSize k) 0) refl
+is_said p [] (e ∷ es) rs = is_missing e es
+is_said p (k ∷ log) [] rs = size (eqb (record_size k) 0) refl
   where
-    rest : (b : Bool) → ltb (length (k ∷ log)) (recordSize k) ≡ b → 0 < recordSize k → Says p (k ∷ log) [] (cond b (cutOff p) (tooMany p))
+    rest : (b : Bool) → ltb (length (k ∷ log)) (record_size k) ≡ b → 0 < record_size k → Says p (k ∷ log) [] (cond b (cut_off p) (too_many p))
     rest true h n = is_cut k log [] n (ltb-true _ _ h)
-    rest false h n = is-over k log n (ltb-false _ _ h)
+    rest false h n = is_over k log n (ltb-false _ _ h)
 
-    size : (b : Bool) → eqb (recordSize k) 0 ≡ b → Says p (k ∷ log) [] (cond b (unknown p) (cond (ltb (length (k ∷ log)) (recordSize k)) (cutOff p) (tooMany p)))
-    size true h = is-unknown k log [] (eqb-true _ _ h)
-    size false h = rest (ltb (length (k ∷ log)) (recordSize k)) refl (let n = eqb-false (recordSize k) 0 h in omega (arith, n))
+    size : (b : Bool) → eqb (record_size k) 0 ≡ b → Says p (k ∷ log) [] (cond b (unknown p) (cond (ltb (length (k ∷ log)) (record_size k)) (cut_off p) (too_many p)))
+    size true h = is_unknown k log [] (eqb-true _ _ h)
+    size false h = rest (ltb (length (k ∷ log)) (record_size k)) refl (let n = eqb-false (record_size k) 0 h in omega (arith, n))
 is_said p (k ∷ log) (e ∷ es) rs =
-    size (is_said (p + recordSize k) (drop (recordSize k) (k ∷ log)) es rs.1) (eqb (recordSize k) 0) refl
+    size (is_said (p + record_size k) (drop (record_size k) (k ∷ log)) es rs.1) (eqb (record_size k) 0) refl
   where
     on : Verdict
-    on = verdict (p + recordSize k) (drop (recordSize k) (k ∷ log)) es
+    on = verdict (p + record_size k) (drop (record_size k) (k ∷ log)) es
 
     then : Type 0
-    then = Says (p + recordSize k) (drop (recordSize k) (k ∷ log)) es on
+    then = Says (p + record_size k) (drop (record_size k) (k ∷ log)) es on
 
-    inner : then → (b : Bool) → same_list (take (recordSize k) (k ∷ log)) e ≡ b → 0 < recordSize k → recordSize k ≤ length (k ∷ log)
+    inner : then → (b : Bool) → same_list (take (record_size k) (k ∷ log)) e ≡ b → 0 < record_size k → record_size k ≤ length (k ∷ log)
         → Says p (k ∷ log) (e ∷ es) (cond b on (differs p))
     inner s true h n l = pass_on e es rs.0 p k log on (same_true _ _ h) l s
-    inner s false h n l = is-other k log e es n l (λ q. true≢false (sym (rw q (same_refl e)) ∙ h))
+    inner s false h n l = is_other k log e es n l (λ q. true≢false (sym (rw q (same_refl e)) ∙ h))
 
-    rest : then → (b : Bool) → ltb (length (k ∷ log)) (recordSize k) ≡ b → 0 < recordSize k
-        → Says p (k ∷ log) (e ∷ es) (cond b (cutOff p) (cond (same_list (take (recordSize k) (k ∷ log)) e) on (differs p)))
+    rest : then → (b : Bool) → ltb (length (k ∷ log)) (record_size k) ≡ b → 0 < record_size k
+        → Says p (k ∷ log) (e ∷ es) (cond b (cut_off p) (cond (same_list (take (record_size k) (k ∷ log)) e) on (differs p)))
     rest s true h n = is_cut k log (e ∷ es) n (ltb-true _ _ h)
-    rest s false h n = inner s (same_list (take (recordSize k) (k ∷ log)) e) refl n (ltb-false _ _ h)
+    rest s false h n = inner s (same_list (take (record_size k) (k ∷ log)) e) refl n (ltb-false _ _ h)
 
-    size : then → (b : Bool) → eqb (recordSize k) 0 ≡ b
-        → Says p (k ∷ log) (e ∷ es) (cond b (unknown p) (cond (ltb (length (k ∷ log)) (recordSize k)) (cutOff p) (cond (same_list (take (recordSize k) (k ∷ log)) e) on (differs p))))
-    size s true h = is-unknown k log (e ∷ es) (eqb-true _ _ h)
-    size s false h = rest s (ltb (length (k ∷ log)) (recordSize k)) refl (let n = eqb-false (recordSize k) 0 h in omega (arith, n))
+    size : then → (b : Bool) → eqb (record_size k) 0 ≡ b
+        → Says p (k ∷ log) (e ∷ es) (cond b (unknown p) (cond (ltb (length (k ∷ log)) (record_size k)) (cut_off p) (cond (same_list (take (record_size k) (k ∷ log)) e) on (differs p))))
+    size s true h = is_unknown k log (e ∷ es) (eqb-true _ _ h)
+    size s false h = rest s (ltb (length (k ∷ log)) (record_size k)) refl (let n = eqb-false (record_size k) 0 h in omega (arith, n))
 
 -- ---- yes exactly
 
-pub log-passes : (p : ℕ) (es : List Bytes) → AllRecords es → Says p (logOf es) es yes
-unfolding logOf
-log-passes p [] rs = ends
-log-passes p (e ∷ es) rs = passes e (logOf es) es rs.0 (log-passes (p + length e) es rs.1)
+pub log_passes : (p : ℕ) (es : List Bytes) → AllRecords es → Says p (log_of es) es yes
+unfolding log_of
+log_passes p [] rs = ends
+log_passes p (e ∷ es) rs = passes e (log_of es) es rs.0 (log_passes (p + length e) es rs.1)
 
-pub yes-only : {p : ℕ} {log : Bytes} {es : List Bytes} {v : Verdict} → Says p log es v → v ≡ yes → log ≡ logOf es
-unfolding logOf
-yes-only ends h = refl
-yes-only (is-missing e es) h = absurd (let z : ◌≡◌ {A = ℕ} 0 1 = cc in omega arith)
-yes-only (is-unknown k log es n) h = absurd (let z : ◌≡◌ {A = ℕ} 0 1 = cc in omega arith)
-yes-only (is_cut k log es n l) h = absurd (let z : ◌≡◌ {A = ℕ} 0 1 = cc in omega arith)
-yes-only (is-over k log n l) h = absurd (let z : ◌≡◌ {A = ℕ} 0 1 = cc in omega arith)
-yes-only (is-other k log e es n l q) h = absurd (let z : ◌≡◌ {A = ℕ} 0 1 = cc in omega arith)
-yes-only (passes e log es r s) h = ap (λ (x : Bytes). e ++ x) (yes-only s h)
+pub yes_only : {p : ℕ} {log : Bytes} {es : List Bytes} {v : Verdict} → Says p log es v → v ≡ yes → log ≡ log_of es
+unfolding log_of
+yes_only ends h = refl
+yes_only (is_missing e es) h = absurd (let z : ◌≡◌ {A = ℕ} 0 1 = cc in omega arith)
+yes_only (is_unknown k log es n) h = absurd (let z : ◌≡◌ {A = ℕ} 0 1 = cc in omega arith)
+yes_only (is_cut k log es n l) h = absurd (let z : ◌≡◌ {A = ℕ} 0 1 = cc in omega arith)
+yes_only (is_over k log n l) h = absurd (let z : ◌≡◌ {A = ℕ} 0 1 = cc in omega arith)
+yes_only (is_other k log e es n l q) h = absurd (let z : ◌≡◌ {A = ℕ} 0 1 = cc in omega arith)
+yes_only (passes e log es r s) h = ap (λ (x : Bytes). e ++ x) (yes_only s h)
 
 -- the checker says yes exactly to the expected records, one after another, and nothing besides
-pub yes-exactly : (log : Bytes) (es : List Bytes) → AllRecords es → (verdict 0 log es ≡ yes → log ≡ logOf es) × (log ≡ logOf es → verdict 0 log es ≡ yes)
-yes-exactly log es rs = (λ h. yes-only (is_said 0 log es rs) h, λ h. rw h (said-once (log-passes 0 es rs)))
+pub yes_exactly : (log : Bytes) (es : List Bytes) → AllRecords es → (verdict 0 log es ≡ yes → log ≡ log_of es) × (log ≡ log_of es → verdict 0 log es ≡ yes)
+yes_exactly log es rs = (λ h. yes_only (is_said 0 log es rs) h, λ h. rw h (said_once (log_passes 0 es rs)))

@@ -10,7 +10,7 @@ use Rattle.listing.specs.declared.Walked.TheVariants.{Done, Past}
 use Rattle.listing.specs.Rules.{Item, Whole, RunsPast, items_of, flat, page, joined}
 use Rattle.listing.specs.Store.{found_from, words_of, put_all, listing}
 use Rattle.listing.proofs.Listed.{all_listed, first_past, Known, known}
-use Rattle.listing.proofs.Window.{window, found-twelve}
+use Rattle.listing.proofs.Window.{window, found_twelve}
 use Rattle.listing.proofs.Bounds.{two_bytes}
 
 abbrev pub loop_of : (header network number skip : ℕ) → Loop
@@ -34,19 +34,19 @@ pub once : (n : ℕ) → 2 ≤ n → Once n
 once n h = record {
   listed = λ network number skip s at list k w. all_listed (loop_of n network number skip) s at list k h w;
   stopped = λ network number skip s at list k w. first_past (loop_of n network number skip) s at list k h w;
-  shown = λ network number skip s at list. window list skip (found-twelve network number (found_from n s at 0));
+  shown = λ network number skip s at list. window list skip (found_twelve network number (found_from n s at 0));
   either = known n h;
   few = λ network number s at. two_bytes network number n h s at;
 }
 
-pub of-networks : Once 6
-of-networks = once 6 (omega arith)
+pub of_networks : Once 6
+of_networks = once 6 (omega arith)
 
-pub of-bouquets : Once 6
-of-bouquets = once 6 (omega arith)
+pub of_bouquets : Once 6
+of_bouquets = once 6 (omega arith)
 
-pub of-services : Once 5
-of-services = once 5 (omega arith)
+pub of_services : Once 5
+of_services = once 5 (omega arith)
 
-pub of-events : Once 12
-of-events = once 12 (omega arith)
+pub of_events : Once 12
+of_events = once 12 (omega arith)

@@ -1,11 +1,11 @@
 // The rows of schedules: 12 words of a head each, whose table_id word is the kind and whose last word is last_table_id, and 16 units, one for
 // each table of the kind. A complete set of a schedule kind goes into the schedule of its service, which is found or made.
 ghost use Rattle.std.specs.Prelude.{◌≡◌, Bool, true, false, cond, ◌&&◌, ℕ, ◌+◌, ◌-◌, ◌*◌, ◌%◌, ◌<◌, ◌≤◌, length};
-ghost use Rattle.cells.specs.Cells.{lowestFree};
-ghost use Rattle.rows.specs.Rows.{tableWord};
-ghost use Rattle.units.specs.Units.{unitsWhole};
-ghost use Rattle.schedules.specs.Schedules.{tableCount, tables_of, schedulesWhole, markedSchedules, takenAnywhere};
-ghost use Rattle.schedules.specs.Schedules.{roomKnown, roomOf, scheduledHeads, readyUnits, scheduledUnits, tablesThere};
+ghost use Rattle.cells.specs.Cells.{lowest_free};
+ghost use Rattle.rows.specs.Rows.{table_word};
+ghost use Rattle.units.specs.Units.{units_whole};
+ghost use Rattle.schedules.specs.Schedules.{table_count, tables_of, schedules_whole, marked_schedules, taken_anywhere};
+ghost use Rattle.schedules.specs.Schedules.{room_known, room_of, scheduled_heads, ready_units, scheduled_units, tables_there};
 
 use rows::{Entry, Room};
 
@@ -25,7 +25,7 @@ pub struct ScheduleRoom {
 
 // How many tables there are from the first of the kind to last_table_id, the 16 of the kind at most.
 fn table_count(kind: u64, last: u64) -> usize
-    ensures { (result ≡ tableCount kind last) × (result ≤ 16) }
+    ensures { (result ≡ table_count kind last) × (result ≤ 16) }
 {
     let first = units::first_table(kind);
     if last < first {
@@ -41,7 +41,7 @@ fn table_count(kind: u64, last: u64) -> usize
 // The kind of the schedule of row k.
 fn kind_at(heads: &[u64], k: usize) -> u64
     requires { k * 12 + 12 ≤ length heads.now }
-    ensures { result ≡ tableWord heads.now k }
+    ensures { result ≡ table_word heads.now k }
 {
     let key = rows::key_at(heads, k);
     key.table_id
@@ -60,7 +60,7 @@ pub fn tables_of(heads: &[u64], k: usize) -> usize
 // Whether the tables of the schedule of row k are whole.
 fn schedule_whole(heads: &[u64], units: &[u32], count: u16, size: u16, k: usize) -> bool
     requires { (k * 12 + 12 ≤ length heads.now) × (k * 4608 + 4608 ≤ length units.now) × (12 ≤ size) × (size ≤ 4096) }
-    ensures { result ≡ unitsWhole units.now count size (k * 16) (tables_of heads.now k) }
+    ensures { result ≡ units_whole units.now count size (k * 16) (tables_of heads.now k) }
 {
     if rows::last(heads, k) <= units::first_table(kind_at(heads, k)) {
         if units::single_whole(units, count, size, k * TABLES) {
@@ -73,7 +73,7 @@ fn schedule_whole(heads: &[u64], units: &[u32], count: u16, size: u16, k: usize)
 // Whether the tables of the first n schedules are whole.
 pub fn schedules_whole(heads: &[u64], units: &[u32], count: u16, size: u16, n: usize) -> bool
     requires { (n * 12 ≤ length heads.now) × (n * 4608 ≤ length units.now) × (12 ≤ size) × (size ≤ 4096) }
-    ensures { result ≡ schedulesWhole heads.now units.now count size n }
+    ensures { result ≡ schedules_whole heads.now units.now count size n }
 {
     let mut ok = true;
     let mut k = n;
@@ -87,7 +87,7 @@ pub fn schedules_whole(heads: &[u64], units: &[u32], count: u16, size: u16, n: u
 // Adds each cell that a slot of a table of the first n schedules names.
 fn mark_schedules(map: &mut [u64; 1024], heads: &[u64], units: &[u32], n: usize)
     requires { (n * 12 ≤ length heads.now) × (n * 4608 ≤ length units.now) }
-    ensures { map.new ≡ markedSchedules heads.now units.now n map.old }
+    ensures { map.new ≡ marked_schedules heads.now units.now n map.old }
 {
     let mut k = n;
     while k > 0 {
@@ -109,7 +109,7 @@ pub fn lowest_free(
     count: usize,
 ) -> usize
     requires { (used * 12 ≤ length heads.now) × (used * 288 ≤ length slots.now) × (n * 12 ≤ length schedule_heads.now) × (n * 4608 ≤ length units.now) × (count ≤ 65535) }
-    ensures { result ≡ lowestFree (takenAnywhere heads.now slots.now schedule_heads.now units.now gone used n) count }
+    ensures { result ≡ lowest_free (taken_anywhere heads.now slots.now schedule_heads.now units.now gone used n) count }
 {
     let mut map = [0u64; 1024];
     rows::mark_rows(&mut map, heads, slots, gone, used);
@@ -122,7 +122,7 @@ pub fn lowest_free(
 // Schedule k has the key.
 fn known_room(heads: &[u64], held: usize, evictions: u64, e: Entry, k: usize) -> ScheduleRoom
     requires { (k < held) × (held * 12 ≤ length heads.now) }
-    ensures { result ≡ roomKnown heads.now held evictions e k }
+    ensures { result ≡ room_known heads.now held evictions e k }
 {
     if rows::last(heads, k) == e.last {
         let room = placing::room_in(held, evictions, k);
@@ -139,7 +139,7 @@ fn known_room(heads: &[u64], held: usize, evictions: u64, e: Entry, k: usize) ->
 // The schedule of the entry's key, among the first `held` or a new one.
 pub fn find_room(heads: &[u64], limit: usize, held: usize, evictions: u64, e: Entry) -> ScheduleRoom
     requires { (0 < limit) × (held ≤ limit) × (held * 12 ≤ length heads.now) × (evictions < 18446744073709551615) }
-    ensures { result ≡ roomOf heads.now limit held evictions e }
+    ensures { result ≡ room_of heads.now limit held evictions e }
 {
     let k = rows::find(heads, e.key, held);
     if k < held {
@@ -156,7 +156,7 @@ pub fn find_room(heads: &[u64], limit: usize, held: usize, evictions: u64, e: En
 // The schedule's head is written, and it becomes the newest.
 pub fn put_head(heads: &mut [u64], room: Room, e: Entry, clock: u64)
     requires { (room.row < room.used) × (room.used * 12 ≤ length heads.old) }
-    ensures { heads.new ≡ scheduledHeads clock room e heads.old }
+    ensures { heads.new ≡ scheduled_heads clock room e heads.old }
 {
     rows::keep_head(heads, room, e);
     rows::touch(heads, room.row, clock);
@@ -173,7 +173,7 @@ fn ready_units(
     r: ScheduleRoom,
 )
     requires { ((r.room.row * 16 + 16) * 288 ≤ length units.old) × (used * 12 ≤ length heads.now) × (used * 288 ≤ length slots.now) }
-    ensures { units.new ≡ readyUnits heads.now slots.now used e own r units.old }
+    ensures { units.new ≡ ready_units heads.now slots.now used e own r units.old }
 {
     let room = r.room;
     if room.fresh {
@@ -199,7 +199,7 @@ pub fn put_units(
     r: ScheduleRoom,
 )
     requires { ((r.room.row * 16 + 16) * 288 ≤ length units.old) × (used * 12 ≤ length heads.now) × (used * 288 ≤ length slots.now) × (i < used) }
-    ensures { units.new ≡ scheduledUnits heads.now slots.now used e own i r units.old }
+    ensures { units.new ≡ scheduled_units heads.now slots.now used e own i r units.old }
 {
     ready_units(units, heads, slots, used, e, own, r);
     let room = r.room;
@@ -210,7 +210,7 @@ pub fn put_units(
 // Whether the schedule has all tables from the first of the kind to last_table_id.
 pub fn tables_there(units: &[u32], row: usize, e: Entry) -> bool
     requires { (row * 16 + 16) * 288 ≤ length units.now }
-    ensures { result ≡ tablesThere units.now row e }
+    ensures { result ≡ tables_there units.now row e }
 {
     let key = e.key;
     if e.last < units::first_table(key.table_id) + 16 {

@@ -32,24 +32,24 @@ unfolding key_of
 key_below a t e n ha ht he hn = let p = ha.pid in let i = ha.input in omega arith
 
 -- on input 0 the key is the sum of the other four
-pub key-on-0 : (pid t e n : ℕ) → key_of (origin_of 0 pid) t e n ≡ pid + t * 2 ^ 13 + e * 2 ^ 21 + n * 2 ^ 37
+pub key_on_0 : (pid t e n : ℕ) → key_of (origin_of 0 pid) t e n ≡ pid + t * 2 ^ 13 + e * 2 ^ 21 + n * 2 ^ 37
 unfolding key_of
-key-on-0 pid t e n = omega arith
+key_on_0 pid t e n = omega arith
 
 -- PID 0x12, table 0x4E, extension 1, section 0, on input 0 and on input 3
-pub key-small : key_of (origin_of 0 0x12) 0x4E 1 0 ≡ 2736146
+pub key_small : key_of (origin_of 0 0x12) 0x4E 1 0 ≡ 2736146
 unfolding key_of
-key-small = refl
+key_small = refl
 
-pub key-input : key_of (origin_of 3 0x12) 0x4E 1 0 ≡ 105553119002642
+pub key_input : key_of (origin_of 3 0x12) 0x4E 1 0 ≡ 105553119002642
 unfolding key_of
-key-input = refl
+key_input = refl
 
 -- all fields largest, on input 0 and on input 15
-pub key-largest : key_of (origin_of 0 8191) 255 65535 255 ≡ 2 ^ 45 - 1
+pub key_largest : key_of (origin_of 0 8191) 255 65535 255 ≡ 2 ^ 45 - 1
 unfolding key_of
-key-largest = refl
+key_largest = refl
 
-pub key-largest-input : key_of (origin_of 15 8191) 255 65535 255 ≡ 2 ^ 49 - 1
+pub key_largest_input : key_of (origin_of 15 8191) 255 65535 255 ≡ 2 ^ 49 - 1
 unfolding key_of
-key-largest-input = refl
+key_largest_input = refl

@@ -1,7 +1,7 @@
 // The segments of a set of EIT sections, by which the set is complete (EN 300 468, 5.2.4; docs/RULES.md, "Collectors"): 32 words a row, before
 // its slots.
 ghost use Rattle.std.specs.Prelude.{◌≡◌, Bool, true, false, cond, not, ◌&&◌, ℕ, ◌+◌, ◌-◌, ◌*◌, ◌/◌, ◌%◌, ◌<◌, ◌≤◌, length, get_or};
-ghost use Rattle.segments.specs.Segments.{word_of, withWord, filledTo, segmentComplete, segmentsComplete, setComplete, keptSection};
+ghost use Rattle.segments.specs.Segments.{word_of, with_word, filled_to, segment_complete, segments_complete, set_complete, kept_section};
 
 use rows::{Entry, Room};
 
@@ -25,7 +25,7 @@ pub fn word(words: &[u32], i: usize, k: usize) -> u32
 
 pub fn put_word(words: &mut [u32], i: usize, k: usize, v: u32)
     requires { (i * 288 + 288 ≤ length words.old) × (k < 288) }
-    ensures { words.new ≡ withWord i k v words.old }
+    ensures { words.new ≡ with_word i k v words.old }
 {
     words[i * rows::ROW_WORDS + k] = v;
 }
@@ -35,7 +35,7 @@ pub fn put_word(words: &mut [u32], i: usize, k: usize, v: u32)
 // Whether slots start to end of row i are filled.
 fn filled_to(slots: &[u32], i: usize, start: usize, end: usize) -> bool
     requires { (i * 288 + 288 ≤ length slots.now) × (start ≤ end) × (end < 256) }
-    ensures { result ≡ filledTo slots.now i start end }
+    ensures { result ≡ filled_to slots.now i start end }
 {
     let at = i * rows::ROW_WORDS + rows::SEGMENT_WORDS + start;
     let n = end + 1 - start;
@@ -45,7 +45,7 @@ fn filled_to(slots: &[u32], i: usize, start: usize, end: usize) -> bool
 // Whether segment s of row i has a last number, and every slot up to it is filled. The segment's end is by the low bits of the number alone.
 fn segment_complete(slots: &[u32], i: usize, last: u8, s: usize) -> bool
     requires { (i * 288 + 288 ≤ length slots.now) × (s * 8 ≤ last) }
-    ensures { result ≡ segmentComplete slots.now i last s }
+    ensures { result ≡ segment_complete slots.now i last s }
 {
     let n = word(slots, i, s);
     if n == 0 {
@@ -59,7 +59,7 @@ fn segment_complete(slots: &[u32], i: usize, last: u8, s: usize) -> bool
 // Whether each segment of row i, up to the one of `last`, is complete.
 fn segments_complete(slots: &[u32], i: usize, last: u8) -> bool
     requires { i * 288 + 288 ≤ length slots.now }
-    ensures { result ≡ segmentsComplete slots.now i last (last / 8 + 1) }
+    ensures { result ≡ segments_complete slots.now i last (last / 8 + 1) }
 {
     let mut ok = true;
     let mut s = wide(last) / SEGMENT + 1;
@@ -73,7 +73,7 @@ fn segments_complete(slots: &[u32], i: usize, last: u8) -> bool
 // Whether the set in row i is complete.
 pub fn set_complete(heads: &[u64], slots: &[u32], i: usize) -> bool
     requires { (i * 12 + 12 ≤ length heads.now) × (i * 288 + 288 ≤ length slots.now) }
-    ensures { result ≡ setComplete heads.now slots.now i }
+    ensures { result ≡ set_complete heads.now slots.now i }
 {
     let last = rows::slot_count(rows::last(heads, i)) - 1;
     segments_complete(slots, i, last as u8)
@@ -82,7 +82,7 @@ pub fn set_complete(heads: &[u64], slots: &[u32], i: usize) -> bool
 // The section's slot gets the word w and its segment the word n; a row that begins anew is emptied first, segments too.
 pub fn keep_section(slots: &mut [u32], room: Room, e: Entry, n: u32, w: u32)
     requires { (room.row * 288 + 288 ≤ length slots.old) × (e.number ≤ e.last) × (e.last < 256) }
-    ensures { slots.new ≡ keptSection room e n w slots.old }
+    ensures { slots.new ≡ kept_section room e n w slots.old }
 {
     let at = room.row * rows::ROW_WORDS;
     rows::empty_where(slots, room.fresh, at, rows::SEGMENT_WORDS);

@@ -11,19 +11,19 @@ use Rattle.arrivals.specs.Arrivals.{Taken}
 use Rattle.arrivals.specs.declared.SetArrival.{SetArrival}
 use Rattle.arrivals.specs.declared.SetArrival.TheVariants as arrival
 use Rattle.sets_plan.specs.Plan.{Ready}
-use Rattle.sets_settle.specs.Settle.{SetsAfter, afterPush}
+use Rattle.sets_settle.specs.Settle.{SetsAfter, after_push}
 use Rattle.sets_settle.specs.declared.PushAnswer.TheVariants.{Refused}
-use Rattle.sets_push.specs.Pushing.{wholePushed, admitted, AdmittedOk}
-use Rattle.sets.specs.Store.{pushedOf}
+use Rattle.sets_push.specs.Pushing.{whole_pushed, admitted, AdmittedOk}
+use Rattle.sets.specs.Store.{pushed_of}
 
-pub admitted-arrived : (s : Store) (bytes : List ℕ) (a : SetArrival) (e : Entry) → a ≡ arrival.Arrived e → AdmittedOk s bytes a → Ready s × Taken bytes e
-admitted-arrived s bytes a e q o = subst (AdmittedOk s bytes) q o
+pub admitted_arrived : (s : Store) (bytes : List ℕ) (a : SetArrival) (e : Entry) → a ≡ arrival.Arrived e → AdmittedOk s bytes a → Ready s × Taken bytes e
+admitted_arrived s bytes a e q o = subst (AdmittedOk s bytes) q o
 
 module _ (s : Store) (input : ℕ) (pid : MaybePid) (bytes : List ℕ) (a : SetArrival) (e : a ≡ admitted s input pid bytes) where
-  pub pushed-refused : (r : Refusal) → a ≡ arrival.Refused r → afterPush (record { answer = Refused r; sets = s.sets }) s.heads s.slots s.cells ≡ pushedOf s input pid bytes
-  unfolding pushedOf
-  pushed-refused r q = rw (← e, q)
+  pub pushed_refused : (r : Refusal) → a ≡ arrival.Refused r → after_push (record { answer = Refused r; sets = s.sets }) s.heads s.slots s.cells ≡ pushed_of s input pid bytes
+  unfolding pushed_of
+  pushed_refused r q = rw (← e, q)
 
-  pub pushed-arrived : (x : Entry) (k : SetsAfter) → a ≡ arrival.Arrived x → k ≡ wholePushed s x bytes → k ≡ pushedOf s input pid bytes
-  unfolding pushedOf
-  pushed-arrived x k q f = rw (← e, q) f
+  pub pushed_arrived : (x : Entry) (k : SetsAfter) → a ≡ arrival.Arrived x → k ≡ whole_pushed s x bytes → k ≡ pushed_of s input pid bytes
+  unfolding pushed_of
+  pushed_arrived x k q f = rw (← e, q) f

@@ -6,15 +6,15 @@ use Rattle.answers.specs.declared.Outcome.{Outcome}
 use Rattle.answers.specs.declared.Outcome.TheVariants as outcome
 use Rattle.answers.specs.declared.Reply.TheVariants as reply
 use Rattle.section.specs.declared.ids.MaybePid.{MaybePid}
-use Rattle.cells.specs.Cells.{nextFilled}
-use Rattle.rows.specs.Rows.{rowSlots}
-use Rattle.without_pid.specs.Pids.{withoutPid}
-use Rattle.store.specs.Store.{Store, store, emptySets, settingsFit, whole_of}
+use Rattle.cells.specs.Cells.{next_filled}
+use Rattle.rows.specs.Rows.{row_slots}
+use Rattle.without_pid.specs.Pids.{without_pid}
+use Rattle.store.specs.Store.{Store, store, empty_sets, settings_fit, whole_of}
 use Rattle.arrivals.specs.declared.SetArrival.{SetArrival}
 use Rattle.arrivals.specs.declared.SetArrival.TheVariants as arrival
-use Rattle.readers.specs.Next.{noSection, slotTold}
+use Rattle.readers.specs.Next.{no_section, slot_told}
 use Rattle.readers.specs.declared.Next.{Next}
-use Rattle.sets_push.specs.Pushing.{admitted, wholePushed}
+use Rattle.sets_push.specs.Pushing.{admitted, whole_pushed}
 use Rattle.sets_settle.specs.Settle.{Told, done, refused, SetsAfter, after, answered}
 use Rattle.sets_settle.specs.declared.PushAnswer.TheVariants as push-answer
 use Rattle.sets.specs.declared.Opened.{Opened}
@@ -23,36 +23,36 @@ use Rattle.sets.specs.declared.Cleared.{Cleared}
 -- ---- opening and clearing
 
 -- what an opening or a clearing tells
-abbrev pub outcomeOf : Outcome → Told
-outcomeOf outcome.Done = done
-outcomeOf (outcome.Refused r) = refused r
+abbrev pub outcome_of : Outcome → Told
+outcome_of outcome.Done = done
+outcome_of (outcome.Refused r) = refused r
 
 -- what a call handed back, with the slices as it left them
-abbrev pub afterOpen : Opened → List ℕ → List ℕ → List ℕ → SetsAfter
-afterOpen r heads slots cells = after (outcomeOf r.answer) (store r.sets heads slots cells)
+abbrev pub after_open : Opened → List ℕ → List ℕ → List ℕ → SetsAfter
+after_open r heads slots cells = after (outcome_of r.answer) (store r.sets heads slots cells)
 
-abbrev pub afterClear : Cleared → List ℕ → List ℕ → List ℕ → SetsAfter
-afterClear r heads slots cells = after (outcomeOf r.answer) (store r.sets heads slots cells)
+abbrev pub after_clear : Cleared → List ℕ → List ℕ → List ℕ → SetsAfter
+after_clear r heads slots cells = after (outcome_of r.answer) (store r.sets heads slots cells)
 
 -- 13, else 7
 unfoldable pub opened_of : Store → SetsAfter
-opened_of s = after (cond (settingsFit s.sets (length s.heads) (length s.slots) (length s.cells)) done (refused TooLittle)) s
+opened_of s = after (cond (settings_fit s.sets (length s.heads) (length s.slots) (length s.cells)) done (refused TooLittle)) s
 
 -- 10, 41 where a row has no PID, else 7
-unfoldable pub clearedOf : Store → SetsAfter
-clearedOf s =
+unfoldable pub cleared_of : Store → SetsAfter
+cleared_of s =
     cond (whole_of s)
-    (cond (withoutPid s.heads s.sets.used) (after (refused NoPid) s) (after done (store (emptySets s.sets) s.heads s.slots s.cells)))
+    (cond (without_pid s.heads s.sets.used) (after (refused NoPid) s) (after done (store (empty_sets s.sets) s.heads s.slots s.cells)))
     (after (refused NotWhole) s)
 
 -- ---- a section is pushed
 
-abbrev pub pushedAs : Store → List ℕ → SetArrival → SetsAfter
-pushedAs s bytes (arrival.Refused r) = answered (push-answer.Refused r) s
-pushedAs s bytes (arrival.Arrived e) = wholePushed s e bytes
+abbrev pub pushed_as : Store → List ℕ → SetArrival → SetsAfter
+pushed_as s bytes (arrival.Refused r) = answered (push_answer.Refused r) s
+pushed_as s bytes (arrival.Arrived e) = whole_pushed s e bytes
 
-unfoldable pub pushedOf : Store → (input : ℕ) → MaybePid → List ℕ → SetsAfter
-pushedOf s input pid bytes = pushedAs s bytes (admitted s input pid bytes)
+unfoldable pub pushed_of : Store → (input : ℕ) → MaybePid → List ℕ → SetsAfter
+pushed_of s input pid bytes = pushed_as s bytes (admitted s input pid bytes)
 
 -- ---- the sections of a set, one after another
 
@@ -60,8 +60,8 @@ pushedOf s input pid bytes = pushedAs s bytes (admitted s input pid bytes)
 unfoldable pub next_of : Store → ℕ → ℕ → Next
 next_of s row from =
     cond (whole_of s)
-    (cond (withoutPid s.heads s.sets.used) (noSection (reply.Refused NoPid))
+    (cond (without_pid s.heads s.sets.used) (no_section (reply.Refused NoPid))
     (cond (ltb row s.sets.used)
-    (slotTold s.sets.size (rowSlots s.heads s.slots row) (nextFilled (rowSlots s.heads s.slots row) from))
-    (noSection reply.No)))
-    (noSection (reply.Refused NotWhole))
+    (slot_told s.sets.size (row_slots s.heads s.slots row) (next_filled (row_slots s.heads s.slots row) from))
+    (no_section reply.No)))
+    (no_section (reply.Refused NotWhole))

@@ -3,8 +3,8 @@
 // answer; a refusal leaves them as they were, but 22, which touches the key.
 ghost use Rattle.std.specs.Prelude.{◌≡◌};
 ghost use Rattle.store.specs.Store.{store, asked};
-ghost use Rattle.sets_settle.specs.Settle.{afterPush};
-ghost use Rattle.sets.specs.Store.{afterOpen, afterClear, opened_of, pushedOf, clearedOf, next_of};
+ghost use Rattle.sets_settle.specs.Settle.{after_push};
+ghost use Rattle.sets.specs.Store.{after_open, after_clear, opened_of, pushed_of, cleared_of, next_of};
 
 use answers::{Outcome, Refusal, Reply};
 use arrivals::SetArrival;
@@ -34,7 +34,7 @@ pub fn open(
     slots: &[u32],
     cells: &[u8],
 ) -> Opened
-    ensures { afterOpen result heads.now slots.now cells.now ≡ opened_of (store (asked limit size count) heads.now slots.now cells.now) }
+    ensures { after_open result heads.now slots.now cells.now ≡ opened_of (store (asked limit size count) heads.now slots.now cells.now) }
 {
     let sets = Sets {
         limit,
@@ -67,7 +67,7 @@ pub fn push(
     pid: MaybePid,
     bytes: &[u8],
 ) -> Pushed
-    ensures { afterPush result heads.new slots.new cells.new ≡ pushedOf (store sets heads.old slots.old cells.old) input pid bytes.now }
+    ensures { after_push result heads.new slots.new cells.new ≡ pushed_of (store sets heads.old slots.old cells.old) input pid bytes.now }
 {
     match sets_push::admit(sets, heads, slots, cells, input, pid, bytes) {
         SetArrival::Refused(refusal) => Pushed {
@@ -82,7 +82,7 @@ pub fn push(
 
 // Empties all rows: 10, 41 where a row has no PID, else 7. The count of evictions and the clock stay.
 pub fn clear(sets: Sets, heads: &[u64], slots: &[u32], cells: &[u8]) -> Cleared
-    ensures { afterClear result heads.now slots.now cells.now ≡ clearedOf (store sets heads.now slots.now cells.now) }
+    ensures { after_clear result heads.now slots.now cells.now ≡ cleared_of (store sets heads.now slots.now cells.now) }
 {
     let seen = store::look(sets, heads, slots, cells);
     if seen.whole {

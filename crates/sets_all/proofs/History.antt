@@ -11,35 +11,35 @@ use Rattle.answers.specs.declared.Refusal.TheVariants.{NotWhole}
 use Rattle.section.specs.declared.ids.MaybePid.TheVariants as maybe
 use Rattle.store.specs.Store.{Store, WholeStore}
 use Rattle.sets_settle.specs.Settle.{Told, nothing, refused, SetsAfter}
-use Rattle.sets.specs.Store.{pushedOf}
-use Rattle.sets.specs.History.{Call, offer, afterAll}
-use Rattle.sets.proofs.Stays.{push-stays, push-not-ten}
+use Rattle.sets.specs.Store.{pushed_of}
+use Rattle.sets.specs.History.{Call, offer, after_all}
+use Rattle.sets.proofs.Stays.{push_stays, push_not_ten}
 use Rattle.rules_logs.specs.Sections.{Given}
-use Rattle.sets_all.specs.All.{of, AllAfter, allAfter, isNothing, pushedGiven, pushedEach}
+use Rattle.sets_all.specs.All.{of, AllAfter, all_after, is_nothing, pushed_given, pushed_each}
 
 -- a section of a list as a call of its own
 abbrev pub single : Given → Call
 single g = offer g.input (maybe.Some g.pid) g.section
 
 -- how many sections were pushed
-unfoldable pub countEach : Store → List Given → ℕ
-countEach s [] = 0
-countEach s (g ∷ gs) = suc (cond (isNothing (pushedGiven s g).told) (countEach (pushedGiven s g).store gs) 0)
+unfoldable pub count_each : Store → List Given → ℕ
+count_each s [] = 0
+count_each s (g ∷ gs) = suc (cond (is_nothing (pushed_given s g).told) (count_each (pushed_given s g).store gs) 0)
 
 -- what a list leaves is what those single pushes leave
-pub all-steps : (n : ℕ) (s : Store) (gs : List Given) → (pushedEach n s gs).store ≡ afterAll s (map single (take (countEach s gs) gs))
-unfolding pushedEach countEach afterAll
-all-steps n s [] = refl
-all-steps n s (g ∷ gs) = go (isNothing (pushedGiven s g).told) (all-steps (n + (5 + length g.section)) (pushedGiven s g).store gs)
+pub all_steps : (n : ℕ) (s : Store) (gs : List Given) → (pushed_each n s gs).store ≡ after_all s (map single (take (count_each s gs) gs))
+unfolding pushed_each count_each after_all
+all_steps n s [] = refl
+all_steps n s (g ∷ gs) = go (is_nothing (pushed_given s g).told) (all_steps (n + (5 + length g.section)) (pushed_given s g).store gs)
   where
     l : SetsAfter
-    l = pushedGiven s g
+    l = pushed_given s g
 
     m : ℕ
     m = n + (5 + length g.section)
 
-    go : (f : Bool) → (pushedEach m (pushedGiven s g).store gs).store ≡ afterAll (pushedGiven s g).store (map single (take (countEach (pushedGiven s g).store gs) gs))
-        → (cond f (pushedEach m (pushedGiven s g).store gs) (allAfter (of (pushedGiven s g).told) (pushedGiven s g).store m)).store ≡ afterAll s (map single (take (suc (cond f (countEach (pushedGiven s g).store gs) 0)) (g ∷ gs)))
+    go : (f : Bool) → (pushed_each m (pushed_given s g).store gs).store ≡ after_all (pushed_given s g).store (map single (take (count_each (pushed_given s g).store gs) gs))
+        → (cond f (pushed_each m (pushed_given s g).store gs) (all_after (of (pushed_given s g).told) (pushed_given s g).store m)).store ≡ after_all s (map single (take (suc (cond f (count_each (pushed_given s g).store gs) 0)) (g ∷ gs)))
     go true r = r
     go false r = refl
 
@@ -51,22 +51,22 @@ AllBytes (g ∷ gs) = (get_or g.section 7 0 < 256) × AllBytes gs
 -- a store that is whole, damaged or not, stays whole, and no section answers 10: the check that is left out would have passed
 pub record Sound (a : AllAfter) : Type 0 where
   pub whole : WholeStore a.store
-  pub not-ten : a.told ≢ of (refused NotWhole)
+  pub not_ten : a.told ≢ of (refused NotWhole)
 
-pub all_sound : (n : ℕ) (s : Store) (gs : List Given) → AllBytes gs → WholeStore s → Sound (pushedEach n s gs)
-unfolding pushedEach
-all_sound n s [] b w = record { whole = w; not-ten = λ q. absurd (let z : ◌≡◌ {A = ℕ} 0 1 = cc in omega arith) }
-all_sound n s (g ∷ gs) b w = go (isNothing (pushedGiven s g).told) (all_sound m (pushedGiven s g).store gs b.1 stays)
+pub all_sound : (n : ℕ) (s : Store) (gs : List Given) → AllBytes gs → WholeStore s → Sound (pushed_each n s gs)
+unfolding pushed_each
+all_sound n s [] b w = record { whole = w; not_ten = λ q. absurd (let z : ◌≡◌ {A = ℕ} 0 1 = cc in omega arith) }
+all_sound n s (g ∷ gs) b w = go (is_nothing (pushed_given s g).told) (all_sound m (pushed_given s g).store gs b.1 stays)
   where
     m : ℕ
     m = n + (5 + length g.section)
 
-    stays : WholeStore (pushedGiven s g).store
-    stays = push-stays s g.input (maybe.Some g.pid) g.section b.0 w
+    stays : WholeStore (pushed_given s g).store
+    stays = push_stays s g.input (maybe.Some g.pid) g.section b.0 w
 
-    no : of (pushedGiven s g).told ≢ of (refused NotWhole)
-    no q = push-not-ten s g.input (maybe.Some g.pid) g.section w cc
+    no : of (pushed_given s g).told ≢ of (refused NotWhole)
+    no q = push_not_ten s g.input (maybe.Some g.pid) g.section w cc
 
-    go : (f : Bool) → Sound (pushedEach m (pushedGiven s g).store gs) → Sound (cond f (pushedEach m (pushedGiven s g).store gs) (allAfter (of (pushedGiven s g).told) (pushedGiven s g).store m))
+    go : (f : Bool) → Sound (pushed_each m (pushed_given s g).store gs) → Sound (cond f (pushed_each m (pushed_given s g).store gs) (all_after (of (pushed_given s g).told) (pushed_given s g).store m))
     go true r = r
-    go false r = record { whole = stays; not-ten = no }
+    go false r = record { whole = stays; not_ten = no }

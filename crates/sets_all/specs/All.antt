@@ -4,13 +4,13 @@
 use Rattle.std.specs.Prelude.{ℕ, ◌+◌, ◌≡◌, List, [], ◌∷◌, Bool, true, false, cond, length}
 use Rattle.answers.specs.declared.Refusal.TheVariants.{NotWhole, CounterFull, NoPid}
 use Rattle.section.specs.declared.ids.MaybePid.TheVariants as maybe
-use Rattle.without_pid.specs.Pids.{withoutPid}
-use Rattle.store.specs.Store.{Store, store, whole_of, Whole, countersFull}
+use Rattle.without_pid.specs.Pids.{without_pid}
+use Rattle.store.specs.Store.{Store, store, whole_of, Whole, counters_full}
 use Rattle.store.specs.declared.Sets.{Sets}
-use Rattle.sets_settle.specs.Settle.{Told, done, nothing, handed, refused, SetsAfter, answer_of, pushNo}
-use Rattle.sets.specs.Store.{pushedOf}
+use Rattle.sets_settle.specs.Settle.{Told, done, nothing, handed, refused, SetsAfter, answer_of, push_no}
+use Rattle.sets.specs.Store.{pushed_of}
 use Rattle.rules_logs.specs.Records.{Bytes}
-use Rattle.rules_logs.specs.Sections.{Given, Listed, tooLong, cut, sections, sectionsIn}
+use Rattle.rules_logs.specs.Sections.{Given, Listed, too_long, cut, sections, sections_in}
 use Rattle.sets_all.specs.declared.AllAnswer.{AllAnswer}
 use Rattle.sets_all.specs.declared.AllAnswer.TheVariants as answer
 use Rattle.sets_all.specs.declared.AllPushed.{AllPushed}
@@ -20,9 +20,9 @@ pub data AllTold : Type 0 where
   of : Told → AllTold
   overlong : AllTold
 
-abbrev pub allNo : AllAnswer → ℕ
-allNo (answer.Pushed a) = pushNo a
-allNo answer.TooLong = 42
+abbrev pub all_no : AllAnswer → ℕ
+all_no (answer.Pushed a) = push_no a
+all_no answer.TooLong = 42
 
 -- what a call told, the store that it left, and how many bytes of the list it took
 pub record AllAfter : Type 0 where
@@ -30,55 +30,55 @@ pub record AllAfter : Type 0 where
   pub store : Store
   pub taken : ℕ
 
-abbrev pub allAfter : AllTold → Store → ℕ → AllAfter
-allAfter t s n = record { told = t; store = s; taken = n }
+abbrev pub all_after : AllTold → Store → ℕ → AllAfter
+all_after t s n = record { told = t; store = s; taken = n }
 
 -- 4
-abbrev pub isNothing : Told → Bool
-isNothing done = false
-isNothing nothing = true
-isNothing (handed h) = false
-isNothing (refused r) = false
+abbrev pub is_nothing : Told → Bool
+is_nothing done = false
+is_nothing nothing = true
+is_nothing (handed h) = false
+is_nothing (refused r) = false
 
 -- one section of a list is pushed, with its PID
-abbrev pub pushedGiven : Store → Given → SetsAfter
-pushedGiven s g = pushedOf s g.input (maybe.Some g.pid) g.section
+abbrev pub pushed_given : Store → Given → SetsAfter
+pushed_given s g = pushed_of s g.input (maybe.Some g.pid) g.section
 
 -- one by one, until one answers something else than 4; n bytes of the list were taken before
-unfoldable pub pushedEach : (n : ℕ) → Store → List Given → AllAfter
-pushedEach n s [] = allAfter (of nothing) s n
-pushedEach n s (g ∷ gs) =
-    let l : SetsAfter = pushedGiven s g in
+unfoldable pub pushed_each : (n : ℕ) → Store → List Given → AllAfter
+pushed_each n s [] = all_after (of nothing) s n
+pushed_each n s (g ∷ gs) =
+    let l : SetsAfter = pushed_given s g in
     let m : ℕ = n + (5 + length g.section) in
-    cond (isNothing l.told) (pushedEach m l.store gs) (allAfter (of l.told) l.store m)
+    cond (is_nothing l.told) (pushed_each m l.store gs) (all_after (of l.told) l.store m)
 
 -- 10 where the store is not whole, 11 where its count is at its end, 41 where a row in use has no PID; then one by one
-unfoldable pub pushedSections : Store → List Given → AllAfter
-pushedSections s gs =
+unfoldable pub pushed_sections : Store → List Given → AllAfter
+pushed_sections s gs =
     cond (whole_of s)
-    (cond (countersFull s.sets) (allAfter (of (refused CounterFull)) s 0)
-    (cond (withoutPid s.heads s.sets.used) (allAfter (of (refused NoPid)) s 0) (pushedEach 0 s gs)))
-    (allAfter (of (refused NotWhole)) s 0)
+    (cond (counters_full s.sets) (all_after (of (refused CounterFull)) s 0)
+    (cond (without_pid s.heads s.sets.used) (all_after (of (refused NoPid)) s 0) (pushed_each 0 s gs)))
+    (all_after (of (refused NotWhole)) s 0)
 
 -- what holds of a store from one section of a list to the next: it is whole, and every row in use has a PID
 pub record Pushable (s : Sets) (heads slots cells : List ℕ) : Type 0 where
   pub whole : Whole s heads slots cells
-  pub pids : withoutPid heads s.used ≡ false
+  pub pids : without_pid heads s.used ≡ false
 
-abbrev pub pushedList : Store → Listed → AllAfter
-pushedList s tooLong = allAfter overlong s 0
-pushedList s cut = allAfter (of (refused NotWhole)) s 0
-pushedList s (sections gs) = pushedSections s gs
+abbrev pub pushed_list : Store → Listed → AllAfter
+pushed_list s too_long = all_after overlong s 0
+pushed_list s cut = all_after (of (refused NotWhole)) s 0
+pushed_list s (sections gs) = pushed_sections s gs
 
 -- 42 and 10 of the list, 10, 11 and 41 of the store, then its sections
-unfoldable pub pushedAll : Store → Bytes → AllAfter
-pushedAll s list = pushedList s (sectionsIn list)
+unfoldable pub pushed_all : Store → Bytes → AllAfter
+pushed_all s list = pushed_list s (sections_in list)
 
 -- ---- what the call handed back
 
-abbrev pub toldBy : AllAnswer → Store → AllTold
-toldBy (answer.Pushed a) s = of (answer_of a s)
-toldBy answer.TooLong s = overlong
+abbrev pub told_by : AllAnswer → Store → AllTold
+told_by (answer.Pushed a) s = of (answer_of a s)
+told_by answer.TooLong s = overlong
 
-abbrev pub afterAll : AllPushed → List ℕ → List ℕ → List ℕ → AllAfter
-afterAll r heads slots cells = allAfter (toldBy r.answer (store r.sets heads slots cells)) (store r.sets heads slots cells) r.taken
+abbrev pub after_all : AllPushed → List ℕ → List ℕ → List ℕ → AllAfter
+after_all r heads slots cells = all_after (told_by r.answer (store r.sets heads slots cells)) (store r.sets heads slots cells) r.taken

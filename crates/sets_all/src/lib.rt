@@ -3,10 +3,10 @@
 ghost use Rattle.std.specs.Prelude.{◌≡◌, ◌+◌, ◌≤◌, length, take, drop};
 ghost use Rattle.section.specs.declared.ids.MaybePid.TheVariants as maybe;
 ghost use Rattle.store.specs.Store.{store};
-ghost use Rattle.sets_settle.specs.Settle.{afterPush};
-ghost use Rattle.sets.specs.Store.{pushedOf};
-ghost use Rattle.log_list.specs.List.{givenAt, givensFrom, WholeFrom};
-ghost use Rattle.sets_all.specs.All.{allNo, afterAll, pushedEach, pushedAll, pushedGiven, pushedSections, Pushable};
+ghost use Rattle.sets_settle.specs.Settle.{after_push};
+ghost use Rattle.sets.specs.Store.{pushed_of};
+ghost use Rattle.log_list.specs.List.{given_at, givens_from, WholeFrom};
+ghost use Rattle.sets_all.specs.All.{all_no, after_all, pushed_each, pushed_all, pushed_given, pushed_sections, Pushable};
 
 use answers::Refusal;
 use arrivals::SetArrival;
@@ -24,7 +24,7 @@ pub enum AllAnswer {
 
 impl AllAnswer {
     pub fn number(self) -> u8
-        ensures { result ≡ allNo self }
+        ensures { result ≡ all_no self }
     {
         match self {
             AllAnswer::Pushed(answer) => answer.number(),
@@ -52,7 +52,7 @@ fn push_ready(
     bytes: &[u8],
 ) -> Pushed
     requires { Pushable sets heads.old slots.old cells.old }
-    ensures cells_after { afterPush result heads.new slots.new cells.new ≡ pushedOf (store sets heads.old slots.old cells.old) input pid bytes.now }
+    ensures cells_after { after_push result heads.new slots.new cells.new ≡ pushed_of (store sets heads.old slots.old cells.old) input pid bytes.now }
     ensures pushable { Pushable result.sets heads.new slots.new cells.new }
 {
     if store::counters_full(sets) {
@@ -83,7 +83,7 @@ fn push_at(
 ) -> Pushed
     requires pushable { Pushable sets heads.old slots.old cells.old }
     requires length_in_bounds { place.start + place.length ≤ length list.now }
-    ensures cells_after { afterPush result heads.new slots.new cells.new ≡ pushedGiven (store sets heads.old slots.old cells.old) (givenAt list.now place) }
+    ensures cells_after { after_push result heads.new slots.new cells.new ≡ pushed_given (store sets heads.old slots.old cells.old) (given_at list.now place) }
     ensures pushable_2 { Pushable result.sets heads.new slots.new cells.new }
 {
     let start = place.start;
@@ -109,7 +109,7 @@ fn push_each(
 ) -> AllPushed
     requires pushable { Pushable sets heads.old slots.old cells.old }
     requires whole_from { WholeFrom list.now 0 }
-    ensures { afterAll result heads.new slots.new cells.new ≡ pushedEach 0 (store sets heads.old slots.old cells.old) (givensFrom list.now 0) }
+    ensures { after_all result heads.new slots.new cells.new ≡ pushed_each 0 (store sets heads.old slots.old cells.old) (givens_from list.now 0) }
 {
     let first = sets_repeats::push_first(sets, heads, slots, cells, list);
     let mut held = first.sets;
@@ -155,7 +155,7 @@ fn push_listed(
     list: &[u8],
 ) -> AllPushed
     requires { WholeFrom list.now 0 }
-    ensures { afterAll result heads.new slots.new cells.new ≡ pushedSections (store sets heads.old slots.old cells.old) (givensFrom list.now 0) }
+    ensures { after_all result heads.new slots.new cells.new ≡ pushed_sections (store sets heads.old slots.old cells.old) (givens_from list.now 0) }
 {
     let seen = store::look(sets, heads, slots, cells);
     if seen.whole {
@@ -185,7 +185,7 @@ pub fn push_all(
     cells: &mut [u8],
     list: &[u8],
 ) -> AllPushed
-    ensures { afterAll result heads.new slots.new cells.new ≡ pushedAll (store sets heads.old slots.old cells.old) list.now }
+    ensures { after_all result heads.new slots.new cells.new ≡ pushed_all (store sets heads.old slots.old cells.old) list.now }
 {
     match log_list::judge(list) {
         Judged::Whole => push_listed(sets, heads, slots, cells, list),

@@ -15,21 +15,21 @@ use Rattle.placing.specs.declared.Place.{Place}
 use Rattle.placing.specs.declared.Place.TheVariants as place
 use Rattle.sets_plan.specs.declared.Plan.{Plan}
 use Rattle.sets_plan.specs.declared.Plan.TheVariants as plan
-use Rattle.sets_plan.specs.Plan.{planKeep, planPlaced, plan_of}
+use Rattle.sets_plan.specs.Plan.{plan_keep, plan_placed, plan_of}
 
 module _
     (s : Store) (e : Entry) (bytes : List ℕ) (P : Plan → Type 0) (long : P (plan.Refuse TooLong)) (silent : P plan.Silent) (repeat : (i : ℕ) → P (plan.Repeat i))
-    (conflict : (i : ℕ) → P (plan.Conflict i)) (keep : (r : Room) → P (planKeep s e r)) where
-  placed_by : (p : Place) → P (planPlaced s e p)
+    (conflict : (i : ℕ) → P (plan.Conflict i)) (keep : (r : Room) → P (plan_keep s e r)) where
+  placed_by : (p : Place) → P (plan_placed s e p)
   placed_by (place.Conflict i) = conflict i
   placed_by (place.Repeat i) = repeat i
   placed_by (place.Goes r) = keep r
 
-  pub plan-by : P (plan_of s e bytes)
+  pub plan_by : P (plan_of s e bytes)
   unfolding plan_of
-  plan-by = go (ltb s.sets.size (length bytes)) (eqb s.sets.limit 0)
+  plan_by = go (ltb s.sets.size (length bytes)) (eqb s.sets.limit 0)
     where
-      go : (a b : Bool) → P (cond a (plan.Refuse TooLong) (cond b plan.Silent (planPlaced s e (place_of s e bytes))))
+      go : (a b : Bool) → P (cond a (plan.Refuse TooLong) (cond b plan.Silent (plan_placed s e (place_of s e bytes))))
       go true b = long
       go false true = silent
       go false false = placed_by (place_of s e bytes)

@@ -2,8 +2,8 @@
 -- (docs/RULES.md, "Collectors" and "Cells"). `cond test a b` is a where the test is true, else b.
 use Rattle.std.specs.Prelude.{ℕ, ◌≤◌, ◌<◌, ◌≡◌, ◌≢◌, List, cond, length, ltb, eqb}
 use Rattle.answers.specs.declared.Refusal.TheVariants.{TooLong, NoCell}
-use Rattle.cells.specs.Cells.{lowestFree}
-use Rattle.rows.specs.Rows.{goneRow, takenIn}
+use Rattle.cells.specs.Cells.{lowest_free}
+use Rattle.rows.specs.Rows.{gone_row, taken_in}
 use Rattle.rows.specs.declared.Entry.{Entry}
 use Rattle.rows.specs.declared.Room.{Room}
 use Rattle.store.specs.Store.{Store, Whole}
@@ -16,21 +16,21 @@ use Rattle.sets_plan.specs.declared.Plan.{Plan}
 use Rattle.sets_plan.specs.declared.Plan.TheVariants as plan
 
 -- a section that is kept needs a cell: the lowest that is free after the eviction or the emptying (21 where there is none)
-unfoldable pub planKeep : Store → Entry → Room → Plan
-planKeep s e r =
-    let c : ℕ = lowestFree (takenIn s.heads s.slots (goneRow r s.sets.used) s.sets.used) s.sets.count in
+unfoldable pub plan_keep : Store → Entry → Room → Plan
+plan_keep s e r =
+    let c : ℕ = lowest_free (taken_in s.heads s.slots (gone_row r s.sets.used) s.sets.used) s.sets.count in
     cond (ltb c s.sets.count) (plan.Keep (record { entry = e; room = r; cell = c })) (plan.Refuse NoCell)
 
-abbrev pub planPlaced : Store → Entry → Place → Plan
-planPlaced s e (place.Conflict i) = plan.Conflict i
-planPlaced s e (place.Repeat i) = plan.Repeat i
-planPlaced s e (place.Goes r) = planKeep s e r
+abbrev pub plan_placed : Store → Entry → Place → Plan
+plan_placed s e (place.Conflict i) = plan.Conflict i
+plan_placed s e (place.Repeat i) = plan.Repeat i
+plan_placed s e (place.Goes r) = plan_keep s e r
 
 -- 20, then limit 0 ("an otherwise good section answers 4 and changes nothing"), then where the section goes
 unfoldable pub plan_of : Store → Entry → List ℕ → Plan
 plan_of s e bytes =
     cond (ltb s.sets.size (length bytes)) (plan.Refuse TooLong)
-    (cond (eqb s.sets.limit 0) plan.Silent (planPlaced s e (place_of s e bytes)))
+    (cond (eqb s.sets.limit 0) plan.Silent (plan_placed s e (place_of s e bytes)))
 
 -- ---- what the functions ask of each other
 

@@ -1,11 +1,11 @@
 // What a section that arrived does to the rows of the set collector, decided before anything is written (docs/RULES.md, "Collectors" and "Cells"):
 // it is refused, it goes nowhere since there is no key to be had, it conflicts, it is there already, or it is kept, in which row and in which cell.
 ghost use Rattle.std.specs.Prelude.{◌≡◌, ◌*◌, ◌≤◌, length};
-ghost use Rattle.cells.specs.Cells.{lowestFree};
-ghost use Rattle.rows.specs.Rows.{takenIn};
+ghost use Rattle.cells.specs.Cells.{lowest_free};
+ghost use Rattle.rows.specs.Rows.{taken_in};
 ghost use Rattle.store.specs.Store.{store, Whole};
 ghost use Rattle.arrivals.specs.Arrivals.{Numbered};
-ghost use Rattle.sets_plan.specs.Plan.{planKeep, planPlaced, plan_of, Ready};
+ghost use Rattle.sets_plan.specs.Plan.{plan_keep, plan_placed, plan_of, Ready};
 
 use answers::Refusal;
 use placing::Place;
@@ -33,7 +33,7 @@ pub enum Plan {
 // The lowest cell that no slot of a row in use, other than the row `gone`, names, or count where there is none.
 fn lowest_free(heads: &[u64], slots: &[u32], gone: usize, used: usize, count: usize) -> usize
     requires { (used * 12 ≤ length heads.now) × (used * 288 ≤ length slots.now) × (count ≤ 65535) }
-    ensures { result ≡ lowestFree (takenIn heads.now slots.now gone used) count }
+    ensures { result ≡ lowest_free (taken_in heads.now slots.now gone used) count }
 {
     let mut map = [0u64; 1024];
     rows::mark_rows(&mut map, heads, slots, gone, used);
@@ -43,7 +43,7 @@ fn lowest_free(heads: &[u64], slots: &[u32], gone: usize, used: usize, count: us
 // A section that is kept needs a cell.
 fn plan_keep(sets: Sets, heads: &[u64], slots: &[u32], cells: &[u8], e: Entry, room: Room) -> Plan
     requires { Whole sets heads.now slots.now cells.now }
-    ensures { result ≡ planKeep (store sets heads.now slots.now cells.now) e room }
+    ensures { result ≡ plan_keep (store sets heads.now slots.now cells.now) e room }
 {
     let gone = rows::gone_row(room, sets.used);
     let c = lowest_free(heads, slots, gone, sets.used, sets.count);
@@ -60,7 +60,7 @@ fn plan_keep(sets: Sets, heads: &[u64], slots: &[u32], cells: &[u8], e: Entry, r
 
 fn plan_placed(sets: Sets, heads: &[u64], slots: &[u32], cells: &[u8], e: Entry, p: Place) -> Plan
     requires { Whole sets heads.now slots.now cells.now }
-    ensures { result ≡ planPlaced (store sets heads.now slots.now cells.now) e p }
+    ensures { result ≡ plan_placed (store sets heads.now slots.now cells.now) e p }
 {
     match p {
         Place::Conflict(i) => Plan::Conflict(i),

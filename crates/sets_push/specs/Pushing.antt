@@ -4,24 +4,24 @@ use Rattle.std.specs.Prelude.{ℕ, List, cond}
 use Rattle.answers.specs.declared.Refusal.TheVariants.{NotWhole, CounterFull, NoPid}
 use Rattle.section.specs.declared.ids.MaybePid.{MaybePid}
 use Rattle.rows.specs.declared.Entry.{Entry}
-use Rattle.without_pid.specs.Pids.{withoutPid}
-use Rattle.store.specs.Store.{Store, whole_of, countersFull}
-use Rattle.arrivals.specs.Arrivals.{setArrival, Taken}
+use Rattle.without_pid.specs.Pids.{without_pid}
+use Rattle.store.specs.Store.{Store, whole_of, counters_full}
+use Rattle.arrivals.specs.Arrivals.{set_arrival, Taken}
 use Rattle.arrivals.specs.declared.SetArrival.{SetArrival}
 use Rattle.arrivals.specs.declared.SetArrival.TheVariants as arrival
 use Rattle.sets_plan.specs.Plan.{plan_of, Ready}
 use Rattle.sets_settle.specs.Settle.{SetsAfter, carried}
 
 -- a section that arrived, into a store that is whole
-unfoldable pub wholePushed : Store → Entry → List ℕ → SetsAfter
-wholePushed s e bytes = carried s bytes (plan_of s e bytes)
+unfoldable pub whole_pushed : Store → Entry → List ℕ → SetsAfter
+whole_pushed s e bytes = carried s bytes (plan_of s e bytes)
 
 -- 10, 11, 41 where a row has no PID, then what the section's PID (41 where it has none) and bytes say
 unfoldable pub admitted : Store → (input : ℕ) → MaybePid → List ℕ → SetArrival
 admitted s input pid bytes =
     cond (whole_of s)
-    (cond (countersFull s.sets) (arrival.Refused CounterFull)
-    (cond (withoutPid s.heads s.sets.used) (arrival.Refused NoPid) (setArrival input pid bytes)))
+    (cond (counters_full s.sets) (arrival.Refused CounterFull)
+    (cond (without_pid s.heads s.sets.used) (arrival.Refused NoPid) (set_arrival input pid bytes)))
     (arrival.Refused NotWhole)
 
 -- what holds of the store and of the section where it was admitted

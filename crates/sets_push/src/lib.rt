@@ -3,8 +3,8 @@ ghost use Rattle.std.specs.Prelude.{◌≡◌};
 ghost use Rattle.store.specs.Store.{store};
 ghost use Rattle.arrivals.specs.Arrivals.{Taken};
 ghost use Rattle.sets_plan.specs.Plan.{Ready};
-ghost use Rattle.sets_settle.specs.Settle.{afterPush};
-ghost use Rattle.sets_push.specs.Pushing.{admitted, wholePushed, AdmittedOk};
+ghost use Rattle.sets_settle.specs.Settle.{after_push};
+ghost use Rattle.sets_push.specs.Pushing.{admitted, whole_pushed, AdmittedOk};
 
 use answers::Refusal;
 use arrivals::SetArrival;
@@ -49,7 +49,7 @@ pub fn push_whole(
     bytes: &[u8],
 ) -> Pushed
     requires { Ready (store sets heads.old slots.old cells.old) × Taken bytes.now e }
-    ensures { afterPush result heads.new slots.new cells.new ≡ wholePushed (store sets heads.old slots.old cells.old) e bytes.now }
+    ensures { after_push result heads.new slots.new cells.new ≡ whole_pushed (store sets heads.old slots.old cells.old) e bytes.now }
 {
     let plan = sets_plan::decide(sets, heads, slots, cells, e, bytes);
     sets_settle::carry(sets, heads, slots, cells, bytes, plan)

@@ -11,125 +11,125 @@ use lib.Dec.{ltb, eqb}
 use lib.ListN.{length, get_or, take, drop}
 use Rattle.section.specs.declared.ids.MaybePid.{MaybePid}
 use Rattle.section.specs.declared.ids.MaybePid.TheVariants as maybe
-use Rattle.rows.specs.Rows.{row_of, rowSlots, touched}
+use Rattle.rows.specs.Rows.{row_of, row_slots, touched}
 use Rattle.rows.specs.declared.Entry.{Entry}
-use Rattle.rows.proofs.Words.{touched-not, length-touched}
+use Rattle.rows.proofs.Words.{touched_not, length_touched}
 use Rattle.columns.specs.Columns.{Tells}
-use Rattle.columns.proofs.Ways.{tells-touched}
-use Rattle.without_pid.specs.Pids.{withoutPid}
-use Rattle.store.specs.Store.{Store, store, countersFull, risenSets, whole_of, Whole}
+use Rattle.columns.proofs.Ways.{tells_touched}
+use Rattle.without_pid.specs.Pids.{without_pid}
+use Rattle.store.specs.Store.{Store, store, counters_full, risen_sets, whole_of, Whole}
 use Rattle.store.specs.declared.Sets.{Sets}
-use Rattle.store.proofs.Whole.{means-whole, clock-goes-on}
-use Rattle.arrivals.specs.Arrivals.{setArrival, Numbered, SetTaken, Taken}
+use Rattle.store.proofs.Whole.{means_whole, clock_goes_on}
+use Rattle.arrivals.specs.Arrivals.{set_arrival, Numbered, SetTaken, Taken}
 use Rattle.arrivals.specs.declared.SetArrival.{SetArrival}
 use Rattle.arrivals.specs.declared.SetArrival.TheVariants as arrival
-use Rattle.placing.specs.Places.{placeKnown, place_of, PlaceOk}
+use Rattle.placing.specs.Places.{place_known, place_of, PlaceOk}
 use Rattle.placing.specs.declared.Place.{Place}
 use Rattle.placing.specs.declared.Place.TheVariants as place
-use Rattle.placing.proofs.Laws.{place-known, place_ok}
-use Rattle.sets_plan.specs.Plan.{plan_of, planPlaced}
-use Rattle.sets_settle.specs.Settle.{nothing, SetsAfter, after, goesOut, settledAnswer, settledHeads, settled}
-use Rattle.sets_push.specs.Pushing.{wholePushed}
-use Rattle.sets_push.proofs.Ways.{admit-section}
-use Rattle.sets.specs.Store.{pushedOf}
-use Rattle.sets.proofs.Admit.{pushed-arrived}
-use Rattle.sets.proofs.Stays.{push-stays}
-use Rattle.sets.proofs.Pids.{has-pids, none-without, push-pids}
+use Rattle.placing.proofs.Laws.{place_known_lem, place_ok}
+use Rattle.sets_plan.specs.Plan.{plan_of, plan_placed}
+use Rattle.sets_settle.specs.Settle.{nothing, SetsAfter, after, goes_out, settled_answer, settled_heads, settled}
+use Rattle.sets_push.specs.Pushing.{whole_pushed}
+use Rattle.sets_push.proofs.Ways.{admit_section}
+use Rattle.sets.specs.Store.{pushed_of}
+use Rattle.sets.proofs.Admit.{pushed_arrived}
+use Rattle.sets.proofs.Stays.{push_stays}
+use Rattle.sets.proofs.Pids.{has_pids, none_without, push_pids}
 use Rattle.rules_logs.specs.Records.{Bytes}
-use Rattle.log_list.specs.List.{givenAt, PlacedAt}
+use Rattle.log_list.specs.List.{given_at, PlacedAt}
 use Rattle.log_list.specs.declared.Place.{Place as Listed}
-use Rattle.sets_repeats.specs.Repeats.{Searchable, touchedIn, Known, Quiet, Repeat, RepeatGiven, Passed, next}
+use Rattle.sets_repeats.specs.Repeats.{Searchable, touched_in, Known, Quiet, Repeat, RepeatGiven, Passed, next}
 
 -- ---- a section that arrived
 
 -- a touch changes neither the mark nor the slots of a row
-goes_same : (clock i : ℕ) (heads slots : List ℕ) → goesOut (touched clock i heads) slots i ≡ goesOut heads slots i
-unfolding goesOut rowSlots
-goes_same clock i heads slots = rw (touched-not clock i heads i 8 (omega arith) (omega arith), touched-not clock i heads i 7 (omega arith) (omega arith))
+goes_same : (clock i : ℕ) (heads slots : List ℕ) → goes_out (touched clock i heads) slots i ≡ goes_out heads slots i
+unfolding goes_out row_slots
+goes_same clock i heads slots = rw (touched_not clock i heads i 8 (omega arith) (omega arith), touched_not clock i heads i 7 (omega arith) (omega arith))
 
 -- a row that does not go out is touched
-settled-quiet : (s : Store) (i : ℕ) → goesOut s.heads s.slots i ≡ false → settled s i ≡ after nothing (touchedIn s i)
-unfolding settled settledAnswer settledHeads
-settled-quiet s i q = rw (goes_same (s.sets.clock + 1) i s.heads s.slots, q)
+settled_quiet : (s : Store) (i : ℕ) → goes_out s.heads s.slots i ≡ false → settled s i ≡ after nothing (touched_in s i)
+unfolding settled settled_answer settled_heads
+settled_quiet s i q = rw (goes_same (s.sets.clock + 1) i s.heads s.slots, q)
 
-pub quiet-out : (heads slots : List ℕ) (used i : ℕ) (b : Bool) → b ≡ goesOut heads slots i → b ≡ true → used ≡ cond (goesOut heads slots i) used i
-quiet-out heads slots used i b e t = rw (← e, t)
+pub quiet_out : (heads slots : List ℕ) (used i : ℕ) (b : Bool) → b ≡ goes_out heads slots i → b ≡ true → used ≡ cond (goes_out heads slots i) used i
+quiet_out heads slots used i b e t = rw (← e, t)
 
-pub quiet-not : (heads slots : List ℕ) (used i : ℕ) (b : Bool) → b ≡ goesOut heads slots i → b ≡ false → i ≡ cond (goesOut heads slots i) used i
-quiet-not heads slots used i b e t = rw (← e, t)
+pub quiet_not : (heads slots : List ℕ) (used i : ℕ) (b : Bool) → b ≡ goes_out heads slots i → b ≡ false → i ≡ cond (goes_out heads slots i) used i
+quiet_not heads slots used i b e t = rw (← e, t)
 
-pub known-none : (s : Store) (e : Entry) (bytes : List ℕ) → Known s e bytes s.sets.used
-known-none s e bytes = record { touches = λ h. absurd (omega arith) }
+pub known_none : (s : Store) (e : Entry) (bytes : List ℕ) → Known s e bytes s.sets.used
+known_none s e bytes = record { touches = λ h. absurd (omega arith) }
 
 module _ (s : Store) (e : Entry) (bytes : List ℕ) (w : Whole s.sets s.heads s.slots s.cells) (long : length bytes ≤ s.sets.size) (i : ℕ) (p : Place)
-    (f : i ≡ row_of s.heads e.key s.sets.used) (h : i < s.sets.used) (q : p ≡ placeKnown s e bytes i) (j : ℕ) (z : p ≡ place.Repeat j) where
+    (f : i ≡ row_of s.heads e.key s.sets.used) (h : i < s.sets.used) (q : p ≡ place_known s e bytes i) (j : ℕ) (z : p ≡ place.Repeat j) where
   placed : place.Repeat j ≡ place_of s e bytes
-  placed = sym z ∙ place-known s e bytes i p f h q
+  placed = sym z ∙ place_known_lem s e bytes i p f h q
 
-  pub repeat-row : j < s.sets.used
-  repeat-row = let u = w.used in subst (PlaceOk s) (sym placed) (place_ok s w e bytes (omega arith))
+  pub repeat_row : j < s.sets.used
+  repeat_row = let u = w.used in subst (PlaceOk s) (sym placed) (place_ok s w e bytes (omega arith))
 
-  planned : wholePushed s e bytes ≡ settled s j
-  unfolding wholePushed plan_of
+  planned : whole_pushed s e bytes ≡ settled s j
+  unfolding whole_pushed plan_of
   planned = let u = w.used in let n : s.sets.limit ≢ 0 = omega arith in rw (le-ltb s.sets.size (length bytes) long, ne_eqb s.sets.limit 0 n, ← placed)
 
-  pub known-repeat : (r : ℕ) → r ≡ cond (goesOut s.heads s.slots j) s.sets.used j → Known s e bytes r
-  known-repeat r k = record { touches = λ l. planned ∙ go (goesOut s.heads s.slots j) refl (k) l }
+  pub known_repeat : (r : ℕ) → r ≡ cond (goes_out s.heads s.slots j) s.sets.used j → Known s e bytes r
+  known_repeat r k = record { touches = λ l. planned ∙ go (goes_out s.heads s.slots j) refl (k) l }
     where
-      go : (b : Bool) → goesOut s.heads s.slots j ≡ b → r ≡ cond b s.sets.used j → r < s.sets.used → settled s j ≡ after nothing (touchedIn s r)
+      go : (b : Bool) → goes_out s.heads s.slots j ≡ b → r ≡ cond b s.sets.used j → r < s.sets.used → settled s j ≡ after nothing (touched_in s r)
       go true y k l = absurd (omega (arith, k))
-      go false y k l = rw k (settled-quiet s j y)
+      go false y k l = rw k (settled_quiet s j y)
 
 -- ---- a section as it is offered
 
-pub repeat-none : (s : Store) (input : ℕ) (pid : MaybePid) (bytes : List ℕ) → Repeat s input pid bytes s.sets.used
-repeat-none s input pid bytes = record { quiet = λ h. absurd (omega arith) }
+pub repeat_none : (s : Store) (input : ℕ) (pid : MaybePid) (bytes : List ℕ) → Repeat s input pid bytes s.sets.used
+repeat_none s input pid bytes = record { quiet = λ h. absurd (omega arith) }
 
-pub repeat-arrived : (s : Sets) (heads slots cells tags : List ℕ) → Searchable s heads slots cells tags → (input : ℕ) (pid : MaybePid) (bytes : List ℕ) (full : Bool) (a : SetArrival) (x : Entry) (r : ℕ)
-    → get_or bytes 7 0 < 256 → full ≡ countersFull s → full ≡ false → a ≡ setArrival input pid bytes → a ≡ arrival.Arrived x → Known (store s heads slots cells) x bytes r → Repeat (store s heads slots cells) input pid bytes r
-repeat-arrived s heads slots cells tags o input pid bytes full a x r b g ne e q k = record {
+pub repeat_arrived : (s : Sets) (heads slots cells tags : List ℕ) → Searchable s heads slots cells tags → (input : ℕ) (pid : MaybePid) (bytes : List ℕ) (full : Bool) (a : SetArrival) (x : Entry) (r : ℕ)
+    → get_or bytes 7 0 < 256 → full ≡ counters_full s → full ≡ false → a ≡ set_arrival input pid bytes → a ≡ arrival.Arrived x → Known (store s heads slots cells) x bytes r → Repeat (store s heads slots cells) input pid bytes r
+repeat_arrived s heads slots cells tags o input pid bytes full a x r b g ne e q k = record {
   quiet = λ h. record {
-    runs = clock-goes-on s full g ne;
+    runs = clock_goes_on s full g ne;
     byte = b;
-    pushed = pushed-arrived here input pid bytes a
-        (admit-section here input pid bytes true (sym (means-whole here o.whole)) full g refl false a ne (sym o.pids) refl e) x (after nothing (touchedIn here r)) q (sym (k.touches h));
+    pushed = pushed_arrived here input pid bytes a
+        (admit_section here input pid bytes true (sym (means_whole here o.whole)) full g refl false a ne (sym o.pids) refl e) x (after nothing (touched_in here r)) q (sym (k.touches h));
   };
 }
   where
     here : Store
     here = store s heads slots cells
 
-pub arrived-numbered : (bytes : List ℕ) (a : SetArrival) (x : Entry) → SetTaken bytes a → a ≡ arrival.Arrived x → Numbered x
-arrived-numbered bytes a x t q = (subst (SetTaken bytes) q t).numbered
+pub arrived_numbered : (bytes : List ℕ) (a : SetArrival) (x : Entry) → SetTaken bytes a → a ≡ arrival.Arrived x → Numbered x
+arrived_numbered bytes a x t q = (subst (SetTaken bytes) q t).numbered
 
 -- the part of the list that a place tells of
-pub repeat-at : (s : Store) (list : Bytes) (r : Listed) (i : ℕ) → Repeat s r.input (maybe.Some r.pid) (take (r.start + r.length - r.start) (drop r.start list)) i → RepeatGiven s (givenAt list r) i
-repeat-at s list r i e = let z : r.start + r.length - r.start ≡ r.length = omega arith in rw z at e
+pub repeat_at : (s : Store) (list : Bytes) (r : Listed) (i : ℕ) → Repeat s r.input (maybe.Some r.pid) (take (r.start + r.length - r.start) (drop r.start list)) i → RepeatGiven s (given_at list r) i
+repeat_at s list r i e = let z : r.start + r.length - r.start ≡ r.length = omega arith in rw z at e
 
 -- ---- one after another
 
 -- a row in use is touched: the store stays whole, with its PIDs, and the column has the tags still
-pub repeat-stays : (s : Sets) (heads slots cells tags : List ℕ) (input : ℕ) (pid : MaybePid) (bytes : List ℕ) (i : ℕ) → Searchable s heads slots cells tags → Quiet (store s heads slots cells) input pid bytes i
-    → Searchable (risenSets s) (touched (s.clock + 1) i heads) slots cells tags
-repeat-stays s heads slots cells tags input pid bytes i o q = record {
-  whole = subst (λ (k : SetsAfter). Whole k.store.sets k.store.heads k.store.slots k.store.cells) (sym q.pushed) (push-stays here input pid bytes q.byte o.whole);
-  pids = subst (λ (k : SetsAfter). withoutPid k.store.heads k.store.sets.used ≡ false) (sym q.pushed)
-      (none-without (pushedOf here input pid bytes).store (push-pids here input pid bytes q.byte (has-pids here o.pids)));
+pub repeat_stays : (s : Sets) (heads slots cells tags : List ℕ) (input : ℕ) (pid : MaybePid) (bytes : List ℕ) (i : ℕ) → Searchable s heads slots cells tags → Quiet (store s heads slots cells) input pid bytes i
+    → Searchable (risen_sets s) (touched (s.clock + 1) i heads) slots cells tags
+repeat_stays s heads slots cells tags input pid bytes i o q = record {
+  whole = subst (λ (k : SetsAfter). Whole k.store.sets k.store.heads k.store.slots k.store.cells) (sym q.pushed) (push_stays here input pid bytes q.byte o.whole);
+  pids = subst (λ (k : SetsAfter). without_pid k.store.heads k.store.sets.used ≡ false) (sym q.pushed)
+      (none_without (pushed_of here input pid bytes).store (push_pids here input pid bytes q.byte (has_pids here o.pids)));
   long = o.long;
-  tells = tells-touched tags heads s.used (s.clock + 1) i o.tells;
+  tells = tells_touched tags heads s.used (s.clock + 1) i o.tells;
 }
   where
     here : Store
     here = store s heads slots cells
 
-pub repeat-turn : (list : Bytes) (s₀ : Store) (s : Sets) (heads slots cells tags : List ℕ) (p : ℕ) (r : Listed) (i : ℕ) (s' : Sets) (heads' : List ℕ) → Searchable s heads slots cells tags
-    → Quiet (store s heads slots cells) r.input (maybe.Some r.pid) (givenAt list r).section i → PlacedAt list p r → Passed list s₀ p (store s heads slots cells)
-    → heads' ≡ touched (s.clock + 1) i heads → s' ≡ risenSets s → Searchable s' heads' slots cells tags × Passed list s₀ (r.start + r.length) (store s' heads' slots cells)
-repeat-turn list s₀ s heads slots cells tags p r i s' heads' o q l k e f =
+pub repeat_turn : (list : Bytes) (s₀ : Store) (s : Sets) (heads slots cells tags : List ℕ) (p : ℕ) (r : Listed) (i : ℕ) (s' : Sets) (heads' : List ℕ) → Searchable s heads slots cells tags
+    → Quiet (store s heads slots cells) r.input (maybe.Some r.pid) (given_at list r).section i → PlacedAt list p r → Passed list s₀ p (store s heads slots cells)
+    → heads' ≡ touched (s.clock + 1) i heads → s' ≡ risen_sets s → Searchable s' heads' slots cells tags × Passed list s₀ (r.start + r.length) (store s' heads' slots cells)
+repeat_turn list s₀ s heads slots cells tags p r i s' heads' o q l k e f =
     rw (e, f)
-    (repeat-stays s heads slots cells tags r.input (maybe.Some r.pid) (givenAt list r).section i o q, next k r l (touchedIn (store s heads slots cells) i) q.pushed)
+    (repeat_stays s heads slots cells tags r.input (maybe.Some r.pid) (given_at list r).section i o q, next k r l (touched_in (store s heads slots cells) i) q.pushed)
 
 -- ---- a column that is made for them
 
-pub searchable : (s : Sets) (heads slots cells tags : List ℕ) → Whole s heads slots cells → withoutPid heads s.used ≡ false → s.used ≤ length tags → Tells tags heads s.used → Searchable s heads slots cells tags
+pub searchable : (s : Sets) (heads slots cells tags : List ℕ) → Whole s heads slots cells → without_pid heads s.used ≡ false → s.used ≤ length tags → Tells tags heads s.used → Searchable s heads slots cells tags
 searchable s heads slots cells tags w n l t = record { whole = w; pids = n; long = l; tells = t }

@@ -1,11 +1,11 @@
 // Sections that the set collector has already, at the start of a list: each tells 4 and touches its row, so that no key changes, and a column of tags that is made
 // once finds the row of each. The first section that is anything else ends it. What is answered and left is that of pushing them one by one.
 ghost use Rattle.std.specs.Prelude.{◌≡◌, false, cond, ◌+◌, ◌*◌, ◌<◌, ◌≤◌, length};
-ghost use Rattle.without_pid.specs.Pids.{withoutPid};
+ghost use Rattle.without_pid.specs.Pids.{without_pid};
 ghost use Rattle.store.specs.Store.{store, Whole};
 ghost use Rattle.arrivals.specs.Arrivals.{Numbered};
-ghost use Rattle.sets_settle.specs.Settle.{goesOut};
-ghost use Rattle.log_list.specs.List.{givenAt, WholeFrom};
+ghost use Rattle.sets_settle.specs.Settle.{goes_out};
+ghost use Rattle.log_list.specs.List.{given_at, WholeFrom};
 ghost use Rattle.sets_repeats.specs.Repeats.{Searchable, Known, Repeat, RepeatGiven, Passed};
 
 use arrivals::SetArrival;
@@ -25,7 +25,7 @@ pub struct Repeats {
 // Row i where it does not go out, else used.
 fn row_quiet(heads: &[u64], slots: &[u32], used: usize, i: usize) -> usize
     requires { (i * 12 + 12 ≤ length heads.now) × (i * 288 + 288 ≤ length slots.now) }
-    ensures { result ≡ cond (goesOut heads.now slots.now i) used i }
+    ensures { result ≡ cond (goes_out heads.now slots.now i) used i }
 {
     if sets_settle::goes_out(heads, slots, i) {
         used
@@ -97,7 +97,7 @@ fn row_at(
 ) -> usize
     requires searchable { Searchable sets heads.now slots.now cells.now tags.now }
     requires length_in_bounds { place.start + place.length ≤ length list.now }
-    ensures { RepeatGiven (store sets heads.now slots.now cells.now) (givenAt list.now place) result }
+    ensures { RepeatGiven (store sets heads.now slots.now cells.now) (given_at list.now place) result }
 {
     let start = place.start;
     let end = start + place.length;
@@ -153,12 +153,12 @@ fn push_filled(
     list: &[u8],
 ) -> Repeats
     requires whole { Whole sets heads.old slots.now cells.now }
-    requires used_value { withoutPid heads.old sets.used ≡ false }
+    requires used_value { without_pid heads.old sets.used ≡ false }
     requires used_in_bounds { sets.used ≤ length tags.old }
     requires whole_from { WholeFrom list.now 0 }
     ensures passed { Passed list.now (store sets heads.old slots.now cells.now) result.at (store result.sets heads.new slots.now cells.now) }
     ensures whole_2 { Whole result.sets heads.new slots.now cells.now }
-    ensures used_after { withoutPid heads.new result.sets.used ≡ false }
+    ensures used_after { without_pid heads.new result.sets.used ≡ false }
     ensures whole_from_2 { WholeFrom list.now result.at }
 {
     columns::fill(tags, heads, sets.used);
@@ -174,11 +174,11 @@ pub fn push_first(
     list: &[u8],
 ) -> Repeats
     requires whole { Whole sets heads.old slots.now cells.now }
-    requires used_value { withoutPid heads.old sets.used ≡ false }
+    requires used_value { without_pid heads.old sets.used ≡ false }
     requires whole_from { WholeFrom list.now 0 }
     ensures passed { Passed list.now (store sets heads.old slots.now cells.now) result.at (store result.sets heads.new slots.now cells.now) }
     ensures whole_2 { Whole result.sets heads.new slots.now cells.now }
-    ensures used_after { withoutPid heads.new result.sets.used ≡ false }
+    ensures used_after { without_pid heads.new result.sets.used ≡ false }
     ensures whole_from_2 { WholeFrom list.now result.at }
 {
     if columns::pays(sets.used, list.len()) {

@@ -3,7 +3,7 @@
 ghost use Rattle.std.specs.Prelude.{◌≡◌, ◌+◌, ◌*◌, ◌<◌, ◌≤◌, length};
 ghost use Rattle.store.specs.Store.{store};
 ghost use Rattle.sets_plan.specs.Plan.{KeepOk, PlanOk};
-ghost use Rattle.sets_settle.specs.Settle.{pushNo, afterPush, goesOut, settledAnswer, settledHeads, keptIn, settled, carried};
+ghost use Rattle.sets_settle.specs.Settle.{push_no, after_push, goes_out, settled_answer, settled_heads, kept_in, settled, carried};
 
 use answers::Refusal;
 use sets_plan::{Keeping, Plan};
@@ -26,7 +26,7 @@ pub struct Pushed {
 impl PushAnswer {
     // The number of the answer.
     pub fn number(self) -> u8
-        ensures { result ≡ pushNo self }
+        ensures { result ≡ push_no self }
     {
         match self {
             PushAnswer::Nothing => 4,
@@ -39,7 +39,7 @@ impl PushAnswer {
 // Whether row i is full and not marked.
 pub fn goes_out(heads: &[u64], slots: &[u32], i: usize) -> bool
     requires { (i * 12 + 12 ≤ length heads.now) × (i * 288 + 288 ≤ length slots.now) }
-    ensures { result ≡ goesOut heads.now slots.now i }
+    ensures { result ≡ goes_out heads.now slots.now i }
 {
     (rows::mark(heads, i) == 0) & rows::row_full(heads, slots, i)
 }
@@ -47,8 +47,8 @@ pub fn goes_out(heads: &[u64], slots: &[u32], i: usize) -> bool
 // Row i becomes the newest, and goes out and is marked where it is full and not marked.
 fn settle(heads: &mut [u64], slots: &[u32], clock: u64, i: usize) -> PushAnswer
     requires { (i * 12 + 12 ≤ length heads.old) × (i * 288 + 288 ≤ length slots.now) }
-    ensures value { result ≡ settledAnswer clock heads.old slots.now i }
-    ensures heads_after { heads.new ≡ settledHeads clock heads.old slots.now i }
+    ensures value { result ≡ settled_answer clock heads.old slots.now i }
+    ensures heads_after { heads.new ≡ settled_heads clock heads.old slots.now i }
 {
     rows::touch(heads, i, clock);
     if goes_out(heads, slots, i) {
@@ -68,7 +68,7 @@ fn keep(
     k: Keeping,
 ) -> Pushed
     requires { KeepOk (store sets heads.old slots.old cells.old) bytes.now k }
-    ensures { afterPush result heads.new slots.new cells.new ≡ settled (keptIn (store sets heads.old slots.old cells.old) bytes.now k) k.room.row }
+    ensures { after_push result heads.new slots.new cells.new ≡ settled (kept_in (store sets heads.old slots.old cells.old) bytes.now k) k.room.row }
 {
     let room = k.room;
     let then = Sets {
@@ -98,7 +98,7 @@ pub fn carry(
     plan: Plan,
 ) -> Pushed
     requires { PlanOk (store sets heads.old slots.old cells.old) bytes.now plan }
-    ensures { afterPush result heads.new slots.new cells.new ≡ carried (store sets heads.old slots.old cells.old) bytes.now plan }
+    ensures { after_push result heads.new slots.new cells.new ≡ carried (store sets heads.old slots.old cells.old) bytes.now plan }
 {
     match plan {
         Plan::Refuse(refusal) => Pushed {

@@ -4,17 +4,17 @@ use mathlib.Core.Path.{◌≡◌, refl}
 use mathlib.Core.List.{List, [], ◌∷◌, ◌++◌}
 use Prim.Native.Nat.{ℕ}
 use lib.ListN.{replicate, set, take}
-use Rattle.laws.specs.Entries.{entriesIn, wholeEntries}
-use Rattle.times.specs.Times.{timeOf}
-use Rattle.entry_words.specs.Words.{eventOf, eventWords, entryWords, descriptorWords}
+use Rattle.laws.specs.Entries.{entries_in, whole_entries}
+use Rattle.times.specs.Times.{time_of}
+use Rattle.entry_words.specs.Words.{event_of, event_words, entry_words, descriptor_words}
 use Rattle.section.specs.Judged.{malformed}
-use Rattle.eit_section.specs.Eit.{eitAs, eitOf}
+use Rattle.eit_section.specs.Eit.{eit_as, eit_of}
 use Rattle.listing.specs.Store.{walk, found_from, put_in, put_all, words_of}
 use Rattle.answers.specs.declared.Refusal.TheVariants as refusal
 use Rattle.shown_sections.specs.declared.ShowAnswer.TheVariants.{Yes, No, Refused, Past}
 use Rattle.shown_sections.specs.declared.Shown.{Shown}
-use Rattle.shown_sections.specs.Shown.{shownAs, endBy, goodShow, sectionShow, laid}
-use Rattle.showing.specs.Store.{shownSection}
+use Rattle.shown_sections.specs.Shown.{shown_as, end_by, good_show, section_show, laid}
+use Rattle.showing.specs.Store.{shown_section}
 
 -- section 3 of a present/following table: event 1 on 1993-10-13 at 12:45:00 for 01:45:30, running, with a short event descriptor
 abbrev section : List ℕ
@@ -31,21 +31,21 @@ abbrev descriptor : List ℕ
 descriptor = 2 ∷ 3 ∷ 26 ∷ 0x4D ∷ 8 ∷ 0 ∷ 0 ∷ 0 ∷ 0 ∷ 0 ∷ 0 ∷ 0 ∷ []
 
 unfoldable pub shows : (bytes : List ℕ) → (skip words : ℕ) → Shown × List ℕ
-unfolding entriesIn wholeEntries timeOf eventOf eventWords entryWords descriptorWords malformed eitAs eitOf walk found_from put_in put_all words_of endBy goodShow sectionShow laid shownSection
-shows bytes skip words = shownSection bytes skip (replicate words 7)
+unfolding entries_in whole_entries time_of event_of event_words entry_words descriptor_words malformed eit_as eit_of walk found_from put_in put_all words_of end_by good_show section_show laid shown_section
+shows bytes skip words = shown_section bytes skip (replicate words 7)
 
 pub record ShowingExamples : Type 0 where
-  pub all : shows section 0 24 ≡ (shownAs Yes 2 0 0, event ++ descriptor)
-  pub second-page : shows section 1 12 ≡ (shownAs Yes 2 0 0, descriptor)
-  pub no_more : shows section 2 12 ≡ (shownAs No 2 0 0, replicate 12 7)
+  pub all : shows section 0 24 ≡ (shown_as Yes 2 0 0, event ++ descriptor)
+  pub second_page : shows section 1 12 ≡ (shown_as Yes 2 0 0, descriptor)
+  pub no_more : shows section 2 12 ≡ (shown_as No 2 0 0, replicate 12 7)
   -- a byte less than section_length says
-  pub cut : shows (take 39 section) 0 12 ≡ (shownAs (Refused refusal.Malformed) 0 0 0, replicate 12 7)
-  pub another-table : shows (set section 0 0x42) 0 12 ≡ (shownAs (Refused refusal.NotEit) 0 3 0, replicate 12 7)
+  pub cut : shows (take 39 section) 0 12 ≡ (shown_as (Refused refusal.Malformed) 0 0 0, replicate 12 7)
+  pub another_table : shows (set section 0 0x42) 0 12 ≡ (shown_as (Refused refusal.NotEit) 0 3 0, replicate 12 7)
   -- eleven bytes of descriptors, and ten are there
-  pub broken : shows (set section 25 0x0B) 0 12 ≡ (shownAs (Refused refusal.Broken) 0 3 0, replicate 12 7)
+  pub broken : shows (set section 25 0x0B) 0 12 ≡ (shown_as (Refused refusal.Broken) 0 3 0, replicate 12 7)
   -- a descriptor of nine bytes, and eight are there: its event stands
-  pub past : shows (set section 27 0x09) 0 24 ≡ (shownAs Past 1 3 26, event ++ replicate 12 7)
+  pub past : shows (set section 27 0x09) 0 24 ≡ (shown_as Past 1 3 26, event ++ replicate 12 7)
 
-pub showing-examples : ShowingExamples
+pub showing_examples : ShowingExamples
 unfolding shows
-showing-examples = record { all = refl; second-page = refl; no_more = refl; cut = refl; another-table = refl; broken = refl; past = refl }
+showing_examples = record { all = refl; second_page = refl; no_more = refl; cut = refl; another_table = refl; broken = refl; past = refl }

@@ -5,7 +5,7 @@ ghost use Rattle.std.specs.Prelude.{◌≡◌, ◌+◌, ◌*◌, ◌<◌, ◌≤
 ghost use Rattle.section.specs.Header.{byte_at};
 ghost use Rattle.eit_state.specs.State.{store};
 ghost use Rattle.schedules.specs.Schedules.{tables_of};
-ghost use Rattle.showing.specs.Store.{scheduleWhole, tableOut, shownSection, shownSet, shownTable};
+ghost use Rattle.showing.specs.Store.{schedule_whole, table_out, shown_section, shown_set, shown_table};
 
 use answers::Refusal;
 use eit_state::Eit;
@@ -25,7 +25,7 @@ fn section_number(s: &[u8]) -> usize
 
 // The events of a section. Its form and its CRC are not judged here: a collector did.
 pub fn events(section: &[u8], skip: usize, list: &mut [u32]) -> Shown
-    ensures { (result, list.new) ≡ shownSection section.now skip list.old }
+    ensures { (result, list.new) ≡ shown_section section.now skip list.old }
 {
     if header::is_malformed(section) {
         return shown_sections::nothing(ShowAnswer::Refused(Refusal::Malformed));
@@ -47,7 +47,7 @@ pub fn events_of_set(
     skip: usize,
     list: &mut [u32],
 ) -> Shown
-    ensures { (result, list.new) ≡ shownSet (store eit heads.now slots.now cells.now schedule_heads.now units.now) row skip list.old }
+    ensures { (result, list.new) ≡ shown_set (store eit heads.now slots.now cells.now schedule_heads.now units.now) row skip list.old }
 {
     let sets = eit.sets;
     let whole = eit_state::is_whole(eit, heads, slots, cells, schedule_heads, units);
@@ -68,7 +68,7 @@ pub fn events_of_set(
 // Whether the schedule in a row has every table from the first of its kind to last_table_id.
 fn is_schedule_whole(schedule_heads: &[u64], units: &[u32], row: usize) -> bool
     requires { (row * 12 + 12 ≤ length schedule_heads.now) × ((row * 16 + 16) * 288 ≤ length units.now) }
-    ensures { result ≡ scheduleWhole schedule_heads.now units.now row }
+    ensures { result ≡ schedule_whole schedule_heads.now units.now row }
 {
     let head = Entry {
         key: rows::key_at(schedule_heads, row),
@@ -88,7 +88,7 @@ fn is_table_out(
     table: usize,
 ) -> bool
     requires { (schedules * 12 ≤ length schedule_heads.now) × (schedules * 4608 ≤ length units.now) }
-    ensures { result ≡ tableOut schedule_heads.now units.now schedules row table }
+    ensures { result ≡ table_out schedule_heads.now units.now schedules row table }
 {
     if schedules <= row {
         return false;
@@ -112,7 +112,7 @@ pub fn events_of_table(
     skip: usize,
     list: &mut [u32],
 ) -> Shown
-    ensures { (result, list.new) ≡ shownTable (store eit heads.now slots.now cells.now schedule_heads.now units.now) row table skip list.old }
+    ensures { (result, list.new) ≡ shown_table (store eit heads.now slots.now cells.now schedule_heads.now units.now) row table skip list.old }
 {
     let sets = eit.sets;
     if eit_state::is_whole(eit, heads, slots, cells, schedule_heads, units) {

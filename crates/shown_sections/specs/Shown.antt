@@ -1,9 +1,9 @@
 -- The entries of EIT sections, and how their listing ends (docs/RULES.md, "Entries"). `cond test a b` is a where the test is true, else b.
 use Rattle.std.specs.Prelude.{ℕ, ◌+◌, ◌*◌, ◌-◌, ◌≤◌, ◌<◌, ◌≡◌, List, [], ◌∷◌, ◌++◌, Bool, true, false, cond, length, get_or, take, drop, ltb}
-use Rattle.answers.specs.Answers.{refusalNo}
+use Rattle.answers.specs.Answers.{refusal_no}
 use Rattle.answers.specs.declared.Refusal.TheVariants as refusal
-use Rattle.cells.specs.Cells.{keptLength, cellNumber, filled}
-use Rattle.eit_section.specs.Eit.{eitOf}
+use Rattle.cells.specs.Cells.{kept_length, cell_number, filled}
+use Rattle.eit_section.specs.Eit.{eit_of}
 use Rattle.eit_section.specs.declared.Reading.{Reading}
 use Rattle.eit_section.specs.declared.Reading.TheVariants as reading
 use Rattle.listing.specs.Store.{Found, done, past, entry, descriptor, found_from, put_all, words_of}
@@ -15,27 +15,27 @@ use Rattle.shown_sections.specs.declared.Shown.{Shown}
 
 -- ---- answers
 
-abbrev pub showNumber : ShowAnswer → ℕ
+abbrev pub show_number : ShowAnswer → ℕ
 -- there are entries from the one asked for on
-showNumber Yes = 8
-showNumber No = 9
-showNumber (Refused r) = refusalNo r
+show_number Yes = 8
+show_number No = 9
+show_number (Refused r) = refusal_no r
 -- a descriptor runs past its loop
-showNumber Past = 32
+show_number Past = 32
 
-abbrev pub shownAs : ShowAnswer → (count section place : ℕ) → Shown
-shownAs answer count section place = record { answer = answer; count = count; section = section; place = place }
+abbrev pub shown_as : ShowAnswer → (count section place : ℕ) → Shown
+shown_as answer count section place = record { answer = answer; count = count; section = section; place = place }
 
-abbrev pub nothingShown : ShowAnswer → Shown
-nothingShown answer = shownAs answer 0 0 0
+abbrev pub nothing_shown : ShowAnswer → Shown
+nothing_shown answer = shown_as answer 0 0 0
 
 -- ---- what is found: entries by their words, and how it ends
 
 pub data End : Type 0 where
   finished : End
-  no-eit : (section : ℕ) → End
+  no_eit : (section : ℕ) → End
   broken : (section : ℕ) → End
-  past-loop : (section place : ℕ) → End
+  past_loop : (section place : ℕ) → End
 
 pub record Show : Type 0 where
   pub entries : List (List ℕ)
@@ -45,107 +45,107 @@ abbrev pub show : List (List ℕ) → End → Show
 show entries end = record { entries = entries; end = end }
 
 -- how a walk ends of a section that begins at `start`: 32 tells the place in the section
-unfoldable pub endBy : (number start : ℕ) → Found → End
-endBy number start done = finished
-endBy number start (past at) = past-loop number (at - start)
-endBy number start (entry at header f) = endBy number start f
-endBy number start (descriptor at tag size f) = endBy number start f
+unfoldable pub end_by : (number start : ℕ) → Found → End
+end_by number start done = finished
+end_by number start (past at) = past_loop number (at - start)
+end_by number start (entry at header f) = end_by number start f
+end_by number start (descriptor at tag size f) = end_by number start f
 
 -- the events of the section of `size` bytes from `start` on, whose layout is an EIT's: from byte 14 to the CRC
-unfoldable pub goodShow : (bytes : List ℕ) → (start size number : ℕ) → Show
-goodShow bytes start size number =
+unfoldable pub good_show : (bytes : List ℕ) → (start size number : ℕ) → Show
+good_show bytes start size number =
     let f : Found = found_from 12 (take (start + size - 4) bytes) (start + 14) 0 in
-    show (words_of 0 number f) (endBy number start f)
+    show (words_of 0 number f) (end_by number start f)
 
-abbrev pub showBy : (bytes : List ℕ) → (start size number : ℕ) → Reading → Show
-showBy bytes start size number reading.NotEit = show [] (no-eit number)
-showBy bytes start size number reading.Broken = show [] (broken number)
-showBy bytes start size number (reading.Good e) = goodShow bytes start size number
+abbrev pub show_by : (bytes : List ℕ) → (start size number : ℕ) → Reading → Show
+show_by bytes start size number reading.NotEit = show [] (no_eit number)
+show_by bytes start size number reading.Broken = show [] (broken number)
+show_by bytes start size number (reading.Good e) = good_show bytes start size number
 
 -- a section: 18 and 19 before its events
-unfoldable pub sectionShow : (bytes : List ℕ) → (start size number : ℕ) → Show
-sectionShow bytes start size number = showBy bytes start size number (eitOf (take size (drop start bytes)))
+unfoldable pub section_show : (bytes : List ℕ) → (start size number : ℕ) → Show
+section_show bytes start size number = show_by bytes start size number (eit_of (take size (drop start bytes)))
 
 -- one after another: what ends early is the end
-abbrev pub endThen : End → (first second : Show) → Show
-endThen finished a b = show (a.entries ++ b.entries) b.end
-endThen (no-eit section) a b = a
-endThen (broken section) a b = a
-endThen (past-loop section place) a b = a
+abbrev pub end_then : End → (first second : Show) → Show
+end_then finished a b = show (a.entries ++ b.entries) b.end
+end_then (no_eit section) a b = a
+end_then (broken section) a b = a
+end_then (past_loop section place) a b = a
 
 abbrev pub and_then : (first second : Show) → Show
-and_then a b = endThen a.end a b
+and_then a b = end_then a.end a b
 
 -- the section that a slot's word names, if it names one
-unfoldable pub slotShow : (cells : List ℕ) → (size w number : ℕ) → Show
-slotShow cells size w number = cond (filled w) (sectionShow cells (cellNumber w * size) (keptLength w) number) (show [] finished)
+unfoldable pub slot_show : (cells : List ℕ) → (size w number : ℕ) → Show
+slot_show cells size w number = cond (filled w) (section_show cells (cell_number w * size) (kept_length w) number) (show [] finished)
 
 -- the sections of filled slots by rising number; the first slot has this one
-unfoldable pub slotsShow : (cells : List ℕ) → (size : ℕ) → (slots : List ℕ) → (number : ℕ) → Show
-slotsShow cells size [] number = show [] finished
-slotsShow cells size (w ∷ ws) number = and_then (slotShow cells size w number) (slotsShow cells size ws (number + 1))
+unfoldable pub slots_show : (cells : List ℕ) → (size : ℕ) → (slots : List ℕ) → (number : ℕ) → Show
+slots_show cells size [] number = show [] finished
+slots_show cells size (w ∷ ws) number = and_then (slot_show cells size w number) (slots_show cells size ws (number + 1))
 
 -- ---- the same as a list: what each filled slot's section shows, by rising number, and one after another
 
-unfoldable pub sectionShows : (cells : List ℕ) → (size : ℕ) → (slots : List ℕ) → (number : ℕ) → List Show
-sectionShows cells size [] number = []
-sectionShows cells size (w ∷ ws) number =
-    cond (filled w) (sectionShow cells (cellNumber w * size) (keptLength w) number ∷ sectionShows cells size ws (number + 1)) (sectionShows cells size ws (number + 1))
+unfoldable pub section_shows : (cells : List ℕ) → (size : ℕ) → (slots : List ℕ) → (number : ℕ) → List Show
+section_shows cells size [] number = []
+section_shows cells size (w ∷ ws) number =
+    cond (filled w) (section_show cells (cell_number w * size) (kept_length w) number ∷ section_shows cells size ws (number + 1)) (section_shows cells size ws (number + 1))
 
-unfoldable pub inOrder : List Show → Show
-inOrder [] = show [] finished
-inOrder (a ∷ xs) = and_then a (inOrder xs)
+unfoldable pub in_order : List Show → Show
+in_order [] = show [] finished
+in_order (a ∷ xs) = and_then a (in_order xs)
 
 -- the entries of all
-unfoldable pub entriesOf : List Show → List (List ℕ)
-entriesOf [] = []
-entriesOf (a ∷ xs) = a.entries ++ entriesOf xs
+unfoldable pub entries_of : List Show → List (List ℕ)
+entries_of [] = []
+entries_of (a ∷ xs) = a.entries ++ entries_of xs
 
 -- each of them is listed to its end
 pub data AllFinished : List Show → Type 0 where
-  finished-none : AllFinished []
-  finished-more : {a : Show} {xs : List Show} → a.end ≡ finished → AllFinished xs → AllFinished (a ∷ xs)
+  finished_none : AllFinished []
+  finished_more : {a : Show} {xs : List Show} → a.end ≡ finished → AllFinished xs → AllFinished (a ∷ xs)
 
 -- ends early
-abbrev pub endsEarly : End → Bool
-endsEarly finished = false
-endsEarly (no-eit section) = true
-endsEarly (broken section) = true
-endsEarly (past-loop section place) = true
+abbrev pub ends_early : End → Bool
+ends_early finished = false
+ends_early (no_eit section) = true
+ends_early (broken section) = true
+ends_early (past_loop section place) = true
 
 -- ---- what is told of it, and what the list becomes
 
 -- with `count` entries in all: 8 where all is listed, so that more may follow
-abbrev pub reachedAs : (count : ℕ) → End → Shown
-reachedAs count finished = shownAs Yes count 0 0
-reachedAs count (no-eit section) = shownAs (Refused refusal.NotEit) count section 0
-reachedAs count (broken section) = shownAs (Refused refusal.Broken) count section 0
-reachedAs count (past-loop section place) = shownAs Past count section place
+abbrev pub reached_as : (count : ℕ) → End → Shown
+reached_as count finished = shown_as Yes count 0 0
+reached_as count (no_eit section) = shown_as (Refused refusal.NotEit) count section 0
+reached_as count (broken section) = shown_as (Refused refusal.Broken) count section 0
+reached_as count (past_loop section place) = shown_as Past count section place
 
-abbrev pub reachedBy : (number start : ℕ) → Walked → Shown
-reachedBy number start (walked.Done count) = shownAs Yes count 0 0
-reachedBy number start (walked.Past at count) = shownAs Past count number (at - start)
+abbrev pub reached_by : (number start : ℕ) → Walked → Shown
+reached_by number start (walked.Done count) = shown_as Yes count 0 0
+reached_by number start (walked.Past at count) = shown_as Past count number (at - start)
 
 -- after k entries
-unfoldable pub shownFrom : (skip k : ℕ) → Show → (list : List ℕ) → Shown × List ℕ
-shownFrom skip k s list = (reachedAs (k + length s.entries) s.end, put_all list skip k s.entries)
+unfoldable pub shown_from : (skip k : ℕ) → Show → (list : List ℕ) → Shown × List ℕ
+shown_from skip k s list = (reached_as (k + length s.entries) s.end, put_all list skip k s.entries)
 
-abbrev pub goesOn : ShowAnswer → Bool
-goesOn Yes = true
-goesOn No = false
-goesOn (Refused r) = false
-goesOn Past = false
+abbrev pub goes_on : ShowAnswer → Bool
+goes_on Yes = true
+goes_on No = false
+goes_on (Refused r) = false
+goes_on Past = false
 
 -- all is listed: 8 where there are entries past those that the list passes over, 9 where there are none
-abbrev pub endedAt : (skip count : ℕ) → Shown
-endedAt skip count = shownAs (cond (ltb skip count) Yes No) count 0 0
+abbrev pub ended_at : (skip count : ℕ) → Shown
+ended_at skip count = shown_as (cond (ltb skip count) Yes No) count 0 0
 
-abbrev pub toldBy : (skip : ℕ) → Shown → Shown
-toldBy skip last = cond (goesOn last.answer) (endedAt skip last.count) last
+abbrev pub told_by : (skip : ℕ) → Shown → Shown
+told_by skip last = cond (goes_on last.answer) (ended_at skip last.count) last
 
 -- from the first entry on
 unfoldable pub laid : (skip : ℕ) → Show → (list : List ℕ) → Shown × List ℕ
-laid skip s list = (toldBy skip (reachedAs (length s.entries) s.end), put_all list skip 0 s.entries)
+laid skip s list = (told_by skip (reached_as (length s.entries) s.end), put_all list skip 0 s.entries)
 
 -- ---- what the parts ask
 
@@ -163,7 +163,7 @@ pub record Kept (long start size number k : ℕ) : Type 0 where
 
 -- a slot's word names no section, or one that the cells have
 pub record HeldSlot (long size w : ℕ) : Type 0 where
-  pub held : filled w ≡ true → cellNumber w * size + keptLength w ≤ long
+  pub held : filled w ≡ true → cell_number w * size + kept_length w ≤ long
 
 pub record HeldSlots (long size : ℕ) (slots : List ℕ) : Type 0 where
   pub each : (j : ℕ) → j < length slots → HeldSlot long size (get_or slots j 0)

@@ -1,9 +1,9 @@
 // The entries of an EIT section, and of the sections of a row one after another, listed (docs/RULES.md, "Entries"). A section stands somewhere in lent bytes, so that
 // the place of an entry is one in them: the host reads a descriptor's bytes there.
 ghost use Rattle.std.specs.Prelude.{◌≡◌, ◌+◌, ◌*◌, ◌≤◌, ◌<◌, length};
-ghost use Rattle.cells.specs.Cells.{keptLength, cellNumber};
-ghost use Rattle.shown_sections.specs.Shown.{showNumber, goesOn, nothingShown, endedAt, toldBy, reachedBy, From, Kept, HeldSlot, HeldSlots};
-ghost use Rattle.shown_sections.specs.Shown.{shownFrom, laid, sectionShow, goodShow, slotShow, slotsShow};
+ghost use Rattle.cells.specs.Cells.{kept_length, cell_number};
+ghost use Rattle.shown_sections.specs.Shown.{show_number, goes_on, nothing_shown, ended_at, told_by, reached_by, From, Kept, HeldSlot, HeldSlots};
+ghost use Rattle.shown_sections.specs.Shown.{shown_from, laid, section_show, good_show, slot_show, slots_show};
 
 use answers::Refusal;
 use eit_section::Reading;
@@ -20,7 +20,7 @@ pub enum ShowAnswer {
 
 impl ShowAnswer {
     pub fn number(self) -> u8
-        ensures { result ≡ showNumber self }
+        ensures { result ≡ show_number self }
     {
         match self {
             ShowAnswer::Yes => 8,
@@ -42,7 +42,7 @@ pub struct Shown {
 
 // No entry is listed, and no section is told.
 pub fn nothing(answer: ShowAnswer) -> Shown
-    ensures { result ≡ nothingShown answer }
+    ensures { result ≡ nothing_shown answer }
 {
     Shown {
         answer,
@@ -64,8 +64,8 @@ fn shown_as(answer: ShowAnswer, count: usize, section: usize, place: usize) -> S
 }
 
 // Whether all was listed so far, so that the next section follows.
-fn goes_on(answer: ShowAnswer) -> bool
-    ensures { result ≡ goesOn answer }
+fn goes_on_lem(answer: ShowAnswer) -> bool
+    ensures { result ≡ goes_on answer }
 {
     match answer {
         ShowAnswer::Yes => true,
@@ -77,7 +77,7 @@ fn goes_on(answer: ShowAnswer) -> bool
 
 // All is listed: are there entries past those that the list passes over?
 fn ended(skip: usize, count: usize) -> Shown
-    ensures { result ≡ endedAt skip count }
+    ensures { result ≡ ended_at skip count }
 {
     if skip < count {
         return shown_as(ShowAnswer::Yes, count, 0, 0);
@@ -87,10 +87,10 @@ fn ended(skip: usize, count: usize) -> Shown
 
 // What is told at the end.
 pub fn told(skip: usize, last: Shown) -> Shown
-    ensures { result ≡ toldBy skip last }
+    ensures { result ≡ told_by skip last }
 {
     let answer = last.answer;
-    if goes_on(answer) {
+    if goes_on_lem(answer) {
         return ended(skip, last.count);
     }
     last
@@ -99,7 +99,7 @@ pub fn told(skip: usize, last: Shown) -> Shown
 // How the walk of a section ended that begins at `start`.
 fn reached(walked: Walked, number: usize, start: usize) -> Shown
     requires { From start walked }
-    ensures { result ≡ reachedBy number start walked }
+    ensures { result ≡ reached_by number start walked }
 {
     match walked {
         Walked::Done(count) => shown_as(ShowAnswer::Yes, count, 0, 0),
@@ -119,7 +119,7 @@ fn show_events(
 ) -> Shown
     requires kept { Kept (length bytes.now) start size number k }
     requires le_size { 18 ≤ size }
-    ensures { (result, list.new) ≡ shownFrom skip k (goodShow bytes.now start size number) list.old }
+    ensures { (result, list.new) ≡ shown_from skip k (good_show bytes.now start size number) list.old }
 {
     let of = Loop {
         header: entry_words::EVENT_HEADER,
@@ -143,7 +143,7 @@ pub fn show_section(
     k: usize,
 ) -> Shown
     requires { Kept (length bytes.now) start size number k }
-    ensures { (result, list.new) ≡ shownFrom skip k (sectionShow bytes.now start size number) list.old }
+    ensures { (result, list.new) ≡ shown_from skip k (section_show bytes.now start size number) list.old }
 {
     match eit_section::read(&bytes[start..start + size]) {
         Reading::NotEit => shown_as(ShowAnswer::Refused(Refusal::NotEit), k, number, 0),
@@ -164,7 +164,7 @@ fn show_slot(
 ) -> Shown
     requires held_slot { HeldSlot (length cells.now) size w }
     requires number_bound { (number < 256) × (size ≤ 4096) × (k ≤ number * 65536) }
-    ensures { ((result, list.new) ≡ shownFrom skip k (slotShow cells.now size w number) list.old) × (result.count ≤ k + 65536) }
+    ensures { ((result, list.new) ≡ shown_from skip k (slot_show cells.now size w number) list.old) × (result.count ≤ k + 65536) }
 {
     if cells::is_filled(w) {
         let start = cells::cell_number(w) * size;
@@ -177,14 +177,14 @@ fn show_slot(
 pub fn show_slots(slots: &[u32], size: usize, cells: &[u8], skip: usize, list: &mut [u32]) -> Shown
     requires held_slots { HeldSlots (length cells.now) size slots.now }
     requires slots_len_bound { (length slots.now ≤ 256) × (size ≤ 4096) }
-    ensures { (result, list.new) ≡ laid skip (slotsShow cells.now size slots.now 0) list.old }
+    ensures { (result, list.new) ≡ laid skip (slots_show cells.now size slots.now 0) list.old }
 {
     let mut k = 0;
     let mut j = 0;
     while j < slots.len() {
         let last = show_slot(slots[j], j, size, cells, skip, list, k);
         let answer = last.answer;
-        if !goes_on(answer) {
+        if !goes_on_lem(answer) {
             return last;
         }
         k = last.count;

@@ -1,7 +1,7 @@
 // A collector's settings and counts, and when they and the memory lent beside them are whole (docs/RULES.md, "Layouts" and "Answers", 10 and 13).
 ghost use Rattle.std.specs.Prelude.{◌≡◌, true, ◌≢◌};
-ghost use Rattle.without_pid.specs.Pids.{withoutPid};
-ghost use Rattle.store.specs.Store.{store, settingsFit, whole_of, countersFull, risenSets};
+ghost use Rattle.without_pid.specs.Pids.{without_pid};
+ghost use Rattle.store.specs.Store.{store, settings_fit, whole_of, counters_full, risen_sets};
 
 use without_pid::Looked;
 
@@ -23,7 +23,7 @@ impl Sets {
 
 // Whether the evictions or the clock are at their end: if so, a push answers 11.
 pub fn counters_full(sets: Sets) -> bool
-    ensures { result ≡ countersFull sets }
+    ensures { result ≡ counters_full sets }
 {
     (sets.evictions == u64::MAX) | (sets.clock == u64::MAX)
 }
@@ -31,7 +31,7 @@ pub fn counters_full(sets: Sets) -> bool
 // One touch more.
 pub fn risen(sets: Sets) -> Sets
     requires { sets.clock ≢ 18446744073709551615 }
-    ensures { result ≡ risenSets sets }
+    ensures { result ≡ risen_sets sets }
 {
     Sets {
         limit: sets.limit,
@@ -45,7 +45,7 @@ pub fn risen(sets: Sets) -> Sets
 
 // Whether the settings are in range and the lent slices long enough for them.
 pub fn settings_fit(sets: Sets, heads: usize, slots: usize, cells: usize) -> bool
-    ensures { result ≡ settingsFit sets heads slots cells }
+    ensures { result ≡ settings_fit sets heads slots cells }
 {
     let small = (12 <= sets.size) & (sets.size <= 4096) & (sets.count <= 65535);
     if small {
@@ -60,7 +60,7 @@ pub fn settings_fit(sets: Sets, heads: usize, slots: usize, cells: usize) -> boo
 // Whether the store is whole (if it is not, a call answers 10) and, of one that is, whether a row in use has no PID (41).
 pub fn look(sets: Sets, heads: &[u64], slots: &[u32], cells: &[u8]) -> Looked
     ensures whole_value { result.whole ≡ whole_of (store sets heads.now slots.now cells.now) }
-    ensures without_value { result.whole ≡ true → result.without ≡ withoutPid heads.now sets.used }
+    ensures without_value { result.whole ≡ true → result.without ≡ without_pid heads.now sets.used }
 {
     if settings_fit(sets, heads.len(), slots.len(), cells.len()) {
         if sets.used <= sets.limit {

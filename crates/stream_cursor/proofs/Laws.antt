@@ -10,30 +10,30 @@ use borrow.Author.Tests.{leb-true}
 use lib.Dec.{leb, ltb, eqb}
 use lib.ListN.{length, take, drop, get_or, length-drop}
 use lib.Seq.{length-take-le}
-use Rattle.laws.specs.Lists.{firstFrom}
-use Rattle.alignment.specs.Alignment.{syncAt, judgedTo, sought, head_of, step_of}
+use Rattle.laws.specs.Lists.{first_from}
+use Rattle.alignment.specs.Alignment.{sync_at, judged_to, sought, head_of, step_of}
 use Rattle.alignment.specs.declared.Step.{Step}
 use Rattle.alignment.specs.declared.Next.{Next}
 use Rattle.alignment.specs.declared.Next.TheVariants.{Packet, Loose, Found, More, Cut, Over}
-use Rattle.alignment.proofs.Windows.{used-inside, few-left}
-use Rattle.stream_cursor.specs.Cursor.{Inside, NextOk, StepOk, isPacket}
+use Rattle.alignment.proofs.Windows.{used_inside, few_left}
+use Rattle.stream_cursor.specs.Cursor.{Inside, NextOk, StepOk, is_packet}
 use Rattle.stream_cursor.specs.declared.Cursor.{Cursor}
 
 module _ (w : List ℕ) where
   -- a packet has 188 bytes
-  is-long : (passing last : Bool) → ((step_of w passing last).next ≡ Packet) ⊎ ((step_of w passing last).next ≡ Loose) → 188 ≤ length w
+  is_long_lem : (passing last : Bool) → ((step_of w passing last).next ≡ Packet) ⊎ ((step_of w passing last).next ≡ Loose) → 188 ≤ length w
   unfolding step_of head_of sought
-  is-long true last h = absurd (found (last || ltb (firstFrom (syncAt w) (judgedTo (length w) last) 0) (judgedTo (length w) last)) h)
+  is_long_lem true last h = absurd (found (last || ltb (first_from (sync_at w) (judged_to (length w) last) 0) (judged_to (length w) last)) h)
     where
       at : ℕ
-      at = firstFrom (syncAt w) (judgedTo (length w) last) 0
+      at = first_from (sync_at w) (judged_to (length w) last) 0
 
       found : (b : Bool) → ((cond {A = Step} b (record { next = Found; used = at }) (record { next = More; used = at })).next ≡ Packet) ⊎ ((cond {A = Step} b (record { next = Found; used = at }) (record { next = More; used = at })).next ≡ Loose) → ⊥
       found true (inl e) = let z : ◌≡◌ {A = ℕ} 0 1 = cc in absurd (omega arith)
       found true (inr e) = let z : ◌≡◌ {A = ℕ} 0 1 = cc in absurd (omega arith)
       found false (inl e) = let z : ◌≡◌ {A = ℕ} 0 1 = cc in absurd (omega arith)
       found false (inr e) = let z : ◌≡◌ {A = ℕ} 0 1 = cc in absurd (omega arith)
-  is-long false last h = go (leb 188 (length w)) refl h
+  is_long_lem false last h = go (leb 188 (length w)) refl h
     where
       small : Step
       small = cond last (cond (eqb (length w) 0) (record { next = Over; used = 0 }) (record { next = Cut; used = length w })) (record { next = More; used = 0 })
@@ -53,20 +53,20 @@ module _ (w : List ℕ) where
       go true e h = leb-true 188 (length w) e
       go false e h = absurd (none last (eqb (length w) 0) h)
 
-  next-ok : (passing last : Bool) → NextOk (length w) (step_of w passing last).used (step_of w passing last).next
-  next-ok passing last = go (step_of w passing last).next refl
+  next_ok : (passing last : Bool) → NextOk (length w) (step_of w passing last).used (step_of w passing last).next
+  next_ok passing last = go (step_of w passing last).next refl
     where
       go : (n : Next) → (step_of w passing last).next ≡ n → NextOk (length w) (step_of w passing last).used n
-      go Packet e = is-long passing last (inl e)
-      go Loose e = is-long passing last (inr e)
+      go Packet e = is_long_lem passing last (inl e)
+      go Loose e = is_long_lem passing last (inr e)
       go Found e = tt
-      go More e = few-left w passing last e
+      go More e = few_left w passing last e
       go Cut e = tt
       go Over e = tt
 
   at_length : (n : ℕ) → length w ≡ n → (passing last : Bool) → ((step_of w passing last).used ≤ n) × NextOk n (step_of w passing last).used (step_of w passing last).next
   at_length n e passing last =
-      subst (λ (m : ℕ). ((step_of w passing last).used ≤ m) × NextOk m (step_of w passing last).used (step_of w passing last).next) e (used-inside w passing last, next-ok passing last)
+      subst (λ (m : ℕ). ((step_of w passing last).used ≤ m) × NextOk m (step_of w passing last).used (step_of w passing last).next) e (used_inside w passing last, next_ok passing last)
 
 pub step_ok :
     (c : Cursor) (block : List ℕ) (s : Step) → length block ≡ 65724 → Inside c →
@@ -82,21 +82,21 @@ step_ok c block s l i e =
         let n = i.inside in
         length-take-le (c.to - c.from) (drop c.from block) (omega (arith, d, l, o, n))
 
-pub more-few : (c : Cursor) (s : Step) → StepOk c s → s.next ≡ More → c.to - c.from ≤ s.used + 188
-more-few c s k e = subst (NextOk (c.to - c.from) s.used) e k.next
+pub more_few : (c : Cursor) (s : Step) → StepOk c s → s.next ≡ More → c.to - c.from ≤ s.used + 188
+more_few c s k e = subst (NextOk (c.to - c.from) s.used) e k.next
 
 -- a packet that was taken out of the block has 188 bytes
-pub packet-long : (c : Cursor) (block : List ℕ) → length block ≡ 65724 → Inside c → 188 ≤ c.to - c.from → 188 ≡ length (take (c.from + 188 - c.from) (drop c.from block))
-packet-long c block l i h =
+pub packet_long : (c : Cursor) (block : List ℕ) → length block ≡ 65724 → Inside c → 188 ≤ c.to - c.from → 188 ≡ length (take (c.from + 188 - c.from) (drop c.from block))
+packet_long c block l i h =
     let d = length-drop c.from block in
     let n = i.inside in
     let k : c.from + 188 - c.from ≡ 188 = omega arith in
     sym (length-take-le (c.from + 188 - c.from) (drop c.from block) (omega (arith, d, l, n, h)) ∙ k)
 
-pub packet-there : (c : Cursor) (s : Step) (b : Bool) → StepOk c s → b ≡ isPacket s.next → b ≡ true → 188 ≤ c.to - c.from
-packet-there c s b k e h = go s.next (sym e ∙ h) k.next
+pub packet_there : (c : Cursor) (s : Step) (b : Bool) → StepOk c s → b ≡ is_packet s.next → b ≡ true → 188 ≤ c.to - c.from
+packet_there c s b k e h = go s.next (sym e ∙ h) k.next
   where
-    go : (n : Next) → isPacket n ≡ true → NextOk (c.to - c.from) s.used n → 188 ≤ c.to - c.from
+    go : (n : Next) → is_packet n ≡ true → NextOk (c.to - c.from) s.used n → 188 ≤ c.to - c.from
     go Packet e q = q
     go Loose e q = q
     go Found e q = absurd (true≢false (sym e))

@@ -20,13 +20,13 @@ NextOk n used Cut = Unit {0}
 NextOk n used Over = Unit {0}
 
 -- a packet, in its place or not
-abbrev pub isPacket : Next → Bool
-isPacket Packet = true
-isPacket Loose = true
-isPacket Found = false
-isPacket More = false
-isPacket Cut = false
-isPacket Over = false
+abbrev pub is_packet : Next → Bool
+is_packet Packet = true
+is_packet Loose = true
+is_packet Found = false
+is_packet More = false
+is_packet Cut = false
+is_packet Over = false
 
 pub record StepOk (c : Cursor) (s : Step) : Type 0 where
   pub used : s.used ≤ c.to - c.from

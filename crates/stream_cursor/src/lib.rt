@@ -1,7 +1,7 @@
 // Reading a transport stream from standard input in blocks (docs/RULES.md, "Packets"): where in the block it stands, what of it is a packet, and what `watch_ts` and
 // `sections` write. No gate here.
 ghost use Rattle.std.specs.Prelude.{◌≡◌, ◌+◌, ◌-◌, ◌≤◌, length};
-ghost use Rattle.stream_cursor.specs.Cursor.{Inside, StepOk, isPacket};
+ghost use Rattle.stream_cursor.specs.Cursor.{Inside, StepOk, is_packet};
 
 use alignment::{Next, Step};
 use blocks::Window;
@@ -45,7 +45,7 @@ pub fn look(block: &[u8], c: Cursor) -> Step
 
 // Whether it is a packet, in its place or not.
 pub fn is_packet(next: Next) -> bool
-    ensures { result ≡ isPacket next }
+    ensures { result ≡ is_packet next }
 {
     match next {
         Next::Packet => true,

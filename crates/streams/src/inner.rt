@@ -1,8 +1,8 @@
 // The words of the PIDs, over slices and PIDs that their callers have judged: which buffer a PID holds, which is free, and who gives its buffer back.
 ghost use Rattle.std.specs.Prelude.{◌≡◌, ◌+◌, ◌*◌, ◌<◌, ◌≤◌, length};
-ghost use Rattle.cells.specs.Cells.{lowestFree};
+ghost use Rattle.cells.specs.Cells.{lowest_free};
 ghost use Rattle.laws.specs.Bits.{without};
-ghost use Rattle.streams.specs.Store.{areEnough, wordsAt, with_words, bufferOf, marked, markedTo, isNamed, pidBack, word_back, givenBack, left_of, InWords, TwoSets};
+ghost use Rattle.streams.specs.Store.{are_enough, words_at, with_words, buffer_of, marked, marked_to, is_named, pid_back, word_back, given_back, left_of, InWords, TwoSets};
 
 use crate::Streams;
 use assemble::Words;
@@ -19,7 +19,7 @@ const SET_WORDS: usize = 128;
 
 // 1 to 8,192 buffers, and the words and bytes that they ask for.
 pub fn are_enough(count: usize, words: usize, bytes: usize) -> bool
-    ensures { result ≡ areEnough count words bytes }
+    ensures { result ≡ are_enough count words bytes }
 {
     if count == 0 {
         return false;
@@ -34,7 +34,7 @@ pub fn are_enough(count: usize, words: usize, bytes: usize) -> bool
 
 pub fn words(pids: &[u64], pid: Pid) -> Words
     requires { InWords pids.now pid }
-    ensures { result ≡ wordsAt pids.now pid }
+    ensures { result ≡ words_at pids.now pid }
 {
     let at = pid.0 as usize * WORDS_EACH;
     Words {
@@ -58,7 +58,7 @@ pub fn put(pids: &mut [u64], pid: Pid, words: Words)
 
 // The buffer that a PID holds, by its word 0, or count where it holds none.
 pub fn buffer(number: u64, count: usize) -> usize
-    ensures { result ≡ bufferOf number count }
+    ensures { result ≡ buffer_of number count }
 {
     if number == 0 {
         return count;
@@ -86,7 +86,7 @@ fn mark(map: &mut [u64; 1024], number: u64, count: usize)
 // Adds each buffer that the word 0 of one of the first `to` PIDs names.
 fn mark_to(map: &mut [u64; 1024], pids: &[u64], to: usize, count: usize)
     requires { (to * 4 ≤ length pids.now) × (count ≤ 8192) }
-    ensures { map.new ≡ markedTo pids.now count to map.old }
+    ensures { map.new ≡ marked_to pids.now count to map.old }
 {
     let mut n = to;
     while n > 0 {
@@ -98,7 +98,7 @@ fn mark_to(map: &mut [u64; 1024], pids: &[u64], to: usize, count: usize)
 // The lowest buffer that no PID holds, or count where there is none.
 pub fn lowest_free(pids: &[u64], count: usize) -> usize
     requires { (32768 ≤ length pids.now) × (count ≤ 8192) }
-    ensures { result ≡ lowestFree (isNamed pids.now 8192) count }
+    ensures { result ≡ lowest_free (is_named pids.now 8192) count }
 {
     let mut map = [0u64; 1024];
     mark_to(&mut map, pids, PIDS, count);
@@ -110,7 +110,7 @@ pub fn lowest_free(pids: &[u64], count: usize) -> usize
 // The words of PID p become 0 where its bit is 1.
 fn give_pid(pids: &mut [u64], p: usize, bit: u64)
     requires { (p < 8192) × (32768 ≤ length pids.old) }
-    ensures { pids.new ≡ pidBack pids.old p bit }
+    ensures { pids.new ≡ pid_back pids.old p bit }
 {
     if bit == 1 {
         let at = p * WORDS_EACH;
@@ -147,7 +147,7 @@ fn less(before: u64, after: u64) -> u64
 // that it left are passed over whole.
 pub fn give_back(pids: &mut [u64], before: &[u64], after: &[u64])
     requires { TwoSets pids.old before.now after.now }
-    ensures { pids.new ≡ givenBack (left_of before.now after.now) 8192 pids.old }
+    ensures { pids.new ≡ given_back (left_of before.now after.now) 8192 pids.old }
 {
     let mut k = SET_WORDS;
     while k > 0 {

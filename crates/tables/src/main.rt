@@ -176,13 +176,13 @@ enum Wanted {
 }
 
 fn reader_named(text: &[u8]) -> Wanted {
-    if cells::same_bytes(text, b"nit") {
+    if cells::same_bytes_lem(text, b"nit") {
         return Wanted::Reads(Asked::Always(Table::Nit));
     }
-    if cells::same_bytes(text, b"bat") {
+    if cells::same_bytes_lem(text, b"bat") {
         return Wanted::Reads(Asked::Always(Table::Bat));
     }
-    if cells::same_bytes(text, b"sdt") {
+    if cells::same_bytes_lem(text, b"sdt") {
         return Wanted::Reads(Asked::Always(Table::Sdt));
     }
     Wanted::Usage

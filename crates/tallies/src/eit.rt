@@ -1,6 +1,6 @@
 // The column of what the EIT collector answered to a section.
 ghost use Rattle.std.specs.Prelude.{◌≡◌};
-ghost use Rattle.tallies.specs.Columns.{eitColumn, eitRefusal};
+ghost use Rattle.tallies.specs.Columns.{eit_column, eit_refusal};
 
 use answers::Refusal;
 use eit_state::PushAnswer;
@@ -12,7 +12,7 @@ const NO_CELL: u8 = 21;
 const RANGE: u8 = 23;
 
 fn refused(refusal: Refusal) -> usize
-    ensures { result ≡ eitRefusal refusal }
+    ensures { result ≡ eit_refusal refusal }
 {
     let number = refusal.number();
     if number == CONFLICT {
@@ -28,7 +28,7 @@ fn refused(refusal: Refusal) -> usize
 }
 
 pub fn column(answer: PushAnswer) -> usize
-    ensures { result ≡ eitColumn answer }
+    ensures { result ≡ eit_column answer }
 {
     match answer {
         PushAnswer::Nothing => 10,

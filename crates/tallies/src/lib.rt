@@ -1,6 +1,6 @@
 // What a monitor counts beside the counters of its gate and collectors: the answers of the packet layer and of the collectors, a number a column.
 ghost use Rattle.std.specs.Prelude.{◌≡◌};
-ghost use Rattle.tallies.specs.Columns.{moreOf, countedIn};
+ghost use Rattle.tallies.specs.Columns.{more_of, counted_in};
 
 pub mod eit;
 pub mod sets;
@@ -14,14 +14,14 @@ pub const NO_BUFFER: usize = 0;
 
 // One more; at its end a count stays.
 fn more(n: u64) -> u64
-    ensures { result ≡ moreOf n }
+    ensures { result ≡ more_of n }
 {
     if n < u64::MAX { n + 1 } else { n }
 }
 
 // One more in a column.
 pub fn count(tally: &mut [u64; 10], column: usize)
-    ensures { tally.new ≡ countedIn tally.old column }
+    ensures { tally.new ≡ counted_in tally.old column }
 {
     if column < COLUMNS {
         tally[column] = more(tally[column]);

@@ -1,6 +1,6 @@
 // The column of what the set collector answered to a section.
 ghost use Rattle.std.specs.Prelude.{◌≡◌};
-ghost use Rattle.tallies.specs.Columns.{setColumn, setRefusal};
+ghost use Rattle.tallies.specs.Columns.{set_column, set_refusal};
 
 use answers::Refusal;
 use sets_settle::PushAnswer;
@@ -10,7 +10,7 @@ const CONFLICT: u8 = 22;
 const NO_CELL: u8 = 21;
 
 fn refused(refusal: Refusal) -> usize
-    ensures { result ≡ setRefusal refusal }
+    ensures { result ≡ set_refusal refusal }
 {
     let number = refusal.number();
     if number == CONFLICT {
@@ -23,7 +23,7 @@ fn refused(refusal: Refusal) -> usize
 }
 
 pub fn column(answer: PushAnswer) -> usize
-    ensures { result ≡ setColumn answer }
+    ensures { result ≡ set_column answer }
 {
     match answer {
         PushAnswer::Nothing => 10,

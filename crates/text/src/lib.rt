@@ -1,7 +1,7 @@
 // Text into a lent buffer: bytes as they are, upper-case hexadecimal, and decimals. Each function writes from a place on and answers the
 // place after what it wrote.
 ghost use Rattle.std.specs.Prelude.{◌+◌, ◌≤◌, ◌<◌, ◌≡◌, length};
-ghost use Rattle.text.specs.Text.{hexDigit, hex2, hex4, decimal, Wrote};
+ghost use Rattle.text.specs.Text.{hex_digit, hex2, hex4, decimal, Wrote};
 
 // The bytes of s.
 pub fn put(out: &mut [u8], at: usize, s: &[u8]) -> usize
@@ -51,7 +51,7 @@ pub fn put_dec(out: &mut [u8], at: usize, v: u64) -> usize
 
 fn hex_digit(d: u8) -> u8
     requires { d < 16 }
-    ensures { result ≡ hexDigit d }
+    ensures { result ≡ hex_digit d }
 {
     if d < 10 { b'0' + d } else { b'A' + (d - 10) }
 }

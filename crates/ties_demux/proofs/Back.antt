@@ -10,28 +10,28 @@ use native.Mathlib.Omega.{arith}
 use lib.Dec.{eqb, leb}
 use lib.ListN.{length}
 use borrow.Author.Tests.{eq-eqb, ne_eqb, eqb-true, le-leb}
-use Rattle.laws.proofs.Tests.{true-and}
-use Rattle.laws.specs.Bits.{hasBit}
+use Rattle.laws.proofs.Tests.{true_and}
+use Rattle.laws.specs.Bits.{has_bit}
 use Rattle.section.specs.Facts.{Bytes as AllBytes}
-use Rattle.section.specs.Judged.{ruleKnown}
+use Rattle.section.specs.Judged.{rule_known}
 use Rattle.transport.specs.Receiver.{Streams}
 use Rattle.transport.specs.Receiver as transport
-use Rattle.ring.proofs.Laws.{whole-test}
-use Rattle.ring.specs.Store.{whole_of as ringWhole}
-use Rattle.gate_state.specs.State.{byTables}
+use Rattle.ring.proofs.Laws.{whole_test}
+use Rattle.ring.specs.Store.{whole_of as ring_whole}
+use Rattle.gate_state.specs.State.{by_tables}
 use Rattle.gate_state.specs.declared.Gate.{Gate}
 use Rattle.gate_state.specs.declared.Follow.{Follow}
 use Rattle.gate.specs.Store.{whole_of, is_whole}
 use Rattle.gate.proofs.Laws.{fits}
 use Rattle.pats.specs.Store.{Record}
-use Rattle.gate_pats.specs.Store.{Kept, sectionsIn}
+use Rattle.gate_pats.specs.Store.{Kept, sections_in}
 use Rattle.streams.specs.declared.Streams.{Streams as Counted}
-use Rattle.ties_streams.specs.View.{heldBy}
+use Rattle.ties_streams.specs.View.{held_by}
 use Rattle.demux_judge.specs.Verdicts.{Wholes}
 use Rattle.demux_store.specs.Store.{Store}
-use Rattle.ties_demux.specs.Rules.{Held, countsWith}
-use Rattle.ties_demux.specs.Card.{Gates, Input, Card, keptOn, gatesWith, lentOn, input_of, backFrom, shownOf, shownBy, Stands, AllStand}
-use Rattle.ties_demux.proofs.Numbers.{withInput}
+use Rattle.ties_demux.specs.Rules.{Held, counts_with}
+use Rattle.ties_demux.specs.Card.{Gates, Input, Card, kept_on, gates_with, lent_on, input_of, back_from, shown_of, shown_by, Stands, AllStand}
+use Rattle.ties_demux.proofs.Numbers.{with_input}
 
 module _ (c : Card) (i : ℕ) where
   abbrev g : Gates
@@ -39,29 +39,29 @@ module _ (c : Card) (i : ℕ) where
 
   -- ---- what is shown
 
-  pub streams-back : (s : Store) → (shownBy (backFrom i s c)).held.streams ≡ withInput i (shownOf (input_of s)) (shownBy c).held.streams
-  streams-back s = λ a n. go (eqb (n / 8192) i) n a
+  pub streams_back : (s : Store) → (shown_by (back_from i s c)).held.streams ≡ with_input i (shown_of (input_of s)) (shown_by c).held.streams
+  streams_back s = λ a n. go (eqb (n / 8192) i) n a
     where
-      go : (b : Bool) (n : ℕ) → shownOf (cond b (input_of s) (c.inputs (n / 8192))) (n % 8192) ≡ cond b (shownOf (input_of s) (n % 8192)) (shownOf (c.inputs (n / 8192)) (n % 8192))
+      go : (b : Bool) (n : ℕ) → shown_of (cond b (input_of s) (c.inputs (n / 8192))) (n % 8192) ≡ cond b (shown_of (input_of s) (n % 8192)) (shown_of (c.inputs (n / 8192)) (n % 8192))
       go true n = refl
       go false n = refl
 
-  pub own-streams : withInput i (shownOf (c.inputs i)) (shownBy c).held.streams ≡ (shownBy c).held.streams
-  own-streams = λ a n. go (eqb (n / 8192) i) n refl a
+  pub own_streams : with_input i (shown_of (c.inputs i)) (shown_by c).held.streams ≡ (shown_by c).held.streams
+  own_streams = λ a n. go (eqb (n / 8192) i) n refl a
     where
-      go : (b : Bool) → (n : ℕ) → eqb (n / 8192) i ≡ b → cond b (shownOf (c.inputs i) (n % 8192)) (shownOf (c.inputs (n / 8192)) (n % 8192)) ≡ shownOf (c.inputs (n / 8192)) (n % 8192)
-      go true n e = ap (λ (j : ℕ). shownOf (c.inputs j) (n % 8192)) (sym (eqb-true _ _ e))
+      go : (b : Bool) → (n : ℕ) → eqb (n / 8192) i ≡ b → cond b (shown_of (c.inputs i) (n % 8192)) (shown_of (c.inputs (n / 8192)) (n % 8192)) ≡ shown_of (c.inputs (n / 8192)) (n % 8192)
+      go true n e = ap (λ (j : ℕ). shown_of (c.inputs j) (n % 8192)) (sym (eqb-true _ _ e))
       go false n e = refl
 
-  pub counts-back : (s : Store) → (shownBy (backFrom i s c)).counts ≡ countsWith i s.streams (shownBy c).counts
-  counts-back s = λ a j. go (eqb j i) j a
+  pub counts_back : (s : Store) → (shown_by (back_from i s c)).counts ≡ counts_with i s.streams (shown_by c).counts
+  counts_back s = λ a j. go (eqb j i) j a
     where
       go : (b : Bool) (j : ℕ) → (cond b (input_of s) (c.inputs j)).streams ≡ cond b s.streams (c.inputs j).streams
       go true j = refl
       go false j = refl
 
-  pub own-gates : gatesWith i (keptOn i g) g ≡ g
-  own-gates = λ a. record { gate = g.gate; counters = g.counters; keys = g.keys; changes = g.changes; watches = λ j. go (eqb j i) j refl a }
+  pub own_gates : gates_with i (kept_on i g) g ≡ g
+  own_gates = λ a. record { gate = g.gate; counters = g.counters; keys = g.keys; changes = g.changes; watches = λ j. go (eqb j i) j refl a }
     where
       go : (b : Bool) (j : ℕ) → eqb j i ≡ b → cond b (g.watches i) (g.watches j) ≡ g.watches j
       go true j e = ap g.watches (sym (eqb-true _ _ e))
@@ -69,39 +69,39 @@ module _ (c : Card) (i : ℕ) where
 
   -- a call that leaves all but what it counts
   pub counted_back : (t : Counted) → t.count ≡ (c.inputs i).streams.count
-      → shownBy (backFrom i (record { gate = keptOn i g; streams = t; pids = (c.inputs i).pids; buffers = (c.inputs i).buffers; places = c.places }) c)
-      ≡ record { held = (shownBy c).held; counts = countsWith i t (shownBy c).counts }
+      → shown_by (back_from i (record { gate = kept_on i g; streams = t; pids = (c.inputs i).pids; buffers = (c.inputs i).buffers; places = c.places }) c)
+      ≡ record { held = (shown_by c).held; counts = counts_with i t (shown_by c).counts }
   counted_back t e =
-      let s : Store = record { gate = keptOn i g; streams = t; pids = (c.inputs i).pids; buffers = (c.inputs i).buffers; places = c.places } in
-      let v = streams-back s ∙ (λ a. withInput i (heldBy (e a) (c.inputs i).pids (c.inputs i).buffers) (shownBy c).held.streams) ∙ own-streams in
-      λ a. record { held = record { streams = v a; world = own-gates a }; counts = counts-back s a }
+      let s : Store = record { gate = kept_on i g; streams = t; pids = (c.inputs i).pids; buffers = (c.inputs i).buffers; places = c.places } in
+      let v = streams_back s ∙ (λ a. with_input i (held_by (e a) (c.inputs i).pids (c.inputs i).buffers) (shown_by c).held.streams) ∙ own_streams in
+      λ a. record { held = record { streams = v a; world = own_gates a }; counts = counts_back s a }
 
   -- nothing at all
-  pub same_back : backFrom i (lentOn i c) c ≡ c
-  same_back = λ a. record { gates = own-gates a; inputs = λ j. go (eqb j i) j refl a; places = c.places }
+  pub same_back : back_from i (lent_on i c) c ≡ c
+  same_back = λ a. record { gates = own_gates a; inputs = λ j. go (eqb j i) j refl a; places = c.places }
     where
-      go : (b : Bool) (j : ℕ) → eqb j i ≡ b → cond b (input_of (lentOn i c)) (c.inputs j) ≡ c.inputs j
+      go : (b : Bool) (j : ℕ) → eqb j i ≡ b → cond b (input_of (lent_on i c)) (c.inputs j) ≡ c.inputs j
       go true j e = ap c.inputs (sym (eqb-true _ _ e))
       go false j e = refl
 
   -- ---- what holds then
 
-  whole-elsewhere : (y : Gate) (keys changes a b : ℕ) → whole_of y keys changes a ≡ true → 384 ≤ b → whole_of y keys changes b ≡ true
-  whole-elsewhere y keys changes a b w h =
+  whole_elsewhere : (y : Gate) (keys changes a b : ℕ) → whole_of y keys changes a ≡ true → 384 ≤ b → whole_of y keys changes b ≡ true
+  whole_elsewhere y keys changes a b w h =
       let f = fits y keys changes a (whole_of y keys changes a) refl w in
-      true-and (true-and (whole-test y.ring keys changes f.rows) (le-leb 384 b h)) f.rule
+      true_and (true_and (whole_test y.ring keys changes f.rows) (le-leb 384 b h)) f.rule
 
-  pub stand-back : (s : Store) → AllStand c → is_whole (sectionsIn s.gate) ≡ true → s.gate.gate.follow ≡ g.gate.follow → length s.places ≡ length c.places
-      → Stands (gatesWith i s.gate g) i (input_of s) s.places → AllStand (backFrom i s c)
-  stand-back s st w f l own j = go (eqb j i) refl
+  pub stand_back : (s : Store) → AllStand c → is_whole (sections_in s.gate) ≡ true → s.gate.gate.follow ≡ g.gate.follow → length s.places ≡ length c.places
+      → Stands (gates_with i s.gate g) i (input_of s) s.places → AllStand (back_from i s c)
+  stand_back s st w f l own j = go (eqb j i) refl
     where
       elsewhere : Wholes s.gate.gate (c.inputs j).streams (length s.gate.keys) (length s.gate.changes) (g.watches j) (length (c.inputs j).pids) (length (c.inputs j).buffers) (length s.places)
       elsewhere =
           let x = (st j).whole in
           record {
-            gate = whole-elsewhere s.gate.gate (length s.gate.keys) (length s.gate.changes) (length s.gate.watch.words) (length (g.watches j).words) w
+            gate = whole_elsewhere s.gate.gate (length s.gate.keys) (length s.gate.changes) (length s.gate.watch.words) (length (g.watches j).words) w
                 (fits g.gate (length g.keys) (length g.changes) (length (g.watches j).words) (whole_of g.gate (length g.keys) (length g.changes) (length (g.watches j).words)) refl x.gate).watch;
-            pats = λ t. x.pats (ap byTables (sym f) ∙ t);
+            pats = λ t. x.pats (ap by_tables (sym f) ∙ t);
             lent = x.lent;
             listed = omega (arith, x.listed);
           }
@@ -115,12 +115,12 @@ module _ (c : Card) (i : ℕ) where
       other r e = subst (λ (y : Record). Wholes s.gate.gate (c.inputs j).streams (length s.gate.keys) (length s.gate.changes) y (length (c.inputs j).pids) (length (c.inputs j).buffers) (length s.places)) (sym e) elsewhere
 
       go : (b : Bool) → eqb j i ≡ b → Then b
-      go true e = subst (λ (k : ℕ). Stands (gatesWith i s.gate g) k (input_of s) s.places) (sym (eqb-true _ _ e)) own
+      go true e = subst (λ (k : ℕ). Stands (gates_with i s.gate g) k (input_of s) s.places) (sym (eqb-true _ _ e)) own
       go false e =
           let q : cond (eqb j i) s.gate.watch (g.watches j) ≡ g.watches j = rw e refl in
           record {
             whole = other (cond (eqb j i) s.gate.watch (g.watches j)) q;
             apart = (st j).apart;
             bytes = (st j).bytes;
-            watched = λ p h v. ap (λ (r : Record). hasBit r.words p) q ∙ (st j).watched p h v;
+            watched = λ p h v. ap (λ (r : Record). has_bit r.words p) q ∙ (st j).watched p h v;
           }

@@ -3,42 +3,42 @@
 use mathlib.Core.Path.{◌≡◌, refl, sym, ap, ◌∙◌}
 use mathlib.Core.List.{List, [], ◌∷◌}
 use Prim.Native.Nat.{ℕ}
-use Rattle.laws.specs.Runs.{answers, storeAfter}
+use Rattle.laws.specs.Runs.{answers, store_after}
 use Rattle.section.specs.Facts.{Bytes as AllBytes}
-use Rattle.ties_demux.specs.Card.{Card, Told, cardActs, cardTells, callOn, shownBy, AllStand}
-use Rattle.ties_demux.specs.History.{Given, OfBytes, tells, acts, ruled, rulesTell, rulesAct}
-use Rattle.ties_demux.proofs.Feed.{SameCall, feed-same}
+use Rattle.ties_demux.specs.Card.{Card, Told, card_acts, card_tells, call_on, shown_by, AllStand}
+use Rattle.ties_demux.specs.History.{Given, OfBytes, tells, acts, ruled, rules_tell, rules_act}
+use Rattle.ties_demux.proofs.Feed.{SameCall, feed_same}
 
 module _ (c : Card) (x : Given) (st : AllStand c) (b : AllBytes x.packet) where
-  pub call : SameCall c x.input x.packet st b (callOn c x.input x.packet) (ruled (shownBy c) x)
-  call = feed-same c x.input x.packet st b
+  pub call : SameCall c x.input x.packet st b (call_on c x.input x.packet) (ruled (shown_by c) x)
+  call = feed_same c x.input x.packet st b
 
-  pub call-tells : tells c x ≡ rulesTell (shownBy c) x
-  unfolding cardTells
-  call-tells = call.says
+  pub call_tells_lem : tells c x ≡ rules_tell (shown_by c) x
+  unfolding card_tells
+  call_tells_lem = call.says
 
-  pub call-shows : shownBy (acts c x) ≡ rulesAct (shownBy c) x
-  unfolding cardActs
-  call-shows = call.shows
+  pub call_shows : shown_by (acts c x) ≡ rules_act (shown_by c) x
+  unfolding card_acts
+  call_shows = call.shows
 
-  pub call-stands : AllStand (acts c x)
-  unfolding cardActs
-  call-stands = call.stand
+  pub call_stands : AllStand (acts c x)
+  unfolding card_acts
+  call_stands = call.stand
 
-pub same-answers : (c : Card) (xs : List Given) → AllStand c → OfBytes xs → answers tells acts c xs ≡ answers rulesTell rulesAct (shownBy c) xs
+pub same_answers : (c : Card) (xs : List Given) → AllStand c → OfBytes xs → answers tells acts c xs ≡ answers rules_tell rules_act (shown_by c) xs
 unfolding answers
-same-answers c [] st b = refl
-same-answers c (x ∷ xs) st b =
-    let first = call-tells c x st b.0 in
-    let rest = same-answers (acts c x) xs (call-stands c x st b.0) b.1 ∙ ap (λ h. answers rulesTell rulesAct h xs) (call-shows c x st b.0) in
+same_answers c [] st b = refl
+same_answers c (x ∷ xs) st b =
+    let first = call_tells_lem c x st b.0 in
+    let rest = same_answers (acts c x) xs (call_stands c x st b.0) b.1 ∙ ap (λ h. answers rules_tell rules_act h xs) (call_shows c x st b.0) in
     λ i. first i ∷ rest i
 
-pub same_view : (c : Card) (xs : List Given) → AllStand c → OfBytes xs → shownBy (storeAfter acts c xs) ≡ storeAfter rulesAct (shownBy c) xs
-unfolding storeAfter
+pub same_view : (c : Card) (xs : List Given) → AllStand c → OfBytes xs → shown_by (store_after acts c xs) ≡ store_after rules_act (shown_by c) xs
+unfolding store_after
 same_view c [] st b = refl
-same_view c (x ∷ xs) st b = same_view (acts c x) xs (call-stands c x st b.0) b.1 ∙ ap (λ h. storeAfter rulesAct h xs) (call-shows c x st b.0)
+same_view c (x ∷ xs) st b = same_view (acts c x) xs (call_stands c x st b.0) b.1 ∙ ap (λ h. store_after rules_act h xs) (call_shows c x st b.0)
 
-pub always-stand : (c : Card) (xs : List Given) → AllStand c → OfBytes xs → AllStand (storeAfter acts c xs)
-unfolding storeAfter
-always-stand c [] st b = st
-always-stand c (x ∷ xs) st b = always-stand (acts c x) xs (call-stands c x st b.0) b.1
+pub always_stand : (c : Card) (xs : List Given) → AllStand c → OfBytes xs → AllStand (store_after acts c xs)
+unfolding store_after
+always_stand c [] st b = st
+always_stand c (x ∷ xs) st b = always_stand (acts c x) xs (call_stands c x st b.0) b.1

@@ -3,13 +3,13 @@ use Rattle.std.specs.Prelude.{Bool, true, false, cond, ◌&&◌, List, [], ◌�
 use Rattle.section.specs.Facts.{Bytes as AllBytes}
 use Rattle.packet.specs.declared.Packet.{Packet}
 use Rattle.packet.specs.declared.Packet.TheVariants.{Malformed, Nothing, Payload}
-use Rattle.packet.specs.Packets.{packetOf}
+use Rattle.packet.specs.Packets.{packet_of}
 use Rattle.transport.specs.Rules.{Bytes}
 use Rattle.transport.specs.Receiver.{Arrival}
-use Rattle.assemble.specs.Store.{payloadOf}
-use Rattle.demux_places.specs.Places.{outcomeOf}
-use Rattle.ties_demux.specs.Rules.{onCard, Held, Fed, fedBy}
-use Rattle.ties_demux.specs.Card.{Gates, Card, watchedOn, tellsOn, actsOn, gateNear, patsNear, Told, cardActs, cardTells}
+use Rattle.assemble.specs.Store.{payload_of}
+use Rattle.demux_places.specs.Places.{outcome_of}
+use Rattle.ties_demux.specs.Rules.{on_card, Held, Fed, fed_by}
+use Rattle.ties_demux.specs.Card.{Gates, Card, watched_on, tells_on, acts_on, gate_near, pats_near, Told, card_acts, card_tells}
 
 -- a packet, that is any bytes, on an input
 pub record Given : Type 0 where
@@ -23,41 +23,41 @@ OfBytes (x ∷ xs) = AllBytes x.packet × OfBytes xs
 -- ---- the card, and the rules
 
 abbrev pub tells : Card → Given → Told
-tells c x = cardTells c x.input x.packet
+tells c x = card_tells c x.input x.packet
 
 abbrev pub acts : Card → Given → Card
-acts c x = cardActs c x.input x.packet
+acts c x = card_acts c x.input x.packet
 
 abbrev pub ruled : Held Gates → Given → Fed Gates
-ruled h x = fedBy watchedOn tellsOn actsOn gateNear patsNear h x.input x.packet
+ruled h x = fed_by watched_on tells_on acts_on gate_near pats_near h x.input x.packet
 
-abbrev pub rulesTell : Held Gates → Given → Told
-rulesTell h x = record { answer = (ruled h x).answer; sections = (ruled h x).sections; outcomes = map outcomeOf (ruled h x).answers }
+abbrev pub rules_tell : Held Gates → Given → Told
+rules_tell h x = record { answer = (ruled h x).answer; sections = (ruled h x).sections; outcomes = map outcome_of (ruled h x).answers }
 
-abbrev pub rulesAct : Held Gates → Given → Held Gates
-rulesAct h x = (ruled h x).then
+abbrev pub rules_act : Held Gates → Given → Held Gates
+rules_act h x = (ruled h x).then
 
 -- ---- what arrives, by the numbers of PIDs on the card
 
-abbrev pub arrivalIn : (input : ℕ) → Bytes → Packet → List Arrival
-arrivalIn i packet Malformed = []
-arrivalIn i packet Nothing = []
-arrivalIn i packet (Payload l) = record { pid = onCard i l.pid.0; packet = payloadOf l packet } ∷ []
+abbrev pub arrival_in : (input : ℕ) → Bytes → Packet → List Arrival
+arrival_in i packet Malformed = []
+arrival_in i packet Nothing = []
+arrival_in i packet (Payload l) = record { pid = on_card i l.pid.0; packet = payload_of l packet } ∷ []
 
 -- a payload of an input that there is
-abbrev pub arrivalOf : Given → List Arrival
-arrivalOf x = cond (ltb x.input 16) (arrivalIn x.input x.packet (packetOf x.packet)) []
+abbrev pub arrival_of : Given → List Arrival
+arrival_of x = cond (ltb x.input 16) (arrival_in x.input x.packet (packet_of x.packet)) []
 
 unfoldable pub arrivals : List Given → List Arrival
 arrivals [] = []
-arrivals (x ∷ xs) = arrivalOf x ++ arrivals xs
+arrivals (x ∷ xs) = arrival_of x ++ arrivals xs
 
 -- ---- what is finished on PID number n: the sections that calls with its payloads told
 
-abbrev pub onIt : ℕ → List Arrival → Bool
-onIt n [] = false
-onIt n (a ∷ as') = eqb n a.pid
+abbrev pub on_it : ℕ → List Arrival → Bool
+on_it n [] = false
+on_it n (a ∷ as') = eqb n a.pid
 
-unfoldable pub finishedBy : ℕ → Card → List Given → List Bytes
-finishedBy n c [] = []
-finishedBy n c (x ∷ xs) = cond (onIt n (arrivalOf x)) (tells c x).sections [] ++ finishedBy n (acts c x) xs
+unfoldable pub finished_by : ℕ → Card → List Given → List Bytes
+finished_by n c [] = []
+finished_by n c (x ∷ xs) = cond (on_it n (arrival_of x)) (tells c x).sections [] ++ finished_by n (acts c x) xs

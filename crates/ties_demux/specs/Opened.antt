@@ -3,7 +3,7 @@ use Rattle.std.specs.Prelude.{◌≡◌, List, ℕ, ◌≤◌, length}
 use Rattle.section.specs.Facts.{Bytes as AllBytes}
 use Rattle.gate_state.specs.declared.Settings.{Settings}
 use Rattle.pats.specs.Store.{Record}
-use Rattle.gate_pats.specs.Store.{openedWith, recordOpened}
+use Rattle.gate_pats.specs.Store.{opened_with, record_opened}
 use Rattle.streams.specs.Store.{opened_of}
 use Rattle.ties_demux.specs.Card.{Gates, Input, Card}
 
@@ -13,16 +13,16 @@ pub record OpenedGate (st : Settings) (g : Gates) : Type 0 where
   pub slots : ℕ
   pub cells : ℕ
   pub words : List ℕ
-  pub seven : (openedWith st extra (length g.keys) (length g.changes) slots cells words).answer ≡ 7
-  pub gate : g.gate ≡ (openedWith st extra (length g.keys) (length g.changes) slots cells words).gate
-  pub counters : g.counters ≡ (openedWith st extra (length g.keys) (length g.changes) slots cells words).counters
+  pub seven : (opened_with st extra (length g.keys) (length g.changes) slots cells words).answer ≡ 7
+  pub gate : g.gate ≡ (opened_with st extra (length g.keys) (length g.changes) slots cells words).gate
+  pub counters : g.counters ≡ (opened_with st extra (length g.keys) (length g.changes) slots cells words).counters
 
 -- by `gate_pats::open_record`, or by `gate_pats::open`, which leaves the same words
 pub record OpenedRecord (st : Settings) (r : Record) : Type 0 where
   pub extra : List ℕ
   pub before : List ℕ
-  pub seven : (recordOpened st extra (length r.slots) (length r.cells) before).answer ≡ 7
-  pub words : r.words ≡ (recordOpened st extra (length r.slots) (length r.cells) before).words
+  pub seven : (record_opened st extra (length r.slots) (length r.cells) before).answer ≡ 7
+  pub words : r.words ≡ (record_opened st extra (length r.slots) (length r.cells) before).words
 
 -- by `streams::open`
 pub record OpenedStreams (l : Input) : Type 0 where

@@ -7,19 +7,19 @@ use Rattle.std.proofs.Math.Option.{Option, none, some}
 use Rattle.packet.specs.declared.Load.{Load}
 use Rattle.packet.specs.declared.Packet.{Packet}
 use Rattle.packet.specs.declared.Packet.TheVariants.{Malformed, Nothing, Payload}
-use Rattle.packet.specs.Packets.{packetOf}
+use Rattle.packet.specs.Packets.{packet_of}
 use Rattle.transport.specs.Rules.{Bytes}
 use Rattle.transport.specs.Receiver.{Stream, HeldOf, FedOf, taking, feeds}
 use Rattle.transport.specs.Receiver as transport
-use Rattle.assemble.specs.Store.{payloadOf}
+use Rattle.assemble.specs.Store.{payload_of}
 use Rattle.streams.specs.declared.Streams.{Streams}
-use Rattle.ties_streams.specs.View.{lowestOf}
+use Rattle.ties_streams.specs.View.{lowest_of}
 use Rattle.gate_state.specs.State.{Said}
-use Rattle.demux_state.specs.State.{plain, finished, isNear, packetCounted, malformedCounted}
+use Rattle.demux_state.specs.State.{plain, finished, is_near, packet_counted, malformed_counted}
 use Rattle.demux_state.specs.State as feeding
 
-abbrev pub onCard : (input pid : ℕ) → ℕ
-onCard i p = i * 8192 + p
+abbrev pub on_card : (input pid : ℕ) → ℕ
+on_card i p = i * 8192 + p
 
 -- what is held, and of each input how many buffers it has and what was counted
 pub record Held (W : Type 0) : Type 0 where
@@ -34,50 +34,50 @@ pub record Fed (W : Type 0) : Type 0 where
   pub then : Held W
 
 -- the lowest number of a buffer of its input that no PID of that input holds
-abbrev pub freeIn : ((input : ℕ) → Streams) → transport.Streams → ℕ → Option ℕ
-freeIn counts f n = lowestOf (counts (n / 8192)).count (λ q. f (n / 8192 * 8192 + q))
+abbrev pub free_in : ((input : ℕ) → Streams) → transport.Streams → ℕ → Option ℕ
+free_in counts f n = lowest_of (counts (n / 8192)).count (λ q. f (n / 8192 * 8192 + q))
 
-abbrev pub countsWith : (input : ℕ) → Streams → ((input : ℕ) → Streams) → (input : ℕ) → Streams
-countsWith i s counts j = cond (eqb j i) s (counts j)
+abbrev pub counts_with : (input : ℕ) → Streams → ((input : ℕ) → Streams) → (input : ℕ) → Streams
+counts_with i s counts j = cond (eqb j i) s (counts j)
 
 -- 43 where the PID needs a buffer and none is free
 abbrev pub numbered : Option Stream → List Bytes → feeding.Said
 numbered none ss = plain 43
 numbered (some s) ss = finished (length ss)
 
-module _ {W : Type 0} (watched : W → ℕ → Bool) (tells : W → ℕ → Bytes → Said) (acts : W → ℕ → Bytes → W) (gateNear : W → Bool) (patsNear : W → (input : ℕ) → Bool) where
+module _ {W : Type 0} (watched : W → ℕ → Bool) (tells : W → ℕ → Bytes → Said) (acts : W → ℕ → Bytes → W) (gate_near : W → Bool) (pats_near : W → (input : ℕ) → Bool) where
   -- the gate's answers to the sections of a packet of PID n, one after another
-  unfoldable pub answersIn : ℕ → List Bytes → W → List Said
-  answersIn n [] w = []
-  answersIn n (s ∷ ss) w = tells w n s ∷ answersIn n ss (acts w n s)
+  unfoldable pub answers_in : ℕ → List Bytes → W → List Said
+  answers_in n [] w = []
+  answers_in n (s ∷ ss) w = tells w n s ∷ answers_in n ss (acts w n s)
 
   -- a payload: the watch is asked once
-  abbrev pub payloadFed : Held W → (input : ℕ) → Load → Bytes → Fed W
-  payloadFed h i l packet =
-      let n : ℕ = onCard i l.pid.0 in
-      let x : FedOf W = feeds watched acts (freeIn h.counts) h.held n (payloadOf l packet) in
+  abbrev pub payload_fed : Held W → (input : ℕ) → Load → Bytes → Fed W
+  payload_fed h i l packet =
+      let n : ℕ = on_card i l.pid.0 in
+      let x : FedOf W = feeds watched acts (free_in h.counts) h.held n (payload_of l packet) in
       record {
-        answer = cond (watched h.held.world n) (numbered (taking (h.held.streams n) (freeIn h.counts h.held.streams n)) x.sections) (finished 0);
+        answer = cond (watched h.held.world n) (numbered (taking (h.held.streams n) (free_in h.counts h.held.streams n)) x.sections) (finished 0);
         sections = x.sections;
-        answers = answersIn n x.sections h.held.world;
-        then = record { held = x.held; counts = countsWith i (packetCounted (h.counts i)) h.counts };
+        answers = answers_in n x.sections h.held.world;
+        then = record { held = x.held; counts = counts_with i (packet_counted (h.counts i)) h.counts };
       }
 
-  abbrev pub onlyCounted : Held W → (input : ℕ) → feeding.Said → Streams → Fed W
-  onlyCounted h i answer s = record { answer = answer; sections = []; answers = []; then = record { held = h.held; counts = countsWith i s h.counts } }
+  abbrev pub only_counted : Held W → (input : ℕ) → feeding.Said → Streams → Fed W
+  only_counted h i answer s = record { answer = answer; sections = []; answers = []; then = record { held = h.held; counts = counts_with i s h.counts } }
 
-  unfoldable pub packetFed : Held W → (input : ℕ) → Bytes → Packet → Fed W
-  packetFed h i packet Malformed = onlyCounted h i (plain 30) (malformedCounted (h.counts i))
-  packetFed h i packet Nothing = onlyCounted h i (finished 0) (packetCounted (h.counts i))
-  packetFed h i packet (Payload l) = payloadFed h i l packet
+  unfoldable pub packet_fed : Held W → (input : ℕ) → Bytes → Packet → Fed W
+  packet_fed h i packet Malformed = only_counted h i (plain 30) (malformed_counted (h.counts i))
+  packet_fed h i packet Nothing = only_counted h i (finished 0) (packet_counted (h.counts i))
+  packet_fed h i packet (Payload l) = payload_fed h i l packet
 
   abbrev pub refused : Held W → ℕ → Fed W
   refused h number = record { answer = plain number; sections = []; answers = []; then = h }
 
   -- 11: a counter of the gate, one of the input's two, or the PAT store's of the input is within 64 of its end
-  abbrev pub nearIn : Held W → (input : ℕ) → Bool
-  nearIn h i = gateNear h.held.world || isNear (h.counts i).packets || isNear (h.counts i).malformed || patsNear h.held.world i
+  abbrev pub near_in : Held W → (input : ℕ) → Bool
+  near_in h i = gate_near h.held.world || is_near (h.counts i).packets || is_near (h.counts i).malformed || pats_near h.held.world i
 
   -- a packet on an input: 11, 37, then 30, 43 or 29
-  unfoldable pub fedBy : Held W → (input : ℕ) → Bytes → Fed W
-  fedBy h i packet = cond (nearIn h i) (refused h 11) (cond (ltb i 16) (packetFed h i packet (packetOf packet)) (refused h 37))
+  unfoldable pub fed_by : Held W → (input : ℕ) → Bytes → Fed W
+  fed_by h i packet = cond (near_in h i) (refused h 11) (cond (ltb i 16) (packet_fed h i packet (packet_of packet)) (refused h 37))

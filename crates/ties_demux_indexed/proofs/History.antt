@@ -6,110 +6,110 @@ use mathlib.Core.Option.{none, some}
 use mathlib.Core.Bool.{cond}
 use mathlib.Core.List.{List, [], ◌∷◌, ◌++◌}
 use Prim.Native.Nat.{ℕ, ◌+◌, ◌<◌}
-use Rattle.laws.specs.Runs.{answers, storeAfter}
+use Rattle.laws.specs.Runs.{answers, store_after}
 use Rattle.transport.specs.Rules.{Bytes}
 use Rattle.transport.specs.Sender.{Sending, Sent, Arrives}
-use Rattle.transport.specs.Receiver.{AllIn, Stream, onPid}
+use Rattle.transport.specs.Receiver.{AllIn, Stream, on_pid}
 use Rattle.counters.specs.Rules.{Sums}
 use Rattle.gate_state.specs.declared.Settings.{Settings}
-use Rattle.ties_demux.specs.Rules.{onCard}
-use Rattle.ties_demux.specs.Card.{Card, Told, shownBy}
-use Rattle.ties_demux.specs.History.{Given, OfBytes, rulesTell, rulesAct, arrivalOf, arrivals, onIt, finishedBy}
+use Rattle.ties_demux.specs.Rules.{on_card}
+use Rattle.ties_demux.specs.Card.{Card, Told, shown_by}
+use Rattle.ties_demux.specs.History.{Given, OfBytes, rules_tell, rules_act, arrival_of, arrivals, on_it, finished_by}
 use Rattle.ties_demux.specs.History as plain
-use Rattle.ties_demux.specs.Counting.{isCounted, isMalformed, callsOn}
-use Rattle.ties_demux.proofs.History as plain-history
-use Rattle.ties_demux.proofs.Opening.{opened-stands}
-use Rattle.ties_demux.proofs.Exact as plain-exact
+use Rattle.ties_demux.specs.Counting.{is_counted, is_malformed, calls_on}
+use Rattle.ties_demux.proofs.History as plain_history
+use Rattle.ties_demux.proofs.Opening.{opened_stands}
+use Rattle.ties_demux.proofs.Exact as plain_exact
 use Rattle.ties_demux.proofs.Always.{HoldsWell}
-use Rattle.ties_demux.proofs.Always as plain-always
-use Rattle.ties_demux.proofs.Counting as plain-counts
+use Rattle.ties_demux.proofs.Always as plain_always
+use Rattle.ties_demux.proofs.Counting as plain_counts
 use Rattle.ties_demux_indexed.specs.Card.{CardBy}
-use Rattle.ties_demux_indexed.specs.History.{Call, feeds, offers, Says, told, said, OfCallBytes, tells, acts, tellsBy, actsBy, packetTells, packetActs, finishedWith}
+use Rattle.ties_demux_indexed.specs.History.{Call, feeds, offers, Says, told, said, OfCallBytes, tells, acts, tells_by, acts_by, packet_tells, packet_acts, finished_with}
 use Rattle.ties_demux_indexed.specs.Opened.{OpenedCardBy}
-use Rattle.ties_demux_indexed.proofs.Card.{Fit, feed-alike, offer-alike}
-use Rattle.ties_demux_indexed.proofs.Opening.{plain-opened, opened-fit}
+use Rattle.ties_demux_indexed.proofs.Card.{Fit, feed_alike, offer_alike}
+use Rattle.ties_demux_indexed.proofs.Opening.{plain_opened, opened_fit}
 
 -- ---- packets and offers
 
 record AlikeCall (c : CardBy) (x : Call) : Type 0 where
-  pub says : tellsBy c x ≡ tells c.card x
-  pub leaves : (actsBy c x).card ≡ acts c.card x
-  pub fit : Fit (actsBy c x)
+  pub says : tells_by c x ≡ tells c.card x
+  pub leaves : (acts_by c x).card ≡ acts c.card x
+  pub fit : Fit (acts_by c x)
 
-call-alike : (c : CardBy) → Fit c → (x : Call) (xs : List Call) → OfCallBytes (x ∷ xs) → AlikeCall c x × OfCallBytes xs
-unfolding tellsBy tells actsBy acts
-call-alike c f (feeds i packet) xs b = let y = feed-alike c f i packet b.0 in (record { says = ap told y.tells; leaves = y.acts; fit = y.fit }, b.1)
-call-alike c f (offers i pid section) xs b = let y = offer-alike c f i pid section b.0 in (record { says = ap said y.tells; leaves = y.acts; fit = y.fit }, b.1)
+call_alike : (c : CardBy) → Fit c → (x : Call) (xs : List Call) → OfCallBytes (x ∷ xs) → AlikeCall c x × OfCallBytes xs
+unfolding tells_by tells acts_by acts
+call_alike c f (feeds i packet) xs b = let y = feed_alike c f i packet b.0 in (record { says = ap told y.tells; leaves = y.acts; fit = y.fit }, b.1)
+call_alike c f (offers i pid section) xs b = let y = offer_alike c f i pid section b.0 in (record { says = ap said y.tells; leaves = y.acts; fit = y.fit }, b.1)
 
-answers-alike : (c : CardBy) → Fit c → (xs : List Call) → OfCallBytes xs → answers tellsBy actsBy c xs ≡ answers tells acts c.card xs
+answers_alike : (c : CardBy) → Fit c → (xs : List Call) → OfCallBytes xs → answers tells_by acts_by c xs ≡ answers tells acts c.card xs
 unfolding answers
-answers-alike c f [] b = refl
-answers-alike c f (x ∷ xs) b =
-    let y = call-alike c f x xs b in
-    let rest = answers-alike (actsBy c x) y.0.fit xs y.1 ∙ ap (λ (k : Card). answers tells acts k xs) y.0.leaves in
+answers_alike c f [] b = refl
+answers_alike c f (x ∷ xs) b =
+    let y = call_alike c f x xs b in
+    let rest = answers_alike (acts_by c x) y.0.fit xs y.1 ∙ ap (λ (k : Card). answers tells acts k xs) y.0.leaves in
     λ i. y.0.says i ∷ rest i
 
-cards-alike : (c : CardBy) → Fit c → (xs : List Call) → OfCallBytes xs → (storeAfter actsBy c xs).card ≡ storeAfter acts c.card xs
-unfolding storeAfter
-cards-alike c f [] b = refl
-cards-alike c f (x ∷ xs) b = let y = call-alike c f x xs b in cards-alike (actsBy c x) y.0.fit xs y.1 ∙ ap (λ (k : Card). storeAfter acts k xs) y.0.leaves
+cards_alike : (c : CardBy) → Fit c → (xs : List Call) → OfCallBytes xs → (store_after acts_by c xs).card ≡ store_after acts c.card xs
+unfolding store_after
+cards_alike c f [] b = refl
+cards_alike c f (x ∷ xs) b = let y = call_alike c f x xs b in cards_alike (acts_by c x) y.0.fit xs y.1 ∙ ap (λ (k : Card). store_after acts k xs) y.0.leaves
 
 -- THE THEOREM: both forms of the gate answer alike, and leave alike all that they share: gate, counters, rows and records, and of each input its streams, PID words
 -- and buffers; and the places
-pub both-alike : (st : Settings) (c : CardBy) → OpenedCardBy st c → (xs : List Call) → OfCallBytes xs
-    → (answers tellsBy actsBy c xs ≡ answers tells acts c.card xs) × ((storeAfter actsBy c xs).card ≡ storeAfter acts c.card xs)
-both-alike st c o xs b = (answers-alike c (opened-fit st c o) xs b, cards-alike c (opened-fit st c o) xs b)
+pub both_alike : (st : Settings) (c : CardBy) → OpenedCardBy st c → (xs : List Call) → OfCallBytes xs
+    → (answers tells_by acts_by c xs ≡ answers tells acts c.card xs) × ((store_after acts_by c xs).card ≡ store_after acts c.card xs)
+both_alike st c o xs b = (answers_alike c (opened_fit st c o) xs b, cards_alike c (opened_fit st c o) xs b)
 
 -- ---- packets alone
 
-packets-told : (c : CardBy) → Fit c → (xs : List Given) → OfBytes xs → answers packetTells packetActs c xs ≡ answers plain.tells plain.acts c.card xs
+packets_told : (c : CardBy) → Fit c → (xs : List Given) → OfBytes xs → answers packet_tells packet_acts c xs ≡ answers plain.tells plain.acts c.card xs
 unfolding answers
-packets-told c f [] b = refl
-packets-told c f (x ∷ xs) b =
-    let y = feed-alike c f x.input x.packet b.0 in
-    let rest = packets-told (packetActs c x) y.fit xs b.1 ∙ ap (λ (k : Card). answers plain.tells plain.acts k xs) y.acts in
+packets_told c f [] b = refl
+packets_told c f (x ∷ xs) b =
+    let y = feed_alike c f x.input x.packet b.0 in
+    let rest = packets_told (packet_acts c x) y.fit xs b.1 ∙ ap (λ (k : Card). answers plain.tells plain.acts k xs) y.acts in
     λ i. y.tells i ∷ rest i
 
-packets-left : (c : CardBy) → Fit c → (xs : List Given) → OfBytes xs → (storeAfter packetActs c xs).card ≡ storeAfter plain.acts c.card xs
-unfolding storeAfter
-packets-left c f [] b = refl
-packets-left c f (x ∷ xs) b =
-    let y = feed-alike c f x.input x.packet b.0 in
-    packets-left (packetActs c x) y.fit xs b.1 ∙ ap (λ (k : Card). storeAfter plain.acts k xs) y.acts
+packets_left : (c : CardBy) → Fit c → (xs : List Given) → OfBytes xs → (store_after packet_acts c xs).card ≡ store_after plain.acts c.card xs
+unfolding store_after
+packets_left c f [] b = refl
+packets_left c f (x ∷ xs) b =
+    let y = feed_alike c f x.input x.packet b.0 in
+    packets_left (packet_acts c x) y.fit xs b.1 ∙ ap (λ (k : Card). store_after plain.acts k xs) y.acts
 
-finished-alike : (n : ℕ) (c : CardBy) → Fit c → (xs : List Given) → OfBytes xs → finishedWith n c xs ≡ finishedBy n c.card xs
-unfolding finishedWith finishedBy
-finished-alike n c f [] b = refl
-finished-alike n c f (x ∷ xs) b =
-    let y = feed-alike c f x.input x.packet b.0 in
-    let rest = finished-alike n (packetActs c x) y.fit xs b.1 ∙ ap (λ (k : Card). finishedBy n k xs) y.acts in
-    λ i. cond (onIt n (arrivalOf x)) (y.tells i).sections [] ++ rest i
+finished_alike : (n : ℕ) (c : CardBy) → Fit c → (xs : List Given) → OfBytes xs → finished_with n c xs ≡ finished_by n c.card xs
+unfolding finished_with finished_by
+finished_alike n c f [] b = refl
+finished_alike n c f (x ∷ xs) b =
+    let y = feed_alike c f x.input x.packet b.0 in
+    let rest = finished_alike n (packet_acts c x) y.fit xs b.1 ∙ ap (λ (k : Card). finished_by n k xs) y.acts in
+    λ i. cond (on_it n (arrival_of x)) (y.tells i).sections [] ++ rest i
 
 module _ (st : Settings) (c : CardBy) (o : OpenedCardBy st c) (xs : List Given) (b : OfBytes xs) where
-  after : (storeAfter packetActs c xs).card ≡ storeAfter plain.acts c.card xs
-  after = packets-left c (opened-fit st c o) xs b
+  after : (store_after packet_acts c xs).card ≡ store_after plain.acts c.card xs
+  after = packets_left c (opened_fit st c o) xs b
 
   -- the rules' answers and sections, and the rules' next state
-  pub same-answers : answers packetTells packetActs c xs ≡ answers rulesTell rulesAct (shownBy c.card) xs
-  same-answers = packets-told c (opened-fit st c o) xs b ∙ plain-history.same-answers c.card xs (opened-stands st c.card (plain-opened st c o)) b
+  pub same_answers : answers packet_tells packet_acts c xs ≡ answers rules_tell rules_act (shown_by c.card) xs
+  same_answers = packets_told c (opened_fit st c o) xs b ∙ plain_history.same_answers c.card xs (opened_stands st c.card (plain_opened st c o)) b
 
-  pub same_view : shownBy (storeAfter packetActs c xs).card ≡ storeAfter rulesAct (shownBy c.card) xs
-  same_view = ap shownBy after ∙ plain-history.same_view c.card xs (opened-stands st c.card (plain-opened st c o)) b
+  pub same_view : shown_by (store_after packet_acts c xs).card ≡ store_after rules_act (shown_by c.card) xs
+  same_view = ap shown_by after ∙ plain_history.same_view c.card xs (opened_stands st c.card (plain_opened st c o)) b
 
   -- every PID that holds a buffer is watched, no two hold one, each number is below the count, and bytes under way are no whole section
-  pub in-every-history : (i p : ℕ) (x : Stream) → p < 8192 → (shownBy (storeAfter packetActs c xs).card).held.streams (onCard i p) ≡ some x → HoldsWell (storeAfter packetActs c xs).card i p x
-  in-every-history i p x h =
-      subst (λ (k : Card). (shownBy k).held.streams (onCard i p) ≡ some x → HoldsWell k i p x) (sym after) (plain-always.in-every-history st c.card (plain-opened st c o) xs b i p x h)
+  pub in_every_history : (i p : ℕ) (x : Stream) → p < 8192 → (shown_by (store_after packet_acts c xs).card).held.streams (on_card i p) ≡ some x → HoldsWell (store_after packet_acts c xs).card i p x
+  in_every_history i p x h =
+      subst (λ (k : Card). (shown_by k).held.streams (on_card i p) ≡ some x → HoldsWell k i p x) (sym after) (plain_always.in_every_history st c.card (plain_opened st c o) xs b i p x h)
 
   -- every section that the calls tell of a PID was sent on it, byte for byte
-  pub exact-store : (i p : ℕ) → p < 8192 → {n : ℕ} {rest : Bytes} {secs : List Bytes} {ps : List Sending} → n < 16 → Sent n rest secs ps → Arrives none ps (onPid (onCard i p) (arrivals xs))
-      → AllIn secs (finishedWith (onCard i p) c xs)
-  exact-store i p h {secs = secs} small t arr =
-      subst (AllIn secs) (sym (finished-alike (onCard i p) c (opened-fit st c o) xs b)) (plain-exact.exact-store st c.card (plain-opened st c o) i p h xs b small t arr)
+  pub exact_store : (i p : ℕ) → p < 8192 → {n : ℕ} {rest : Bytes} {secs : List Bytes} {ps : List Sending} → n < 16 → Sent n rest secs ps → Arrives none ps (on_pid (on_card i p) (arrivals xs))
+      → AllIn secs (finished_with (on_card i p) c xs)
+  exact_store i p h {secs = secs} small t arr =
+      subst (AllIn secs) (sym (finished_alike (on_card i p) c (opened_fit st c o) xs b)) (plain_exact.exact_store st c.card (plain_opened st c o) i p h xs b small t arr)
 
   -- the two counts of an input
-  pub packets-count : (i : ℕ) → ((storeAfter packetActs c xs).card.inputs i).streams.packets ≡ (c.card.inputs i).streams.packets + callsOn i isCounted c.card xs
-  packets-count i = ap (λ (k : Card). (k.inputs i).streams.packets) after ∙ plain-counts.packets-count i c.card xs
+  pub packets_count : (i : ℕ) → ((store_after packet_acts c xs).card.inputs i).streams.packets ≡ (c.card.inputs i).streams.packets + calls_on i is_counted c.card xs
+  packets_count i = ap (λ (k : Card). (k.inputs i).streams.packets) after ∙ plain_counts.packets_count i c.card xs
 
-  pub malformed-count : (i : ℕ) → ((storeAfter packetActs c xs).card.inputs i).streams.malformed ≡ (c.card.inputs i).streams.malformed + callsOn i isMalformed c.card xs
-  malformed-count i = ap (λ (k : Card). (k.inputs i).streams.malformed) after ∙ plain-counts.malformed-count i c.card xs
+  pub malformed_count : (i : ℕ) → ((store_after packet_acts c xs).card.inputs i).streams.malformed ≡ (c.card.inputs i).streams.malformed + calls_on i is_malformed c.card xs
+  malformed_count i = ap (λ (k : Card). (k.inputs i).streams.malformed) after ∙ plain_counts.malformed_count i c.card xs

@@ -4,9 +4,9 @@ use Rattle.std.specs.Prelude.{cond, List, [], ◌∷◌, ◌++◌, ℕ}
 use Rattle.section.specs.Facts.{Bytes as AllBytes}
 use Rattle.transport.specs.Rules.{Bytes}
 use Rattle.gate_state.specs.State.{Said}
-use Rattle.ties_demux.specs.Card.{Card, Told, cardActs, cardTells}
-use Rattle.ties_demux.specs.History.{Given, arrivalOf, onIt}
-use Rattle.ties_demux_indexed.specs.Card.{CardBy, feedActs, feedTells, offerActs, offerTells, plainActs, plainTells}
+use Rattle.ties_demux.specs.Card.{Card, Told, card_acts, card_tells}
+use Rattle.ties_demux.specs.History.{Given, arrival_of, on_it}
+use Rattle.ties_demux_indexed.specs.Card.{CardBy, feed_acts, feed_tells, offer_acts, offer_tells, plain_acts, plain_tells}
 
 -- a call on an input
 pub data Call : Type 0 where
@@ -26,32 +26,32 @@ OfCallBytes (offers i pid section ∷ xs) = AllBytes section × OfCallBytes xs
 -- ---- without an index
 
 unfoldable pub tells : Card → Call → Says
-tells c (feeds i packet) = told (cardTells c i packet)
-tells c (offers i pid section) = said (plainTells c i pid section)
+tells c (feeds i packet) = told (card_tells c i packet)
+tells c (offers i pid section) = said (plain_tells c i pid section)
 
 unfoldable pub acts : Card → Call → Card
-acts c (feeds i packet) = cardActs c i packet
-acts c (offers i pid section) = plainActs c i pid section
+acts c (feeds i packet) = card_acts c i packet
+acts c (offers i pid section) = plain_acts c i pid section
 
 -- ---- with an index
 
-unfoldable pub tellsBy : CardBy → Call → Says
-tellsBy c (feeds i packet) = told (feedTells c i packet)
-tellsBy c (offers i pid section) = said (offerTells c i pid section)
+unfoldable pub tells_by : CardBy → Call → Says
+tells_by c (feeds i packet) = told (feed_tells c i packet)
+tells_by c (offers i pid section) = said (offer_tells c i pid section)
 
-unfoldable pub actsBy : CardBy → Call → CardBy
-actsBy c (feeds i packet) = feedActs c i packet
-actsBy c (offers i pid section) = offerActs c i pid section
+unfoldable pub acts_by : CardBy → Call → CardBy
+acts_by c (feeds i packet) = feed_acts c i packet
+acts_by c (offers i pid section) = offer_acts c i pid section
 
 -- ---- packets alone
 
-abbrev pub packetTells : CardBy → Given → Told
-packetTells c x = feedTells c x.input x.packet
+abbrev pub packet_tells : CardBy → Given → Told
+packet_tells c x = feed_tells c x.input x.packet
 
-abbrev pub packetActs : CardBy → Given → CardBy
-packetActs c x = feedActs c x.input x.packet
+abbrev pub packet_acts : CardBy → Given → CardBy
+packet_acts c x = feed_acts c x.input x.packet
 
 -- what is finished on PID number n: the sections that calls with its payloads told
-unfoldable pub finishedWith : ℕ → CardBy → List Given → List Bytes
-finishedWith n c [] = []
-finishedWith n c (x ∷ xs) = cond (onIt n (arrivalOf x)) (packetTells c x).sections [] ++ finishedWith n (packetActs c x) xs
+unfoldable pub finished_with : ℕ → CardBy → List Given → List Bytes
+finished_with n c [] = []
+finished_with n c (x ∷ xs) = cond (on_it n (arrival_of x)) (packet_tells c x).sections [] ++ finished_with n (packet_acts c x) xs

@@ -9,10 +9,10 @@ use native.Mathlib.Omega.{arith}
 use lib.Dec.{eqb}
 use lib.ListN.{get_or, length}
 use Rattle.rules_shared.specs.Same.{Bytes}
-use Rattle.rules_eit.specs.Keys.{Kind, presentActual, presentOther, scheduleActual, scheduleOther, between, kind_of, kindNumber}
-use Rattle.section.specs.Judged.{collectedOf}
-use Rattle.section.specs.Header.{byte_at, headerOf}
-use Rattle.eit_section.specs.Eit.{within, fields_of, layoutGood, eitAs, eitBy, eitOf, kind_of as kindRead}
+use Rattle.rules_eit.specs.Keys.{Kind, present_actual, present_other, schedule_actual, schedule_other, between, kind_of, kind_number}
+use Rattle.section.specs.Judged.{collected_of}
+use Rattle.section.specs.Header.{byte_at, header_of}
+use Rattle.eit_section.specs.Eit.{within, fields_of, layout_good, eit_as, eit_by, eit_of, kind_of as kind_read}
 use Rattle.section.specs.Facts.{Takes}
 use Rattle.section.proofs.Facts.{takes}
 use Rattle.section.specs.declared.header.Header.{Header}
@@ -25,33 +25,33 @@ use Rattle.eit_section.specs.declared.MaybeKind.TheVariants as maybe
 use Rattle.eit_section.specs.declared.Reading.{Reading}
 use Rattle.eit_section.specs.declared.Reading.TheVariants as reading
 use Rattle.rows.specs.declared.Origin.{Origin as Words}
-use Rattle.ticks.specs.Origins.{originShown}
-use Rattle.arrivals.specs.Arrivals.{arrivalOf, kindNumber as numberRead}
-use Rattle.ties_eit.specs.View.{sectionOf}
-use Rattle.ties_eit.proofs.Keys.{bit-bit, bit-reads}
+use Rattle.ticks.specs.Origins.{origin_shown}
+use Rattle.arrivals.specs.Arrivals.{arrival_of, kind_number as number_read}
+use Rattle.ties_eit.specs.View.{section_of}
+use Rattle.ties_eit.proofs.Keys.{bit_bit, bit_reads}
 use Rattle.ties_eit.proofs.Settle.{Arrives}
-use Rattle.ties_eit.proofs.Keep.{sectionFor}
+use Rattle.ties_eit.proofs.Keep.{section_for}
 
 -- ---- the kind by table_id, as the reader has it and as the rules have it
 
 pub data Agree : MaybeKind → Option Kind → Type 0 where
-  present : Agree (maybe.Some PresentFollowingActual) (some presentActual)
-  other : Agree (maybe.Some PresentFollowingOther) (some presentOther)
-  schedule : Agree (maybe.Some ScheduleActual) (some scheduleActual)
-  otherSchedule : Agree (maybe.Some ScheduleOther) (some scheduleOther)
+  present : Agree (maybe.Some PresentFollowingActual) (some present_actual)
+  other : Agree (maybe.Some PresentFollowingOther) (some present_other)
+  schedule : Agree (maybe.Some ScheduleActual) (some schedule_actual)
+  other_schedule : Agree (maybe.Some ScheduleOther) (some schedule_other)
   neither : Agree maybe.None none
 
-pub kinds-agree : (t : ℕ) → Agree (kindRead t) (kind_of t)
+pub kinds_agree : (t : ℕ) → Agree (kind_read t) (kind_of t)
 unfolding kind_of between
-kinds-agree t = go (eqb t 0x4E) (eqb t 0x4F) (within 0x50 0x5F t) (within 0x60 0x6F t)
+kinds_agree t = go (eqb t 0x4E) (eqb t 0x4F) (within 0x50 0x5F t) (within 0x60 0x6F t)
   where
     go : (a b c d : Bool) → Agree
         (cond a (maybe.Some PresentFollowingActual) (cond b (maybe.Some PresentFollowingOther) (cond c (maybe.Some ScheduleActual) (cond d (maybe.Some ScheduleOther) maybe.None))))
-        (cond a (some presentActual) (cond b (some presentOther) (cond c (some scheduleActual) (cond d (some scheduleOther) none))))
+        (cond a (some present_actual) (cond b (some present_other) (cond c (some schedule_actual) (cond d (some schedule_other) none))))
     go true b c d = present
     go false true c d = other
     go false false true d = schedule
-    go false false false true = otherSchedule
+    go false false false true = other_schedule
     go false false false false = neither
 
 -- 18: no kind
@@ -59,74 +59,74 @@ no_kind : (r : MaybeKind) (o : Option Kind) → Agree r o → r ≡ maybe.None �
 no_kind r o present e = let z : ◌≡◌ {A = ℕ} 0 1 = cc in absurd (omega arith)
 no_kind r o other e = let z : ◌≡◌ {A = ℕ} 0 1 = cc in absurd (omega arith)
 no_kind r o schedule e = let z : ◌≡◌ {A = ℕ} 0 1 = cc in absurd (omega arith)
-no_kind r o otherSchedule e = let z : ◌≡◌ {A = ℕ} 0 1 = cc in absurd (omega arith)
+no_kind r o other_schedule e = let z : ◌≡◌ {A = ℕ} 0 1 = cc in absurd (omega arith)
 no_kind r o neither e = refl
 
 -- the number that stands for what a table_id says, where it says a kind
 abbrev number_of : MaybeKind → ℕ
-number_of (maybe.Some k) = numberRead k
+number_of (maybe.Some k) = number_read k
 number_of maybe.None = 4
 
 -- a kind, and its number
-the-kind : (r : MaybeKind) (o : Option Kind) → Agree r o → (x : Read) → r ≡ maybe.Some x → (k : Kind) × (o ≡ some k) × (numberRead x ≡ kindNumber k)
-unfolding kindNumber
-the-kind r o present x e = (presentActual, refl, ap number_of (sym e))
-the-kind r o other x e = (presentOther, refl, ap number_of (sym e))
-the-kind r o schedule x e = (scheduleActual, refl, ap number_of (sym e))
-the-kind r o otherSchedule x e = (scheduleOther, refl, ap number_of (sym e))
-the-kind r o neither x e = let z : ◌≡◌ {A = ℕ} 0 1 = cc in absurd (omega arith)
+the_kind_lem : (r : MaybeKind) (o : Option Kind) → Agree r o → (x : Read) → r ≡ maybe.Some x → (k : Kind) × (o ≡ some k) × (number_read x ≡ kind_number k)
+unfolding kind_number
+the_kind_lem r o present x e = (present_actual, refl, ap number_of (sym e))
+the_kind_lem r o other x e = (present_other, refl, ap number_of (sym e))
+the_kind_lem r o schedule x e = (schedule_actual, refl, ap number_of (sym e))
+the_kind_lem r o other_schedule x e = (schedule_other, refl, ap number_of (sym e))
+the_kind_lem r o neither x e = let z : ◌≡◌ {A = ℕ} 0 1 = cc in absurd (omega arith)
 
 -- ---- what the reading of a section tells
 
 pub data Read-as (s : List ℕ) : Reading → Type 0 where
-  not-eit : kindRead (byte_at s 0) ≡ maybe.None → Read-as s reading.NotEit
+  not_eit : kind_read (byte_at s 0) ≡ maybe.None → Read-as s reading.NotEit
   broken : Read-as s reading.Broken
-  good : (x : Read) → kindRead (byte_at s 0) ≡ maybe.Some x → Read-as s (reading.Good (fields_of s x))
+  good : (x : Read) → kind_read (byte_at s 0) ≡ maybe.Some x → Read-as s (reading.Good (fields_of s x))
 
-pub read_as : (s : List ℕ) → Read-as s (eitOf s)
-unfolding eitOf eitAs
-read_as s = go (kindRead (byte_at s 0)) refl
+pub read_as_lem : (s : List ℕ) → Read-as s (eit_of s)
+unfolding eit_of eit_as
+read_as_lem s = go (kind_read (byte_at s 0)) refl
   where
-    laid : (x : Read) (b : Bool) → kindRead (byte_at s 0) ≡ maybe.Some x → Read-as s (cond b (reading.Good (fields_of s x)) reading.Broken)
+    laid : (x : Read) (b : Bool) → kind_read (byte_at s 0) ≡ maybe.Some x → Read-as s (cond b (reading.Good (fields_of s x)) reading.Broken)
     laid x true e = good x e
     laid x false e = broken
 
-    go : (m : MaybeKind) → kindRead (byte_at s 0) ≡ m → Read-as s (eitBy s m)
-    go (maybe.Some x) e = laid x (layoutGood s) e
-    go maybe.None e = not-eit e
+    go : (m : MaybeKind) → kind_read (byte_at s 0) ≡ m → Read-as s (eit_by s m)
+    go (maybe.Some x) e = laid x (layout_good s) e
+    go maybe.None e = not_eit e
 
-module _ (s : List ℕ) (h : Header) (q : collectedOf s ≡ collected.Good h) where
+module _ (s : List ℕ) (h : Header) (q : collected_of s ≡ collected.Good h) where
   taken : Takes s h
-  taken = takes s h (collectedOf s) refl q
+  taken = takes s h (collected_of s) refl q
 
   pub good_length : 12 ≤ length s
   good_length = taken.room
 
   pub table_is : h.table_id ≡ byte_at s 0
-  unfolding headerOf
+  unfolding header_of
   table_is = rw taken.header
 
-  version-small : h.version < 4294967296
-  unfolding headerOf
-  version-small = rw taken.header (omega arith)
+  version_small : h.version < 4294967296
+  unfolding header_of
+  version_small = rw taken.header (omega arith)
 
-  pub not-kind : kindRead (byte_at s 0) ≡ maybe.None → kind_of h.table_id ≡ none
-  not-kind e = rw table_is (no_kind (kindRead (byte_at s 0)) (kind_of (byte_at s 0)) (kinds-agree (byte_at s 0)) e)
+  pub not_kind : kind_read (byte_at s 0) ≡ maybe.None → kind_of h.table_id ≡ none
+  not_kind e = rw table_is (no_kind (kind_read (byte_at s 0)) (kind_of (byte_at s 0)) (kinds_agree (byte_at s 0)) e)
 
   numbers : get_or s 7 0 < 256 → (h.number ≤ h.last) × (h.last < 256)
-  unfolding headerOf
+  unfolding header_of
   numbers b = rw taken.header (taken.numbered, b)
 
-  pub arrives : get_or s 7 0 < 256 → (from : Words) → (from.pid ≡ 8192 → ⊥) → (x : Read) → kindRead (byte_at s 0) ≡ maybe.Some x → (k : Kind) × Arrives (arrivalOf from h (fields_of s x)) k
+  pub arrives : get_or s 7 0 < 256 → (from : Words) → (from.pid ≡ 8192 → ⊥) → (x : Read) → kind_read (byte_at s 0) ≡ maybe.Some x → (k : Kind) × Arrives (arrival_of from h (fields_of s x)) k
   arrives b from p x e =
       let n = numbers b in
-      let k = the-kind (kindRead (byte_at s 0)) (kind_of (byte_at s 0)) (kinds-agree (byte_at s 0)) x e in (
+      let k = the_kind_lem (kind_read (byte_at s 0)) (kind_of (byte_at s 0)) (kinds_agree (byte_at s 0)) x e in (
         k.0,
         record {
           numbered = record { number = n.0; last = n.1 };
-          version = version-small;
+          version = version_small;
           pid = p;
-          bit = bit-bit h.current_next;
+          bit = bit_bit h.current_next;
           table = rw table_is k.1;
           number = k.2;
           segment = omega arith;
@@ -135,22 +135,22 @@ module _ (s : List ℕ) (h : Header) (q : collectedOf s ≡ collected.Good h) wh
 
 -- ---- the rules' section
 
-pub section-same : (from : Words) (bytes : Bytes) (h : Header) (f : fields.Eit) → sectionFor (arrivalOf from h f) bytes ≡ sectionOf (originShown from) bytes h f
-unfolding sectionOf
-section-same from bytes h f =
-    let c = bit-reads h.current_next in
+pub section_same : (from : Words) (bytes : Bytes) (h : Header) (f : fields.Eit) → section_for (arrival_of from h f) bytes ≡ section_of (origin_shown from) bytes h f
+unfolding section_of
+section_same from bytes h f =
+    let c = bit_reads h.current_next in
     let n : f.segment_last_section_number + 1 - 1 ≡ f.segment_last_section_number = omega arith in
     λ i. record {
-      from = originShown from;
-      tableId = h.table_id;
-      serviceId = f.service_id.0;
-      transportStreamId = f.transport_stream_id;
-      originalNetworkId = f.original_network_id;
-      currentNext = c i;
+      from = origin_shown from;
+      table_id_of = h.table_id;
+      service_id = f.service_id.0;
+      transport_stream_id = f.transport_stream_id;
+      original_network_id = f.original_network_id;
+      current_next_of = c i;
       version = h.version;
       number = h.number;
       last = h.last;
-      segmentLast = n i;
-      lastTable = f.last_table_id;
+      segment_last = n i;
+      last_table = f.last_table_id;
       bytes = bytes;
     }

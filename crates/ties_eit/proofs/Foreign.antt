@@ -7,10 +7,10 @@ use native.Mathlib.Omega.{arith}
 use borrow.Author.Tests.{ne_eqb}
 use lib.Dec.{eqb}
 use Rattle.laws.proofs.Tests.{and_none}
-use Rattle.rules_eit.specs.Keys.{Kind, presentActual, presentOther, scheduleActual, scheduleOther, kind_of, kindNumber}
+use Rattle.rules_eit.specs.Keys.{Kind, present_actual, present_other, schedule_actual, schedule_other, kind_of, kind_number}
 use Rattle.answers.specs.declared.Refusal.TheVariants as refusal
 use Rattle.rows.specs.declared.Key.{Key}
-use Rattle.rows.specs.Rows.{tableWord, word, key_at}
+use Rattle.rows.specs.Rows.{table_word, word, key_at}
 use Rattle.arrivals.specs.Arrivals.{bit_of}
 use Rattle.filter.specs.declared.Of.{Of}
 use Rattle.filter.specs.declared.Of.TheVariants as of
@@ -18,40 +18,40 @@ use Rattle.filter.specs.declared.Wanted.{Wanted}
 use Rattle.filter.specs.declared.Wanted.TheVariants as wanted
 use Rattle.filter.specs.declared.WantedOrigin.{WantedOrigin}
 use Rattle.filter.specs.declared.Fields.{Fields}
-use Rattle.filter.specs.Drops.{wants, wantsOrigin, kindIn, matches, Rest, rest, droppedRow, droppedRows}
+use Rattle.filter.specs.Drops.{wants, wants_origin, kind_in, matches, Rest, rest, dropped_row, dropped_rows}
 use Rattle.eit_drop.specs.declared.Filter.{Filter}
 use Rattle.eit_drop.specs.declared.Drop.TheVariants as drop
 use Rattle.eit_drop.specs.declared.OriginWanted.{OriginWanted}
 use Rattle.eit_drop.specs.declared.OriginWanted.TheVariants as origin-wanted
 use Rattle.eit_state.specs.State.{Store, whole_of}
-use Rattle.eit_drop.specs.Drop.{wantedOrigin, fields_of, dropFrom, matchingGone}
-use Rattle.eit_admit.specs.Admitting.{dropOf}
-use Rattle.eit_pids.specs.Rows.{anyWithout}
-use Rattle.eit.specs.Store.{carriedDrop, droppedOf}
+use Rattle.eit_drop.specs.Drop.{wanted_origin, fields_of, drop_from, matching_gone}
+use Rattle.eit_admit.specs.Admitting.{drop_of}
+use Rattle.eit_pids.specs.Rows.{any_without}
+use Rattle.eit.specs.Store.{carried_drop, dropped_of}
 use Rattle.rules_eit.specs.Rules.{Answer, done, refused}
-use Rattle.ties_eit.specs.View.{theKind, kindBy, answerTold, tells, acts, drops, Reached}
+use Rattle.ties_eit.specs.View.{the_kind, kind_by, answer_told, tells, acts, drops, Reached}
 use Rattle.ties_eit.proofs.Keys.{Bit}
-use Rattle.ties_eit.proofs.Filters.{kind-word}
-use Rattle.ties_eit.proofs.Dropping.{set-bit, schedule-bit}
-use Rattle.ties_eit.proofs.Pids.{each-has-pid}
+use Rattle.ties_eit.proofs.Filters.{kind_word_lem}
+use Rattle.ties_eit.proofs.Dropping.{set_bit, schedule_bit}
+use Rattle.ties_eit.proofs.Pids.{each_has_pid}
 
 -- kinds are 0 to 3, current_next is 0 or 1
 pub data Foreign (f : Filter) : Type 0 where
   kind : (x : ℕ) → f.kind ≡ wanted.Exactly x → 4 ≤ x → Foreign f
-  current-next : (x : ℕ) → f.current_next ≡ wanted.Exactly x → 2 ≤ x → Foreign f
+  current_next : (x : ℕ) → f.current_next ≡ wanted.Exactly x → 2 ≤ x → Foreign f
 
 -- where no row matches, none leaves
-none-leave : (o : Of) (f : Fields) (n : ℕ) (r : Rest) → ((j : ℕ) → j < n → matches o f (key_at r.heads j) ≡ false) → droppedRows o f n r ≡ r
-unfolding droppedRows droppedRow
-none-leave o f zero r e = refl
-none-leave o f (suc n) r e = rw (e n (omega arith)) (none-leave o f n r (λ j h. e j (omega arith)))
+none_leave : (o : Of) (f : Fields) (n : ℕ) (r : Rest) → ((j : ℕ) → j < n → matches o f (key_at r.heads j) ≡ false) → dropped_rows o f n r ≡ r
+unfolding dropped_rows dropped_row
+none_leave o f zero r e = refl
+none_leave o f (suc n) r e = rw (e n (omega arith)) (none_leave o f n r (λ j h. e j (omega arith)))
 
-kind-below : (k : Kind) → kindNumber k < 4
-unfolding kindNumber
-kind-below presentActual = omega arith
-kind-below presentOther = omega arith
-kind-below scheduleActual = omega arith
-kind-below scheduleOther = omega arith
+kind_below : (k : Kind) → kind_number k < 4
+unfolding kind_number
+kind_below present_actual = omega arith
+kind_below present_other = omega arith
+kind_below schedule_actual = omega arith
+kind_below schedule_other = omega arith
 
 bit_below : (b : Bool) → bit_of b < 2
 bit_below true = omega arith
@@ -64,63 +64,63 @@ last : (a b c d e g : Bool) → g ≡ false → (((((a && b) && c) && d) && e) &
 last a b c d e g q = rw q (and_none ((((a && b) && c) && d) && e))
 
 -- a key whose kind is one of the four and whose current_next is a bit
-no-match : (o : Of) (f : Filter) (w : WantedOrigin) → Foreign f → (k : Key) → kindIn o k.table_id < 4 → k.current_next < 2 → matches o (fields_of w f) k ≡ false
+no_match : (o : Of) (f : Filter) (w : WantedOrigin) → Foreign f → (k : Key) → kind_in o k.table_id < 4 → k.current_next < 2 → matches o (fields_of w f) k ≡ false
 unfolding matches
-no-match o f w (kind x e h) k l m =
-    second (wantsOrigin w k.from) (wants f.kind (kindIn o k.table_id)) (wants f.service_id k.extension) (wants f.transport_stream_id k.transport_stream_id)
+no_match o f w (kind x e h) k l m =
+    second (wants_origin w k.from) (wants f.kind (kind_in o k.table_id)) (wants f.service_id k.extension) (wants f.transport_stream_id k.transport_stream_id)
     (wants f.original_network_id k.original_network_id) (wants f.current_next k.current_next)
-    (ap (λ (q : Wanted). wants q (kindIn o k.table_id)) e ∙ ne_eqb (kindIn o k.table_id) x (λ (t : kindIn o k.table_id ≡ x). absurd (omega arith)))
-no-match o f w (current-next x e h) k l m =
-    last (wantsOrigin w k.from) (wants f.kind (kindIn o k.table_id)) (wants f.service_id k.extension) (wants f.transport_stream_id k.transport_stream_id)
+    (ap (λ (q : Wanted). wants q (kind_in o k.table_id)) e ∙ ne_eqb (kind_in o k.table_id) x (λ (t : kind_in o k.table_id ≡ x). absurd (omega arith)))
+no_match o f w (current_next x e h) k l m =
+    last (wants_origin w k.from) (wants f.kind (kind_in o k.table_id)) (wants f.service_id k.extension) (wants f.transport_stream_id k.transport_stream_id)
     (wants f.original_network_id k.original_network_id) (wants f.current_next k.current_next)
     (ap (λ (q : Wanted). wants q k.current_next) e ∙ ne_eqb k.current_next x (λ (t : k.current_next ≡ x). absurd (omega arith)))
 
 module _ (s : Store) (z : Reached s) (f : Filter) (g : Foreign f) (w : WantedOrigin) where
-  sets-stay : droppedRows of.Sets (fields_of w f) s.eit.sets.used (rest s.heads s.slots s.eit.sets.used) ≡ rest s.heads s.slots s.eit.sets.used
-  sets-stay =
-      none-leave of.Sets (fields_of w f) s.eit.sets.used (rest s.heads s.slots s.eit.sets.used) (λ j h.
-      let t : ℕ = tableWord s.heads j in
-      let n = kind-word t (z.heads-fit j h).kind in
-      let k = kind-below (theKind (kind_of t)) in
-      let b = set-bit (key_at s.heads j) (z.sets.proper j h) in
+  sets_stay : dropped_rows of.Sets (fields_of w f) s.eit.sets.used (rest s.heads s.slots s.eit.sets.used) ≡ rest s.heads s.slots s.eit.sets.used
+  sets_stay =
+      none_leave of.Sets (fields_of w f) s.eit.sets.used (rest s.heads s.slots s.eit.sets.used) (λ j h.
+      let t : ℕ = table_word s.heads j in
+      let n = kind_word_lem t (z.heads_fit j h).kind in
+      let k = kind_below (the_kind (kind_of t)) in
+      let b = set_bit (key_at s.heads j) (z.sets.proper j h) in
       let c = bit_below (not (eqb (word s.heads j 3) 0)) in
-      no-match of.Sets f w g (key_at s.heads j) (omega arith) (omega arith))
+      no_match of.Sets f w g (key_at s.heads j) (omega arith) (omega arith))
 
-  schedules-stay : droppedRows of.Schedules (fields_of w f) s.eit.schedules (rest s.schedule-heads s.units s.eit.schedules) ≡ rest s.schedule-heads s.units s.eit.schedules
-  schedules-stay =
-      none-leave of.Schedules (fields_of w f) s.eit.schedules (rest s.schedule-heads s.units s.eit.schedules) (λ j h.
-      let b = schedule-bit (key_at s.schedule-heads j) (z.schedules.proper j h) in
-      let n : tableWord s.schedule-heads j ≡ kindNumber (kindBy (tableWord s.schedule-heads j)) = b.1 in
-      let k = kind-below (kindBy (tableWord s.schedule-heads j)) in
-      let d : Bit (word s.schedule-heads j 3) = b.0 in
-      let c = bit_below (not (eqb (word s.schedule-heads j 3) 0)) in
-      no-match of.Schedules f w g (key_at s.schedule-heads j) (omega arith) (omega arith))
+  schedules_stay : dropped_rows of.Schedules (fields_of w f) s.eit.schedules (rest s.schedule_heads s.units s.eit.schedules) ≡ rest s.schedule_heads s.units s.eit.schedules
+  schedules_stay =
+      none_leave of.Schedules (fields_of w f) s.eit.schedules (rest s.schedule_heads s.units s.eit.schedules) (λ j h.
+      let b = schedule_bit (key_at s.schedule_heads j) (z.schedules.proper j h) in
+      let n : table_word s.schedule_heads j ≡ kind_number (kind_by (table_word s.schedule_heads j)) = b.1 in
+      let k = kind_below (kind_by (table_word s.schedule_heads j)) in
+      let d : Bit (word s.schedule_heads j 3) = b.0 in
+      let c = bit_below (not (eqb (word s.schedule_heads j 3) 0)) in
+      no_match of.Schedules f w g (key_at s.schedule_heads j) (omega arith) (omega arith))
 
-  gone-stays : (carriedDrop s (drop.Matching (fields_of w f))).store ≡ s
-  unfolding matchingGone
-  gone-stays = rw (sets-stay, schedules-stay)
+  gone_stays : (carried_drop s (drop.Matching (fields_of w f))).store ≡ s
+  unfolding matching_gone
+  gone_stays = rw (sets_stay, schedules_stay)
 
 -- nothing is dropped
-pub foreign-drop : (s : Store) → Reached s → (f : Filter) → Foreign f → acts s (drops f) ≡ s
-unfolding acts droppedOf dropOf
-foreign-drop s z f g = go (whole_of s) (anyWithout s.eit s.heads s.schedule-heads) (wantedOrigin f.input f.pid)
+pub foreign_drop : (s : Store) → Reached s → (f : Filter) → Foreign f → acts s (drops f) ≡ s
+unfolding acts dropped_of drop_of
+foreign_drop s z f g = go (whole_of s) (any_without s.eit s.heads s.schedule_heads) (wanted_origin f.input f.pid)
   where
-    go : (b w : Bool) (p : OriginWanted) → (carriedDrop s (cond b (cond w (drop.Refuse refusal.NoPid) (dropFrom f p)) (drop.Refuse refusal.NotWhole))).store ≡ s
+    go : (b w : Bool) (p : OriginWanted) → (carried_drop s (cond b (cond w (drop.Refuse refusal.NoPid) (drop_from f p)) (drop.Refuse refusal.NotWhole))).store ≡ s
     go true true p = refl
-    go true false (origin-wanted.Refused r) = refl
-    go true false (origin-wanted.Is w) = gone-stays s z f g w
+    go true false (origin_wanted.Refused r) = refl
+    go true false (origin_wanted.Is w) = gone_stays s z f g w
     go false w p = refl
 
 -- 41 for no PID, 12 for a PID of 8192 or more, 37 for an input of 16 or more, else 7, whatever the other fields of the filter are
-abbrev pub dropAnswer : OriginWanted → Answer
-dropAnswer (origin-wanted.Refused r) = refused r
-dropAnswer (origin-wanted.Is w) = done
+abbrev pub drop_answer : OriginWanted → Answer
+drop_answer (origin_wanted.Refused r) = refused r
+drop_answer (origin_wanted.Is w) = done
 
 -- a filter that names no kind and no current_next is answered as any other: by its PID and its input alone
-pub drop-answered : (s : Store) → Reached s → whole_of s ≡ true → (f : Filter) → tells s (drops f) ≡ dropAnswer (wantedOrigin f.input f.pid)
-unfolding tells droppedOf dropOf answerTold
-drop-answered s z w f = rw (w, each-has-pid s z) (go (wantedOrigin f.input f.pid))
+pub drop_answered : (s : Store) → Reached s → whole_of s ≡ true → (f : Filter) → tells s (drops f) ≡ drop_answer (wanted_origin f.input f.pid)
+unfolding tells dropped_of drop_of answer_told
+drop_answered s z w f = rw (w, each_has_pid s z) (go (wanted_origin f.input f.pid))
   where
-    go : (p : OriginWanted) → answerTold (carriedDrop s (dropFrom f p)).told ≡ dropAnswer p
-    go (origin-wanted.Refused r) = refl
-    go (origin-wanted.Is x) = refl
+    go : (p : OriginWanted) → answer_told (carried_drop s (drop_from f p)).told ≡ drop_answer p
+    go (origin_wanted.Refused r) = refl
+    go (origin_wanted.Is x) = refl

@@ -13,20 +13,20 @@ use lib.ListN.{length}
 use Rattle.rules_shared.specs.Touch.{retain}
 use Rattle.rows.specs.declared.Key.{Key}
 use Rattle.rows.specs.Rows.{key_at}
-use Rattle.ticks.specs.Order.{rowsSeen, Stands, movedFrom}
-use Rattle.ticks.proofs.Drop.{dropped-stands, dropped-seen, retained-seen}
+use Rattle.ticks.specs.Order.{rows_seen, Stands, moved_from}
+use Rattle.ticks.proofs.Drop.{dropped_stands, dropped_seen, retained_seen}
 use Rattle.filter.specs.declared.Of.{Of}
 use Rattle.filter.specs.declared.Of.TheVariants as of
 use Rattle.filter.specs.declared.Fields.{Fields}
-use Rattle.filter.specs.Drops.{matches, width_of, removedHeads, removedWords, Rest, removed, droppedRow, droppedRows}
-use Rattle.ties_eit.proofs.Removed.{length-removed-heads, removed-key, removed-dropped, length-removed-words}
+use Rattle.filter.specs.Drops.{matches, width_of, removed_heads, removed_words, Rest, removed, dropped_row, dropped_rows}
+use Rattle.ties_eit.proofs.Removed.{length_removed_heads, removed_key, removed_dropped, length_removed_words}
 
-less-width : (o : Of) (n m : ℕ) → n * width_of o ≤ m → (n - 1) * width_of o ≤ m
-less-width of.Sets n m h = omega arith
-less-width of.Schedules n m h = omega arith
+less_width : (o : Of) (n m : ℕ) → n * width_of o ≤ m → (n - 1) * width_of o ≤ m
+less_width of.Sets n m h = omega arith
+less_width of.Schedules n m h = omega arith
 
 -- a row in use other than the one that left stands in row j's place
-moved_in : (used i j : ℕ) → i < used → j < used - 1 → movedFrom used i j < used
+moved_in : (used i j : ℕ) → i < used → j < used - 1 → moved_from used i j < used
 moved_in used i j h k = go (eqb j i)
   where
     go : (b : Bool) → cond b (used - 1) j < used
@@ -36,43 +36,43 @@ moved_in used i j h k = go (eqb j i)
 -- what the rows in use have; `Fits heads j` is what is known of the head of row j
 pub record Sound {K : Type 0} (shown : Key → K) (words : K → Key) (o : Of) (Fits : List ℕ → ℕ → Type 0) (clock : ℕ) (r : Rest) : Type 0 where
   pub stands : Stands shown words r.heads r.used clock
-  pub heads-long : r.used * 12 ≤ length r.heads
+  pub heads_long : r.used * 12 ≤ length r.heads
   pub words_long : r.used * width_of o ≤ length r.words
   pub fits : (j : ℕ) → j < r.used → Fits r.heads j
 
 -- what stays of r; `row heads words j` is what row j shows, `test` says which keys stay
 pub record Stays {K R : Type 0} (shown : Key → K) (words : K → Key) (o : Of) (Fits : List ℕ → ℕ → Type 0) (row : List ℕ → List ℕ → ℕ → R) (test : K → Bool) (clock : ℕ) (r after : Rest) : Type 0 where
   pub sound : Sound shown words o Fits clock after
-  pub same-heads : length after.heads ≡ length r.heads
-  pub same-words : length after.words ≡ length r.words
+  pub same_heads : length after.heads ≡ length r.heads
+  pub same_words : length after.words ≡ length r.words
   pub fewer : after.used ≤ r.used
-  pub rows : rowsSeen shown after.heads after.used clock (row after.heads after.words) ≡ retain test (rowsSeen shown r.heads r.used clock (row r.heads r.words))
+  pub rows : rows_seen shown after.heads after.used clock (row after.heads after.words) ≡ retain test (rows_seen shown r.heads r.used clock (row r.heads r.words))
 
 module _ {K R : Type 0} (shown : Key → K) (words : K → Key) (o : Of) (f : Fields) (Fits : List ℕ → ℕ → Type 0) (row : List ℕ → List ℕ → ℕ → R) (test : K → Bool) (clock : ℕ)
-    (moved-fits : (used i : ℕ) (heads : List ℕ) → i < used → used * 12 ≤ length heads → (j : ℕ) → Fits heads (movedFrom used i j) → Fits (removedHeads used i heads) j)
+    (moved_fits : (used i : ℕ) (heads : List ℕ) → i < used → used * 12 ≤ length heads → (j : ℕ) → Fits heads (moved_from used i j) → Fits (removed_heads used i heads) j)
     (Moved-row : (used i : ℕ) (heads ws : List ℕ) → i < used → used * 12 ≤ length heads → used * width_of o ≤ length ws → (j : ℕ) → j < used - 1
-    → row (removedHeads used i heads) (removedWords o used i ws) j ≡ row heads ws (movedFrom used i j))
+    → row (removed_heads used i heads) (removed_words o used i ws) j ≡ row heads ws (moved_from used i j))
     (agrees : (heads : List ℕ) (j : ℕ) → Fits heads j → words (shown (key_at heads j)) ≡ key_at heads j → matches o f (key_at heads j) ≡ not (test (shown (key_at heads j)))) where
-  removed-sound : (r : Rest) (i : ℕ) → i < r.used → Sound shown words o Fits clock r → Sound shown words o Fits clock (removed o i r)
-  removed-sound r i h s =
-      let p = length-removed-heads r.used i r.heads h s.heads-long in
-      let q = length-removed-words o r.used i r.words h s.words_long in
-      let l = s.heads-long in
+  removed_sound : (r : Rest) (i : ℕ) → i < r.used → Sound shown words o Fits clock r → Sound shown words o Fits clock (removed o i r)
+  removed_sound r i h s =
+      let p = length_removed_heads r.used i r.heads h s.heads_long in
+      let q = length_removed_words o r.used i r.words h s.words_long in
+      let l = s.heads_long in
       record {
-        stands = dropped-stands shown words r.heads r.used clock s.stands (removedHeads r.used i r.heads) i h (removed-dropped r.used i r.heads h s.heads-long);
-        heads-long = omega arith;
-        words_long = rw q (less-width o r.used (length r.words) s.words_long);
-        fits = λ j k. moved-fits r.used i r.heads h s.heads-long j (s.fits (movedFrom r.used i j) (moved_in r.used i j h k));
+        stands = dropped_stands shown words r.heads r.used clock s.stands (removed_heads r.used i r.heads) i h (removed_dropped r.used i r.heads h s.heads_long);
+        heads_long = omega arith;
+        words_long = rw q (less_width o r.used (length r.words) s.words_long);
+        fits = λ j k. moved_fits r.used i r.heads h s.heads_long j (s.fits (moved_from r.used i j) (moved_in r.used i j h k));
       }
 
   -- the first n rows are still to be looked at; those after them stay
   abbrev Later : ℕ → Rest → Type 0
   Later n r = (j : ℕ) → n ≤ j → j < r.used → test (shown (key_at r.heads j)) ≡ true
 
-  later-removed : (n : ℕ) (r : Rest) → n < r.used → Sound shown words o Fits clock r → Later (suc n) r → Later n (removed o n r)
-  later-removed n r h s f j a b = rw (removed-key r.used n r.heads h s.heads-long j) (go (ℕ_discrete j n))
+  later_removed : (n : ℕ) (r : Rest) → n < r.used → Sound shown words o Fits clock r → Later (suc n) r → Later n (removed o n r)
+  later_removed n r h s f j a b = rw (removed_key r.used n r.heads h s.heads_long j) (go (ℕ_discrete j n))
     where
-      go : Dec (j ≡ n) → test (shown (key_at r.heads (movedFrom r.used n j))) ≡ true
+      go : Dec (j ≡ n) → test (shown (key_at r.heads (moved_from r.used n j))) ≡ true
       go (yes q) = rw (eq-eqb j n q) (f (r.used - 1) (omega arith) (omega arith))
       go (no ne) = rw (ne_eqb j n ne) (f j (omega arith) (omega arith))
 
@@ -80,14 +80,14 @@ module _ {K R : Type 0} (shown : Key → K) (words : K → Key) (o : Of) (f : Fi
   not_back b true e = (λ t. absurd (true≢false (sym t ∙ e)), λ t. refl)
   not_back b false e = (λ t. refl, λ t. absurd (true≢false (sym e ∙ t)))
 
-  pub stays : (n : ℕ) (r : Rest) → Sound shown words o Fits clock r → n ≤ r.used → Later n r → Stays shown words o Fits row test clock r (droppedRows o f n r)
-  unfolding droppedRows droppedRow
+  pub stays : (n : ℕ) (r : Rest) → Sound shown words o Fits clock r → n ≤ r.used → Later n r → Stays shown words o Fits row test clock r (dropped_rows o f n r)
+  unfolding dropped_rows dropped_row
   stays zero r s h l = record {
     sound = s;
-    same-heads = refl;
-    same-words = refl;
+    same_heads = refl;
+    same_words = refl;
     fewer = omega arith;
-    rows = sym (retained-seen shown words r.heads r.used clock s.stands (row r.heads r.words) test (λ j k. l j (omega arith) k));
+    rows = sym (retained_seen shown words r.heads r.used clock s.stands (row r.heads r.words) test (λ j k. l j (omega arith) k));
   }
   stays (suc n) r s h l =
       go (matches o f (key_at r.heads n)) refl
@@ -96,20 +96,20 @@ module _ {K R : Type 0} (shown : Key → K) (words : K → Key) (o : Of) (f : Fi
       agree : matches o f (key_at r.heads n) ≡ not (test (shown (key_at r.heads n)))
       agree = agrees r.heads n (s.fits n h) (s.stands.proper n h)
 
-      go : (b : Bool) → matches o f (key_at r.heads n) ≡ b → (Sound shown words o Fits clock (removed o n r) → Later n (removed o n r) → Stays shown words o Fits row test clock (removed o n r) (droppedRows o f n (removed o n r)))
-          → (Later n r → Stays shown words o Fits row test clock r (droppedRows o f n r)) → Stays shown words o Fits row test clock r (droppedRows o f n (cond b (removed o n r) r))
+      go : (b : Bool) → matches o f (key_at r.heads n) ≡ b → (Sound shown words o Fits clock (removed o n r) → Later n (removed o n r) → Stays shown words o Fits row test clock (removed o n r) (dropped_rows o f n (removed o n r)))
+          → (Later n r → Stays shown words o Fits row test clock r (dropped_rows o f n r)) → Stays shown words o Fits row test clock r (dropped_rows o f n (cond b (removed o n r) r))
       go true e left stay =
           let out : test (shown (key_at r.heads n)) ≡ false = (not_back true (test (shown (key_at r.heads n))) (sym e ∙ agree)).0 refl in
-          let t = left (removed-sound r n h s) (later-removed n r h s l) in
+          let t = left (removed_sound r n h s) (later_removed n r h s l) in
           record {
             sound = t.sound;
-            same-heads = t.same-heads ∙ length-removed-heads r.used n r.heads h s.heads-long;
-            same-words = t.same-words ∙ length-removed-words o r.used n r.words h s.words_long;
+            same_heads = t.same_heads ∙ length_removed_heads r.used n r.heads h s.heads_long;
+            same_words = t.same_words ∙ length_removed_words o r.used n r.words h s.words_long;
             fewer = let q = t.fewer in omega arith;
             rows = t.rows
-                ∙ dropped-seen shown words r.heads r.used clock s.stands (removedHeads r.used n r.heads) n h (removed-dropped r.used n r.heads h s.heads-long)
-                (row r.heads r.words) (row (removedHeads r.used n r.heads) (removedWords o r.used n r.words))
-                (λ j k. Moved-row r.used n r.heads r.words h s.heads-long s.words_long j k) test out;
+                ∙ dropped_seen shown words r.heads r.used clock s.stands (removed_heads r.used n r.heads) n h (removed_dropped r.used n r.heads h s.heads_long)
+                (row r.heads r.words) (row (removed_heads r.used n r.heads) (removed_words o r.used n r.words))
+                (λ j k. Moved-row r.used n r.heads r.words h s.heads_long s.words_long j k) test out;
           }
       go false e left stay =
           let in' : test (shown (key_at r.heads n)) ≡ true = (not_back false (test (shown (key_at r.heads n))) (sym e ∙ agree)).1 refl in

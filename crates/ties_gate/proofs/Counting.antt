@@ -7,45 +7,45 @@ use mathlib.Core.List.{List, [], ◌∷◌, map}
 use mathlib.Core.Bool.{Bool, true, false, cond}
 use lib.ListN.{length}
 use native.Mathlib.Omega.{arith}
-use Rattle.laws.specs.Runs.{answers, storeAfter}
+use Rattle.laws.specs.Runs.{answers, store_after}
 use Rattle.answers.specs.declared.Refusal.TheVariants.{CounterFull}
-use Rattle.counters.specs.Counters.{zeroes, anyFull, plusOf}
+use Rattle.counters.specs.Counters.{zeroes, any_full, plus_of}
 use Rattle.counters.specs.Rules.{count_of, Sums}
 use Rattle.counters.specs.declared.Counters.{Counters}
 use Rattle.offers.specs.Offers.{read_of}
 use Rattle.offers.specs.declared.Verdict.{Verdict}
 use Rattle.offers.specs.declared.Verdict.TheVariants.{Refused, Failed, Arrived}
 use Rattle.gate.specs.Store.{opened, Store}
-use Rattle.gate.specs.Rules.{Offer, Manner, Held, admitted, carriedIn, told, tells, tellsNo, acts, OfBytes}
-use Rattle.gate.specs.View.{storeTells, storeNo, storeActs}
+use Rattle.gate.specs.Rules.{Offer, Manner, Held, admitted, carried_in, told, tells, tells_no, acts, OfBytes}
+use Rattle.gate.specs.View.{store_tells, store_no, store_acts}
 use Rattle.gate_state.specs.State.{number_of}
 use Rattle.gate_state.specs.declared.Settings.{Settings}
-use Rattle.ties_gate.specs.Watching.{isProtected, emptyHeld}
-use Rattle.ties_gate.specs.Counting.{leavesFor, isEvicting, evictionsIn}
+use Rattle.ties_gate.specs.Watching.{is_protected, empty_held}
+use Rattle.ties_gate.specs.Counting.{leaves_for, is_evicting, evictions_in}
 use Rattle.ties_gate.proofs.Counts.{sums}
-use Rattle.ties_gate.proofs.Opening.{leftOpen, opened-empty, mannerFor, answers-from-open, view-from-open}
+use Rattle.ties_gate.proofs.Opening.{left_open, opened_empty, manner_for, answers_from_open, view_from_open}
 
 -- evictions, of the rule
 module _ (m : Manner) where
-  one_more : (n k : ℕ) (b : Bool) → plusOf n b + k ≡ n + cond b (suc k) k
-  one_more n k true = omega arith
-  one_more n k false = refl
+  one_more_lem : (n k : ℕ) (b : Bool) → plus_of n b + k ≡ n + cond b (suc k) k
+  one_more_lem n k true = omega arith
+  one_more_lem n k false = refl
 
-  carried-evictions : (h : Held) (section : List ℕ) (v : Verdict) → (carriedIn m h section v).held.counters.evictions ≡ plusOf h.counters.evictions (leavesFor m h v)
-  unfolding carriedIn admitted
-  carried-evictions h section (Refused r) = refl
-  carried-evictions h section (Failed f) = refl
-  carried-evictions h section (Arrived a) = refl
+  carried_evictions : (h : Held) (section : List ℕ) (v : Verdict) → (carried_in m h section v).held.counters.evictions ≡ plus_of h.counters.evictions (leaves_for m h v)
+  unfolding carried_in admitted
+  carried_evictions h section (Refused r) = refl
+  carried_evictions h section (Failed f) = refl
+  carried_evictions h section (Arrived a) = refl
 
-  evictions-run : (h : Held) (os : List Offer) → (storeAfter (acts m) h os).counters.evictions ≡ h.counters.evictions + evictionsIn m h os
-  unfolding storeAfter evictionsIn acts told isEvicting
-  evictions-run h [] = omega arith
-  evictions-run h (o ∷ os) =
-      let v : Verdict = cond (anyFull h.counters) (Refused CounterFull) (read_of m.rule o.input o.pid o.section) in
-      let x : Held = (carriedIn m h o.section v).held in
-      evictions-run x os
-      ∙ ap (λ (n : ℕ). n + evictionsIn m x os) (carried-evictions h o.section v)
-      ∙ one_more h.counters.evictions (evictionsIn m x os) (leavesFor m h v)
+  evictions_run : (h : Held) (os : List Offer) → (store_after (acts m) h os).counters.evictions ≡ h.counters.evictions + evictions_in m h os
+  unfolding store_after evictions_in acts told is_evicting
+  evictions_run h [] = omega arith
+  evictions_run h (o ∷ os) =
+      let v : Verdict = cond (any_full h.counters) (Refused CounterFull) (read_of m.rule o.input o.pid o.section) in
+      let x : Held = (carried_in m h o.section v).held in
+      evictions_run x os
+      ∙ ap (λ (n : ℕ). n + evictions_in m x os) (carried_evictions h o.section v)
+      ∙ one_more_lem h.counters.evictions (evictions_in m x os) (leaves_for m h v)
 
 from_zero : (n : ℕ) → 0 + n ≡ n
 from_zero n = omega arith
@@ -64,7 +64,7 @@ pub record Tells (as' : List ℕ) (evictions : ℕ) (c : Counters) : Type 0 wher
   pub failures : c.crc_failures ≡ count_of 31 as' + count_of 3 as'
   pub short : c.short_sections ≡ count_of 31 as'
   pub mismatches : c.crc_mismatches ≡ count_of 3 as'
-  pub evictions-are : c.evictions ≡ evictions
+  pub evictions_are : c.evictions ≡ evictions
 
 module _
     (st : Settings) (extra keys changes words : List ℕ)
@@ -73,24 +73,24 @@ module _
   where
     -- the store that opening left, and the empty gate of the rule
     abbrev start : Store
-    start = leftOpen (opened st extra (length keys) (length changes) words) keys changes
+    start = left_open (opened st extra (length keys) (length changes) words) keys changes
 
     abbrev empty : Held
-    empty = emptyHeld (isProtected st.well_known extra)
+    empty = empty_held (is_protected st.well_known extra)
 
-    same_numbers : answers storeNo storeActs start os ≡ answers (tellsNo (mannerFor st)) (acts (mannerFor st)) empty os
+    same_numbers : answers store_no store_acts start os ≡ answers (tells_no (manner_for st)) (acts (manner_for st)) empty os
     same_numbers =
-        numbers storeTells storeActs number_of start os
-        ∙ ap (map number_of) (answers-from-open st extra keys changes words h os b)
-        ∙ sym (numbers (tells (mannerFor st)) (acts (mannerFor st)) number_of empty os)
+        numbers store_tells store_acts number_of start os
+        ∙ ap (map number_of) (answers_from_open st extra keys changes words h os b)
+        ∙ sym (numbers (tells (manner_for st)) (acts (manner_for st)) number_of empty os)
 
     -- THE THEOREM
-    pub counters-in-every-history :
-        Tells (answers (tellsNo (mannerFor st)) (acts (mannerFor st)) empty os) (evictionsIn (mannerFor st) empty os) (storeAfter storeActs start os).counters
-    counters-in-every-history =
-        let k : Sums (answers (tellsNo (mannerFor st)) (acts (mannerFor st)) empty os) start.counters (storeAfter storeActs start os).counters =
-        subst (λ (as' : List ℕ). Sums as' start.counters (storeAfter storeActs start os).counters) same_numbers (sums start os) in
-        let z : start.counters ≡ zeroes = ap (λ (x : Held). x.counters) (opened-empty st extra keys changes words h) in
+    pub counters_in_every_history :
+        Tells (answers (tells_no (manner_for st)) (acts (manner_for st)) empty os) (evictions_in (manner_for st) empty os) (store_after store_acts start os).counters
+    counters_in_every_history =
+        let k : Sums (answers (tells_no (manner_for st)) (acts (manner_for st)) empty os) start.counters (store_after store_acts start os).counters =
+        subst (λ (as' : List ℕ). Sums as' start.counters (store_after store_acts start os).counters) same_numbers (sums start os) in
+        let z : start.counters ≡ zeroes = ap (λ (x : Held). x.counters) (opened_empty st extra keys changes words h) in
         let e : start.counters.emitted ≡ 0 = ap (λ (x : Counters). x.emitted) z in
         let s : start.counters.suppressed ≡ 0 = ap (λ (x : Counters). x.suppressed) z in
         let f : start.counters.crc_failures ≡ 0 = ap (λ (x : Counters). x.crc_failures) z in
@@ -104,7 +104,7 @@ module _
           failures = omega (arith, k.failures, f);
           short = omega (arith, k.short, g);
           mismatches = omega (arith, k.mismatches, m);
-          evictions-are =
-              ap (λ (x : Held). x.counters.evictions) (view-from-open st extra keys changes words h os b)
-              ∙ evictions-run (mannerFor st) empty os ∙ from_zero (evictionsIn (mannerFor st) empty os);
+          evictions_are =
+              ap (λ (x : Held). x.counters.evictions) (view_from_open st extra keys changes words h os b)
+              ∙ evictions_run (manner_for st) empty os ∙ from_zero (evictions_in (manner_for st) empty os);
         }

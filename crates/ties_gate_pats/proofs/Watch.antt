@@ -8,178 +8,178 @@ use mathlib.Core.Bool.{Bool, true, false, cond, ◌&&◌, ◌||◌, or-false}
 use lib.ListN.{length}
 use lib.Dec.{eqb}
 use borrow.Author.Tests.{le-leb, lt-ltb}
-use Rattle.laws.specs.Bits.{hasBit}
-use Rattle.laws.specs.Runs.{storeAfter}
+use Rattle.laws.specs.Bits.{has_bit}
+use Rattle.laws.specs.Runs.{store_after}
 use Rattle.section.specs.Facts.{Bytes}
 use Rattle.watched.specs.Rules.{Watch}
-use Rattle.watched.specs.Store.{watchedOf, asked}
+use Rattle.watched.specs.Store.{watched_of, asked}
 use Rattle.watched.specs.View.{InStep}
-use Rattle.gate_state.specs.State.{plain, byTables, bySections}
+use Rattle.gate_state.specs.State.{plain, by_tables, by_sections}
 use Rattle.gate_state.specs.declared.Follow.{Follow}
 use Rattle.gate_state.specs.declared.Follow.TheVariants.{Off, Sections, Tables}
 use Rattle.gate_state.specs.declared.Settings.{Settings}
 use Rattle.gate.specs.Rules.{Offer, Manner, told, acts, OfBytes}
-use Rattle.gate.specs.View.{storeActs}
+use Rattle.gate.specs.View.{store_acts}
 use Rattle.answers.specs.declared.Refusal.TheVariants.{CounterFull}
-use Rattle.counters.specs.Counters.{anyFull}
+use Rattle.counters.specs.Counters.{any_full}
 use Rattle.offers.specs.Offers.{read_of}
 use Rattle.offers.specs.declared.Verdict.TheVariants.{Refused}
 use Rattle.laws.proofs.Tests.{and_none}
-use Rattle.pat.specs.Pat.{readable, setN}
+use Rattle.pat.specs.Pat.{readable, set_n}
 use Rattle.rules_sets.specs.Rules.{Answer, cleared, nothing, handout, refused}
-use Rattle.rules_sets.specs.Rules.{tells as setsTell}
-use Rattle.ties_pats.specs.Rules.{programsOfSet, readPat, patSettings, nAfter, entersOn}
-use Rattle.pats.specs.Store.{Record, patsFull, entered_in}
+use Rattle.rules_sets.specs.Rules.{tells as sets_tell}
+use Rattle.ties_pats.specs.Rules.{programs_of_set, read_pat, pat_settings, n_after, enters_on}
+use Rattle.pats.specs.Store.{Record, pats_full, entered_in}
 use Rattle.ties_pats.specs.View.{entering}
-use Rattle.ties_pats.proofs.Obey.{in-step-then}
-use Rattle.ties_gate.specs.Watching.{isProtected, noPid, isChanged, isFollowed, answered}
-use Rattle.ties_gate.specs.Watching.{nAfter as below-n}
-use Rattle.ties_gate.proofs.Opening.{mannerFor}
+use Rattle.ties_pats.proofs.Obey.{in_step_then}
+use Rattle.ties_gate.specs.Watching.{is_protected, no_pid, is_changed, is_followed, answered}
+use Rattle.ties_gate.specs.Watching.{n_after as below_n}
+use Rattle.ties_gate.proofs.Opening.{manner_for}
 use Rattle.ties_gate.proofs.Watch as below
-use Rattle.ties_gate.proofs.Watching.{Watches, follow-watches, watches}
-use Rattle.gate_pats.specs.Store.{openedWith, Kept, Offering, sectionsIn, soundBy}
-use Rattle.gate_pats.specs.View.{keptTells, keptActs}
-use Rattle.gate_pats.proofs.Manner.{old-manner}
-use Rattle.ties_gate_pats.specs.Rules.{Holding, emptyHolding, atEnd, watchWith, enteredWith, entersFrom, behind, toldWith, tellsWith, actsWith}
-use Rattle.ties_gate_pats.specs.History.{nThen, nWith}
-use Rattle.ties_gate_pats.proofs.Order.{Any, OpenedWith, follows-with}
-use Rattle.ties_gate_pats.proofs.Opening.{leftOpen, opening-opens, opening-in-step, view-from-open}
+use Rattle.ties_gate.proofs.Watching.{Watches, follow_watches, watches}
+use Rattle.gate_pats.specs.Store.{opened_with, Kept, Offering, sections_in, sound_by}
+use Rattle.gate_pats.specs.View.{kept_tells, kept_acts}
+use Rattle.gate_pats.proofs.Manner.{old_manner}
+use Rattle.ties_gate_pats.specs.Rules.{Holding, empty_holding, at_end, watch_with, entered_with, enters_from, behind, told_with, tells_with, acts_with}
+use Rattle.ties_gate_pats.specs.History.{n_then, n_with}
+use Rattle.ties_gate_pats.proofs.Order.{Any, OpenedWith, follows_with}
+use Rattle.ties_gate_pats.proofs.Opening.{left_open, opening_opens, opening_in_step, view_from_open}
 use Rattle.gate_pats_indexed.specs.Store as indexed
-use Rattle.ties_gate_pats.specs.View.{keptActsBy}
+use Rattle.ties_gate_pats.specs.View.{kept_acts_by}
 use Rattle.ties_gate_pats.proofs.Indexed as by_index
-use Rattle.ties_gate_pats.proofs.Entered.{one-entering, always-opened}
+use Rattle.ties_gate_pats.proofs.Entered.{one_entering, always_opened}
 
 -- ---- of the lent words
 
 module _ (s : Kept) (o : Offer) (k : OpenedWith s) (b : Bytes o.section) (i : InStep s.watch.words) where
   -- where complete PATs are followed
-  by-tables : byTables s.gate.follow ≡ true → InStep (keptActs s o).watch.words
+  by_tables : by_tables s.gate.follow ≡ true → InStep (kept_acts s o).watch.words
   unfolding entering
-  by-tables h = subst (λ (r : Record). InStep r.words) (sym (one-entering s o k b h)) (go (soundBy (keptTells s o) && eqb o.pid 0) (patsFull s.watch.words) refl)
+  by_tables h = subst (λ (r : Record). InStep r.words) (sym (one_entering s o k b h)) (go (sound_by (kept_tells s o) && eqb o.pid 0) (pats_full s.watch.words) refl)
     where
-      go : (c f : Bool) → patsFull s.watch.words ≡ f → InStep (cond c (cond f s.watch (entered_in s.watch o.input o.section)) s.watch).words
+      go : (c f : Bool) → pats_full s.watch.words ≡ f → InStep (cond c (cond f s.watch (entered_in s.watch o.input o.section)) s.watch).words
       go true true e = i
-      go true false e = in-step-then Any s.watch (k.pats h) e o.input o.section b i
+      go true false e = in_step_then Any s.watch (k.pats h) e o.input o.section b i
       go false f e = i
 
   -- where they are not
-  not-by-tables : byTables s.gate.follow ≡ false → InStep (keptActs s o).watch.words
-  unfolding keptActs storeActs
-  not-by-tables h =
-      subst (λ (l : Offering). InStep l.left.watch.words) (sym (old-manner s o.input o.pid o.section h))
-      (below.offer-kept (sectionsIn s) o (record { room = k.sections.watch; step = i })).step
+  not_by_tables : by_tables s.gate.follow ≡ false → InStep (kept_acts s o).watch.words
+  unfolding kept_acts store_acts
+  not_by_tables h =
+      subst (λ (l : Offering). InStep l.left.watch.words) (sym (old_manner s o.input o.pid o.section h))
+      (below.offer_kept (sections_in s) o (record { room = k.sections.watch; step = i })).step
 
-  pub in-step-one : InStep (keptActs s o).watch.words
-  in-step-one = go (byTables s.gate.follow) refl
+  pub in_step_one : InStep (kept_acts s o).watch.words
+  in_step_one = go (by_tables s.gate.follow) refl
     where
-      go : (t : Bool) → byTables s.gate.follow ≡ t → InStep (keptActs s o).watch.words
-      go true h = by-tables h
-      go false h = not-by-tables h
+      go : (t : Bool) → by_tables s.gate.follow ≡ t → InStep (kept_acts s o).watch.words
+      go true h = by_tables h
+      go false h = not_by_tables h
 
-pub watch-always : (os : List Offer) (s : Kept) → OpenedWith s → OfBytes os → InStep s.watch.words → InStep (storeAfter keptActs s os).watch.words
-unfolding storeAfter keptActs
-watch-always [] s k b i = i
-watch-always (o ∷ os) s k b i = watch-always os (keptActs s o) (follows-with s o k b.0).opened b.1 (in-step-one s o k b.0 i)
+pub watch_always : (os : List Offer) (s : Kept) → OpenedWith s → OfBytes os → InStep s.watch.words → InStep (store_after kept_acts s os).watch.words
+unfolding store_after kept_acts
+watch_always [] s k b i = i
+watch_always (o ∷ os) s k b i = watch_always os (kept_acts s o) (follows_with s o k b.0).opened b.1 (in_step_one s o k b.0 i)
 
 -- ---- by the rules
 
 -- what the set rules tell is followed, or N stays
-told-watches : (p : ℕ → Bool) (w : Watch) (n : ℕ → Bool) → Watches w p n → (a : Answer) → Watches (watchWith a w) p (nAfter a n)
-told-watches p w n k cleared = k
-told-watches p w n k nothing = k
-told-watches p w n k (handout x) = follow-watches p w n (programsOfSet x.sections) k
-told-watches p w n k (refused r) = k
+told_watches : (p : ℕ → Bool) (w : Watch) (n : ℕ → Bool) → Watches w p n → (a : Answer) → Watches (watch_with a w) p (n_after a n)
+told_watches p w n k cleared = k
+told_watches p w n k nothing = k
+told_watches p w n k (handout x) = follow_watches p w n (programs_of_set x.sections) k
+told_watches p w n k (refused r) = k
 
 module _ (m : Manner) (p : ℕ → Bool) (h : Holding) (n : ℕ → Bool) (o : Offer) (w : Watches h.held.watch p n) where
   -- the gate of sections
-  lower : Watches (told m h.held o).held.watch p (cond (isFollowed m h.held o) (setN o.section) n)
-  unfolding storeAfter below-n acts
+  lower : Watches (told m h.held o).held.watch p (cond (is_followed m h.held o) (set_n o.section) n)
+  unfolding store_after below_n acts
   lower = watches m p h.held n (o ∷ []) w
 
   off : m.follow ≡ false → Watches (told m h.held o).held.watch p n
-  unfolding isFollowed
-  off e = subst (λ (b : Bool). Watches (told m h.held o).held.watch p (cond b (setN o.section) n)) none lower
+  unfolding is_followed
+  off e = subst (λ (b : Bool). Watches (told m h.held o).held.watch p (cond b (set_n o.section) n)) none lower
     where
       changes : Bool
-      changes = isChanged h.held (cond (anyFull h.held.counters) (Refused CounterFull) (read_of m.rule o.input o.pid o.section))
+      changes = is_changed h.held (cond (any_full h.held.counters) (Refused CounterFull) (read_of m.rule o.input o.pid o.section))
 
       never : (x y : Bool) → (x && false && y) ≡ false
       never x y = ap (λ (b : Bool). b && y) (and_none x)
 
-      none : isFollowed m h.held o ≡ false
+      none : is_followed m h.held o ≡ false
       none = ap (λ (b : Bool). changes && b && readable o.section) e ∙ never changes (readable o.section)
 
-  one-with : (f : Follow) → m.follow ≡ bySections f → Watches (actsWith f m h o).held.watch p (nThen f m h o n)
-  unfolding actsWith tellsWith toldWith nThen
-  one-with Off e = lower
-  one-with Sections e = lower
-  one-with Tables e = go (atEnd h.pats)
+  one_with : (f : Follow) → m.follow ≡ by_sections f → Watches (acts_with f m h o).held.watch p (n_then f m h o n)
+  unfolding acts_with tells_with told_with n_then
+  one_with Off e = lower
+  one_with Sections e = lower
+  one_with Tables e = go (at_end h.pats)
     where
-      inner : (c : Bool) → Watches (cond c (enteredWith (record { held = (told m h.held o).held; pats = h.pats }) o) (record { held = (told m h.held o).held; pats = h.pats })).held.watch p
-          (cond c (nAfter (setsTell patSettings h.pats.sets (readPat o.input o.section)) n) n)
-      inner true = told-watches p (told m h.held o).held.watch n (off e) (setsTell patSettings h.pats.sets (readPat o.input o.section))
+      inner : (c : Bool) → Watches (cond c (entered_with (record { held = (told m h.held o).held; pats = h.pats }) o) (record { held = (told m h.held o).held; pats = h.pats })).held.watch p
+          (cond c (n_after (sets_tell pat_settings h.pats.sets (read_pat o.input o.section)) n) n)
+      inner true = told_watches p (told m h.held o).held.watch n (off e) (sets_tell pat_settings h.pats.sets (read_pat o.input o.section))
       inner false = off e
 
       go : (b : Bool) → Watches (cond b (record { answer = plain 11; holding = h }) (behind Tables h o (told m h.held o))).holding.held.watch p
-          (cond (entersFrom Tables (cond b (record { answer = plain 11; holding = h }) (behind Tables h o (told m h.held o))).answer o) (nAfter (setsTell patSettings h.pats.sets (readPat o.input o.section)) n) n)
+          (cond (enters_from Tables (cond b (record { answer = plain 11; holding = h }) (behind Tables h o (told m h.held o))).answer o) (n_after (sets_tell pat_settings h.pats.sets (read_pat o.input o.section)) n) n)
       go true = w
-      go false = inner (soundBy (told m h.held o).answer && entersOn o.pid o.section)
+      go false = inner (sound_by (told m h.held o).answer && enters_on o.pid o.section)
 
 -- every history of the rules
-pub watches-with :
-    (f : Follow) (m : Manner) (p : ℕ → Bool) → m.follow ≡ bySections f → (os : List Offer) (h : Holding) (n : ℕ → Bool) → Watches h.held.watch p n →
-    Watches (storeAfter (actsWith f m) h os).held.watch p (nWith f m h n os)
-unfolding storeAfter nWith
-watches-with f m p e [] h n w = w
-watches-with f m p e (o ∷ os) h n w = watches-with f m p e os (actsWith f m h o) (nThen f m h o n) (one-with m p h n o w f e)
+pub watches_with :
+    (f : Follow) (m : Manner) (p : ℕ → Bool) → m.follow ≡ by_sections f → (os : List Offer) (h : Holding) (n : ℕ → Bool) → Watches h.held.watch p n →
+    Watches (store_after (acts_with f m) h os).held.watch p (n_with f m h n os)
+unfolding store_after n_with
+watches_with f m p e [] h n w = w
+watches_with f m p e (o ∷ os) h n w = watches_with f m p e os (acts_with f m h o) (n_then f m h o n) (one_with m p h n o w f e)
 
 -- ---- from an opening that answers 7
 
 module _
     (st : Settings) (extra keys changes slots cells words : List ℕ)
-    (h : (openedWith st extra (length keys) (length changes) (length slots) (length cells) words).answer ≡ 7)
+    (h : (opened_with st extra (length keys) (length changes) (length slots) (length cells) words).answer ≡ 7)
     (os : List Offer) (b : OfBytes os)
   where
     abbrev start : Kept
-    start = leftOpen (openedWith st extra (length keys) (length changes) (length slots) (length cells) words) keys changes slots cells
+    start = left_open (opened_with st extra (length keys) (length changes) (length slots) (length cells) words) keys changes slots cells
 
     abbrev protects : ℕ → Bool
-    protects = isProtected st.well_known extra
+    protects = is_protected st.well_known extra
 
     abbrev n : ℕ → Bool
-    n = nWith st.follow (mannerFor st) (emptyHolding protects) noPid os
+    n = n_with st.follow (manner_for st) (empty_holding protects) no_pid os
 
     -- watched = protected ∪ N in the words
-    pub watch-from-open :
-        InStep (storeAfter keptActs (leftOpen (openedWith st extra (length keys) (length changes) (length slots) (length cells) words) keys changes slots cells) os).watch.words
-    watch-from-open =
-        watch-always os start (opening-opens st extra keys changes slots cells words h) b (opening-in-step st extra keys changes slots cells words h)
+    pub watch_from_open :
+        InStep (store_after kept_acts (left_open (opened_with st extra (length keys) (length changes) (length slots) (length cells) words) keys changes slots cells) os).watch.words
+    watch_from_open =
+        watch_always os start (opening_opens st extra keys changes slots cells words h) b (opening_in_step st extra keys changes slots cells words h)
 
-    rule : Watches (storeAfter (actsWith st.follow (mannerFor st)) (emptyHolding protects) os).held.watch protects n
+    rule : Watches (store_after (acts_with st.follow (manner_for st)) (empty_holding protects) os).held.watch protects n
     rule =
-        watches-with st.follow (mannerFor st) protects refl os (emptyHolding protects) noPid
+        watches_with st.follow (manner_for st) protects refl os (empty_holding protects) no_pid
         (record { watched = λ q. sym (or-false (protects q)); protected = λ q. refl; followed = λ q. refl })
 
     -- THE THEOREM: the question whether a PID is watched
-    pub ask-in-every-history :
+    pub ask_in_every_history :
         (pid : ℕ) → pid < 8192 →
-        asked (storeAfter keptActs (leftOpen (openedWith st extra (length keys) (length changes) (length slots) (length cells) words) keys changes slots cells) os).watch.words pid
-        ≡ answered (isProtected st.well_known extra) (nWith st.follow (mannerFor st) (emptyHolding (isProtected st.well_known extra)) noPid os) pid
+        asked (store_after kept_acts (left_open (opened_with st extra (length keys) (length changes) (length slots) (length cells) words) keys changes slots cells) os).watch.words pid
+        ≡ answered (is_protected st.well_known extra) (n_with st.follow (manner_for st) (empty_holding (is_protected st.well_known extra)) no_pid os) pid
     unfolding asked
-    ask-in-every-history pid k =
-        let l : 384 ≤ length (storeAfter keptActs start os).watch.words = (always-opened os start (opening-opens st extra keys changes slots cells words h) b).0.sections.watch in
-        let e : hasBit (watchedOf (storeAfter keptActs start os).watch.words) pid ≡ protects pid || n pid =
-        ap (λ (x : Holding). x.held.watch.watched pid) (view-from-open st extra keys changes slots cells words h os b) ∙ rule.watched pid in
-        rw (le-leb 384 (length (storeAfter keptActs start os).watch.words) l, lt-ltb pid 8192 k, e)
+    ask_in_every_history pid k =
+        let l : 384 ≤ length (store_after kept_acts start os).watch.words = (always_opened os start (opening_opens st extra keys changes slots cells words h) b).0.sections.watch in
+        let e : has_bit (watched_of (store_after kept_acts start os).watch.words) pid ≡ protects pid || n pid =
+        ap (λ (x : Holding). x.held.watch.watched pid) (view_from_open st extra keys changes slots cells words h os b) ∙ rule.watched pid in
+        rw (le-leb 384 (length (store_after kept_acts start os).watch.words) l, lt-ltb pid 8192 k, e)
 
 -- and where the gate's rows have an index
-pub indexed-ask-in-every-history :
+pub indexed_ask_in_every_history :
     (st : Settings) (extra keys changes buckets links slots cells words : List ℕ) →
-    (indexed.openedWith st extra (length keys) (length changes) (length links) (length slots) (length cells) buckets words).answer ≡ 7 →
+    (indexed.opened_with st extra (length keys) (length changes) (length links) (length slots) (length cells) buckets words).answer ≡ 7 →
     (os : List Offer) → OfBytes os → (pid : ℕ) → pid < 8192 →
-    asked (storeAfter keptActsBy (by_index.leftOpen (indexed.openedWith st extra (length keys) (length changes) (length links) (length slots) (length cells) buckets words) keys changes links slots cells) os).kept.watch.words pid
-    ≡ answered (isProtected st.well_known extra) (nWith st.follow (mannerFor st) (emptyHolding (isProtected st.well_known extra)) noPid os) pid
-indexed-ask-in-every-history st extra keys changes buckets links slots cells words h os b pid k =
-    let same = by_index.opening-same st extra keys changes buckets links slots cells words h in
-    ap (λ (x : Kept). asked x.watch.words pid) (by_index.same_kept _ os (by_index.opening-opens st extra keys changes buckets links slots cells words h) b ∙ ap (λ (x : Kept). storeAfter keptActs x os) same.1)
-    ∙ ask-in-every-history st extra keys changes slots cells words same.0 os b pid k
+    asked (store_after kept_acts_by (by_index.left_open (indexed.opened_with st extra (length keys) (length changes) (length links) (length slots) (length cells) buckets words) keys changes links slots cells) os).kept.watch.words pid
+    ≡ answered (is_protected st.well_known extra) (n_with st.follow (manner_for st) (empty_holding (is_protected st.well_known extra)) no_pid os) pid
+indexed_ask_in_every_history st extra keys changes buckets links slots cells words h os b pid k =
+    let same = by_index.opening_same st extra keys changes buckets links slots cells words h in
+    ap (λ (x : Kept). asked x.watch.words pid) (by_index.same_kept _ os (by_index.opening_opens st extra keys changes buckets links slots cells words h) b ∙ ap (λ (x : Kept). store_after kept_acts x os) same.1)
+    ∙ ask_in_every_history st extra keys changes slots cells words same.0 os b pid k

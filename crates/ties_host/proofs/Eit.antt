@@ -8,18 +8,18 @@ use mathlib.Core.Bool.{Bool, true, false, cond}
 use native.Mathlib.Omega.{arith}
 use lib.ListN.{length}
 use lib.Dec.{eqb}
-use Rattle.laws.specs.Runs.{answers, storeAfter, Never}
+use Rattle.laws.specs.Runs.{answers, store_after, Never}
 use Rattle.answers.specs.declared.Refusal.TheVariants as refusal
 use Rattle.rules_eit.specs.Rules.{refused}
-use Rattle.rules_eit.specs.Rules.{tells as rulesTell, acts as rulesAct, opened as rulesOpened}
-use Rattle.rules_eit.specs.Cells.{callTells, callActs}
+use Rattle.rules_eit.specs.Rules.{tells as rules_tell, acts as rules_act, opened as rules_opened}
+use Rattle.rules_eit.specs.Cells.{call_tells, call_acts}
 use Rattle.section.specs.declared.ids.MaybePid.{MaybePid}
 use Rattle.arrivals.specs.declared.Arrival.{Arrival}
 use Rattle.arrivals.specs.declared.EitArrival.{EitArrival}
 use Rattle.arrivals.specs.declared.EitArrival.TheVariants as arrival
-use Rattle.rows.specs.Rows.{touched, keptHeads}
-use Rattle.eit_pids.specs.Rows.{anyWithout}
-use Rattle.eit_state.specs.State.{Store, store, rows, rows_of, risenRows, asked, emptyEit, settingsFit, whole_of}
+use Rattle.rows.specs.Rows.{touched, kept_heads}
+use Rattle.eit_pids.specs.Rows.{any_without}
+use Rattle.eit_state.specs.State.{Store, store, rows, rows_of, risen_rows, asked, empty_eit, settings_fit, whole_of}
 use Rattle.eit_state.specs.State.{Rows as EitRows}
 use Rattle.eit_state.specs.declared.Eit.{Eit}
 use Rattle.eit_plan.specs.Plan.{plan_of}
@@ -27,26 +27,26 @@ use Rattle.eit_plan.specs.declared.Plan.{Plan}
 use Rattle.eit_plan.specs.declared.Plan.TheVariants as plan
 use Rattle.eit_becomes.specs.declared.Becomes.{Becomes}
 use Rattle.eit_becomes.specs.declared.Becomes.TheVariants as becomes
-use Rattle.eit_becomes.specs.Becoming.{becomesOf, isMarked}
+use Rattle.eit_becomes.specs.Becoming.{becomes_of, is_marked}
 use Rattle.eit_enter.specs.Entering.{entered_in, entered}
-use Rattle.eit_settle.specs.Settle.{markedHeads, settledAs, settled}
-use Rattle.eit_carry.specs.Carried.{keptAndSettled, carried, pushedWhole}
-use Rattle.eit_drop.specs.Drop.{matchingGone}
+use Rattle.eit_settle.specs.Settle.{marked_heads, settled_as, settled}
+use Rattle.eit_carry.specs.Carried.{kept_and_settled, carried, pushed_whole}
+use Rattle.eit_drop.specs.Drop.{matching_gone}
 use Rattle.eit_drop.specs.declared.Filter.{Filter}
 use Rattle.eit_drop.specs.declared.Drop.{Drop}
 use Rattle.eit_drop.specs.declared.Drop.TheVariants as plan-drop
-use Rattle.eit_admit.specs.Admitting.{dropOf, admitted}
+use Rattle.eit_admit.specs.Admitting.{drop_of, admitted}
 use Rattle.eit.specs.Store as eit
-use Rattle.eit.specs.Store.{Told, number, After, after, opened_of, clearedOf, carriedDrop, droppedOf, pushedAs, pushedOf}
-use Rattle.ties_eit.specs.View.{seen, settingsOf, reads, answerTold}
+use Rattle.eit.specs.Store.{Told, number, After, after, opened_of, cleared_of, carried_drop, dropped_of, pushed_as, pushed_of}
+use Rattle.ties_eit.specs.View.{seen, settings_of, reads, answer_told}
 use Rattle.ties_eit.specs.View as ties
-use Rattle.ties_eit.proofs.History.{EachFitting, opened-reached}
+use Rattle.ties_eit.proofs.History.{EachFitting, opened_reached}
 use Rattle.ties_eit.proofs.History as histories
-use Rattle.host_words.specs.Inputs.{inputNumber}
-use Rattle.host_words.specs.Pids.{maybePid}
-use Rattle.host_eit_words.specs.Words.{eitOf, filterOf, words_of, wordsAfter}
-use Rattle.host_eit.specs.Calls.{eitOpened, eitPushed, eitCleared, eitDropped}
-use Rattle.ties_host.specs.Eit.{Lent, Call, push, clear, drop, tells, acts, storeIn, call_of, answerNo, OpenedBy}
+use Rattle.host_words.specs.Inputs.{input_number}
+use Rattle.host_words.specs.Pids.{maybe_pid}
+use Rattle.host_eit_words.specs.Words.{eit_of, filter_of, words_of, words_after}
+use Rattle.host_eit.specs.Calls.{eit_opened, eit_pushed, eit_cleared, eit_dropped}
+use Rattle.ties_host.specs.Eit.{Lent, Call, push, clear, drop, tells, acts, store_in, call_of, answer_no, OpenedBy}
 use Rattle.ties_host.proofs.Runs as runs
 
 -- ---- no push, no clearing and no drop changes the settings, whatever the memory holds
@@ -59,123 +59,123 @@ counted e t = record {
   schedule_evictions = t.schedule_evictions;
 }
 
-entered-counts : (r : EitRows) (a : Arrival) (i : ℕ) → (entered r a i).rows.eit ≡ counted r.eit (entered r a i).rows.eit
+entered_counts : (r : EitRows) (a : Arrival) (i : ℕ) → (entered r a i).rows.eit ≡ counted r.eit (entered r a i).rows.eit
 unfolding entered entered_in
-entered-counts r a i = refl
+entered_counts r a i = refl
 
-settled-as-counts : (b : Becomes) (r : EitRows) (a : Arrival) (i : ℕ) → (settledAs b r a i).rows.eit ≡ counted r.eit (settledAs b r a i).rows.eit
-settled-as-counts becomes.Stays r a i = refl
-settled-as-counts becomes.GoesOut r a i = refl
-settled-as-counts becomes.OutOfRange r a i = refl
-settled-as-counts becomes.Enters r a i = entered-counts r a i
+settled_as_counts : (b : Becomes) (r : EitRows) (a : Arrival) (i : ℕ) → (settled_as b r a i).rows.eit ≡ counted r.eit (settled_as b r a i).rows.eit
+settled_as_counts becomes.Stays r a i = refl
+settled_as_counts becomes.GoesOut r a i = refl
+settled_as_counts becomes.OutOfRange r a i = refl
+settled_as_counts becomes.Enters r a i = entered_counts r a i
 
-settled-counts : (r : EitRows) (a : Arrival) (i : ℕ) → (settled r a i).rows.eit ≡ counted r.eit (settled r a i).rows.eit
+settled_counts : (r : EitRows) (a : Arrival) (i : ℕ) → (settled r a i).rows.eit ≡ counted r.eit (settled r a i).rows.eit
 unfolding settled
-settled-counts r a i =
+settled_counts r a i =
     let heads : List ℕ = touched r.eit.sets.clock i r.heads in
-    let b : Becomes = becomesOf heads r.slots a i in
-    settled-as-counts b (rows r.eit (markedHeads (isMarked b) i heads) r.slots r.schedule-heads r.units) a i
+    let b : Becomes = becomes_of heads r.slots a i in
+    settled_as_counts b (rows r.eit (marked_heads (is_marked b) i heads) r.slots r.schedule_heads r.units) a i
 
-carried-counts : (s : Store) (bytes : List ℕ) (p : Plan) → (carried s bytes p).store.eit ≡ counted s.eit (carried s bytes p).store.eit
-unfolding keptAndSettled
-carried-counts s bytes (plan.Leave a) = refl
-carried-counts s bytes (plan.Conflict i) = refl
-carried-counts s bytes (plan.Repeat x) = settled-counts (risenRows (rows_of s)) x.arrival x.row
-carried-counts s bytes (plan.Keep k) = settled-counts _ k.arrival k.room.row
+carried_counts : (s : Store) (bytes : List ℕ) (p : Plan) → (carried s bytes p).store.eit ≡ counted s.eit (carried s bytes p).store.eit
+unfolding kept_and_settled
+carried_counts s bytes (plan.Leave a) = refl
+carried_counts s bytes (plan.Conflict i) = refl
+carried_counts s bytes (plan.Repeat x) = settled_counts (risen_rows (rows_of s)) x.arrival x.row
+carried_counts s bytes (plan.Keep k) = settled_counts _ k.arrival k.room.row
 
-arrived-counts : (s : Store) (bytes : List ℕ) (a : EitArrival) → (pushedAs s bytes a).store.eit ≡ counted s.eit (pushedAs s bytes a).store.eit
-unfolding pushedWhole
-arrived-counts s bytes (arrival.Refused r) = refl
-arrived-counts s bytes (arrival.Arrived a) = carried-counts s bytes (plan_of s bytes a)
+arrived_counts : (s : Store) (bytes : List ℕ) (a : EitArrival) → (pushed_as s bytes a).store.eit ≡ counted s.eit (pushed_as s bytes a).store.eit
+unfolding pushed_whole
+arrived_counts s bytes (arrival.Refused r) = refl
+arrived_counts s bytes (arrival.Arrived a) = carried_counts s bytes (plan_of s bytes a)
 
-pub pushed-counts : (s : Store) (input : ℕ) (pid : MaybePid) (bytes : List ℕ) → (pushedOf s input pid bytes).store.eit ≡ counted s.eit (pushedOf s input pid bytes).store.eit
-unfolding pushedOf
-pushed-counts s input pid bytes = arrived-counts s bytes (admitted s input pid bytes)
+pub pushed_counts : (s : Store) (input : ℕ) (pid : MaybePid) (bytes : List ℕ) → (pushed_of s input pid bytes).store.eit ≡ counted s.eit (pushed_of s input pid bytes).store.eit
+unfolding pushed_of
+pushed_counts s input pid bytes = arrived_counts s bytes (admitted s input pid bytes)
 
 -- ---- one call
 
 -- what is written is what is read: after the call the words stand for the collector that the call of the crate left
-pub reads-back : (l : Lent) (c : Call) → storeIn (acts l c) ≡ (ties.called (storeIn l) (call_of c)).store
-unfolding acts eitPushed eitCleared eitDropped clearedOf droppedOf matchingGone
-reads-back l (push input pid section) =
-    let a = (pushedOf (storeIn l) (inputNumber input) (maybePid pid) section).store in
-    ap (λ (e : Eit). store e a.heads a.slots a.cells a.schedule-heads a.units) (sym (pushed-counts (storeIn l) (inputNumber input) (maybePid pid) section))
-reads-back l clear = go (whole_of (storeIn l)) (anyWithout (eitOf l.words) l.heads l.schedule-heads)
+pub reads_back : (l : Lent) (c : Call) → store_in (acts l c) ≡ (ties.called (store_in l) (call_of c)).store
+unfolding acts eit_pushed eit_cleared eit_dropped cleared_of dropped_of matching_gone
+reads_back l (push input pid section) =
+    let a = (pushed_of (store_in l) (input_number input) (maybe_pid pid) section).store in
+    ap (λ (e : Eit). store e a.heads a.slots a.cells a.schedule_heads a.units) (sym (pushed_counts (store_in l) (input_number input) (maybe_pid pid) section))
+reads_back l clear = go (whole_of (store_in l)) (any_without (eit_of l.words) l.heads l.schedule_heads)
   where
     s : Store
-    s = storeIn l
+    s = store_in l
 
     cleared : Bool → Bool → After
     cleared b n =
         cond b
-        (cond n (after (eit.refused refusal.NoPid) s) (after eit.done (store (emptyEit s.eit) s.heads s.slots s.cells s.schedule-heads s.units)))
+        (cond n (after (eit.refused refusal.NoPid) s) (after eit.done (store (empty_eit s.eit) s.heads s.slots s.cells s.schedule_heads s.units)))
         (after (eit.refused refusal.NotWhole) s)
 
-    go : (b n : Bool) → store (eitOf (wordsAfter l.words (cleared b n).store.eit)) s.heads s.slots s.cells s.schedule-heads s.units ≡ (cleared b n).store
+    go : (b n : Bool) → store (eit_of (words_after l.words (cleared b n).store.eit)) s.heads s.slots s.cells s.schedule_heads s.units ≡ (cleared b n).store
     go true true = refl
     go true false = refl
     go false n = refl
-reads-back l (drop filter) = go (dropOf (storeIn l) (filterOf filter))
+reads_back l (drop filter) = go (drop_of (store_in l) (filter_of filter))
   where
     s : Store
-    s = storeIn l
+    s = store_in l
 
-    go : (d : Drop) → (let a = (carriedDrop s d).store in store (eitOf (wordsAfter l.words a.eit)) a.heads a.slots s.cells a.schedule-heads a.units) ≡ (carriedDrop s d).store
-    go (plan-drop.Refuse r) = refl
-    go (plan-drop.Matching f) = refl
+    go : (d : Drop) → (let a = (carried_drop s d).store in store (eit_of (words_after l.words a.eit)) a.heads a.slots s.cells a.schedule_heads a.units) ≡ (carried_drop s d).store
+    go (plan_drop.Refuse r) = refl
+    go (plan_drop.Matching f) = refl
 
-told-number : (t : Told) → number t ≡ answerNo (answerTold t)
-unfolding answerTold
-told-number eit.done = refl
-told-number eit.nothing = refl
-told-number (eit.a-set x) = refl
-told-number (eit.a-schedule x) = refl
-told-number (eit.refused r) = refl
+told_number : (t : Told) → number t ≡ answer_no (answer_told t)
+unfolding answer_told
+told_number eit.done = refl
+told_number eit.nothing = refl
+told_number (eit.a-set x) = refl
+told_number (eit.a-schedule x) = refl
+told_number (eit.refused r) = refl
 
-pub tells_as : (l : Lent) (c : Call) → tells l c ≡ answerNo (ties.tells (storeIn l) (call_of c))
-unfolding tells ties.tells eitPushed eitCleared eitDropped
-tells_as l (push input pid section) = told-number (pushedOf (storeIn l) (inputNumber input) (maybePid pid) section).told
-tells_as l clear = told-number (clearedOf (storeIn l)).told
-tells_as l (drop filter) = told-number (droppedOf (storeIn l) (filterOf filter)).told
+pub tells_as : (l : Lent) (c : Call) → tells l c ≡ answer_no (ties.tells (store_in l) (call_of c))
+unfolding tells ties.tells eit_pushed eit_cleared eit_dropped
+tells_as l (push input pid section) = told_number (pushed_of (store_in l) (input_number input) (maybe_pid pid) section).told
+tells_as l clear = told_number (cleared_of (store_in l)).told
+tells_as l (drop filter) = told_number (dropped_of (store_in l) (filter_of filter)).told
 
-pub acts-as : (l : Lent) (c : Call) → storeIn (acts l c) ≡ ties.acts (storeIn l) (call_of c)
+pub acts_as : (l : Lent) (c : Call) → store_in (acts l c) ≡ ties.acts (store_in l) (call_of c)
 unfolding ties.acts
-acts-as = reads-back
+acts_as = reads_back
 
 -- ---- every sequence of C calls, on any words and slices
 
-pub same-answers : (calls : List Call) (l : Lent) → answers tells acts l calls ≡ map answerNo (answers ties.tells ties.acts (storeIn l) (map call_of calls))
-same-answers = runs.same-answers storeIn call_of answerNo tells acts ties.tells ties.acts tells_as acts-as
+pub same_answers : (calls : List Call) (l : Lent) → answers tells acts l calls ≡ map answer_no (answers ties.tells ties.acts (store_in l) (map call_of calls))
+same_answers = runs.same_answers store_in call_of answer_no tells acts ties.tells ties.acts tells_as acts_as
 
-pub same_store : (calls : List Call) (l : Lent) → storeIn (storeAfter acts l calls) ≡ storeAfter ties.acts (storeIn l) (map call_of calls)
-same_store = runs.same_store storeIn call_of answerNo tells acts ties.tells ties.acts tells_as acts-as
+pub same_store : (calls : List Call) (l : Lent) → store_in (store_after acts l calls) ≡ store_after ties.acts (store_in l) (map call_of calls)
+same_store = runs.same_store store_in call_of answer_no tells acts ties.tells ties.acts tells_as acts_as
 
 -- ---- from an opening on
 
 -- where opening answers 7, the words stand for an opened collector
-pub opened-by : (l : Lent) → OpenedBy l → ties.Opened (storeIn l)
-unfolding eitOpened opened_of
-opened-by l o =
-    go (settingsFit s (length l.heads) (length l.slots) (length l.cells) (length l.schedule-heads) (length l.units)) refl o.answer o.words
+pub opened_by_lem : (l : Lent) → OpenedBy l → ties.Opened (store_in l)
+unfolding eit_opened opened_of
+opened_by_lem l o =
+    go (settings_fit s (length l.heads) (length l.slots) (length l.cells) (length l.schedule_heads) (length l.units)) refl o.answer o.words
   where
     s : Eit
     s = asked o.limit o.size o.count
 
-    go : (b : Bool) → settingsFit s (length l.heads) (length l.slots) (length l.cells) (length l.schedule-heads) (length l.units) ≡ b
+    go : (b : Bool) → settings_fit s (length l.heads) (length l.slots) (length l.cells) (length l.schedule_heads) (length l.units) ≡ b
         → number (cond b eit.done (eit.refused refusal.TooLittle)) ≡ 7
         → l.words ≡ cond (eqb (number (cond b eit.done (eit.refused refusal.TooLittle))) 7) (words_of s) o.before
-        → ties.Opened (storeIn l)
-    go true e h w = record { opened = rw (w, e); sets = rw w; evictions = rw w; clock = rw w; schedules = rw w; schedule-evictions = rw w }
+        → ties.Opened (store_in l)
+    go true e h w = record { opened = rw (w, e); sets = rw w; evictions = rw w; clock = rw w; schedules = rw w; schedule_evictions = rw w }
     go false e h w = absurd (omega arith)
 
 -- the answers are those of the rules with cells
-pub as-rules : (l : Lent) → OpenedBy l → (calls : List Call) → EachFitting (map call_of calls)
-    → answers tells acts l calls ≡ map answerNo (answers callTells callActs (seen (storeIn l)) (map reads (map call_of calls)))
-as-rules l o calls b = same-answers calls l ∙ ap (map answerNo) (histories.same-answers (map call_of calls) b (storeIn l) (opened-reached (storeIn l) (opened-by l o)))
+pub as_rules : (l : Lent) → OpenedBy l → (calls : List Call) → EachFitting (map call_of calls)
+    → answers tells acts l calls ≡ map answer_no (answers call_tells call_acts (seen (store_in l)) (map reads (map call_of calls)))
+as_rules l o calls b = same_answers calls l ∙ ap (map answer_no) (histories.same_answers (map call_of calls) b (store_in l) (opened_reached (store_in l) (opened_by_lem l o)))
 
 -- and, as long as no count is at its end (11) and no cell is wanting (21), those of the rules without memory
 pub history : (l : Lent) → OpenedBy l → (calls : List Call) → EachFitting (map call_of calls)
-    → Never (refused refusal.CounterFull) (answers ties.tells ties.acts (storeIn l) (map call_of calls))
-    → Never (refused refusal.NoCell) (answers ties.tells ties.acts (storeIn l) (map call_of calls))
-    → answers tells acts l calls ≡ map answerNo (answers (rulesTell (settingsOf (storeIn l))) (rulesAct (settingsOf (storeIn l))) rulesOpened (map reads (map call_of calls)))
-history l o calls b full cell = same-answers calls l ∙ ap (map answerNo) (histories.history (storeIn l) (opened-by l o) (map call_of calls) b full cell)
+    → Never (refused refusal.CounterFull) (answers ties.tells ties.acts (store_in l) (map call_of calls))
+    → Never (refused refusal.NoCell) (answers ties.tells ties.acts (store_in l) (map call_of calls))
+    → answers tells acts l calls ≡ map answer_no (answers (rules_tell (settings_of (store_in l))) (rules_act (settings_of (store_in l))) rules_opened (map reads (map call_of calls)))
+history l o calls b full cell = same_answers calls l ∙ ap (map answer_no) (histories.history (store_in l) (opened_by_lem l o) (map call_of calls) b full cell)

@@ -2,21 +2,21 @@
 -- Assumes nothing.
 use mathlib.Core.Path.{◌≡◌, refl, ap, ◌∙◌}
 use mathlib.Core.List.{List, [], ◌∷◌, map}
-use Rattle.laws.specs.Runs.{answers, storeAfter}
+use Rattle.laws.specs.Runs.{answers, store_after}
 
 module _ {L S I J A B : Type 0} (view : L → S) (made : I → J) (no : A → B) (tells : L → I → B) (acts : L → I → L) (tells' : S → J → A) (acts' : S → J → S)
     (told : (l : L) (i : I) → tells l i ≡ no (tells' (view l) (made i))) (left : (l : L) (i : I) → view (acts l i) ≡ acts' (view l) (made i)) where
-  pub same-answers : (calls : List I) (l : L) → answers tells acts l calls ≡ map no (answers tells' acts' (view l) (map made calls))
+  pub same_answers : (calls : List I) (l : L) → answers tells acts l calls ≡ map no (answers tells' acts' (view l) (map made calls))
   unfolding answers
-  same-answers [] l = refl
-  same-answers (i ∷ is) l =
-      let q = same-answers is (acts l i) ∙ ap (λ (s : S). map no (answers tells' acts' s (map made is))) (left l i) in
+  same_answers [] l = refl
+  same_answers (i ∷ is) l =
+      let q = same_answers is (acts l i) ∙ ap (λ (s : S). map no (answers tells' acts' s (map made is))) (left l i) in
       λ k. told l i k ∷ q k
 
-  pub same_store : (calls : List I) (l : L) → view (storeAfter acts l calls) ≡ storeAfter acts' (view l) (map made calls)
-  unfolding storeAfter
+  pub same_store : (calls : List I) (l : L) → view (store_after acts l calls) ≡ store_after acts' (view l) (map made calls)
+  unfolding store_after
   same_store [] l = refl
-  same_store (i ∷ is) l = same_store is (acts l i) ∙ ap (λ (s : S). storeAfter acts' s (map made is)) (left l i)
+  same_store (i ∷ is) l = same_store is (acts l i) ∙ ap (λ (s : S). store_after acts' s (map made is)) (left l i)
 
 pub map_same : {A : Type 0} (xs : List A) → map (λ (x : A). x) xs ≡ xs
 map_same [] = refl

@@ -2,16 +2,16 @@
 -- Assumes nothing.
 use Rattle.std.specs.Prelude.{ℕ, ◌+◌, ◌<◌, List, [], ◌∷◌, cond, eqb, length}
 use Rattle.rules_logs.specs.Sections.{Given}
-use Rattle.host_sets.specs.Calls.{SetsLeft, setsPushed}
-use Rattle.host_sets_all.specs.Calls.{AllLeft, allLeft}
+use Rattle.host_sets.specs.Calls.{SetsLeft, sets_pushed}
+use Rattle.host_sets_all.specs.Calls.{AllLeft, all_left}
 
 -- until one answers something else than 4, each on what the one before it left; n bytes of the list were taken before
-unfoldable pub eachCalled : (n : ℕ) → SetsLeft → List Given → AllLeft
-eachCalled n l [] = allLeft l (n ∷ [])
-eachCalled n l (g ∷ gs) =
-    let r : SetsLeft = setsPushed l.sets l.heads l.slots l.cells g.input g.pid g.section l.row in
+unfoldable pub each_called : (n : ℕ) → SetsLeft → List Given → AllLeft
+each_called n l [] = all_left l (n ∷ [])
+each_called n l (g ∷ gs) =
+    let r : SetsLeft = sets_pushed l.sets l.heads l.slots l.cells g.input g.pid g.section l.row in
     let m : ℕ = n + (5 + length g.section) in
-    cond (eqb r.answer 4) (eachCalled m r gs) (allLeft r (m ∷ []))
+    cond (eqb r.answer 4) (each_called m r gs) (all_left r (m ∷ []))
 
 -- as a list of bytes says it: an input of one byte, a PID of two
 pub record Said (g : Given) : Type 0 where

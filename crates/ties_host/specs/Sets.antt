@@ -1,14 +1,14 @@
 -- The calls of the set collector as a host in another language makes them, one after another, on the words and slices that it lends.
 use Rattle.std.specs.Prelude.{ℕ, ◌≡◌, List}
-use Rattle.answers.specs.Answers.{refusalNo}
+use Rattle.answers.specs.Answers.{refusal_no}
 use Rattle.rules_sets.specs.Rules.{Answer, cleared, nothing, handout, refused}
 use Rattle.store.specs.Store.{Store, store}
 use Rattle.sets.specs.History.{offer, empty}
 use Rattle.sets.specs.History.{Call as Given}
-use Rattle.host_words.specs.Inputs.{inputNumber}
-use Rattle.host_words.specs.Pids.{maybePid}
-use Rattle.host_sets_words.specs.Words.{setsOf}
-use Rattle.host_sets.specs.Calls.{setsOpened, setsPushed, setsCleared}
+use Rattle.host_words.specs.Inputs.{input_number}
+use Rattle.host_words.specs.Pids.{maybe_pid}
+use Rattle.host_sets_words.specs.Words.{sets_of}
+use Rattle.host_sets.specs.Calls.{sets_opened, sets_pushed, sets_cleared}
 
 -- what the host keeps from call to call: the collector's six words, the three slices that it lends, and the word of the row that goes out
 pub record Lent : Type 0 where
@@ -28,30 +28,30 @@ pub data Call : Type 0 where
 
 -- the number that is answered
 unfoldable pub tells : Lent → Call → ℕ
-tells l (push input pid section) = (setsPushed l.words l.heads l.slots l.cells input pid section l.row).answer
-tells l clear = (setsCleared l.words l.heads l.slots l.cells).answer
+tells l (push input pid section) = (sets_pushed l.words l.heads l.slots l.cells input pid section l.row).answer
+tells l clear = (sets_cleared l.words l.heads l.slots l.cells).answer
 
 -- what stands in the words and slices then
 unfoldable pub acts : Lent → Call → Lent
 acts l (push input pid section) =
-    let r = setsPushed l.words l.heads l.slots l.cells input pid section l.row in lent r.sets r.heads r.slots r.cells r.row
-acts l clear = lent (setsCleared l.words l.heads l.slots l.cells).now l.heads l.slots l.cells l.row
+    let r = sets_pushed l.words l.heads l.slots l.cells input pid section l.row in lent r.sets r.heads r.slots r.cells r.row
+acts l clear = lent (sets_cleared l.words l.heads l.slots l.cells).now l.heads l.slots l.cells l.row
 
 -- the collector that the words stand for
-abbrev pub storeIn : Lent → Store
-storeIn l = store (setsOf l.words) l.heads l.slots l.cells
+abbrev pub store_in : Lent → Store
+store_in l = store (sets_of l.words) l.heads l.slots l.cells
 
 -- the call of the crate sets that is made of it; 0xFFFFFFFF is "no PID"
 abbrev pub call_of : Call → Given
-call_of (push input pid section) = offer (inputNumber input) (maybePid pid) section
+call_of (push input pid section) = offer (input_number input) (maybe_pid pid) section
 call_of clear = empty
 
 -- the number of an answer of the rules
-abbrev pub answerNo : Answer → ℕ
-answerNo cleared = 7
-answerNo nothing = 4
-answerNo (handout w) = 5
-answerNo (refused r) = refusalNo r
+abbrev pub answer_no : Answer → ℕ
+answer_no cleared = 7
+answer_no nothing = 4
+answer_no (handout w) = 5
+answer_no (refused r) = refusal_no r
 
 -- as `petrizolu_sets_open` leaves the words where it answers 7, whatever stood in them and in the slices
 pub record OpenedBy (l : Lent) : Type 0 where
@@ -59,5 +59,5 @@ pub record OpenedBy (l : Lent) : Type 0 where
   pub limit : ℕ
   pub size : ℕ
   pub count : ℕ
-  pub answer : (setsOpened before limit size count l.heads l.slots l.cells).answer ≡ 7
-  pub words : l.words ≡ (setsOpened before limit size count l.heads l.slots l.cells).now
+  pub answer : (sets_opened before limit size count l.heads l.slots l.cells).answer ≡ 7
+  pub words : l.words ≡ (sets_opened before limit size count l.heads l.slots l.cells).now

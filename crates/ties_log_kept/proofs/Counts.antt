@@ -8,12 +8,12 @@ use native.Mathlib.Omega.{arith}
 use borrow.Author.Tests.{ne_eqb}
 use Rattle.answers.specs.declared.Refusal.TheVariants.{CounterFull}
 use Rattle.ring.specs.Rules.{changed, evicts}
-use Rattle.counters.specs.Counters.{anyFull, isFull, plusOf}
+use Rattle.counters.specs.Counters.{any_full, is_full, plus_of}
 use Rattle.counters.specs.declared.Counters.{Counters}
-use Rattle.offers.specs.Offers.{isShort, read_of}
+use Rattle.offers.specs.Offers.{is_short, read_of}
 use Rattle.offers.specs.declared.Verdict.{Verdict}
 use Rattle.offers.specs.declared.Verdict.TheVariants.{Refused, Failed, Arrived}
-use Rattle.gate.specs.Rules.{Offer, Manner, Held, rowFrom, admitted, carriedIn, told}
+use Rattle.gate.specs.Rules.{Offer, Manner, Held, row_from, admitted, carried_in, told}
 
 -- n more offers can be counted
 pub record CanCount (n : ℕ) (c : Counters) : Type 0 where
@@ -25,10 +25,10 @@ pub record CanCount (n : ℕ) (c : Counters) : Type 0 where
   pub mismatches : c.crc_mismatches + n ≤ 18446744073709551615
   pub evictions : c.evictions + n ≤ 18446744073709551615
 
-below : (m n : ℕ) → m + suc n ≤ 18446744073709551615 → isFull m ≡ false
+below : (m n : ℕ) → m + suc n ≤ 18446744073709551615 → is_full m ≡ false
 below m n h = ne_eqb m 18446744073709551615 (λ e. omega arith)
 
-pub not_full : (n : ℕ) (c : Counters) → CanCount (suc n) c → anyFull c ≡ false
+pub not_full : (n : ℕ) (c : Counters) → CanCount (suc n) c → any_full c ≡ false
 not_full n c k =
     rw (
       below c.completed n k.completed,
@@ -41,44 +41,44 @@ not_full n c k =
     )
     refl
 
-plus_one : (m n : ℕ) (b : Bool) → m + suc n ≤ 18446744073709551615 → plusOf m b + n ≤ 18446744073709551615
+plus_one : (m n : ℕ) (b : Bool) → m + suc n ≤ 18446744073709551615 → plus_of m b + n ≤ 18446744073709551615
 plus_one m n true h = omega arith
 plus_one m n false h = omega arith
 
-same-one : (m n : ℕ) → m + suc n ≤ 18446744073709551615 → m + n ≤ 18446744073709551615
-same-one m n h = omega arith
+same_one : (m n : ℕ) → m + suc n ≤ 18446744073709551615 → m + n ≤ 18446744073709551615
+same_one m n h = omega arith
 
 module _ (n : ℕ) (m : Manner) (h : Held) (k : CanCount (suc n) h.counters) where
-  carried-counts : (section : List ℕ) (v : Verdict) → CanCount n (carriedIn m h section v).held.counters
-  unfolding carriedIn admitted
-  carried-counts section (Refused r) = record {
-    completed = same-one _ n k.completed;
-    emitted = same-one _ n k.emitted;
-    suppressed = same-one _ n k.suppressed;
-    failures = same-one _ n k.failures;
-    short = same-one _ n k.short;
-    mismatches = same-one _ n k.mismatches;
-    evictions = same-one _ n k.evictions;
+  carried_counts : (section : List ℕ) (v : Verdict) → CanCount n (carried_in m h section v).held.counters
+  unfolding carried_in admitted
+  carried_counts section (Refused r) = record {
+    completed = same_one _ n k.completed;
+    emitted = same_one _ n k.emitted;
+    suppressed = same_one _ n k.suppressed;
+    failures = same_one _ n k.failures;
+    short = same_one _ n k.short;
+    mismatches = same_one _ n k.mismatches;
+    evictions = same_one _ n k.evictions;
   }
-  carried-counts section (Failed f) = record {
+  carried_counts section (Failed f) = record {
     completed = plus_one h.counters.completed n true k.completed;
-    emitted = same-one _ n k.emitted;
-    suppressed = same-one _ n k.suppressed;
+    emitted = same_one _ n k.emitted;
+    suppressed = same_one _ n k.suppressed;
     failures = plus_one h.counters.crc_failures n true k.failures;
-    short = plus_one h.counters.short_sections n (isShort f) k.short;
-    mismatches = plus_one h.counters.crc_mismatches n (not (isShort f)) k.mismatches;
-    evictions = same-one _ n k.evictions;
+    short = plus_one h.counters.short_sections n (is_short f) k.short;
+    mismatches = plus_one h.counters.crc_mismatches n (not (is_short f)) k.mismatches;
+    evictions = same_one _ n k.evictions;
   }
-  carried-counts section (Arrived a) = record {
+  carried_counts section (Arrived a) = record {
     completed = plus_one h.counters.completed n true k.completed;
-    emitted = plus_one h.counters.emitted n (changed (rowFrom a) h.rows || m.repeats) k.emitted;
-    suppressed = plus_one h.counters.suppressed n (not (changed (rowFrom a) h.rows || m.repeats)) k.suppressed;
-    failures = same-one _ n k.failures;
-    short = same-one _ n k.short;
-    mismatches = same-one _ n k.mismatches;
-    evictions = plus_one h.counters.evictions n (evicts m.capacity (rowFrom a) h.rows) k.evictions;
+    emitted = plus_one h.counters.emitted n (changed (row_from a) h.rows || m.repeats) k.emitted;
+    suppressed = plus_one h.counters.suppressed n (not (changed (row_from a) h.rows || m.repeats)) k.suppressed;
+    failures = same_one _ n k.failures;
+    short = same_one _ n k.short;
+    mismatches = same_one _ n k.mismatches;
+    evictions = plus_one h.counters.evictions n (evicts m.capacity (row_from a) h.rows) k.evictions;
   }
 
-  pub told-counts : (o : Offer) → CanCount n (told m h o).held.counters
+  pub told_counts : (o : Offer) → CanCount n (told m h o).held.counters
   unfolding told
-  told-counts o = carried-counts o.section (cond (anyFull h.counters) (Refused CounterFull) (read_of m.rule o.input o.pid o.section))
+  told_counts o = carried_counts o.section (cond (any_full h.counters) (Refused CounterFull) (read_of m.rule o.input o.pid o.section))

@@ -12,15 +12,15 @@ use borrow.Author.Tests.{lt-ltb, ltb-true, ltb-false, leb-true, eqb-false, not-t
 use lib.Dec.{ltb, leb}
 use lib.ListN.{length, replicate, length-replicate}
 use Rattle.laws.specs.Runs.{answers, Never}
-use Rattle.laws.proofs.Tests.{and-true, none≢some}
+use Rattle.laws.proofs.Tests.{and_true, none≢some}
 use Rattle.section.specs.Facts.{Bytes as OfBytes}
-use Rattle.section.specs.Judged.{ruleKnown}
+use Rattle.section.specs.Judged.{rule_known}
 use Rattle.rules_shared.specs.Cells.{Cells}
-use Rattle.ring.specs.Store.{roomOf}
+use Rattle.ring.specs.Store.{room_of}
 use Rattle.ring.proofs.Order as ring
-use Rattle.ticks.specs.Slots.{cellsSeen}
-use Rattle.ticks.proofs.Cells.{cells-length}
-use Rattle.store.specs.Store.{asked, settingsFit}
+use Rattle.ticks.specs.Slots.{cells_seen}
+use Rattle.ticks.proofs.Cells.{cells_length}
+use Rattle.store.specs.Store.{asked, settings_fit}
 use Rattle.sets.specs.Store.{opened_of}
 use Rattle.sets.proofs.Stays as stays
 use Rattle.ties_sets.specs.View.{seen}
@@ -30,20 +30,20 @@ use Rattle.ties_sets.proofs.History as sets
 use Rattle.rules_logs.specs.Records.{Bytes}
 use Rattle.rules_logs.specs.Sections.{Given}
 use Rattle.rules_logs.specs.Verdict as records
-use Rattle.rules_log_run.specs.Run.{Kept, openedOver, opened, entry_of, recordsOf, logOf}
-use Rattle.log_state.specs.State.{Lent, lent, setsIn, run_of, takeNo, rulingBy, rulingOf, canOpen}
+use Rattle.rules_log_run.specs.Run.{Kept, opened_over, opened, entry_of, records_of, log_of}
+use Rattle.log_state.specs.State.{Lent, lent, sets_in, run_of, take_no, ruling_by, ruling_of, can_open}
 use Rattle.log_state.specs.State as state
 use Rattle.log_state.specs.declared.Settings.{Settings as Asked}
 use Rattle.answers.specs.declared.Outcome.TheVariants as outcome
 use Rattle.answers.specs.declared.Refusal.TheVariants as refusal
 use Rattle.log_run.specs.Store.{Taking, ruled, taking, taken_of}
-use Rattle.log_entries.proofs.Entries.{entry-shows}
-use Rattle.ties_log_kept.proofs.Kept.{log-append}
-use Rattle.ties_log_run.specs.Run.{takes, takesNo, leaves, gives, entriesBy, shows, bytesBy, keptIn, settingsAt, settingsOf, Opens, Reached}
-use Rattle.rules_log_run.specs.Entries.{rulesGive, rulesLeave, entriesFrom, joined}
+use Rattle.log_entries.proofs.Entries.{entry_shows}
+use Rattle.ties_log_kept.proofs.Kept.{log_append}
+use Rattle.ties_log_run.specs.Run.{takes, takes_no, leaves, gives, entries_by, shows, bytes_by, kept_in, settings_at, settings_of, Opens, Reached}
+use Rattle.rules_log_run.specs.Entries.{rules_give, rules_leave, entries_from, joined}
 use Rattle.rules_log_run.specs.Lists.{AllTakable, AllOfBytes}
-use Rattle.ties_log_kept.proofs.Cells.{cells-do-not-matter, entries-joined}
-use Rattle.ties_log_run.proofs.Step.{CanTake, Follows, counts-none, follows}
+use Rattle.ties_log_kept.proofs.Cells.{cells_do_not_matter, entries_joined}
+use Rattle.ties_log_run.proofs.Step.{CanTake, Follows, counts_none, follows}
 
 -- ---- every section
 
@@ -51,71 +51,71 @@ use Rattle.ties_log_run.proofs.Step.{CanTake, Follows, counts-none, follows}
 record Goes (n : ℕ) (t : Taking) : Type 0 where
   reached : Reached t.left
   counted : CanTake n t.left
-  not-10 : takeNo t.answer ≢ 10
-  not-11 : takeNo t.answer ≢ 11
+  not_10 : take_no t.answer ≢ 10
+  not_11 : take_no t.answer ≢ 11
 
 module _ (n : ℕ) (s : Lent) (r : Reached s) (g : Given) (b : OfBytes g.section) (more : CanTake (suc n) s) where
   -- over 4,098 bytes: 42, and all as before
-  long-goes : 4098 < length g.section → Goes n (takes s g)
-  unfolding taking rulingOf rulingBy ruled
-  long-goes h = rw (lt-ltb 4098 (length g.section) h) (record { reached = r; counted = counts-none 0 0 0 n s r g b more; not-10 = eqb-false 42 10 refl; not-11 = eqb-false 42 11 refl })
+  long_goes : 4098 < length g.section → Goes n (takes s g)
+  unfolding taking ruling_of ruling_by ruled
+  long_goes h = rw (lt-ltb 4098 (length g.section) h) (record { reached = r; counted = counts_none 0 0 0 n s r g b more; not_10 = eqb-false 42 10 refl; not_11 = eqb-false 42 11 refl })
 
   goes : Goes n (takes s g)
   goes = go (ltb 4098 (length g.section)) refl
     where
-      short : Follows 0 0 0 n s (takes s g) (entry_of (settingsAt 0 0 0 s.run) (keptIn s) g) → Goes n (takes s g)
-      short f = record { reached = f.reached; counted = f.counted; not-10 = f.not-10; not-11 = f.not-11 }
+      short : Follows 0 0 0 n s (takes s g) (entry_of (settings_at 0 0 0 s.run) (kept_in s) g) → Goes n (takes s g)
+      short f = record { reached = f.reached; counted = f.counted; not_10 = f.not_10; not_11 = f.not_11 }
 
       go : (t : Bool) → ltb 4098 (length g.section) ≡ t → Goes n (takes s g)
-      go true e = long-goes (ltb-true 4098 (length g.section) e)
+      go true e = long_goes (ltb-true 4098 (length g.section) e)
       go false e = short (follows 0 0 0 n s r g b more (ltb-false 4098 (length g.section) e))
 
 -- a number that no section is answered with
-never : (a : ℕ) → ((n : ℕ) (t : Taking) → Goes n t → takeNo t.answer ≢ a) → (gs : List Given) → AllOfBytes gs → (s : Lent) → Reached s
-    → CanTake (length gs) s → Never a (answers takesNo leaves s gs)
-unfolding answers takesNo leaves
+never : (a : ℕ) → ((n : ℕ) (t : Taking) → Goes n t → take_no t.answer ≢ a) → (gs : List Given) → AllOfBytes gs → (s : Lent) → Reached s
+    → CanTake (length gs) s → Never a (answers takes_no leaves s gs)
+unfolding answers takes_no leaves
 never a f [] b s r h t e = none≢some refl e
-never a f (g ∷ gs) b s r h zero e = f (length gs) (takes s g) (goes (length gs) s r g b.0 h) (some-injective (takesNo s g) a e)
+never a f (g ∷ gs) b s r h zero e = f (length gs) (takes s g) (goes (length gs) s r g b.0 h) (some-injective (takes_no s g) a e)
 never a f (g ∷ gs) b s r h (suc t) e =
     let k = goes (length gs) s r g b.0 h in
     never a f gs b.1 (leaves s g) k.reached k.counted t e
 
 -- ---- the entries of the rules
 
-entries-follow : (l z c : ℕ) (gs : List Given) → AllTakable gs → (s : Lent) → Reached s → CanTake (length gs) s
-    → entriesBy s gs ≡ entriesFrom (settingsAt l z c s.run) (keptIn s) gs
-unfolding answers gives leaves rulesGive rulesLeave
-entries-follow l z c [] b s r h = refl
-entries-follow l z c (g ∷ gs) b s r h =
-    let f = follows l z c (length gs) s r g b.0.of-bytes h b.0.short in
+entries_follow : (l z c : ℕ) (gs : List Given) → AllTakable gs → (s : Lent) → Reached s → CanTake (length gs) s
+    → entries_by s gs ≡ entries_from (settings_at l z c s.run) (kept_in s) gs
+unfolding answers gives leaves rules_give rules_leave
+entries_follow l z c [] b s r h = refl
+entries_follow l z c (g ∷ gs) b s r h =
+    let f = follows l z c (length gs) s r g b.0.of_bytes h b.0.short in
     let e = f.records in
     let t : Lent = (takes s g).left in
     let o = f.settings in
     let k = f.kept in
-    let q = entries-follow l z c gs b.1 t f.reached f.counted ∙ (λ i. entriesFrom (o i) (k i) gs) in
+    let q = entries_follow l z c gs b.1 t f.reached f.counted ∙ (λ i. entries_from (o i) (k i) gs) in
     λ i. e i ∷ q i
 
 -- ---- the bytes of what `take` gives
 
-shows-records : (s : Lent) (g : Given) → shows s g ≡ records.logOf (takes s g).records
+shows_records : (s : Lent) (g : Given) → shows s g ≡ records.log_of (takes s g).records
 unfolding taken_of
-shows-records s g = entry-shows (records.logOf (takes s g).records)
+shows_records s g = entry_shows (records.log_of (takes s g).records)
 
-bytes-joined : (gs : List Given) (s : Lent) → bytesBy s gs ≡ records.logOf (joined (entriesBy s gs))
-unfolding bytesBy answers gives leaves joined records.logOf taken_of
-bytes-joined [] s = refl
-bytes-joined (g ∷ gs) s =
-    let e = shows-records s g in
-    let q = bytes-joined gs (takes s g).left in
-    (λ i. e i ++ q i) ∙ sym (log-append (takes s g).records (joined (entriesBy (takes s g).left gs)))
+bytes_joined : (gs : List Given) (s : Lent) → bytes_by s gs ≡ records.log_of (joined (entries_by s gs))
+unfolding bytes_by answers gives leaves joined records.log_of taken_of
+bytes_joined [] s = refl
+bytes_joined (g ∷ gs) s =
+    let e = shows_records s g in
+    let q = bytes_joined gs (takes s g).left in
+    (λ i. e i ++ q i) ∙ sym (log_append (takes s g).records (joined (entries_by (takes s g).left gs)))
 
 -- ---- an opened run
 
 -- 7 is answered where so much is lent, and such are the settings
-pub done-opens : (a : Asked) (keys changes heads slots cells : List ℕ) → (state.opened_of a (length keys) (length changes) (length heads) (length slots) (length cells)).answer ≡ outcome.Done
+pub done_opens : (a : Asked) (keys changes heads slots cells : List ℕ) → (state.opened_of a (length keys) (length changes) (length heads) (length slots) (length cells)).answer ≡ outcome.Done
     → Opens a keys changes heads slots cells
 unfolding state.opened_of
-done-opens a keys changes heads slots cells e = go (state.isWithout a.pids) (canOpen a (length keys) (length changes) (length heads) (length slots) (length cells)) e
+done_opens a keys changes heads slots cells e = go (state.is_without a.pids) (can_open a (length keys) (length changes) (length heads) (length slots) (length cells)) e
   where
     go : (w b : Bool) → cond w (outcome.Refused refusal.NoPid) (cond b outcome.Done (outcome.Refused refusal.TooLittle)) ≡ outcome.Done → b ≡ true
     go true b q = let z : ◌≡◌ {A = ℕ} 0 1 = cc in absurd (omega arith)
@@ -127,77 +127,77 @@ module _ (a : Asked) (keys changes heads slots cells : List ℕ) (h : Opens a ke
   start = lent (run_of a) keys changes heads slots cells
 
   -- the settings fit, and sets are taken
-  both-fit : ((leb (roomOf a.capacity) (length keys) && leb (roomOf a.capacity) (length changes) && ruleKnown a.rule
-      && settingsFit (asked a.limit a.size a.count) (length heads) (length slots) (length cells)) ≡ true) × (not (state.isWithout a.pids) ≡ true)
-  both-fit = and-true _ (not (state.isWithout a.pids)) h
+  both_fit : ((leb (room_of a.capacity) (length keys) && leb (room_of a.capacity) (length changes) && rule_known a.rule
+      && settings_fit (asked a.limit a.size a.count) (length heads) (length slots) (length cells)) ≡ true) × (not (state.is_without a.pids) ≡ true)
+  both_fit = and_true _ (not (state.is_without a.pids)) h
 
-  pub opened-taken : state.isWithout a.pids ≡ false
-  opened-taken = not-true (state.isWithout a.pids) both-fit.1
+  pub opened_taken : state.is_without a.pids ≡ false
+  opened_taken = not-true (state.is_without a.pids) both_fit.1
 
-  fits : settingsFit (asked a.limit a.size a.count) (length heads) (length slots) (length cells) ≡ true
-  fits = (and-true (leb (roomOf a.capacity) (length keys) && leb (roomOf a.capacity) (length changes) && ruleKnown a.rule) (settingsFit (asked a.limit a.size a.count) (length heads) (length slots) (length cells)) both-fit.0).1
+  fits : settings_fit (asked a.limit a.size a.count) (length heads) (length slots) (length cells) ≡ true
+  fits = (and_true (leb (room_of a.capacity) (length keys) && leb (room_of a.capacity) (length changes) && rule_known a.rule) (settings_fit (asked a.limit a.size a.count) (length heads) (length slots) (length cells)) both_fit.0).1
 
-  gate-fits : ((leb (roomOf a.capacity) (length keys) && leb (roomOf a.capacity) (length changes)) ≡ true) × (ruleKnown a.rule ≡ true)
-  gate-fits =
-      and-true (leb (roomOf a.capacity) (length keys) && leb (roomOf a.capacity) (length changes)) (ruleKnown a.rule)
-      (and-true (leb (roomOf a.capacity) (length keys) && leb (roomOf a.capacity) (length changes) && ruleKnown a.rule) (settingsFit (asked a.limit a.size a.count) (length heads) (length slots) (length cells)) both-fit.0).0
+  gate_fits : ((leb (room_of a.capacity) (length keys) && leb (room_of a.capacity) (length changes)) ≡ true) × (rule_known a.rule ≡ true)
+  gate_fits =
+      and_true (leb (room_of a.capacity) (length keys) && leb (room_of a.capacity) (length changes)) (rule_known a.rule)
+      (and_true (leb (room_of a.capacity) (length keys) && leb (room_of a.capacity) (length changes) && rule_known a.rule) (settings_fit (asked a.limit a.size a.count) (length heads) (length slots) (length cells)) both_fit.0).0
 
-  rows_fit : (leb (roomOf a.capacity) (length keys) ≡ true) × (leb (roomOf a.capacity) (length changes) ≡ true)
-  rows_fit = and-true (leb (roomOf a.capacity) (length keys)) (leb (roomOf a.capacity) (length changes)) gate-fits.0
+  rows_fit : (leb (room_of a.capacity) (length keys) ≡ true) × (leb (room_of a.capacity) (length changes) ≡ true)
+  rows_fit = and_true (leb (room_of a.capacity) (length keys)) (leb (room_of a.capacity) (length changes)) gate_fits.0
 
-  opened-sets : OpenedSets (setsIn start)
+  opened_sets : OpenedSets (sets_in start)
   unfolding opened_of
-  opened-sets = record { opened = record { opened = rw fits refl; none = refl }; evictions = refl; clock = refl }
+  opened_sets = record { opened = record { opened = rw fits refl; none = refl }; evictions = refl; clock = refl }
 
-  pub opened-reached : Reached start
-  opened-reached = record {
-    rows = ring.opened-reached a.capacity keys changes (leb-true _ _ rows_fit.0) (leb-true _ _ rows_fit.1);
-    rule = gate-fits.1;
-    taken = opened-taken;
-    sets = standing (setsIn start) (sets.opened-reached (setsIn start) opened-sets);
-    whole = stays.opened-whole (setsIn start) opened-sets.opened;
+  pub opened_reached : Reached start
+  opened_reached = record {
+    rows = ring.opened_reached a.capacity keys changes (leb-true _ _ rows_fit.0) (leb-true _ _ rows_fit.1);
+    rule = gate_fits.1;
+    taken = opened_taken;
+    sets = standing (sets_in start) (sets.opened_reached (sets_in start) opened_sets);
+    whole = stays.opened_whole (sets_in start) opened_sets.opened;
   }
 
-  pub opened-takes : (n : ℕ) → n < 2 ^ 64 → CanTake n start
-  opened-takes n l = record { evictions = omega arith; clock = omega arith }
+  pub opened_takes : (n : ℕ) → n < 2 ^ 64 → CanTake n start
+  opened_takes n l = record { evictions = omega arith; clock = omega arith }
 
-  abbrev cellsThere : Cells
-  cellsThere = cellsSeen cells a.size a.count
+  abbrev cells_there : Cells
+  cells_there = cells_seen cells a.size a.count
 
-  kept-opened : keptIn start ≡ openedOver (settingsOf a) cellsThere
+  kept_opened : kept_in start ≡ opened_over (settings_of a) cells_there
   unfolding seen
-  kept-opened =
-      let e = sets.opened-seen (setsIn start) opened-sets in
-      λ i. record { rows = []; sets = record { settings = record { limit = a.limit; cellSize = a.size }; sets = e i; cells = cellsThere; clock = 0 } }
+  kept_opened =
+      let e = sets.opened_seen (sets_in start) opened_sets in
+      λ i. record { rows = []; sets = record { settings = record { limit = a.limit; cell_size = a.size }; sets = e i; cells = cells_there; clock = 0 } }
 
   -- THE THEOREM: 10 and 11 do not occur
-  pub run-never-refuses : (gs : List Given) → AllOfBytes gs → length gs < 2 ^ 64 → Never 10 (answers takesNo leaves start gs) × Never 11 (answers takesNo leaves start gs)
-  run-never-refuses gs b n =
-      (never 10 (λ m t k. k.not-10) gs b start opened-reached (opened-takes (length gs) n), never 11 (λ m t k. k.not-11) gs b start opened-reached (opened-takes (length gs) n))
+  pub run_never_refuses : (gs : List Given) → AllOfBytes gs → length gs < 2 ^ 64 → Never 10 (answers takes_no leaves start gs) × Never 11 (answers takes_no leaves start gs)
+  run_never_refuses gs b n =
+      (never 10 (λ m t k. k.not_10) gs b start opened_reached (opened_takes (length gs) n), never 11 (λ m t k. k.not_11) gs b start opened_reached (opened_takes (length gs) n))
 
   -- THE THEOREM: its entries are those of the rules
   module _ (gs : List Given) (b : AllTakable gs) (n : length gs < 2 ^ 64) where
-    pub run-follows : entriesBy start gs ≡ entriesFrom (settingsOf a) (opened (settingsOf a)) gs
-    run-follows =
-        entries-follow a.limit a.size a.count gs b start opened-reached (opened-takes (length gs) n)
-        ∙ ap (λ (k : Kept). entriesFrom (settingsOf a) k gs) kept-opened
-        ∙ cells-do-not-matter (settingsOf a) cellsThere (replicate a.count []) (cells-length cells a.size a.count ∙ sym (length-replicate {A = Bytes} a.count [])) gs
+    pub run_follows : entries_by start gs ≡ entries_from (settings_of a) (opened (settings_of a)) gs
+    run_follows =
+        entries_follow a.limit a.size a.count gs b start opened_reached (opened_takes (length gs) n)
+        ∙ ap (λ (k : Kept). entries_from (settings_of a) k gs) kept_opened
+        ∙ cells_do_not_matter (settings_of a) cells_there (replicate a.count []) (cells_length cells a.size a.count ∙ sym (length-replicate {A = Bytes} a.count [])) gs
 
-    pub run-records : joined (entriesBy start gs) ≡ recordsOf (settingsOf a) gs
-    unfolding recordsOf
-    run-records = ap joined run-follows ∙ entries-joined (settingsOf a) gs (opened (settingsOf a))
+    pub run_records : joined (entries_by start gs) ≡ records_of (settings_of a) gs
+    unfolding records_of
+    run_records = ap joined run_follows ∙ entries_joined (settings_of a) gs (opened (settings_of a))
 
-    pub run-log : records.logOf (joined (entriesBy start gs)) ≡ logOf (settingsOf a) gs
-    unfolding logOf
-    run-log = ap records.logOf run-records
+    pub run_log : records.log_of (joined (entries_by start gs)) ≡ log_of (settings_of a) gs
+    unfolding log_of
+    run_log = ap records.log_of run_records
 
     -- as bytes: what `take` gives, one after another, is the log
-    pub taken-log : bytesBy start gs ≡ logOf (settingsOf a) gs
-    taken-log = bytes-joined gs start ∙ run-log
+    pub taken_log : bytes_by start gs ≡ log_of (settings_of a) gs
+    taken_log = bytes_joined gs start ∙ run_log
 
 -- THE THEOREM: two runs opened with equal settings over any two lent memories give the same entries
-pub memory-does-not-matter : (a : Asked) (keys changes heads slots cells keys' changes' heads' slots' cells' : List ℕ) → Opens a keys changes heads slots cells → Opens a keys' changes' heads' slots' cells'
+pub memory_does_not_matter : (a : Asked) (keys changes heads slots cells keys' changes' heads' slots' cells' : List ℕ) → Opens a keys changes heads slots cells → Opens a keys' changes' heads' slots' cells'
     → (gs : List Given) → AllTakable gs → length gs < 2 ^ 64
-    → entriesBy (lent (run_of a) keys changes heads slots cells) gs ≡ entriesBy (lent (run_of a) keys' changes' heads' slots' cells') gs
-memory-does-not-matter a keys changes heads slots cells keys' changes' heads' slots' cells' h h' gs b n =
-    run-follows a keys changes heads slots cells h gs b n ∙ sym (run-follows a keys' changes' heads' slots' cells' h' gs b n)
+    → entries_by (lent (run_of a) keys changes heads slots cells) gs ≡ entries_by (lent (run_of a) keys' changes' heads' slots' cells') gs
+memory_does_not_matter a keys changes heads slots cells keys' changes' heads' slots' cells' h h' gs b n =
+    run_follows a keys changes heads slots cells h gs b n ∙ sym (run_follows a keys' changes' heads' slots' cells' h' gs b n)

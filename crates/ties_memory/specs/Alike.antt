@@ -10,8 +10,8 @@ abbrev pub at : Settings → SetsOf Held → Cells → (clock : ℕ) → Store
 at o r cells clock = record { settings = o; sets = r; cells = cells; clock = clock }
 
 -- "opened: no rows, counts 0", over these cells
-abbrev pub openedOver : Settings → Cells → Store
-openedOver o cells = at o untouched cells 0
+abbrev pub opened_over : Settings → Cells → Store
+opened_over o cells = at o untouched cells 0
 
 -- the same settings, rows, number of cells and clock, and the same bytes shown
 pub record Alike (s t : Store) : Type 0 where

@@ -4,19 +4,19 @@ use mathlib.Core.Path.{◌≡◌, refl}
 use mathlib.Core.Bool.{Bool, true, false}
 use mathlib.Core.List.{List, [], ◌∷◌, map}
 use Prim.Native.Nat.{ℕ}
-use Rattle.laws.specs.Runs.{storeAfter}
-use Rattle.crc.specs.Crc.{crcFrom, bitsIn, bitIn}
-use Rattle.section.specs.Header.{storedCrc, workedCrc, headerOf}
-use Rattle.section.specs.Judged.{malformed, collectedLong, collectedOf}
-use Rattle.pat.specs.Pat.{programPids}
-use Rattle.rules_shared.specs.Same.{Bytes, sameBytes, sameOrigin}
+use Rattle.laws.specs.Runs.{store_after}
+use Rattle.crc.specs.Crc.{crc_from, bits_in, bit_in}
+use Rattle.section.specs.Header.{stored_crc, worked_crc, header_of}
+use Rattle.section.specs.Judged.{malformed, collected_long, collected_of}
+use Rattle.pat.specs.Pat.{program_pids}
+use Rattle.rules_shared.specs.Same.{Bytes, same_bytes, same_origin}
 use Rattle.rules_shared.specs.Slots.{is_held, present}
-use Rattle.rules_shared.specs.Touch.{oldestGone, room, leaves, count, find, remove, others, evicts, untouched, aside, newest}
+use Rattle.rules_shared.specs.Touch.{oldest_gone, room, leaves, count, find, remove, others, evicts, untouched, aside, newest}
 use Rattle.rules_shared.specs.Row.{fresh, fits, start, slot_of, keep, marked, put_over, put}
-use Rattle.rules_sets.specs.Rules.{sameKey, part_of, full, whole, metRow, judged, judge, finish, push, admit, step, tells, acts, opened}
-use Rattle.ties_sets.specs.View.{readsAs, readSection}
+use Rattle.rules_sets.specs.Rules.{same_key, part_of, full, whole, met_row, judged, judge, finish, push, admit, step, tells, acts, opened}
+use Rattle.ties_sets.specs.View.{reads_as, read_section}
 use Rattle.pats.specs.Store.{enters}
-use Rattle.ties_pats.specs.Rules.{programsOfSet, entered}
+use Rattle.ties_pats.specs.Rules.{programs_of_set, entered}
 use Rattle.ties_pats.specs.View.{Sent, taking}
 
 -- section 0 of 1, transport_stream_id 1, version 0: program 1 at 0x0100
@@ -54,62 +54,62 @@ on section = record { input = 0; section = section }
 
 module _ (n : ℕ → Bool) where
   unfoldable pub after : List Bytes → ℕ → Bool
-  unfolding storeAfter taking entered enters readSection readsAs collectedOf collectedLong malformed headerOf storedCrc workedCrc crcFrom bitsIn bitIn sameBytes sameOrigin is_held present oldestGone room leaves count find remove others evicts untouched aside newest fresh fits start slot_of keep marked put_over put sameKey part_of full whole metRow judged judge finish push admit step tells acts
-  after sections = (storeAfter taking (record { sets = opened; n = n }) (map on sections)).n
+  unfolding store_after taking entered enters read_section reads_as collected_of collected_long malformed header_of stored_crc worked_crc crc_from bits_in bit_in same_bytes same_origin is_held present oldest_gone room leaves count find remove others evicts untouched aside newest fresh fits start slot_of keep marked put_over put same_key part_of full whole met_row judged judge finish push admit step tells acts
+  after sections = (store_after taking (record { sets = opened; n = n }) (map on sections)).n
 
   -- after the first neither programme, whichever it is
-  pub only-A : after (A ∷ []) ≡ n
+  pub only_A : after (A ∷ []) ≡ n
   unfolding after
-  only-A = refl
+  only_A = refl
 
-  pub only-B : after (B ∷ []) ≡ n
+  pub only_B : after (B ∷ []) ≡ n
   unfolding after
-  only-B = refl
+  only_B = refl
 
   -- after both both
-  pub A-then-B : after (A ∷ B ∷ []) ≡ programsOfSet (A ∷ B ∷ [])
+  pub A-then-B : after (A ∷ B ∷ []) ≡ programs_of_set (A ∷ B ∷ [])
   unfolding after
   A-then-B = refl
 
-  pub B-then-A : after (B ∷ A ∷ []) ≡ programsOfSet (A ∷ B ∷ [])
+  pub B-then-A : after (B ∷ A ∷ []) ≡ programs_of_set (A ∷ B ∷ [])
   unfolding after
   B-then-A = refl
 
   -- the repeat of either changes nothing, nor does the first half of the next version, nor one marked next
-  pub A-again : after (A ∷ B ∷ A ∷ []) ≡ programsOfSet (A ∷ B ∷ [])
+  pub A-again : after (A ∷ B ∷ A ∷ []) ≡ programs_of_set (A ∷ B ∷ [])
   unfolding after
   A-again = refl
 
-  pub B-again : after (A ∷ B ∷ B ∷ []) ≡ programsOfSet (A ∷ B ∷ [])
+  pub B-again : after (A ∷ B ∷ B ∷ []) ≡ programs_of_set (A ∷ B ∷ [])
   unfolding after
   B-again = refl
 
-  pub half-renewed : after (A ∷ B ∷ A' ∷ []) ≡ programsOfSet (A ∷ B ∷ [])
+  pub half_renewed : after (A ∷ B ∷ A' ∷ []) ≡ programs_of_set (A ∷ B ∷ [])
   unfolding after
-  half-renewed = refl
+  half_renewed = refl
 
-  pub renewed : after (A ∷ B ∷ A' ∷ B' ∷ []) ≡ programsOfSet (A' ∷ B' ∷ [])
+  pub renewed : after (A ∷ B ∷ A' ∷ B' ∷ []) ≡ programs_of_set (A' ∷ B' ∷ [])
   unfolding after
   renewed = refl
 
-  pub marked_next : after (A ∷ B ∷ C ∷ []) ≡ programsOfSet (A ∷ B ∷ [])
+  pub marked_next : after (A ∷ B ∷ C ∷ []) ≡ programs_of_set (A ∷ B ∷ [])
   unfolding after
   marked_next = refl
 
   -- a conflict changes nothing; another transport stream's PAT is followed, and then the first again only when it is complete again
-  pub clash : after (A ∷ B ∷ D ∷ []) ≡ programsOfSet (A ∷ B ∷ [])
+  pub clash : after (A ∷ B ∷ D ∷ []) ≡ programs_of_set (A ∷ B ∷ [])
   unfolding after
   clash = refl
 
-  pub other-stream : after (A ∷ B ∷ E ∷ A ∷ []) ≡ programsOfSet (E ∷ [])
+  pub other_stream : after (A ∷ B ∷ E ∷ A ∷ []) ≡ programs_of_set (E ∷ [])
   unfolding after
-  other-stream = refl
+  other_stream = refl
 
-  pub and-back : after (A ∷ B ∷ E ∷ A ∷ B ∷ []) ≡ programsOfSet (A ∷ B ∷ [])
+  pub and_back : after (A ∷ B ∷ E ∷ A ∷ B ∷ []) ≡ programs_of_set (A ∷ B ∷ [])
   unfolding after
-  and-back = refl
+  and_back = refl
 
 -- programs 1 and 2, and not program 0 of the second section
-pub both : map (programsOfSet (A ∷ B ∷ [])) (0x0100 ∷ 0x0200 ∷ 0x0010 ∷ []) ≡ true ∷ true ∷ false ∷ []
-unfolding programsOfSet programPids
+pub both : map (programs_of_set (A ∷ B ∷ [])) (0x0100 ∷ 0x0200 ∷ 0x0010 ∷ []) ≡ true ∷ true ∷ false ∷ []
+unfolding programs_of_set program_pids
 both = refl

@@ -10,65 +10,65 @@ use Prim.Native.Nat.{ℕ, suc, ◌+◌, ◌≤◌, ◌<◌}
 use native.Mathlib.Omega.{arith}
 use lib.Dec.{eqb, ltb}
 use lib.ListN.{length, get_or, take}
-use Rattle.laws.specs.Bits.{hasBit}
-use Rattle.laws.proofs.Bits.{has-none}
-use Rattle.laws.proofs.Tests.{and-true}
+use Rattle.laws.specs.Bits.{has_bit}
+use Rattle.laws.proofs.Bits.{has_none}
+use Rattle.laws.proofs.Tests.{and_true}
 use Rattle.answers.specs.declared.Refusal.TheVariants.{NoCell, TooLong}
-use Rattle.answers.specs.Answers.{refusalNo}
+use Rattle.answers.specs.Answers.{refusal_no}
 use Rattle.section.specs.Facts.{Bytes}
 use Rattle.section.specs.declared.ids.MaybePid.TheVariants as maybe
-use Rattle.pat.specs.Pat.{readable, setN, withPrograms}
-use Rattle.pat.proofs.Laws.{length-programs, has-programs}
-use Rattle.watched.specs.Store.{followedOf, noPids}
-use Rattle.watched.specs.Rules.{Watch, followedBy}
-use Rattle.watched.specs.View.{watchIn, InStep}
-use Rattle.watched.proofs.Meaning.{following-followed, following-shown, following-in-step}
-use Rattle.cells.specs.Cells.{lowestFree}
-use Rattle.rows.specs.Rows.{goneRow, takenIn, touched}
+use Rattle.pat.specs.Pat.{readable, set_n, with_programs}
+use Rattle.pat.proofs.Laws.{length_programs, has_programs}
+use Rattle.watched.specs.Store.{followed_of, no_pids}
+use Rattle.watched.specs.Rules.{Watch, followed_by}
+use Rattle.watched.specs.View.{watch_in, InStep}
+use Rattle.watched.proofs.Meaning.{following_followed, following_shown, following_in_step}
+use Rattle.cells.specs.Cells.{lowest_free}
+use Rattle.rows.specs.Rows.{gone_row, taken_in, touched}
 use Rattle.rows.specs.declared.Entry.{Entry}
 use Rattle.rows.specs.declared.Room.{Room}
-use Rattle.store.specs.Store.{Store, store, risenSets, WholeStore}
-use Rattle.store.proofs.Whole.{means-whole}
-use Rattle.arrivals.specs.Arrivals.{setArrival, SetTaken}
+use Rattle.store.specs.Store.{Store, store, risen_sets, WholeStore}
+use Rattle.store.proofs.Whole.{means_whole}
+use Rattle.arrivals.specs.Arrivals.{set_arrival, SetTaken}
 use Rattle.arrivals.specs.declared.SetArrival.{SetArrival}
 use Rattle.arrivals.specs.declared.SetArrival.TheVariants as arrival
-use Rattle.arrivals.proofs.Facts.{set-taken}
+use Rattle.arrivals.proofs.Facts.{set_taken}
 use Rattle.rules_shared.specs.Refusals as refusals
 use Rattle.rules_sets.specs.Rules.{Whole, Answer, cleared, nothing, handout, refused, barred}
-use Rattle.rules_sets.specs.Rules.{tells as rulesTell, acts as rulesAct}
+use Rattle.rules_sets.specs.Rules.{tells as rules_tell, acts as rules_act}
 use Rattle.rules_sets.specs.Cells.{view}
-use Rattle.rules_sets.proofs.History.{Lived, step-lived}
+use Rattle.rules_sets.proofs.History.{Lived, step_lived}
 use Rattle.placing.specs.Places.{place_of}
 use Rattle.placing.specs.declared.Place.{Place}
 use Rattle.placing.specs.declared.Place.TheVariants as place
-use Rattle.sets_plan.specs.Plan.{planKeep, planPlaced, plan_of}
+use Rattle.sets_plan.specs.Plan.{plan_keep, plan_placed, plan_of}
 use Rattle.sets_plan.specs.declared.Plan.{Plan}
 use Rattle.sets_plan.specs.declared.Plan.TheVariants as plan
-use Rattle.sets_plan.proofs.Every.{plan-by}
+use Rattle.sets_plan.proofs.Every.{plan_by}
 use Rattle.sets_settle.specs.Settle as settle
-use Rattle.sets_settle.specs.Settle.{Told, SetsAfter, answer_of, goesOut, settledAnswer, settledHeads, settled, keptIn, carried}
+use Rattle.sets_settle.specs.Settle.{Told, SetsAfter, answer_of, goes_out, settled_answer, settled_heads, settled, kept_in, carried}
 use Rattle.sets_settle.specs.declared.PushAnswer.TheVariants.{Nothing, Set}
-use Rattle.sets_push.specs.Pushing.{wholePushed, admitted}
-use Rattle.sets.specs.Store.{pushedAs, pushedOf}
+use Rattle.sets_push.specs.Pushing.{whole_pushed, admitted}
+use Rattle.sets.specs.Store.{pushed_as, pushed_of}
 use Rattle.sets.specs.History as sets
-use Rattle.sets.proofs.Arrived.{set-refused-by}
+use Rattle.sets.proofs.Arrived.{set_refused_by}
 use Rattle.ties_sets.specs.View as ties
-use Rattle.ties_sets.specs.View.{seen, settingsOf, answerTold, reads}
-use Rattle.ties_sets.proofs.History.{obeys, acts-reached}
-use Rattle.pats.specs.Store.{Record, patClock, patStore, patsFull, enters, withAll, programsOf, withStore, watchAfter, enteredAs, entered_in, PatsReady, Arrives}
-use Rattle.ties_pats.specs.Rules.{Pats, programsOfSet, nAfter, clockAfter, readPat, patSettings, entered}
-use Rattle.without_pid.specs.Pids.{withoutPid}
-use Rattle.pats.proofs.Store.{pushed-as}
-use Rattle.pats.proofs.Laws.{ready, is_whole, same-followed, same-watched, same-protected, length-programs-of, long-with, with-sets, then-store, entered-whole, entered-lengths, whole-store}
-use Rattle.ties_pats.specs.View.{shown, tellsOf, CompletePat}
-use Rattle.ties_pats.proofs.Cells.{never-21}
-use Rattle.ties_pats.proofs.Kept.{SetsKept, CallSays, step_kept, handed-complete, reads_say}
+use Rattle.ties_sets.specs.View.{seen, settings_of, answer_told, reads}
+use Rattle.ties_sets.proofs.History.{obeys, acts_reached}
+use Rattle.pats.specs.Store.{Record, pat_clock, pat_store, pats_full, enters, with_all, programs_of, with_store, watch_after, entered_as, entered_in, PatsReady, Arrives}
+use Rattle.ties_pats.specs.Rules.{Pats, programs_of_set, n_after, clock_after, read_pat, pat_settings, entered}
+use Rattle.without_pid.specs.Pids.{without_pid}
+use Rattle.pats.proofs.Store.{pushed_as_lem}
+use Rattle.pats.proofs.Laws.{ready, is_whole, same_followed, same_watched, same_protected, length_programs_of, long_with, with_sets_lem, then_store, entered_whole, entered_lengths, whole_store}
+use Rattle.ties_pats.specs.View.{shown, tells_of, CompletePat}
+use Rattle.ties_pats.proofs.Cells.{never_21}
+use Rattle.ties_pats.proofs.Kept.{SetsKept, CallSays, step_kept, handed_complete, reads_say}
 
 -- what every record has that comes from an opened one; `Came` is what is known of every section that entered
 pub record Stands (Came : List ℕ → Type 0) (r : Record) : Type 0 where
   pub words : 398 ≤ length r.words
-  pub whole : WholeStore (patStore r)
-  pub reached : ties.Reached (patStore r)
+  pub whole : WholeStore (pat_store r)
+  pub reached : ties.Reached (pat_store r)
   pub lived : Lived 1 (shown r).sets
   pub kept : SetsKept Came (shown r).sets
 
@@ -76,14 +76,14 @@ pub record Stands (Came : List ℕ → Type 0) (r : Record) : Type 0 where
 
 -- the words have the PIDs that the sections list
 has_all : (sections : List (List ℕ)) (n : List ℕ) (q : ℕ) → length n ≡ 128 → ((j : ℕ) → j < length sections → Bytes (get_or sections j []) × (readable (get_or sections j []) ≡ true))
-    → hasBit (withAll sections n) q ≡ programsOfSet sections q || hasBit n q
-unfolding withAll programsOfSet
+    → has_bit (with_all sections n) q ≡ programs_of_set sections q || has_bit n q
+unfolding with_all programs_of_set
 has_all [] n q l f = refl
 has_all (s ∷ ss) n q l f =
     let b = f 0 (omega arith) in
-    has_all ss (withPrograms s n) q (length-programs s n ∙ l) (λ j h. f (suc j) (omega arith))
-    ∙ ap (λ (t : Bool). programsOfSet ss q || t) (has-programs s n q l b.0)
-    ∙ rw b.1 (turn (programsOfSet ss q) (setN s q) (hasBit n q))
+    has_all ss (with_programs s n) q (length_programs s n ∙ l) (λ j h. f (suc j) (omega arith))
+    ∙ ap (λ (t : Bool). programs_of_set ss q || t) (has_programs s n q l b.0)
+    ∙ rw b.1 (turn (programs_of_set ss q) (set_n s q) (has_bit n q))
   where
     turn : (a b c : Bool) → (a || (b || c)) ≡ ((b || a) || c)
     turn true true c = refl
@@ -91,194 +91,194 @@ has_all (s ∷ ss) n q l f =
     turn false true c = refl
     turn false false c = refl
 
-pub has-n : (Came : List ℕ → Type 0) (w : Whole) → CompletePat Came w → (q : ℕ) → hasBit (programsOf w.sections) q ≡ programsOfSet w.sections q
+pub has_n : (Came : List ℕ → Type 0) (w : Whole) → CompletePat Came w → (q : ℕ) → has_bit (programs_of w.sections) q ≡ programs_of_set w.sections q
 unfolding enters
-has-n Came w c q =
-    has_all w.sections noPids q refl (λ j h. let a = c.all in let p = c.each j (omega arith) in (p.bytes, (and-true (readable (get_or w.sections j [])) _ (and-true _ _ p.pat).0).0))
-    ∙ rw (has-none 128 q) (or-false (programsOfSet w.sections q))
+has_n Came w c q =
+    has_all w.sections no_pids q refl (λ j h. let a = c.all in let p = c.each j (omega arith) in (p.bytes, (and_true (readable (get_or w.sections j [])) _ (and_true _ _ p.pat).0).0))
+    ∙ rw (has_none 128 q) (or-false (programs_of_set w.sections q))
 
 -- ---- the clock rises with what is told
 
-pub clock-one : (a : Answer) (c : ℕ) → clockAfter a c ≤ c + 1
-clock-one cleared c = omega arith
-clock-one nothing c = omega arith
-clock-one (handout w) c = omega arith
-clock-one (refused r) c = go (eqb (refusalNo r) 22)
+pub clock_one : (a : Answer) (c : ℕ) → clock_after a c ≤ c + 1
+clock_one cleared c = omega arith
+clock_one nothing c = omega arith
+clock_one (handout w) c = omega arith
+clock_one (refused r) c = go (eqb (refusal_no r) 22)
   where
     go : (b : Bool) → cond b (c + 1) c ≤ c + 1
     go true = omega arith
     go false = omega arith
 
-settled-ticks : (s : Store) (i : ℕ) → (settled s i).store.sets.clock ≡ clockAfter (answerTold (settled s i).told) s.sets.clock
-unfolding settled settledAnswer answerTold
-settled-ticks s i = go (goesOut (touched (s.sets.clock + 1) i s.heads) s.slots i)
+settled_ticks : (s : Store) (i : ℕ) → (settled s i).store.sets.clock ≡ clock_after (answer_told (settled s i).told) s.sets.clock
+unfolding settled settled_answer answer_told
+settled_ticks s i = go (goes_out (touched (s.sets.clock + 1) i s.heads) s.slots i)
   where
-    go : (b : Bool) → s.sets.clock + 1 ≡ clockAfter (answerTold (answer_of (cond b (Set i) Nothing)
-        (store (risenSets s.sets) (settledHeads (s.sets.clock + 1) s.heads s.slots i) s.slots s.cells))) s.sets.clock
+    go : (b : Bool) → s.sets.clock + 1 ≡ clock_after (answer_told (answer_of (cond b (Set i) Nothing)
+        (store (risen_sets s.sets) (settled_heads (s.sets.clock + 1) s.heads s.slots i) s.slots s.cells))) s.sets.clock
     go true = refl
     go false = refl
 
 abbrev Ticks : Store → List ℕ → Plan → Type 0
-Ticks s bytes p = (carried s bytes p).store.sets.clock ≡ clockAfter (answerTold (carried s bytes p).told) s.sets.clock
+Ticks s bytes p = (carried s bytes p).store.sets.clock ≡ clock_after (answer_told (carried s bytes p).told) s.sets.clock
 
-planned-ticks : (s : Store) (e : Entry) (bytes : List ℕ) → s.sets.limit ≢ 0 → Ticks s bytes (plan_of s e bytes)
-unfolding answerTold plan_of planKeep keptIn
-planned-ticks s e bytes l = rw (ne_eqb s.sets.limit 0 l) (go (ltb s.sets.size (length bytes)))
+planned_ticks : (s : Store) (e : Entry) (bytes : List ℕ) → s.sets.limit ≢ 0 → Ticks s bytes (plan_of s e bytes)
+unfolding answer_told plan_of plan_keep kept_in
+planned_ticks s e bytes l = rw (ne_eqb s.sets.limit 0 l) (go (ltb s.sets.size (length bytes)))
   where
     kept : (r : Room) (c : ℕ) (b : Bool) → Ticks s bytes (cond b (plan.Keep (record { entry = e; room = r; cell = c })) (plan.Refuse NoCell))
-    kept r c true = settled-ticks (keptIn s bytes (record { entry = e; room = r; cell = c })) r.row
+    kept r c true = settled_ticks (kept_in s bytes (record { entry = e; room = r; cell = c })) r.row
     kept r c false = refl
 
-    placed : (p : Place) → Ticks s bytes (planPlaced s e p)
+    placed : (p : Place) → Ticks s bytes (plan_placed s e p)
     placed (place.Conflict i) = refl
-    placed (place.Repeat i) = settled-ticks s i
+    placed (place.Repeat i) = settled_ticks s i
     placed (place.Goes r) =
-        let c : ℕ = lowestFree (takenIn s.heads s.slots (goneRow r s.sets.used) s.sets.used) s.sets.count in
+        let c : ℕ = lowest_free (taken_in s.heads s.slots (gone_row r s.sets.used) s.sets.used) s.sets.count in
         kept r c (ltb c s.sets.count)
 
-    go : (a : Bool) → Ticks s bytes (cond a (plan.Refuse TooLong) (planPlaced s e (place_of s e bytes)))
+    go : (a : Bool) → Ticks s bytes (cond a (plan.Refuse TooLong) (plan_placed s e (place_of s e bytes)))
     go true = refl
     go false = placed (place_of s e bytes)
 
 -- ---- 10, 11 and 21 do not come
 
-settled-free : (s : Store) (i : ℕ) → barred (answerTold (settled s i).told) ≡ false
-unfolding settled settledAnswer answerTold barred
-settled-free s i = go (goesOut (touched (s.sets.clock + 1) i s.heads) s.slots i)
+settled_free : (s : Store) (i : ℕ) → barred (answer_told (settled s i).told) ≡ false
+unfolding settled settled_answer answer_told barred
+settled_free s i = go (goes_out (touched (s.sets.clock + 1) i s.heads) s.slots i)
   where
-    go : (b : Bool) → barred (answerTold (answer_of (cond b (Set i) Nothing) (store (risenSets s.sets) (settledHeads (s.sets.clock + 1) s.heads s.slots i) s.slots s.cells))) ≡ false
+    go : (b : Bool) → barred (answer_told (answer_of (cond b (Set i) Nothing) (store (risen_sets s.sets) (settled_heads (s.sets.clock + 1) s.heads s.slots i) s.slots s.cells))) ≡ false
     go true = refl
     go false = refl
 
-planned-free : (s : Store) (e : Entry) (bytes : List ℕ) → plan_of s e bytes ≢ plan.Refuse NoCell → barred (answerTold (carried s bytes (plan_of s e bytes)).told) ≡ false
-unfolding answerTold barred refusals.barred planKeep
-planned-free s e bytes =
-    plan-by s e bytes (λ p. p ≢ plan.Refuse NoCell → barred (answerTold (carried s bytes p).told) ≡ false) (λ h. refl) (λ h. refl) (λ i h. settled-free s i) (λ i h. refl)
-    (λ r. keeps r (lowestFree (takenIn s.heads s.slots (goneRow r s.sets.used) s.sets.used) s.sets.count))
+planned_free : (s : Store) (e : Entry) (bytes : List ℕ) → plan_of s e bytes ≢ plan.Refuse NoCell → barred (answer_told (carried s bytes (plan_of s e bytes)).told) ≡ false
+unfolding answer_told barred refusals.barred plan_keep
+planned_free s e bytes =
+    plan_by s e bytes (λ p. p ≢ plan.Refuse NoCell → barred (answer_told (carried s bytes p).told) ≡ false) (λ h. refl) (λ h. refl) (λ i h. settled_free s i) (λ i h. refl)
+    (λ r. keeps r (lowest_free (taken_in s.heads s.slots (gone_row r s.sets.used) s.sets.used) s.sets.count))
   where
     at : (r : Room) (c : ℕ) (b : Bool) → cond b (plan.Keep (record { entry = e; room = r; cell = c })) (plan.Refuse NoCell) ≢ plan.Refuse NoCell
-        → barred (answerTold (carried s bytes (cond b (plan.Keep (record { entry = e; room = r; cell = c })) (plan.Refuse NoCell))).told) ≡ false
-    at r c true h = settled-free (keptIn s bytes (record { entry = e; room = r; cell = c })) r.row
+        → barred (answer_told (carried s bytes (cond b (plan.Keep (record { entry = e; room = r; cell = c })) (plan.Refuse NoCell))).told) ≡ false
+    at r c true h = settled_free (kept_in s bytes (record { entry = e; room = r; cell = c })) r.row
     at r c false h = absurd (h refl)
 
     keeps : (r : Room) (c : ℕ) → cond (ltb c s.sets.count) (plan.Keep (record { entry = e; room = r; cell = c })) (plan.Refuse NoCell) ≢ plan.Refuse NoCell
-        → barred (answerTold (carried s bytes (cond (ltb c s.sets.count) (plan.Keep (record { entry = e; room = r; cell = c })) (plan.Refuse NoCell))).told) ≡ false
+        → barred (answer_told (carried s bytes (cond (ltb c s.sets.count) (plan.Keep (record { entry = e; room = r; cell = c })) (plan.Refuse NoCell))).told) ≡ false
     keeps r c = at r c (ltb c s.sets.count)
 
 -- ---- what an entering did
 
 -- the PAT store is the one that the push left, and the words are those of before with what it told followed
 record Did (r then : Record) (t : SetsAfter) : Type 0 where
-  left : patStore then ≡ t.store
+  left : pat_store then ≡ t.store
   words : List ℕ
   long : 384 ≤ length words
   same : take 384 words ≡ take 384 r.words
-  followed : then.words ≡ watchAfter t.told words
+  followed : then.words ≡ watch_after t.told words
 
-module _ (r : Record) (o : PatsReady r) (np : withoutPid (patStore r).heads (patStore r).sets.used ≡ false) (input : ℕ) (section : List ℕ) (b : Bytes section) where
+module _ (r : Record) (o : PatsReady r) (np : without_pid (pat_store r).heads (pat_store r).sets.used ≡ false) (input : ℕ) (section : List ℕ) (b : Bytes section) where
   abbrev then : Record
   then = entered_in r input section
 
   abbrev turn : SetsAfter
-  turn = pushedOf (patStore r) input (maybe.Some 0) section
+  turn = pushed_of (pat_store r) input (maybe.Some 0) section
 
-  free : barred (answerTold turn.told) ≡ false
-  unfolding pushedOf admitted answerTold barred refusals.barred wholePushed
-  free = rw (means-whole (patStore r) o.ready.whole, ne_eqb (patStore r).sets.evictions 18446744073709551615 o.ready.counts, ne_eqb (patStore r).sets.clock 18446744073709551615 o.ready.runs, np) (go (setArrival input (maybe.Some 0) section) refl)
+  free : barred (answer_told turn.told) ≡ false
+  unfolding pushed_of admitted answer_told barred refusals.barred whole_pushed
+  free = rw (means_whole (pat_store r) o.ready.whole, ne_eqb (pat_store r).sets.evictions 18446744073709551615 o.ready.counts, ne_eqb (pat_store r).sets.clock 18446744073709551615 o.ready.runs, np) (go (set_arrival input (maybe.Some 0) section) refl)
     where
-      go : (a : SetArrival) → setArrival input (maybe.Some 0) section ≡ a → barred (answerTold (pushedAs (patStore r) section a).told) ≡ false
-      go (arrival.Refused x) q = set-refused-by section (λ x. refusals.barred x ≡ false) refl refl refl refl refl refl refl input (maybe.Some 0) x q
+      go : (a : SetArrival) → set_arrival input (maybe.Some 0) section ≡ a → barred (answer_told (pushed_as (pat_store r) section a).told) ≡ false
+      go (arrival.Refused x) q = set_refused_by section (λ x. refusals.barred x ≡ false) refl refl refl refl refl refl refl input (maybe.Some 0) x q
       go (arrival.Arrived e) q =
-          let t : SetTaken section (arrival.Arrived e) = subst (SetTaken section) q (set-taken section (b 7) input (maybe.Some 0)) in
-          planned-free (patStore r) e section (never-21 (patStore r) o.ready.whole refl e t.numbered section refl)
+          let t : SetTaken section (arrival.Arrived e) = subst (SetTaken section) q (set_taken section (b 7) input (maybe.Some 0)) in
+          planned_free (pat_store r) e section (never_21 (pat_store r) o.ready.whole refl e t.numbered section refl)
 
-  rises : turn.store.sets.clock ≡ clockAfter (answerTold turn.told) (patStore r).sets.clock
-  unfolding pushedOf admitted answerTold wholePushed
+  rises : turn.store.sets.clock ≡ clock_after (answer_told turn.told) (pat_store r).sets.clock
+  unfolding pushed_of admitted answer_told whole_pushed
   rises =
-      rw (means-whole (patStore r) o.ready.whole, ne_eqb (patStore r).sets.evictions 18446744073709551615 o.ready.counts, ne_eqb (patStore r).sets.clock 18446744073709551615 o.ready.runs, np)
-      (go (setArrival input (maybe.Some 0) section) refl)
+      rw (means_whole (pat_store r) o.ready.whole, ne_eqb (pat_store r).sets.evictions 18446744073709551615 o.ready.counts, ne_eqb (pat_store r).sets.clock 18446744073709551615 o.ready.runs, np)
+      (go (set_arrival input (maybe.Some 0) section) refl)
     where
-      go : (a : SetArrival) → setArrival input (maybe.Some 0) section ≡ a
-          → (pushedAs (patStore r) section a).store.sets.clock ≡ clockAfter (answerTold (pushedAs (patStore r) section a).told) (patStore r).sets.clock
-      go (arrival.Refused x) q = rw (set-refused-by section (λ x. eqb (refusalNo x) 22 ≡ false) refl refl refl refl refl refl refl input (maybe.Some 0) x q) refl
-      go (arrival.Arrived e) q = planned-ticks (patStore r) e section (omega arith)
+      go : (a : SetArrival) → set_arrival input (maybe.Some 0) section ≡ a
+          → (pushed_as (pat_store r) section a).store.sets.clock ≡ clock_after (answer_told (pushed_as (pat_store r) section a).told) (pat_store r).sets.clock
+      go (arrival.Refused x) q = rw (set_refused_by section (λ x. eqb (refusal_no x) 22 ≡ false) refl refl refl refl refl refl refl input (maybe.Some 0) x q) refl
+      go (arrival.Arrived e) q = planned_ticks (pat_store r) e section (omega arith)
 
   -- 10, 11 and 41 have been asked
-  read_as : (a : SetArrival) → setArrival input (maybe.Some 0) section ≡ a → turn ≡ pushedAs (patStore r) section a
-  unfolding pushedOf admitted
-  read_as a q = rw (means-whole (patStore r) o.ready.whole, ne_eqb (patStore r).sets.evictions 18446744073709551615 o.ready.counts, ne_eqb (patStore r).sets.clock 18446744073709551615 o.ready.runs, np, q)
+  read_as_lem : (a : SetArrival) → set_arrival input (maybe.Some 0) section ≡ a → turn ≡ pushed_as (pat_store r) section a
+  unfolding pushed_of admitted
+  read_as_lem a q = rw (means_whole (pat_store r) o.ready.whole, ne_eqb (pat_store r).sets.evictions 18446744073709551615 o.ready.counts, ne_eqb (pat_store r).sets.clock 18446744073709551615 o.ready.runs, np, q)
 
   did : enters section ≡ true → Did r then turn
   unfolding entered_in
-  did h = rw h (go (setArrival input (maybe.Some 0) section) refl)
+  did h = rw h (go (set_arrival input (maybe.Some 0) section) refl)
     where
-      go : (a : SetArrival) → setArrival input (maybe.Some 0) section ≡ a → Did r (enteredAs r section a) turn
-      go (arrival.Refused x) q = let l = o.words in rw (read_as (arrival.Refused x) q) (record { left = refl; words = r.words; long = omega arith; same = refl; followed = refl })
+      go : (a : SetArrival) → set_arrival input (maybe.Some 0) section ≡ a → Did r (entered_as r section a) turn
+      go (arrival.Refused x) q = let l = o.words in rw (read_as_lem (arrival.Refused x) q) (record { left = refl; words = r.words; long = omega arith; same = refl; followed = refl })
       go (arrival.Arrived e) q =
           let l = o.words in
-          let a : Arrives section e = record { input = input; read = q; taken = subst (SetTaken section) q (set-taken section (b 7) input (maybe.Some 0)) } in
-          rw (pushed-as (patStore r) o.ready np input (maybe.Some 0) section e q) (record {
-            left = then-store r o section e a;
-            words = withStore r.words (wholePushed (patStore r) e section).store;
-            long = rw (long-with r o section e a) (omega arith);
-            same = with-sets r o section e a;
+          let a : Arrives section e = record { input = input; read = q; taken = subst (SetTaken section) q (set_taken section (b 7) input (maybe.Some 0)) } in
+          rw (pushed_as_lem (pat_store r) o.ready np input (maybe.Some 0) section e q) (record {
+            left = then_store r o section e a;
+            words = with_store r.words (whole_pushed (pat_store r) e section).store;
+            long = rw (long_with r o section e a) (omega arith);
+            same = with_sets_lem r o section e a;
             followed = refl;
           })
 
 -- ---- one entering
 
 -- what was told is followed, or the sets stay
-n-after : (words w : List ℕ) (t : Told) → 384 ≤ length w → take 384 w ≡ take 384 words → ((h : settle.Handed) → t ≡ settle.handed h → (q : ℕ) → hasBit (programsOf h.sections) q ≡ programsOfSet h.sections q)
-    → (q : ℕ) → hasBit (followedOf (watchAfter t w)) q ≡ nAfter (answerTold t) (hasBit (followedOf words)) q
-unfolding answerTold
-n-after words w settle.done l e f q = ap (λ (k : List ℕ). hasBit k q) (same-followed w words e)
-n-after words w settle.nothing l e f q = ap (λ (k : List ℕ). hasBit k q) (same-followed w words e)
-n-after words w (settle.handed h) l e f q = ap (λ (k : List ℕ). hasBit k q) (following-followed w (programsOf h.sections) l (length-programs-of h.sections)) ∙ f h refl q
-n-after words w (settle.refused x) l e f q = ap (λ (k : List ℕ). hasBit k q) (same-followed w words e)
+n_after_lem : (words w : List ℕ) (t : Told) → 384 ≤ length w → take 384 w ≡ take 384 words → ((h : settle.Handed) → t ≡ settle.handed h → (q : ℕ) → has_bit (programs_of h.sections) q ≡ programs_of_set h.sections q)
+    → (q : ℕ) → has_bit (followed_of (watch_after t w)) q ≡ n_after (answer_told t) (has_bit (followed_of words)) q
+unfolding answer_told
+n_after_lem words w settle.done l e f q = ap (λ (k : List ℕ). has_bit k q) (same_followed w words e)
+n_after_lem words w settle.nothing l e f q = ap (λ (k : List ℕ). has_bit k q) (same_followed w words e)
+n_after_lem words w (settle.handed h) l e f q = ap (λ (k : List ℕ). has_bit k q) (following_followed w (programs_of h.sections) l (length_programs_of h.sections)) ∙ f h refl q
+n_after_lem words w (settle.refused x) l e f q = ap (λ (k : List ℕ). has_bit k q) (same_followed w words e)
 
 -- where no set goes out the three sets stay
-sets-stay : (words w : List ℕ) (t : Told) → take 384 w ≡ take 384 words → ((u : Whole) → answerTold t ≢ handout u) → take 384 (watchAfter t w) ≡ take 384 words
-unfolding answerTold
-sets-stay words w settle.done e f = e
-sets-stay words w settle.nothing e f = e
-sets-stay words w (settle.handed h) e f = absurd (f _ refl)
-sets-stay words w (settle.refused x) e f = e
+sets_stay : (words w : List ℕ) (t : Told) → take 384 w ≡ take 384 words → ((u : Whole) → answer_told t ≢ handout u) → take 384 (watch_after t w) ≡ take 384 words
+unfolding answer_told
+sets_stay words w settle.done e f = e
+sets_stay words w settle.nothing e f = e
+sets_stay words w (settle.handed h) e f = absurd (f _ refl)
+sets_stay words w (settle.refused x) e f = e
 
 -- where one does, its PIDs are followed
-pub same-watch : (a b : List ℕ) → take 384 a ≡ take 384 b → watchIn a ≡ watchIn b
-same-watch a b e =
-    let p = same-watched a b e in
-    let q = same-protected a b e in
-    let s = same-followed a b e in
-    λ i. record { watched = hasBit (p i); protected = hasBit (q i); followed = hasBit (s i) }
+pub same_watch : (a b : List ℕ) → take 384 a ≡ take 384 b → watch_in a ≡ watch_in b
+same_watch a b e =
+    let p = same_watched a b e in
+    let q = same_protected a b e in
+    let s = same_followed a b e in
+    λ i. record { watched = has_bit (p i); protected = has_bit (q i); followed = has_bit (s i) }
 
-watch-after : (words w : List ℕ) (t : Told) → 384 ≤ length w → take 384 w ≡ take 384 words → (u : Whole) → answerTold t ≡ handout u
-    → watchIn (watchAfter t w) ≡ followedBy (hasBit (programsOf u.sections)) (watchIn words)
-unfolding answerTold
-watch-after words w settle.done l e u f = let z : ◌≡◌ {A = ℕ} 0 1 = cc in absurd (omega arith)
-watch-after words w settle.nothing l e u f = let z : ◌≡◌ {A = ℕ} 0 1 = cc in absurd (omega arith)
-watch-after words w (settle.handed h) l e u f =
+watch_after_lem : (words w : List ℕ) (t : Told) → 384 ≤ length w → take 384 w ≡ take 384 words → (u : Whole) → answer_told t ≡ handout u
+    → watch_in (watch_after t w) ≡ followed_by (has_bit (programs_of u.sections)) (watch_in words)
+unfolding answer_told
+watch_after_lem words w settle.done l e u f = let z : ◌≡◌ {A = ℕ} 0 1 = cc in absurd (omega arith)
+watch_after_lem words w settle.nothing l e u f = let z : ◌≡◌ {A = ℕ} 0 1 = cc in absurd (omega arith)
+watch_after_lem words w (settle.handed h) l e u f =
     let z : h.sections ≡ u.sections = cc in
-    following-shown w (programsOf h.sections) l (length-programs-of h.sections)
-    ∙ ap (λ (k : Watch). followedBy (hasBit (programsOf h.sections)) k) (same-watch w words e)
-    ∙ ap (λ (k : List (List ℕ)). followedBy (hasBit (programsOf k)) (watchIn words)) z
-watch-after words w (settle.refused x) l e u f = let z : ◌≡◌ {A = ℕ} 0 1 = cc in absurd (omega arith)
+    following_shown w (programs_of h.sections) l (length_programs_of h.sections)
+    ∙ ap (λ (k : Watch). followed_by (has_bit (programs_of h.sections)) k) (same_watch w words e)
+    ∙ ap (λ (k : List (List ℕ)). followed_by (has_bit (programs_of k)) (watch_in words)) z
+watch_after_lem words w (settle.refused x) l e u f = let z : ◌≡◌ {A = ℕ} 0 1 = cc in absurd (omega arith)
 
 -- watched = protected ∪ N stays
 pub same_step : (a b : List ℕ) → take 384 a ≡ take 384 b → InStep b → InStep a
-same_step a b e h q l = rw (same-watched a b e, same-protected a b e, same-followed a b e) (h q l)
+same_step a b e h q l = rw (same_watched a b e, same_protected a b e, same_followed a b e) (h q l)
 
-step_after : (words w : List ℕ) (t : Told) → 384 ≤ length w → take 384 w ≡ take 384 words → InStep words → InStep (watchAfter t w)
+step_after : (words w : List ℕ) (t : Told) → 384 ≤ length w → take 384 w ≡ take 384 words → InStep words → InStep (watch_after t w)
 step_after words w settle.done l e h = same_step w words e h
 step_after words w settle.nothing l e h = same_step w words e h
-step_after words w (settle.handed x) l e h = following-in-step w (programsOf x.sections) l (length-programs-of x.sections) (same_step w words e h)
+step_after words w (settle.handed x) l e h = following_in_step w (programs_of x.sections) l (length_programs_of x.sections) (same_step w words e h)
 step_after words w (settle.refused x) l e h = same_step w words e h
 
-module _ (Came : List ℕ → Type 0) (r : Record) (st : Stands Came r) (more : patsFull r.words ≡ false) (input : ℕ) (section : List ℕ) (b : Bytes section) where
+module _ (Came : List ℕ → Type 0) (r : Record) (st : Stands Came r) (more : pats_full r.words ≡ false) (input : ℕ) (section : List ℕ) (b : Bytes section) where
   o : PatsReady r
   o = ready r (is_whole r st.words st.whole) more
 
-  np : withoutPid (patStore r).heads (patStore r).sets.used ≡ false
+  np : without_pid (pat_store r).heads (pat_store r).sets.used ≡ false
   np = st.reached.pids
 
   abbrev call : sets.Call
@@ -288,63 +288,63 @@ module _ (Came : List ℕ → Type 0) (r : Record) (st : Stands Came r) (more : 
   before = shown r
 
   -- the PAT store tells what the rules tell, and shows what they leave
-  by-rules : (answerTold (turn r o np input section b).told ≡ rulesTell patSettings before.sets (readPat input section))
-      × (view (seen (turn r o np input section b).store) ≡ rulesAct patSettings before.sets (readPat input section))
+  by_rules_lem : (answer_told (turn r o np input section b).told ≡ rules_tell pat_settings before.sets (read_pat input section))
+      × (view (seen (turn r o np input section b).store) ≡ rules_act pat_settings before.sets (read_pat input section))
   unfolding ties.tells ties.acts reads
-  by-rules = go (obeys (patStore r) st.reached call b)
+  by_rules_lem = go (obeys (pat_store r) st.reached call b)
     where
-      go : (barred (ties.tells (patStore r) call) ≡ true) ⊎ ((ties.tells (patStore r) call ≡ rulesTell (settingsOf (patStore r)) (view (seen (patStore r))) (reads call))
-          × (view (seen (ties.acts (patStore r) call)) ≡ rulesAct (settingsOf (patStore r)) (view (seen (patStore r))) (reads call)))
-          → (answerTold (turn r o np input section b).told ≡ rulesTell patSettings before.sets (readPat input section))
-          × (view (seen (turn r o np input section b).store) ≡ rulesAct patSettings before.sets (readPat input section))
+      go : (barred (ties.tells (pat_store r) call) ≡ true) ⊎ ((ties.tells (pat_store r) call ≡ rules_tell (settings_of (pat_store r)) (view (seen (pat_store r))) (reads call))
+          × (view (seen (ties.acts (pat_store r) call)) ≡ rules_act (settings_of (pat_store r)) (view (seen (pat_store r))) (reads call)))
+          → (answer_told (turn r o np input section b).told ≡ rules_tell pat_settings before.sets (read_pat input section))
+          × (view (seen (turn r o np input section b).store) ≡ rules_act pat_settings before.sets (read_pat input section))
       go (inl e) = absurd (true≢false (sym e ∙ free r o np input section b))
       go (inr e) = e
 
-  pub tells-rules : tellsOf r (record { input = input; section = section }) ≡ rulesTell patSettings before.sets (readPat input section)
+  pub tells_rules : tells_of r (record { input = input; section = section }) ≡ rules_tell pat_settings before.sets (read_pat input section)
   unfolding ties.tells
-  tells-rules = by-rules.0
+  tells_rules = by_rules_lem.0
 
   -- the PAT store's clock by the rules
-  pub clock-then : enters section ≡ true → patClock (entered_in r input section).words ≡ clockAfter (rulesTell patSettings before.sets (readPat input section)) (patClock r.words)
-  clock-then h =
+  pub clock_then : enters section ≡ true → pat_clock (entered_in r input section).words ≡ clock_after (rules_tell pat_settings before.sets (read_pat input section)) (pat_clock r.words)
+  clock_then h =
       ap (λ (s : Store). s.sets.clock) (did r o np input section b h).left ∙ rises r o np input section b
-      ∙ ap (λ (a : Answer). clockAfter a (patClock r.words)) by-rules.0
+      ∙ ap (λ (a : Answer). clock_after a (pat_clock r.words)) by_rules_lem.0
 
   module _ (h : enters section ≡ true) (c : Came section) where
     d : Did r (entered_in r input section) (turn r o np input section b)
     d = did r o np input section b h
 
-    says : CallSays Came (readPat input section)
+    says : CallSays Came (read_pat input section)
     says = reads_say Came input section b h c
 
-    sets_then : (shown (entered_in r input section)).sets ≡ rulesAct patSettings before.sets (readPat input section)
-    sets_then = ap (λ (s : Store). view (seen s)) d.left ∙ by-rules.1
+    sets_then : (shown (entered_in r input section)).sets ≡ rules_act pat_settings before.sets (read_pat input section)
+    sets_then = ap (λ (s : Store). view (seen s)) d.left ∙ by_rules_lem.1
 
-    n-then : (q : ℕ) → (shown (entered_in r input section)).n q ≡ nAfter (rulesTell patSettings before.sets (readPat input section)) before.n q
-    unfolding answerTold
-    n-then q =
-        ap (λ (k : List ℕ). hasBit (followedOf k) q) d.followed
-        ∙ n-after r.words d.words (turn r o np input section b).told d.long d.same
-        (λ x e. has-n Came _ (handed-complete Came patSettings before.sets (readPat input section) st.lived says st.kept _ (sym by-rules.0 ∙ ap answerTold e)))
+    n_then : (q : ℕ) → (shown (entered_in r input section)).n q ≡ n_after (rules_tell pat_settings before.sets (read_pat input section)) before.n q
+    unfolding answer_told
+    n_then q =
+        ap (λ (k : List ℕ). has_bit (followed_of k) q) d.followed
+        ∙ n_after_lem r.words d.words (turn r o np input section b).told d.long d.same
+        (λ x e. has_n Came _ (handed_complete Came pat_settings before.sets (read_pat input section) st.lived says st.kept _ (sym by_rules_lem.0 ∙ ap answer_told e)))
         q
-        ∙ ap (λ (a : Answer). nAfter a before.n q) by-rules.0
+        ∙ ap (λ (a : Answer). n_after a before.n q) by_rules_lem.0
 
     -- a set that goes out is followed
-    pub watch-then : (w : Whole) → rulesTell patSettings before.sets (readPat input section) ≡ handout w
-        → watchIn (entered_in r input section).words ≡ followedBy (programsOfSet w.sections) (watchIn r.words)
-    watch-then w e =
-        let p = has-n Came w (handed-complete Came patSettings before.sets (readPat input section) st.lived says st.kept w e) in
-        ap watchIn d.followed ∙ watch-after r.words d.words (turn r o np input section b).told d.long d.same w (by-rules.0 ∙ e)
-        ∙ (λ i. followedBy (λ q. p q i) (watchIn r.words))
+    pub watch_then : (w : Whole) → rules_tell pat_settings before.sets (read_pat input section) ≡ handout w
+        → watch_in (entered_in r input section).words ≡ followed_by (programs_of_set w.sections) (watch_in r.words)
+    watch_then w e =
+        let p = has_n Came w (handed_complete Came pat_settings before.sets (read_pat input section) st.lived says st.kept w e) in
+        ap watch_in d.followed ∙ watch_after_lem r.words d.words (turn r o np input section b).told d.long d.same w (by_rules_lem.0 ∙ e)
+        ∙ (λ i. followed_by (λ q. p q i) (watch_in r.words))
 
-    entered-stands : Stands Came (entered_in r input section)
+    entered_stands : Stands Came (entered_in r input section)
     unfolding ties.acts
-    entered-stands = record {
-      words = rw (entered-lengths r o input section (b 7)).0 st.words;
-      whole = whole-store (entered_in r input section) (entered-whole r o input section (b 7));
-      reached = subst ties.Reached (sym d.left) (acts-reached (patStore r) st.reached call b);
-      lived = rw sets_then (step-lived patSettings before.sets (readPat input section) tt st.lived);
-      kept = rw sets_then (step_kept Came patSettings before.sets (readPat input section) says st.kept);
+    entered_stands = record {
+      words = rw (entered_lengths r o input section (b 7)).0 st.words;
+      whole = whole_store (entered_in r input section) (entered_whole r o input section (b 7));
+      reached = subst ties.Reached (sym d.left) (acts_reached (pat_store r) st.reached call b);
+      lived = rw sets_then (step_lived pat_settings before.sets (read_pat input section) tt st.lived);
+      kept = rw sets_then (step_kept Came pat_settings before.sets (read_pat input section) says st.kept);
     }
 
   -- "a section enters by the set rules": a section that does not enter leaves all as it was
@@ -352,35 +352,35 @@ module _ (Came : List ℕ → Type 0) (r : Record) (st : Stands Came r) (more : 
   unfolding entered_in
   stays_out h = rw h
 
-  pub stands-then : Came section → Stands Came (entered_in r input section)
-  stands-then c = go (enters section) refl
+  pub stands_then : Came section → Stands Came (entered_in r input section)
+  stands_then c = go (enters section) refl
     where
       go : (t : Bool) → enters section ≡ t → Stands Came (entered_in r input section)
-      go true h = entered-stands h c
+      go true h = entered_stands h c
       go false h = rw (stays_out h) st
 
   -- one entering is what the rules say
-  pub obeys-rules : Came section → shown (entered_in r input section) ≡ entered before input section
+  pub obeys_rules : Came section → shown (entered_in r input section) ≡ entered before input section
   unfolding entered
-  obeys-rules c = go (enters section) refl
+  obeys_rules c = go (enters section) refl
     where
       go : (t : Bool) → enters section ≡ t
-          → shown (entered_in r input section) ≡ cond t (record { sets = rulesAct patSettings before.sets (readPat input section); n = nAfter (rulesTell patSettings before.sets (readPat input section)) before.n }) before
-      go true h = let p = sets_then h c in let q = n-then h c in λ i. record { sets = p i; n = λ k. q k i }
+          → shown (entered_in r input section) ≡ cond t (record { sets = rules_act pat_settings before.sets (read_pat input section); n = n_after (rules_tell pat_settings before.sets (read_pat input section)) before.n }) before
+      go true h = let p = sets_then h c in let q = n_then h c in λ i. record { sets = p i; n = λ k. q k i }
       go false h = rw (stays_out h)
 
   -- the three sets stay where the rules hand out no set at that section
-  pub only-whole : ((w : Whole) → rulesTell patSettings before.sets (readPat input section) ≢ handout w) → take 384 (entered_in r input section).words ≡ take 384 r.words
-  only-whole f = go (enters section) refl
+  pub only_whole : ((w : Whole) → rules_tell pat_settings before.sets (read_pat input section) ≢ handout w) → take 384 (entered_in r input section).words ≡ take 384 r.words
+  only_whole f = go (enters section) refl
     where
       go : (t : Bool) → enters section ≡ t → take 384 (entered_in r input section).words ≡ take 384 r.words
       go true h =
           let x = did r o np input section b h in
-          ap (take 384) x.followed ∙ sets-stay r.words x.words (turn r o np input section b).told x.same (λ w e. f w (sym by-rules.0 ∙ e))
+          ap (take 384) x.followed ∙ sets_stay r.words x.words (turn r o np input section b).told x.same (λ w e. f w (sym by_rules_lem.0 ∙ e))
       go false h = ap (λ (k : Record). take 384 k.words) (stays_out h)
 
-  pub in-step-then : InStep r.words → InStep (entered_in r input section).words
-  in-step-then s = go (enters section) refl
+  pub in_step_then : InStep r.words → InStep (entered_in r input section).words
+  in_step_then s = go (enters section) refl
     where
       go : (t : Bool) → enters section ≡ t → InStep (entered_in r input section).words
       go true h = let x = did r o np input section b h in subst InStep (sym x.followed) (step_after r.words x.words (turn r o np input section b).told x.long x.same s)

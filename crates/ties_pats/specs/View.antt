@@ -1,26 +1,26 @@
 -- What a record that follows complete PATs stands for, its enterings one after another, and what a complete PAT is.
 -- Assumes nothing.
 use Rattle.std.specs.Prelude.{ℕ, suc, ◌≤◌, ◌<◌, ◌≡◌, ◌≢◌, true, false, cond, List, [], ◌∷◌, length, get_or}
-use Rattle.laws.specs.Bits.{hasBit}
+use Rattle.laws.specs.Bits.{has_bit}
 use Rattle.section.specs.Facts.{Bytes}
-use Rattle.section.specs.Header.{extensionOf, versionOf, sectionNumber, lastSectionNumber, storedCrc, workedCrc}
+use Rattle.section.specs.Header.{extension_of, version_of, section_number, last_section_number, stored_crc, worked_crc}
 use Rattle.section.specs.declared.ids.MaybePid.TheVariants as maybe
-use Rattle.pat.specs.Pat.{setN}
-use Rattle.watched.specs.Store.{followedOf}
-use Rattle.watched.specs.Rules.{Watch, followedBy}
+use Rattle.pat.specs.Pat.{set_n}
+use Rattle.watched.specs.Store.{followed_of}
+use Rattle.watched.specs.Rules.{Watch, followed_by}
 use Rattle.rules_sets.specs.Rules.{Whole, Answer, conflict}
 use Rattle.rules_sets.specs.Cells.{view}
 use Rattle.sets.specs.History as sets
 use Rattle.ties_sets.specs.View as ties
 use Rattle.ties_sets.specs.View.{seen}
-use Rattle.pats.specs.Store.{Record, patStore, patsFull, enters, entered_in}
+use Rattle.pats.specs.Store.{Record, pat_store, pats_full, enters, entered_in}
 use Rattle.ties_pats.specs.Rules.{Pats, entered}
 
 -- ---- a record, in the words of the rules
 
 -- the sections collected, and N
 abbrev pub shown : Record → Pats
-shown r = record { sets = view (seen (patStore r)); n = hasBit (followedOf r.words) }
+shown r = record { sets = view (seen (pat_store r)); n = has_bit (followed_of r.words) }
 
 -- as opening leaves a record: room, no row, no eviction; nothing is asked of what else the lent memory holds
 pub record Opened (r : Record) : Type 0 where
@@ -39,15 +39,15 @@ pub record Sent : Type 0 where
 
 -- 11 leaves all as it was
 unfoldable pub entering : Record → Sent → Record
-entering r x = cond (patsFull r.words) r (entered_in r x.input x.section)
+entering r x = cond (pats_full r.words) r (entered_in r x.input x.section)
 
 -- by the rules
 unfoldable pub taking : Pats → Sent → Pats
 taking p x = entered p x.input x.section
 
 -- what the PAT store tells of a section
-abbrev pub tellsOf : Record → Sent → Answer
-tellsOf r x = ties.tells (patStore r) (sets.offer x.input (maybe.Some 0) x.section)
+abbrev pub tells_of : Record → Sent → Answer
+tells_of r x = ties.tells (pat_store r) (sets.offer x.input (maybe.Some 0) x.section)
 
 -- sections are bytes
 abbrev pub OfBytes : List Sent → Type 0
@@ -57,7 +57,7 @@ OfBytes (x ∷ xs) = Bytes x.section × OfBytes xs
 -- the count is at its end before none of them
 abbrev pub NeverFull : Record → List Sent → Type 0
 NeverFull r [] = Unit {0}
-NeverFull r (x ∷ xs) = (patsFull r.words ≡ false) × NeverFull (entering r x) xs
+NeverFull r (x ∷ xs) = (pats_full r.words ≡ false) × NeverFull (entering r x) xs
 
 -- ---- what a PAT consists of
 
@@ -65,11 +65,11 @@ NeverFull r (x ∷ xs) = (patsFull r.words ≡ false) × NeverFull (entering r x
 pub record PartOf (Came : List ℕ → Type 0) (s v l j : ℕ) (section : List ℕ) : Type 0 where
   pub bytes : Bytes section
   pub pat : enters section ≡ true
-  pub sound : workedCrc section ≡ storedCrc section
-  pub stream : extensionOf section ≡ s
-  pub version : versionOf section ≡ v
-  pub last : lastSectionNumber section ≡ l
-  pub number : sectionNumber section ≡ j
+  pub sound : worked_crc section ≡ stored_crc section
+  pub stream : extension_of section ≡ s
+  pub version : version_of section ≡ v
+  pub last : last_section_number section ≡ l
+  pub number : section_number section ≡ j
   pub came : Came section
 
 -- all its sections, 0 to last_section_number
@@ -84,16 +84,16 @@ pub record Single (x : Sent) : Type 0 where
   pub input : x.input < 16
   pub bytes : Bytes x.section
   pub pat : enters x.section ≡ true
-  pub sound : workedCrc x.section ≡ storedCrc x.section
-  pub number : sectionNumber x.section ≡ 0
-  pub last : lastSectionNumber x.section ≡ 0
+  pub sound : worked_crc x.section ≡ stored_crc x.section
+  pub number : section_number x.section ≡ 0
+  pub last : last_section_number x.section ≡ 0
 
 -- each of them is one, none conflicts with what the record holds, and the count is at its end before none
 abbrev pub Singles : Record → List Sent → Type 0
 Singles r [] = Unit {0}
-Singles r (x ∷ xs) = Single x × (tellsOf r x ≢ conflict) × (patsFull r.words ≡ false) × Singles (entering r x) xs
+Singles r (x ∷ xs) = Single x × (tells_of r x ≢ conflict) × (pats_full r.words ≡ false) × Singles (entering r x) xs
 
 -- the watch after following each of them
-unfoldable pub followEach : Watch → List Sent → Watch
-followEach w [] = w
-followEach w (x ∷ xs) = followEach (followedBy (setN x.section) w) xs
+unfoldable pub follow_each : Watch → List Sent → Watch
+follow_each w [] = w
+follow_each w (x ∷ xs) = follow_each (followed_by (set_n x.section) w) xs

@@ -5,13 +5,13 @@ use Prim.Native.Nat.{ℕ}
 use Rattle.times.specs.declared.Day.{Day}
 use Rattle.times.specs.declared.Time.{Time}
 use Rattle.times.specs.declared.Date.{Date}
-use Rattle.times.specs.Times.{timeOf, dayOf, dateOf}
+use Rattle.times.specs.Times.{time_of, day_of, date_of}
 
-pub unique-time-of : (h m s : ℕ) (r q : Time) → r ≡ timeOf h m s → q ≡ timeOf h m s → r ≡ q
-unique-time-of h m s r q e f = e ∙ sym f
+pub unique_time_of : (h m s : ℕ) (r q : Time) → r ≡ time_of h m s → q ≡ time_of h m s → r ≡ q
+unique_time_of h m s r q e f = e ∙ sym f
 
-pub unique-day-of : (a b : ℕ) (r q : Day) → r ≡ dayOf a b → q ≡ dayOf a b → r ≡ q
-unique-day-of a b r q e f = e ∙ sym f
+pub unique_day_of : (a b : ℕ) (r q : Day) → r ≡ day_of a b → q ≡ day_of a b → r ≡ q
+unique_day_of a b r q e f = e ∙ sym f
 
-pub unique-date-of : (d : ℕ) (r q : Date) → r ≡ dateOf d → q ≡ dateOf d → r ≡ q
-unique-date-of d r q e f = e ∙ sym f
+pub unique_date_of : (d : ℕ) (r q : Date) → r ≡ date_of d → q ≡ date_of d → r ≡ q
+unique_date_of d r q e f = e ∙ sym f

@@ -1,6 +1,6 @@
 // Day numbers, second counts and calendar dates of the guide (EN 300 468, 5.2.4 and Annex C). A day number is no second count: each has its own type.
 ghost use Rattle.std.specs.Prelude.{◌≡◌, ◌*◌, ◌≤◌};
-ghost use Rattle.times.specs.Times.{isBcd, bcdOf, timeOf, dayOf, carryFor, dateOf};
+ghost use Rattle.times.specs.Times.{is_bcd, bcd_of, time_of, day_of, carry_for, date_of};
 
 // A modified Julian day.
 #[derive(Drop)]
@@ -33,21 +33,21 @@ pub enum Date {
 
 // Whether both digits of a byte are 0 to 9.
 fn is_bcd(b: u8) -> bool
-    ensures { result ≡ isBcd b }
+    ensures { result ≡ is_bcd b }
 {
     (b / 16 <= 9) & (b % 16 <= 9)
 }
 
 // The number that the two digits of a byte write.
 fn bcd(b: u8) -> u32
-    ensures { result ≡ bcdOf b }
+    ensures { result ≡ bcd_of b }
 {
     (b / 16) as u32 * 10 + (b % 16) as u32
 }
 
 // Hours, minutes and seconds in six BCD digits. They are counted as they stand, 24:00:00 and 12:60:60 too: only a digit above 9 makes a time undefined.
 pub fn time_of(hours: u8, minutes: u8, seconds: u8) -> Time
-    ensures { result ≡ timeOf hours minutes seconds }
+    ensures { result ≡ time_of hours minutes seconds }
 {
     if is_bcd(hours) & is_bcd(minutes) & is_bcd(seconds) {
         Time::At(Seconds(bcd(hours) * 3600 + bcd(minutes) * 60 + bcd(seconds)))
@@ -58,21 +58,21 @@ pub fn time_of(hours: u8, minutes: u8, seconds: u8) -> Time
 
 // The 16 bits of a day, high byte first.
 pub fn day_of(high: u8, low: u8) -> Day
-    ensures { result ≡ dayOf high low }
+    ensures { result ≡ day_of high low }
 {
     Day(high as u16 * 256 + low as u16)
 }
 
 // Annex C's K: months 13 and 14 of a year that begins in March are January and February of the next.
 fn carry(months: u32) -> u32
-    ensures { (result ≡ carryFor months) × (result ≤ 1) × (14 * result ≤ months) }
+    ensures { (result ≡ carry_for months) × (result ≤ 1) × (14 * result ≤ months) }
 {
     if 14 <= months { 1 } else { 0 }
 }
 
 // The calendar date of a day, by Annex C in whole numbers; the names are the annex's.
 pub fn date_of(day: Day) -> Date
-    ensures { result ≡ dateOf day.0 }
+    ensures { result ≡ date_of day.0 }
 {
     let mjd = day.0 as u32;
     if mjd < 15079 {

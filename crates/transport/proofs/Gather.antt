@@ -13,9 +13,9 @@ use lib.Seq.{append_snoc, take-append_seam, drop-append_seam}
 use Rattle.transport.specs.Rules.{Bytes, Read, whole, stops, read, found, gather, then, pointed, taken}
 use Rattle.transport.specs.Sender.{IsSection, stuffed, Begins, Carries}
 
-nil-or : (r : Bytes) → r ≢ [] → 1 ≤ length r
-nil-or [] h = absurd (h refl)
-nil-or (b ∷ bs) h = omega arith
+nil_or : (r : Bytes) → r ≢ [] → 1 ≤ length r
+nil_or [] h = absurd (h refl)
+nil_or (b ∷ bs) h = omega arith
 
 -- a part in front of a section is no whole section
 pub not_yet : (got r : Bytes) → whole (got ++ r) ≡ true → r ≢ [] → whole got ≡ false
@@ -24,59 +24,59 @@ not_yet [] r h e = refl
 not_yet (t ∷ []) r h e = refl
 not_yet (t ∷ u ∷ []) r h e = refl
 not_yet (t ∷ u ∷ l ∷ more) r h e =
-    ne_eqb (length more) (u % 16 * 256 + l) (λ q. omega (arith, eqb-true (length (more ++ r)) (u % 16 * 256 + l) h, length-append more r, nil-or r e))
+    ne_eqb (length more) (u % 16 * 256 + l) (λ q. omega (arith, eqb-true (length (more ++ r)) (u % 16 * 256 + l) h, length-append more r, nil_or r e))
 
 -- ---- one section
 
-cons-ne : (b : ℕ) (bs : Bytes) → ◌≢◌ {A = Bytes} (b ∷ bs) []
-cons-ne b bs e = let z : ◌≡◌ {A = ℕ} 1 0 = ap (λ (x : Bytes). take-one x) e in omega arith
+cons_ne : (b : ℕ) (bs : Bytes) → ◌≢◌ {A = Bytes} (b ∷ bs) []
+cons_ne b bs e = let z : ◌≡◌ {A = ℕ} 1 0 = ap (λ (x : Bytes). take_one x) e in omega arith
   where
-    take-one : Bytes → ℕ
-    take-one [] = 0
-    take-one (x ∷ xs) = 1
+    take_one : Bytes → ℕ
+    take_one [] = 0
+    take_one (x ∷ xs) = 1
 
-app-ne : (xs ys : Bytes) → ys ≢ [] → xs ++ ys ≢ []
-app-ne [] ys h e = h e
-app-ne (x ∷ xs) ys h e = cons-ne x (xs ++ ys) e
+app_ne : (xs ys : Bytes) → ys ≢ [] → xs ++ ys ≢ []
+app_ne [] ys h e = h e
+app_ne (x ∷ xs) ys h e = cons_ne x (xs ++ ys) e
 
 -- all but the end of a section
-pub goes_on : (begin : Bool) (g : ℕ) (gs c r : Bytes) → whole ((g ∷ gs) ++ (c ++ r)) ≡ true → r ≢ [] → gather begin (g ∷ gs) c ≡ read [] ((g ∷ gs) ++ c)
+pub goes_on_lem : (begin : Bool) (g : ℕ) (gs c r : Bytes) → whole ((g ∷ gs) ++ (c ++ r)) ≡ true → r ≢ [] → gather begin (g ∷ gs) c ≡ read [] ((g ∷ gs) ++ c)
 unfolding gather stops
-goes_on begin g gs [] r h e = ap (read []) (sym (append-nil (g ∷ gs)))
-goes_on begin g gs (b ∷ bs) r h e =
+goes_on_lem begin g gs [] r h e = ap (read []) (sym (append-nil (g ∷ gs)))
+goes_on_lem begin g gs (b ∷ bs) r h e =
     let h₁ : whole ((g ∷ (gs ++ (b ∷ []))) ++ (bs ++ r)) ≡ true = rw (append_snoc gs b (bs ++ r)) h in
-    rw (not_yet (g ∷ (gs ++ (b ∷ []))) (bs ++ r) h₁ (app-ne bs r e))
-    (goes_on begin g (gs ++ (b ∷ [])) bs r h₁ e ∙ ap (λ (x : Bytes). read [] (g ∷ x)) (append_snoc gs b bs))
+    rw (not_yet (g ∷ (gs ++ (b ∷ []))) (bs ++ r) h₁ (app_ne bs r e))
+    (goes_on_lem begin g (gs ++ (b ∷ [])) bs r h₁ e ∙ ap (λ (x : Bytes). read [] (g ∷ x)) (append_snoc gs b bs))
 
 -- up to the end of a section, and on
-pub comes-to-end : (begin : Bool) (g : ℕ) (gs : Bytes) (b : ℕ) (bs tail : Bytes) → whole ((g ∷ gs) ++ (b ∷ bs)) ≡ true
+pub comes_to_end : (begin : Bool) (g : ℕ) (gs : Bytes) (b : ℕ) (bs tail : Bytes) → whole ((g ∷ gs) ++ (b ∷ bs)) ≡ true
     → gather begin (g ∷ gs) (b ∷ (bs ++ tail)) ≡ found ((g ∷ gs) ++ (b ∷ bs)) (gather begin [] tail)
 unfolding gather stops
-comes-to-end begin g gs b [] tail h = rw h refl
-comes-to-end begin g gs b (b' ∷ bs) tail h =
+comes_to_end begin g gs b [] tail h = rw h refl
+comes_to_end begin g gs b (b' ∷ bs) tail h =
     let h₁ : whole ((g ∷ (gs ++ (b ∷ []))) ++ (b' ∷ bs)) ≡ true = rw (append_snoc gs b (b' ∷ bs)) h in
-    rw (not_yet (g ∷ (gs ++ (b ∷ []))) (b' ∷ bs) h₁ (cons-ne b' bs))
-    (comes-to-end begin g (gs ++ (b ∷ [])) b' bs tail h₁ ∙ ap (λ (x : Bytes). found (g ∷ x) (gather begin [] tail)) (append_snoc gs b (b' ∷ bs)))
+    rw (not_yet (g ∷ (gs ++ (b ∷ []))) (b' ∷ bs) h₁ (cons_ne b' bs))
+    (comes_to_end begin g (gs ++ (b ∷ [])) b' bs tail h₁ ∙ ap (λ (x : Bytes). found (g ∷ x) (gather begin [] tail)) (append_snoc gs b (b' ∷ bs)))
 
-pub one-section : (s tail : Bytes) → IsSection s → gather true [] (s ++ tail) ≡ found s (gather true [] tail)
+pub one_section : (s tail : Bytes) → IsSection s → gather true [] (s ++ tail) ≡ found s (gather true [] tail)
 unfolding gather stops stuffed whole
-one-section [] tail h = absurd (true≢false (sym h.complete))
-one-section (t ∷ []) tail h = absurd (true≢false (sym h.complete))
-one-section (t ∷ u ∷ []) tail h = absurd (true≢false (sym h.complete))
-one-section (t ∷ u ∷ l ∷ more) tail h = rw h.table (comes-to-end true t [] u (l ∷ more) tail h.complete)
+one_section [] tail h = absurd (true≢false (sym h.complete))
+one_section (t ∷ []) tail h = absurd (true≢false (sym h.complete))
+one_section (t ∷ u ∷ []) tail h = absurd (true≢false (sym h.complete))
+one_section (t ∷ u ∷ l ∷ more) tail h = rw h.table (comes_to_end true t [] u (l ∷ more) tail h.complete)
 
 pub first_part : (c r : Bytes) → IsSection (c ++ r) → c ≢ [] → r ≢ [] → gather true [] c ≡ read [] c
 unfolding gather stops stuffed whole
 first_part [] r h e e' = absurd (e refl)
-first_part (b ∷ bs) r h e e' = rw h.table (goes_on true b [] bs r h.complete e')
+first_part (b ∷ bs) r h e e' = rw h.table (goes_on_lem true b [] bs r h.complete e')
 
-pub only-stuffing : (begin : Bool) (k : ℕ) → gather begin [] (replicate k 255) ≡ read [] []
+pub only_stuffing : (begin : Bool) (k : ℕ) → gather begin [] (replicate k 255) ≡ read [] []
 unfolding gather stops
-only-stuffing begin zero = refl
-only-stuffing true (suc k) = refl
-only-stuffing false (suc k) = refl
+only_stuffing begin zero = refl
+only_stuffing true (suc k) = refl
+only_stuffing false (suc k) = refl
 
-pub not-under : (bs : Bytes) → gather false [] bs ≡ read [] []
+pub not_under : (bs : Bytes) → gather false [] bs ≡ read [] []
 unfolding gather stops
-not-under [] = refl
-not-under (b ∷ bs) = refl
+not_under [] = refl
+not_under (b ∷ bs) = refl

@@ -9,56 +9,56 @@ use Prim.Native.Nat.{ℕ, zero, suc, ◌+◌, ◌%◌, ◌≤◌, ◌<◌}
 use native.Mathlib.Omega.{arith}
 use lib.ListN.{length}
 use Rattle.transport.specs.Rules.{Bytes, Read, Packet, State, Step, next, settle, ignored, taken, step, run, opened}
-use Rattle.transport.specs.Sender.{Begins, part, last, full, Carries, goesOn, ends, idle, starts, packet, Times, once, twice, Sending, sending, Sent, over, sends, all_of, Loses, early, late, Arrives, leaves, comes, both, lost, Among, nothing, keep, skip}
+use Rattle.transport.specs.Sender.{Begins, part, last, full, Carries, goes_on, ends, idle, starts, packet, Times, once, twice, Sending, sending, Sent, over, sends, all_of, Loses, early, late, Arrives, leaves, comes, both, lost, Among, nothing, keep, skip}
 use Rattle.transport.proofs.Payload.{Good, due, Fine, carried}
 use Rattle.transport.proofs.Counter.{Lag, fresh, close, far, next_small, arrive, miss, repeat}
 
 -- ---- some of the sections
 
-among-front : (xs : List Bytes) {ys zs : List Bytes} → Among ys zs → Among (xs ++ ys) (xs ++ zs)
-among-front [] a = a
-among-front (x ∷ xs) a = keep (among-front xs a)
+among_front : (xs : List Bytes) {ys zs : List Bytes} → Among ys zs → Among (xs ++ ys) (xs ++ zs)
+among_front [] a = a
+among_front (x ∷ xs) a = keep (among_front xs a)
 
-among-due : (u rest : Bytes) (secs : List Bytes) {xs : List Bytes} → Among xs secs → Among xs (due u rest secs)
-among-due [] rest secs a = a
-among-due (g ∷ gs) rest secs a = skip a
+among_due : (u rest : Bytes) (secs : List Bytes) {xs : List Bytes} → Among xs secs → Among xs (due u rest secs)
+among_due [] rest secs a = a
+among_due (g ∷ gs) rest secs a = skip a
 
-among-begins : {secs secs' xs : List Bytes} {body r : Bytes} → Begins secs body r secs' → Among xs secs' → Among xs secs
-among-begins (part c r e e' h) a = skip a
-among-begins (last s k h) a = skip a
-among-begins (full s h b) a = skip (among-begins b a)
+among_begins : {secs secs' xs : List Bytes} {body r : Bytes} → Begins secs body r secs' → Among xs secs' → Among xs secs
+among_begins (part c r e e' h) a = skip a
+among_begins (last s k h) a = skip a
+among_begins (full s h b) a = skip (among_begins b a)
 
-among-carries : {rest : Bytes} {secs secs' xs : List Bytes} {start : Bool} {payload r : Bytes} → Carries rest secs start payload r secs' → Among xs secs' → Among xs secs
-among-carries (goesOn c r e e' q) a = a
-among-carries (ends k e) a = a
-among-carries (idle k e) a = a
-among-carries (starts b) a = among-begins b a
+among_carries : {rest : Bytes} {secs secs' xs : List Bytes} {start : Bool} {payload r : Bytes} → Carries rest secs start payload r secs' → Among xs secs' → Among xs secs
+among_carries (goes_on c r e e' q) a = a
+among_carries (ends k e) a = a
+among_carries (idle k e) a = a
+among_carries (starts b) a = among_begins b a
 
 -- ---- after a packet that arrived
 
 after : ℕ → Read → State
 after n x = record { last = some n; again = false; under = x.under }
 
-after-close : (n : ℕ) (x : Read) → n < 16 → Lag (after n x) (some 0) (next n) x.under
+after_close : (n : ℕ) (x : Read) → n < 16 → Lag (after n x) (some 0) (next n) x.under
 unfolding after
-after-close n x h = close n 0 refl h refl (omega arith)
+after_close n x h = close n 0 refl h refl (omega arith)
 
-state-again : ℕ → Read → State
-state-again n x = record { last = some n; again = true; under = x.under }
+state_again : ℕ → Read → State
+state_again n x = record { last = some n; again = true; under = x.under }
 
-again-close : (n : ℕ) (x : Read) → n < 16 → Lag (state-again n x) (some 0) (next n) x.under
-unfolding state-again
-again-close n x h = close n 0 refl h refl (omega arith)
+again_close : (n : ℕ) (x : Read) → n < 16 → Lag (state_again n x) (some 0) (next n) x.under
+unfolding state_again
+again_close n x h = close n 0 refl h refl (omega arith)
 
-run-arrive : (s : State) (g : Option ℕ) (n : ℕ) (u : Bytes) (start : Bool) (payload : Bytes) (qs : List Packet) → Lag s g n u
+run_arrive : (s : State) (g : Option ℕ) (n : ℕ) (u : Bytes) (start : Bool) (payload : Bytes) (qs : List Packet) → Lag s g n u
     → run s (packet n start payload ∷ qs) ≡ (taken u start payload).sections ++ run (after n (taken u start payload)) qs
 unfolding run settle after
-run-arrive s g n u start payload qs l = rw (arrive s g n u start payload l) refl
+run_arrive s g n u start payload qs l = rw (arrive s g n u start payload l) refl
 
-run-repeat : (n : ℕ) (x : Read) (start : Bool) (payload : Bytes) (qs : List Packet)
-    → run (after n x) (packet n start payload ∷ qs) ≡ run (state-again n x) qs
-unfolding run ignored after state-again
-run-repeat n x start payload qs = rw (repeat (after n x) n start payload refl refl) refl
+run_repeat : (n : ℕ) (x : Read) (start : Bool) (payload : Bytes) (qs : List Packet)
+    → run (after n x) (packet n start payload ∷ qs) ≡ run (state_again n x) qs
+unfolding run ignored after state_again
+run_repeat n x start payload qs = rw (repeat (after n x) n start payload refl refl) refl
 
 -- ---- with losses
 
@@ -67,10 +67,10 @@ module _ (s : State) (g : Option ℕ) (n : ℕ) (u rest : Bytes) (secs : List By
   came : (qs : List Packet) → Among (run (after n (taken u start payload)) qs) (due (taken u start payload).under r secs')
       → Among (run s (packet n start payload ∷ qs)) (due u rest secs)
   came qs a =
-      rw (run-arrive s g n u start payload qs l, ← (carried u rest secs c car).same) (among-front (taken u start payload).sections a)
+      rw (run_arrive s g n u start payload qs l, ← (carried u rest secs c car).same) (among_front (taken u start payload).sections a)
 
   went : (qs : List Packet) → Among (run s qs) secs' → Among (run s qs) (due u rest secs)
-  went qs a = among-due u rest secs (among-carries car a)
+  went qs a = among_due u rest secs (among_carries car a)
 
 pub heard : {n : ℕ} {rest : Bytes} {secs : List Bytes} {ps : List Sending} {qs : List Packet} {g : Option ℕ} (s : State) (u : Bytes)
     → n < 16 → Sent n rest secs ps → Arrives g ps qs → Lag s g n u → Good u rest → Among (run s qs) (due u rest secs)
@@ -79,46 +79,46 @@ heard s u h over leaves l c = nothing
 heard s u h (sends times car z t) leaves l c = nothing
 heard {g = g} s u h (sends {n = n} {rest = rest} {r = r} {secs = secs} {secs' = secs'} {start = start} {payload = payload} times car z t) (comes {qs = qs} a) l c =
     let x : Read = taken u start payload in
-    came s g n u rest secs start payload r secs' l c car qs (heard (after n x) x.under (next_small n) t a (after-close n x h) (carried u rest secs c car).good)
+    came s g n u rest secs start payload r secs' l c car qs (heard (after n x) x.under (next_small n) t a (after_close n x h) (carried u rest secs c car).good)
 heard {g = g} s u h (sends {n = n} {rest = rest} {r = r} {secs = secs} {secs' = secs'} {start = start} {payload = payload} times car z t) (both {qs = qs} a) l c =
     let x : Read = taken u start payload in
     came s g n u rest secs start payload r secs' l c car (packet n start payload ∷ qs)
-    (rw (run-repeat n x start payload qs)
-    (heard (state-again n x) x.under (next_small n) t a (again-close n x h) (carried u rest secs c car).good))
+    (rw (run_repeat n x start payload qs)
+    (heard (state_again n x) x.under (next_small n) t a (again_close n x h) (carried u rest secs c car).good))
 heard {g = g} s u h (sends {n = n} {rest = rest} {r = r} {secs = secs} {secs' = secs'} {start = start} {payload = payload} times car z t) (lost {g' = g'} {qs = qs} f a) l c =
     went s g n u rest secs start payload r secs' l c car qs (heard s [] (next_small n) t a (miss s g g' n u l f) tt)
 
 -- ---- without losses
 
-pub all-heard : {n : ℕ} {rest : Bytes} {secs : List Bytes} {ps : List Sending} (s : State) (g : Option ℕ) (u : Bytes)
+pub all_heard : {n : ℕ} {rest : Bytes} {secs : List Bytes} {ps : List Sending} (s : State) (g : Option ℕ) (u : Bytes)
     → n < 16 → Sent n rest secs ps → Lag s g n u → Good u rest → run s (all_of ps) ≡ due u rest secs
 unfolding run all_of
-all-heard s g [] h over l c = refl
-all-heard s g (b ∷ bs) h over l c = absurd (c.1 refl)
-all-heard s g u h (sends {n = n} {rest = rest} {r = r} {secs = secs} {secs' = secs'} {start = start} {payload = payload} {ps = ps} once car z t) l c =
+all_heard s g [] h over l c = refl
+all_heard s g (b ∷ bs) h over l c = absurd (c.1 refl)
+all_heard s g u h (sends {n = n} {rest = rest} {r = r} {secs = secs} {secs' = secs'} {start = start} {payload = payload} {ps = ps} once car z t) l c =
     let x : Read = taken u start payload in
     let f = carried u rest secs c car in
-    run-arrive s g n u start payload (all_of ps) l
-    ∙ ap (λ (l : List Bytes). x.sections ++ l) (all-heard (after n x) (some 0) x.under (next_small n) t (after-close n x h) f.good) ∙ f.same
-all-heard s g u h (sends {n = n} {rest = rest} {r = r} {secs = secs} {secs' = secs'} {start = start} {payload = payload} {ps = ps} twice car z t) l c =
+    run_arrive s g n u start payload (all_of ps) l
+    ∙ ap (λ (l : List Bytes). x.sections ++ l) (all_heard (after n x) (some 0) x.under (next_small n) t (after_close n x h) f.good) ∙ f.same
+all_heard s g u h (sends {n = n} {rest = rest} {r = r} {secs = secs} {secs' = secs'} {start = start} {payload = payload} {ps = ps} twice car z t) l c =
     let x : Read = taken u start payload in
     let f = carried u rest secs c car in
-    run-arrive s g n u start payload (packet n start payload ∷ all_of ps) l
-    ∙ ap (λ (l : List Bytes). x.sections ++ l) (run-repeat n x start payload (all_of ps) ∙ all-heard (state-again n x) (some 0) x.under (next_small n) t (again-close n x h) f.good)
+    run_arrive s g n u start payload (packet n start payload ∷ all_of ps) l
+    ∙ ap (λ (l : List Bytes). x.sections ++ l) (run_repeat n x start payload (all_of ps) ∙ all_heard (state_again n x) (some 0) x.under (next_small n) t (again_close n x h) f.good)
     ∙ f.same
 
 -- ---- from opening on
 
 -- Packets sent by the standard arrive in order and unchanged, with gaps of at most 14 payload packets of the PID: the sections finished are
 -- some of those sent, byte for byte and in their order. rest: the sending may have begun before
-pub finished-were-sent : {n : ℕ} {rest : Bytes} {secs : List Bytes} {ps : List Sending} {qs : List Packet} → n < 16 → Sent n rest secs ps → Arrives none ps qs → Among (run opened qs) secs
+pub finished_were_sent : {n : ℕ} {rest : Bytes} {secs : List Bytes} {ps : List Sending} {qs : List Packet} → n < 16 → Sent n rest secs ps → Arrives none ps qs → Among (run opened qs) secs
 unfolding opened
-finished-were-sent h t a = heard opened [] h t a (fresh refl) tt
+finished_were_sent h t a = heard opened [] h t a (fresh refl) tt
 
 -- Nothing is lost: all of them are finished
 pub all_finished : {n : ℕ} {rest : Bytes} {secs : List Bytes} {ps : List Sending} → n < 16 → Sent n rest secs ps → run opened (all_of ps) ≡ secs
 unfolding opened
-all_finished h t = all-heard opened none [] h t (fresh refl) tt
+all_finished h t = all_heard opened none [] h t (fresh refl) tt
 
 -- ---- from anywhere to anywhere
 
@@ -132,8 +132,8 @@ abbrev behind : List Packet → List Packet
 behind [] = []
 behind (p ∷ ps) = ps
 
-no-packet : (q : Packet) (qs : List Packet) → ◌≡◌ {A = List Packet} [] (q ∷ qs) → ⊥
-no-packet q qs e = let z : 0 ≡ suc (length qs) = ap length e in omega arith
+no_packet : (q : Packet) (qs : List Packet) → ◌≡◌ {A = List Packet} [] (q ∷ qs) → ⊥
+no_packet q qs e = let z : 0 ≡ suc (length qs) = ap length e in omega arith
 
 abbrev first : Packet → List Packet → Packet
 first d [] = d
@@ -142,7 +142,7 @@ first d (x ∷ xs) = x
 -- it ends early, also between a packet and its copy
 pub cut : {g : Option ℕ} {ps : List Sending} {l : List Packet} (b c : List Packet) → l ≡ b ++ c → Arrives g ps l → Arrives g ps b
 cut [] c e a = leaves
-cut (q ∷ b) c e leaves = absurd (no-packet q (b ++ c) e)
+cut (q ∷ b) c e leaves = absurd (no_packet q (b ++ c) e)
 cut (q ∷ b) c e (comes {g = g} {p = p} {times = times} {ps = ps} {qs = qs} a) =
     let t : qs ≡ b ++ c = ap behind e in
     let f : p ≡ q = ap (first p) e in
@@ -176,12 +176,12 @@ more f t = record { n = t.n; rest = t.rest; secs' = t.secs'; ps = t.ps; small = 
 pub later : {n : ℕ} {rest : Bytes} {secs : List Bytes} {ps : List Sending} {l : List Packet} {g : Option ℕ} (a q : List Packet) → l ≡ a ++ q → n < 16 → Sent n rest secs ps → Arrives g ps l → Tail secs q
 later {n = n} {rest = rest} {secs = secs} {ps = ps} {l = l} {g = g} [] q e h t arr =
     record { n = n; rest = rest; secs' = secs; ps = ps; small = h; sent = t; arrives = weaken (subst (λ (x : List Packet). Arrives g ps x) e arr); within = λ xs a. a }
-later (x ∷ a) q e h t leaves = absurd (no-packet x (a ++ q) e)
-later (x ∷ a) q e h (sends {n = n} times car z t) (comes {qs = qs} arr) = let t' : qs ≡ a ++ q = ap behind e in more (λ xs. among-carries car) (later a q t' (next_small n) t arr)
+later (x ∷ a) q e h t leaves = absurd (no_packet x (a ++ q) e)
+later (x ∷ a) q e h (sends {n = n} times car z t) (comes {qs = qs} arr) = let t' : qs ≡ a ++ q = ap behind e in more (λ xs. among_carries car) (later a q t' (next_small n) t arr)
 later (x ∷ a) q e h (sends {n = n} times car z t) (both {p = p} {qs = qs} arr) = let t' : p ∷ qs ≡ a ++ q = ap behind e in later a q t' h (sends once car z t) (comes {g = none} arr)
-later (x ∷ a) q e h (sends {n = n} times car z t) (lost f arr) = more (λ xs. among-carries car) (later (x ∷ a) q e (next_small n) t arr)
+later (x ∷ a) q e h (sends {n = n} times car z t) (lost f arr) = more (λ xs. among_carries car) (later (x ∷ a) q e (next_small n) t arr)
 
-pub part-exact : {n : ℕ} {rest : Bytes} {secs : List Bytes} {ps : List Sending} {l : List Packet} (a b c : List Packet) → l ≡ a ++ (b ++ c) → n < 16 → Sent n rest secs ps → Arrives none ps l → Among (run opened b) secs
-part-exact a b c e h t arr =
+pub part_exact : {n : ℕ} {rest : Bytes} {secs : List Bytes} {ps : List Sending} {l : List Packet} (a b c : List Packet) → l ≡ a ++ (b ++ c) → n < 16 → Sent n rest secs ps → Arrives none ps l → Among (run opened b) secs
+part_exact a b c e h t arr =
     let x = later a (b ++ c) e h t arr in
-    x.within (run opened b) (finished-were-sent x.small x.sent (cut b c refl x.arrives))
+    x.within (run opened b) (finished_were_sent x.small x.sent (cut b c refl x.arrives))

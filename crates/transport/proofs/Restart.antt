@@ -12,7 +12,7 @@ use lib.Dec.{leb}
 use lib.ListN.{length, take, drop, length-append, length-drop}
 use Rattle.transport.specs.Rules.{Bytes, Read, read, Packet, State, whole, stops, gather, then, pointed, taken, settle, ignored, judged, repeats, follows, step, run, opened}
 use Rattle.transport.specs.Sender.{packet, Sending, Sent, all_of}
-use Rattle.transport.proofs.Gather.{not-under}
+use Rattle.transport.proofs.Gather.{not_under}
 use Rattle.transport.proofs.Promise.{all_finished}
 
 -- where no section may begin, at most one ends
@@ -22,7 +22,7 @@ at_most_one got [] = omega arith
 at_most_one got (b ∷ bs) = go (stops false got b) (whole (got ++ (b ∷ []))) (at_most_one (got ++ (b ∷ [])) bs)
   where
     none_more : length (gather false [] bs).sections ≡ 0
-    none_more = ap (λ (r : Read). length r.sections) (not-under bs)
+    none_more = ap (λ (r : Read). length r.sections) (not_under bs)
 
     go : (p q : Bool) → length (gather false (got ++ (b ∷ [])) bs).sections ≤ 1
         → length (cond p (read [] []) (cond q (record { sections = (got ++ (b ∷ [])) ∷ (gather false [] bs).sections; under = (gather false [] bs).under }) (gather false (got ++ (b ∷ [])) bs))).sections ≤ 1
@@ -30,18 +30,18 @@ at_most_one got (b ∷ bs) = go (stops false got b) (whole (got ++ (b ∷ []))) 
     go false true ih = omega (arith, none_more)
     go false false ih = ih
 
-long-enough : (s : Bytes) → whole s ≡ true → 3 ≤ length s
+long_enough : (s : Bytes) → whole s ≡ true → 3 ≤ length s
 unfolding whole
-long-enough [] e = absurd (true≢false (sym e))
-long-enough (x ∷ []) e = absurd (true≢false (sym e))
-long-enough (x ∷ y ∷ []) e = absurd (true≢false (sym e))
-long-enough (x ∷ y ∷ z ∷ s) e = omega arith
+long_enough [] e = absurd (true≢false (sym e))
+long_enough (x ∷ []) e = absurd (true≢false (sym e))
+long_enough (x ∷ y ∷ []) e = absurd (true≢false (sym e))
+long_enough (x ∷ y ∷ z ∷ s) e = omega arith
 
 -- a section has 3 bytes or more
-three-each : (begin : Bool) (got bs : Bytes) → length (gather begin got bs).sections * 3 ≤ length got + length bs
+three_each : (begin : Bool) (got bs : Bytes) → length (gather begin got bs).sections * 3 ≤ length got + length bs
 unfolding gather
-three-each begin got [] = omega arith
-three-each begin got (b ∷ bs) = go (stops begin got b) (whole (got ++ (b ∷ []))) refl (three-each begin [] bs) (three-each begin (got ++ (b ∷ [])) bs)
+three_each begin got [] = omega arith
+three_each begin got (b ∷ bs) = go (stops begin got b) (whole (got ++ (b ∷ []))) refl (three_each begin [] bs) (three_each begin (got ++ (b ∷ [])) bs)
   where
     more : Bytes
     more = got ++ (b ∷ [])
@@ -50,14 +50,14 @@ three-each begin got (b ∷ bs) = go (stops begin got b) (whole (got ++ (b ∷ [
         → length (cond p (read [] []) (cond q (record { sections = more ∷ (gather begin [] bs).sections; under = (gather begin [] bs).under }) (gather begin more bs))).sections * 3
         ≤ length got + suc (length bs)
     go true q e i j = omega arith
-    go false true e i j = omega (arith, i, long-enough more e, length-append got (b ∷ []))
+    go false true e i j = omega (arith, i, long_enough more e, length-append got (b ∷ []))
     go false false e i j = omega (arith, j, length-append got (b ∷ []))
 
 -- each section that ends has a byte there
-byte-each : (begin : Bool) (got bs : Bytes) → length (gather begin got bs).sections ≤ length bs
+byte_each : (begin : Bool) (got bs : Bytes) → length (gather begin got bs).sections ≤ length bs
 unfolding gather
-byte-each begin got [] = omega arith
-byte-each begin got (b ∷ bs) = go (stops begin got b) (whole (got ++ (b ∷ []))) (byte-each begin [] bs) (byte-each begin (got ++ (b ∷ [])) bs)
+byte_each begin got [] = omega arith
+byte_each begin got (b ∷ bs) = go (stops begin got b) (whole (got ++ (b ∷ []))) (byte_each begin [] bs) (byte_each begin (got ++ (b ∷ [])) bs)
   where
     more : Bytes
     more = got ++ (b ∷ [])
@@ -74,11 +74,11 @@ take_short (suc p) [] = omega arith
 take_short (suc p) (b ∷ bs) = omega (arith, take_short p bs)
 
 -- one payload of at most 184 bytes finishes at most 61 sections
-pub at-most-61 : (u : Bytes) (start : Bool) (payload : Bytes) → length payload ≤ 184 → length (taken u start payload).sections ≤ 61
+pub at_most_61 : (u : Bytes) (start : Bool) (payload : Bytes) → length payload ≤ 184 → length (taken u start payload).sections ≤ 61
 unfolding taken pointed
-at-most-61 u false bs h = omega (arith, at_most_one u bs)
-at-most-61 u true [] h = omega arith
-at-most-61 u true (p ∷ bs) h = go (leb p (length bs))
+at_most_61 u false bs h = omega (arith, at_most_one u bs)
+at_most_61 u true [] h = omega arith
+at_most_61 u true (p ∷ bs) h = go (leb p (length bs))
   where
     x : Read
     x = gather false u (take p bs)
@@ -87,7 +87,7 @@ at-most-61 u true (p ∷ bs) h = go (leb p (length bs))
     y = gather true [] (drop p bs)
 
     go : (b : Bool) → length (cond b (then x y) (read [] [])).sections ≤ 61
-    go true = omega (arith, length-append x.sections y.sections, at_most_one u (take p bs), byte-each false u (take p bs), take_short p bs, three-each true [] (drop p bs), length-drop p bs)
+    go true = omega (arith, length-append x.sections y.sections, at_most_one u (take p bs), byte_each false u (take p bs), take_short p bs, three_each true [] (drop p bs), length-drop p bs)
     go false = omega arith
 
 -- a payload with a start, whatever was under way
@@ -109,7 +109,7 @@ anew u (p ∷ bs) = go (leb p (length bs)) refl
     go true e = record {
       first = first.sections;
       one = at_most_one u (take p bs);
-      sections = rw (e, not-under (take p bs)) refl;
+      sections = rw (e, not_under (take p bs)) refl;
       under = rw e refl;
     }
     go false e = record { first = []; one = omega arith; sections = rw e refl; under = rw e refl }
@@ -130,13 +130,13 @@ restarts s c payload qs e = go (follows s.last c) refl
     go false f = record { first = []; one = omega arith; same = rw (e, f) refl }
 
 -- From any state, a payload start that is not taken for a repeat, and then no loss: every section that begins there or later is finished, behind at most one
-pub after-loss : {n : ℕ} {rest : Bytes} {secs : List Bytes} {ps : List Sending} {qs : List Packet} (s : State) (payload : Bytes) → n < 16 → Sent n rest secs ps → all_of ps ≡ packet n true payload ∷ qs
+pub after_loss : {n : ℕ} {rest : Bytes} {secs : List Bytes} {ps : List Sending} {qs : List Packet} (s : State) (payload : Bytes) → n < 16 → Sent n rest secs ps → all_of ps ≡ packet n true payload ∷ qs
     → repeats s.last s.again n ≡ false → (first : List Bytes) × (length first ≤ 1) × (run s (all_of ps) ≡ first ++ secs)
-after-loss {n = n} {secs = secs} {ps = ps} {qs = qs} s payload h t q e =
+after_loss {n = n} {secs = secs} {ps = ps} {qs = qs} s payload h t q e =
     let r = restarts s n payload qs e in
     (r.first, r.one, ap (run s) q ∙ r.same ∙ ap (λ (l : List Bytes). r.first ++ l) (sym (ap (run opened) q) ∙ all_finished h t))
 
 -- the packet that came last, not repeated yet, comes again: it finishes nothing and leaves the bytes under way; that it was repeated is all that changes
-pub repeat-ignored : (s : State) (p : Packet) → s.last ≡ some p.counter → s.again ≡ false → step s p ≡ ignored s
+pub repeat_ignored : (s : State) (p : Packet) → s.last ≡ some p.counter → s.again ≡ false → step s p ≡ ignored s
 unfolding step judged repeats
-repeat-ignored s p e a = rw (e, a, eq-eqb p.counter p.counter refl) refl
+repeat_ignored s p e a = rw (e, a, eq-eqb p.counter p.counter refl) refl

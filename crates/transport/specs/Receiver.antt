@@ -33,8 +33,8 @@ held f w = record { streams = f; world = w }
 abbrev pub stream : ℕ → State → Stream
 stream b s = record { buffer = b; state = s }
 
-abbrev pub withStream : ℕ → Option Stream → Streams → Streams
-withStream p s f q = cond (eqb q p) s (f q)
+abbrev pub with_stream : ℕ → Option Stream → Streams → Streams
+with_stream p s f q = cond (eqb q p) s (f q)
 
 -- who was watched and is not any more gives its buffer back, section dropped
 abbrev pub leaving : (before after : ℕ → Bool) → Streams → Streams
@@ -48,38 +48,38 @@ taking none none = none
 
 module _ {W : Type 0} (watched : W → ℕ → Bool) (offer : W → ℕ → Bytes → W) (free : Streams → ℕ → Option ℕ) where
   -- the sections that a packet of PID p finished, one after another
-  unfoldable pub offersIn : ℕ → List Bytes → HeldOf W → HeldOf W
-  offersIn p [] h = h
-  offersIn p (s ∷ ss) h = offersIn p ss (held (leaving (watched h.world) (watched (offer h.world p s)) h.streams) (offer h.world p s))
+  unfoldable pub offers_in : ℕ → List Bytes → HeldOf W → HeldOf W
+  offers_in p [] h = h
+  offers_in p (s ∷ ss) h = offers_in p ss (held (leaving (watched h.world) (watched (offer h.world p s)) h.streams) (offer h.world p s))
 
   -- some section of these takes PID q off the watch
-  unfoldable pub leavesIn : ℕ → List Bytes → W → ℕ → Bool
-  leavesIn p [] w q = false
-  leavesIn p (s ∷ ss) w q = (watched w q && not (watched (offer w p s) q)) || leavesIn p ss (offer w p s) q
+  unfoldable pub leaves_in : ℕ → List Bytes → W → ℕ → Bool
+  leaves_in p [] w q = false
+  leaves_in p (s ∷ ss) w q = (watched w q && not (watched (offer w p s) q)) || leaves_in p ss (offer w p s) q
 
-  unfoldable pub feedsTo : HeldOf W → ℕ → Packet → Option Stream → FedOf W
-  feedsTo h p k none = record { sections = []; held = h }
-  feedsTo h p k (some s) =
+  unfoldable pub feeds_to : HeldOf W → ℕ → Packet → Option Stream → FedOf W
+  feeds_to h p k none = record { sections = []; held = h }
+  feeds_to h p k (some s) =
       record {
         sections = (step s.state k).sections;
-        held = offersIn p (step s.state k).sections (held (withStream p (some (stream s.buffer (step s.state k).state)) h.streams) h.world);
+        held = offers_in p (step s.state k).sections (held (with_stream p (some (stream s.buffer (step s.state k).state)) h.streams) h.world);
       }
 
   -- the watch is asked once. A PID that is not watched holds nothing: one that left the watch otherwise gives its buffer back with its next packet
   unfoldable pub feeds : HeldOf W → ℕ → Packet → FedOf W
   feeds h p k =
-      cond (watched h.world p) (feedsTo h p k (taking (h.streams p) (free h.streams p)))
-      (record { sections = []; held = held (withStream p none h.streams) h.world })
+      cond (watched h.world p) (feeds_to h p k (taking (h.streams p) (free h.streams p)))
+      (record { sections = []; held = held (with_stream p none h.streams) h.world })
 
   -- what the packets of PID p finish among all
-  unfoldable pub finishedOn : ℕ → HeldOf W → List Arrival → List Bytes
-  finishedOn p h [] = []
-  finishedOn p h (x ∷ T) = cond (eqb p x.pid) (feeds h x.pid x.packet).sections [] ++ finishedOn p (feeds h x.pid x.packet).held T
+  unfoldable pub finished_on : ℕ → HeldOf W → List Arrival → List Bytes
+  finished_on p h [] = []
+  finished_on p h (x ∷ T) = cond (eqb p x.pid) (feeds h x.pid x.packet).sections [] ++ finished_on p (feeds h x.pid x.packet).held T
 
 -- the packets of PID p
-unfoldable pub onPid : ℕ → List Arrival → List Packet
-onPid p [] = []
-onPid p (x ∷ T) = cond (eqb p x.pid) (x.packet ∷ onPid p T) (onPid p T)
+unfoldable pub on_pid : ℕ → List Arrival → List Packet
+on_pid p [] = []
+on_pid p (x ∷ T) = cond (eqb p x.pid) (x.packet ∷ on_pid p T) (on_pid p T)
 
 -- each of the sections is one of these
 pub data In (s : Bytes) : List Bytes → Type 0 where
@@ -88,4 +88,4 @@ pub data In (s : Bytes) : List Bytes → Type 0 where
 
 pub data AllIn (ys : List Bytes) : List Bytes → Type 0 where
   no_more : AllIn ys []
-  and-this : {x : Bytes} {xs : List Bytes} → In x ys → AllIn ys xs → AllIn ys (x ∷ xs)
+  and_this : {x : Bytes} {xs : List Bytes} → In x ys → AllIn ys xs → AllIn ys (x ∷ xs)

@@ -22,7 +22,7 @@ pub data Begins : List Bytes → Bytes → Bytes → List Bytes → Type 0 where
 
 -- one payload, with its start indicator: rest is what is left of the section under way, secs are the sections still to begin; then both afterwards
 pub data Carries (rest : Bytes) (secs : List Bytes) : Bool → Bytes → Bytes → List Bytes → Type 0 where
-  goesOn : (c r : Bytes) → c ≢ [] → r ≢ [] → rest ≡ c ++ r → Carries rest secs false c r secs
+  goes_on : (c r : Bytes) → c ≢ [] → r ≢ [] → rest ≡ c ++ r → Carries rest secs false c r secs
   ends : (k : ℕ) → rest ≢ [] → Carries rest secs false (rest ++ replicate k 255) [] secs
   idle : (k : ℕ) → rest ≡ [] → Carries rest secs false (replicate k 255) [] secs
   starts : {body r : Bytes} {secs' : List Bytes} → Begins secs body r secs' → Carries rest secs true (length rest ∷ (rest ++ body)) r secs'

@@ -2,8 +2,8 @@
 // cells as the set did when it went in (docs/RULES.md, "Collectors" and "Cells").
 ghost use Rattle.std.specs.Prelude.{◌≡◌, Bool, true, false, cond, not, ◌&&◌, ℕ, ◌+◌, ◌-◌, ◌*◌, ◌%◌, ◌<◌, ◌≤◌, length};
 ghost use Rattle.std.proofs.Math.Seq.{paste};
-ghost use Rattle.units.specs.Units.{isPresent, unitSlots, unitWhole, unitsWhole, markedUnit, markedUnits, allPresent, withoutUnits};
-ghost use Rattle.units.specs.Units.{with_words, withSet, firstTable, withTable, withComplete, withTableSet, refilled};
+ghost use Rattle.units.specs.Units.{is_present, unit_slots, unit_whole, units_whole, marked_unit, marked_units, all_present, without_units};
+ghost use Rattle.units.specs.Units.{with_words, with_set, first_table, with_table, with_complete, with_table_set, refilled};
 
 use rows::Key;
 
@@ -23,7 +23,7 @@ fn wide_word(x: u32) -> u64
 // Whether unit u is present.
 pub fn is_present(units: &[u32], u: usize) -> bool
     requires { u * 288 + 288 ≤ length units.now }
-    ensures { result ≡ isPresent units.now u }
+    ensures { result ≡ is_present units.now u }
 {
     segments::word(units, u, PRESENT) != 0
 }
@@ -31,7 +31,7 @@ pub fn is_present(units: &[u32], u: usize) -> bool
 // The slots of unit u.
 pub fn unit_slots<'a>(units: &'a [u32], u: usize) -> &'a [u32]
     requires { u * 288 + 288 ≤ length units.now }
-    ensures { result.now ≡ unitSlots units.now u }
+    ensures { result.now ≡ unit_slots units.now u }
 {
     let n = rows::slot_count(wide_word(segments::word(units, u, UNIT_LAST)));
     let at = u * rows::ROW_WORDS + rows::SEGMENT_WORDS;
@@ -44,7 +44,7 @@ pub fn unit_slots<'a>(units: &'a [u32], u: usize) -> &'a [u32]
 // still be whole.
 pub fn single_whole(units: &[u32], count: u16, size: u16, u: usize) -> bool
     requires { (u * 288 + 288 ≤ length units.now) × (12 ≤ size) × (size ≤ 4096) }
-    ensures { result ≡ true → unitWhole units.now count size u ≡ true }
+    ensures { result ≡ true → unit_whole units.now count size u ≡ true }
 {
     let last = segments::word(units, u, UNIT_LAST);
     let first = segments::word(units, u, rows::SEGMENT_WORDS);
@@ -54,13 +54,13 @@ pub fn single_whole(units: &[u32], count: u16, size: u16, u: usize) -> bool
 // Whether unit u is not present, or each of its slots is whole.
 fn unit_whole(units: &[u32], count: u16, size: u16, u: usize) -> bool
     requires { (u * 288 + 288 ≤ length units.now) × (12 ≤ size) × (size ≤ 4096) }
-    ensures { result ≡ unitWhole units.now count size u }
+    ensures { result ≡ unit_whole units.now count size u }
 {
     if single_whole(units, count, size, u) {
         return true;
     }
     if is_present(units, u) {
-        return cells::all_whole(unit_slots(units, u), count, size);
+        return cells::all_whole_lem(unit_slots(units, u), count, size);
     }
     true
 }
@@ -68,7 +68,7 @@ fn unit_whole(units: &[u32], count: u16, size: u16, u: usize) -> bool
 // Whether the n units from `base` on are whole.
 pub fn units_whole(units: &[u32], count: u16, size: u16, base: usize, n: usize) -> bool
     requires { ((base + n) * 288 ≤ length units.now) × (12 ≤ size) × (size ≤ 4096) }
-    ensures { result ≡ unitsWhole units.now count size base n }
+    ensures { result ≡ units_whole units.now count size base n }
 {
     let mut ok = true;
     let mut j = n;
@@ -82,7 +82,7 @@ pub fn units_whole(units: &[u32], count: u16, size: u16, base: usize, n: usize) 
 // Adds each cell that a slot of unit u names.
 fn mark_unit(map: &mut [u64; 1024], units: &[u32], u: usize)
     requires { u * 288 + 288 ≤ length units.now }
-    ensures { map.new ≡ markedUnit units.now u map.old }
+    ensures { map.new ≡ marked_unit units.now u map.old }
 {
     if is_present(units, u) {
         cells::mark_all(map, unit_slots(units, u));
@@ -92,7 +92,7 @@ fn mark_unit(map: &mut [u64; 1024], units: &[u32], u: usize)
 // Adds each cell that a slot of the n units from `base` on names.
 pub fn mark_units(map: &mut [u64; 1024], units: &[u32], base: usize, n: usize)
     requires { (base + n) * 288 ≤ length units.now }
-    ensures { map.new ≡ markedUnits units.now base n map.old }
+    ensures { map.new ≡ marked_units units.now base n map.old }
 {
     let mut j = n;
     while j > 0 {
@@ -106,7 +106,7 @@ pub fn mark_units(map: &mut [u64; 1024], units: &[u32], base: usize, n: usize)
 // Whether its first n tables are there.
 pub fn all_present(units: &[u32], base: usize, n: usize) -> bool
     requires { (base + n) * 288 ≤ length units.now }
-    ensures { result ≡ allPresent units.now base n }
+    ensures { result ≡ all_present units.now base n }
 {
     let mut ok = true;
     let mut j = n;
@@ -120,7 +120,7 @@ pub fn all_present(units: &[u32], base: usize, n: usize) -> bool
 // Its first n tables are there no longer.
 pub fn empty_units(units: &mut [u32], base: usize, n: usize)
     requires { (base + n) * 288 ≤ length units.old }
-    ensures { units.new ≡ withoutUnits base n units.old }
+    ensures { units.new ≡ without_units base n units.old }
 {
     let mut j = n;
     while j > 0 {
@@ -154,7 +154,7 @@ fn put_unit_words(units: &mut [u32], u: usize, version: u32, last: u32)
 // The set of row i is put in as unit u. A head's version above 32 bits is no section's: its low bits go in.
 pub fn put_set(units: &mut [u32], heads: &[u64], slots: &[u32], i: usize, u: usize)
     requires { (u * 288 + 288 ≤ length units.old) × (i * 12 + 12 ≤ length heads.now) × (i * 288 + 288 ≤ length slots.now) }
-    ensures { units.new ≡ withSet heads.now slots.now i u units.old }
+    ensures { units.new ≡ with_set heads.now slots.now i u units.old }
 {
     let version = (rows::version(heads, i) % 4294967296) as u32;
     let part = rows::row_slots(heads, slots, i);
@@ -166,7 +166,7 @@ pub fn put_set(units: &mut [u32], heads: &[u64], slots: &[u32], i: usize, u: usi
 
 // The first table_id of a schedule kind, by its number: 2 is schedule actual, 3 schedule other.
 pub fn first_table(kind: u64) -> u64
-    ensures { (result ≡ firstTable kind) × (result ≤ 96) }
+    ensures { (result ≡ first_table kind) × (result ≤ 96) }
 {
     if kind == 2 { 0x50 } else { 0x60 }
 }
@@ -174,14 +174,14 @@ pub fn first_table(kind: u64) -> u64
 // The table_id j after the first of the kind.
 fn table_of_kind(kind: u64, j: usize) -> u64
     requires { j < 16 }
-    ensures { result ≡ firstTable kind + j }
+    ensures { result ≡ first_table kind + j }
 {
     first_table(kind) + j as u64
 }
 
 // The key with another word in the place of table_id.
 pub fn with_table(key: Key, table_id: u64) -> Key
-    ensures { result ≡ withTable key table_id }
+    ensures { result ≡ with_table key table_id }
 {
     let from = key.from;
     Key {
@@ -197,7 +197,7 @@ pub fn with_table(key: Key, table_id: u64) -> Key
 // Row i, where it is in use and complete, is put in as unit u.
 fn put_complete(units: &mut [u32], heads: &[u64], slots: &[u32], used: usize, i: usize, u: usize)
     requires { (u * 288 + 288 ≤ length units.old) × (used * 12 ≤ length heads.now) × (used * 288 ≤ length slots.now) }
-    ensures { units.new ≡ withComplete heads.now slots.now used i u units.old }
+    ensures { units.new ≡ with_complete heads.now slots.now used i u units.old }
 {
     if used <= i {
         return;
@@ -219,7 +219,7 @@ fn put_table(
     j: usize,
 )
     requires { ((base + j) * 288 + 288 ≤ length units.old) × (used * 12 ≤ length heads.now) × (used * 288 ≤ length slots.now) × (j < 16) }
-    ensures { units.new ≡ withTableSet heads.now slots.now used key own base j units.old }
+    ensures { units.new ≡ with_table_set heads.now slots.now used key own base j units.old }
 {
     let table = table_of_kind(key.table_id, j);
     if table == own {

@@ -13,101 +13,101 @@ use lib.Seq.{paste, drop-cons, drop-drop, get_or-drop, get_or-take, length-take-
 use lib.Dec.{ltb}
 use lib.Bits.{bit_or}
 use borrow.Author.Tests.{lt-ltb, le-ltb, le-leb, lt-leb, ltb-true, not-true, not-false}
-use Rattle.laws.specs.Bits.{hasBit, addBit, addBits, without, union, less}
-use Rattle.laws.proofs.Bits.{length-addBits, addBits-append, has_first}
-use Rattle.laws.proofs.Tests.{and-true as both_true, lt-or-le}
-use Rattle.laws.proofs.Lists.{paste-turn, paste-past, paste-part, length-zip, get_d_zip}
+use Rattle.laws.specs.Bits.{has_bit, add_bit, add_bits, without, union, less}
+use Rattle.laws.proofs.Bits.{length_add_bits, add_bits_append, has_first}
+use Rattle.laws.proofs.Tests.{and_true as both_true, lt_or_le}
+use Rattle.laws.proofs.Lists.{paste_turn, paste_past, paste_part, length_zip, get_d_zip}
 use Rattle.section.proofs.Facts.{made_one, made_none}
-use Rattle.section.specs.Ids.{knownPids, pidMade}
+use Rattle.section.specs.Ids.{known_pids, pid_made}
 use Rattle.section.specs.declared.ids.Pid.{Pid}
 use Rattle.section.specs.declared.ids.Made.{Made}
 use Rattle.section.specs.declared.ids.Made.TheVariants.{One, TooLarge}
-use Rattle.answers.specs.Answers.{replyNo}
+use Rattle.answers.specs.Answers.{reply_no}
 use Rattle.answers.specs.declared.Refusal.TheVariants.{NotWhole, BadPid, TooLittle}
 use Rattle.answers.specs.declared.Outcome.TheVariants as outcome
 use Rattle.answers.specs.declared.Reply.{Reply}
 use Rattle.answers.specs.declared.Reply.TheVariants as reply
-use Rattle.watched.specs.Store.{allPids, watchedOf, protectedOf, followedOf, laid, noPids, protectedPids, filled, droppedBy, renewedWord, renewed, following, openingBy, opened, asked, replyOf}
+use Rattle.watched.specs.Store.{all_pids, watched_of, protected_of, followed_of, laid, no_pids, protected_pids, filled, dropped_by, renewed_word, renewed, following, opening_by, opened, asked, reply_of}
 
 -- ---- PIDs one by one
 
 module _ (xs : List ℕ) (i : ℕ) where
   -- a turn of the loop that judges them, and its end
-  pub judge-turn : (good : Bool) → i < length xs → (good && allPids (drop i xs)) ≡ ((good && ltb (get_or xs i 0) 8192) && allPids (drop (i + 1) xs))
-  unfolding allPids
-  judge-turn good h = rw (drop-cons xs i 0 h, add-one i) (sym (and_assoc good (ltb (get_or xs i 0) 8192) (allPids (drop (suc i) xs))))
+  pub judge_turn : (good : Bool) → i < length xs → (good && all_pids (drop i xs)) ≡ ((good && ltb (get_or xs i 0) 8192) && all_pids (drop (i + 1) xs))
+  unfolding all_pids
+  judge_turn good h = rw (drop-cons xs i 0 h, add-one i) (sym (and_assoc good (ltb (get_or xs i 0) 8192) (all_pids (drop (suc i) xs))))
 
-  pub judge-end : (good : Bool) → length xs ≤ i → (good && allPids (drop i xs)) ≡ good
-  unfolding allPids
-  judge-end good h = rw (drop_of_length-le xs h) (and-true good)
+  pub judge_end : (good : Bool) → length xs ≤ i → (good && all_pids (drop i xs)) ≡ good
+  unfolding all_pids
+  judge_end good h = rw (drop_of_length-le xs h) (and-true good)
 
   -- a turn of the loop that adds them, and its end
-  pub add_turn : (w : List ℕ) → i < length xs → addBits w (drop i xs) ≡ addBits (addBit w (get_or xs i 0)) (drop (i + 1) xs)
-  unfolding addBits
+  pub add_turn : (w : List ℕ) → i < length xs → add_bits w (drop i xs) ≡ add_bits (add_bit w (get_or xs i 0)) (drop (i + 1) xs)
+  unfolding add_bits
   add_turn w h = rw (drop-cons xs i 0 h, add-one i)
 
-  pub add-end : (w : List ℕ) → length xs ≤ i → addBits w (drop i xs) ≡ w
-  unfolding addBits
-  add-end w h = rw (drop_of_length-le xs h)
+  pub add_end : (w : List ℕ) → length xs ≤ i → add_bits w (drop i xs) ≡ w
+  unfolding add_bits
+  add_end w h = rw (drop_of_length-le xs h)
 
 -- each of them is one
-pub pid-at : (xs : List ℕ) (i : ℕ) → allPids xs ≡ true → i < length xs → get_or xs i 0 < 8192
-unfolding allPids
-pid-at [] i e h = absurd (omega arith)
-pid-at (x ∷ xs) zero e h = ltb-true x 8192 (both_true (ltb x 8192) (allPids xs) e).0
-pid-at (x ∷ xs) (suc i) e h = pid-at xs i (both_true (ltb x 8192) (allPids xs) e).1 (omega arith)
+pub pid_at : (xs : List ℕ) (i : ℕ) → all_pids xs ≡ true → i < length xs → get_or xs i 0 < 8192
+unfolding all_pids
+pid_at [] i e h = absurd (omega arith)
+pid_at (x ∷ xs) zero e h = ltb-true x 8192 (both_true (ltb x 8192) (all_pids xs) e).0
+pid_at (x ∷ xs) (suc i) e h = pid_at xs i (both_true (ltb x 8192) (all_pids xs) e).1 (omega arith)
 
-pub known-good : allPids knownPids ≡ true
-unfolding allPids
-known-good = refl
+pub known_good : all_pids known_pids ≡ true
+unfolding all_pids
+known_good = refl
 
 -- ---- the three sets in the words
 
 -- words that hold three sets are those sets and what stands past them
-pub parted : (words : List ℕ) → 384 ≤ length words → words ≡ laid (watchedOf words) (protectedOf words) (followedOf words) words
+pub parted : (words : List ℕ) → 384 ≤ length words → words ≡ laid (watched_of words) (protected_of words) (followed_of words) words
 parted words h =
     sym (rw (← drop-drop 128 256 words, take-append-drop 128 (drop 256 words), ← drop-drop 128 128 words, take-append-drop 128 (drop 128 words), take-append-drop 128 words))
 
 module _ (words : List ℕ) (h : 384 ≤ length words) where
-  pub length-watched : length (watchedOf words) ≡ 128
-  length-watched = length-take-le 128 words (omega arith)
+  pub length_watched : length (watched_of words) ≡ 128
+  length_watched = length-take-le 128 words (omega arith)
 
-  pub length-protected : length (protectedOf words) ≡ 128
-  length-protected = length-take-le 128 (drop 128 words) (simp length-drop (omega arith))
+  pub length_protected : length (protected_of words) ≡ 128
+  length_protected = length-take-le 128 (drop 128 words) (simp length-drop (omega arith))
 
-  pub length-followed : length (followedOf words) ≡ 128
-  length-followed = length-take-le 128 (drop 256 words) (simp length-drop (omega arith))
+  pub length_followed : length (followed_of words) ≡ 128
+  length_followed = length-take-le 128 (drop 256 words) (simp length-drop (omega arith))
 
 -- ---- the watch renewed, word by word
 
 module _ (words n : List ℕ) (h : 384 ≤ length words) (l : length n ≡ 128) where
-  pub length_union : length (union n (protectedOf words)) ≡ 128
-  length_union = length-zip bit_or n (protectedOf words) (l ∙ sym (length-protected words h)) ∙ l
+  pub length_union : length (union n (protected_of words)) ≡ 128
+  length_union = length_zip bit_or n (protected_of words) (l ∙ sym (length_protected words h)) ∙ l
 
-  pub length-dropped : length (droppedBy words n) ≡ 128
-  length-dropped = length-zip without (followedOf words) (union n (protectedOf words)) (length-followed words h ∙ sym length_union) ∙ length-followed words h
+  pub length_dropped : length (dropped_by words n) ≡ 128
+  length_dropped = length_zip without (followed_of words) (union n (protected_of words)) (length_followed words h ∙ sym length_union) ∙ length_followed words h
 
-  pub length-less : length (less (watchedOf words) (droppedBy words n)) ≡ 128
-  length-less = length-zip without (watchedOf words) (droppedBy words n) (length-watched words h ∙ sym length-dropped) ∙ length-watched words h
+  pub length_less : length (less (watched_of words) (dropped_by words n)) ≡ 128
+  length_less = length_zip without (watched_of words) (dropped_by words n) (length_watched words h ∙ sym length_dropped) ∙ length_watched words h
 
-  pub length-renewed : length (renewed words n) ≡ 128
+  pub length_renewed : length (renewed words n) ≡ 128
   unfolding renewed
-  length-renewed = length-zip bit_or (less (watchedOf words) (droppedBy words n)) n (length-less ∙ sym l) ∙ length-less
+  length_renewed = length_zip bit_or (less (watched_of words) (dropped_by words n)) n (length_less ∙ sym l) ∙ length_less
 
-  renewed-at : (i : ℕ) → i < 128 → get_or (renewed words n) i 0 ≡ renewedWord (get_or words i 0) (get_or words (128 + i) 0) (get_or words (256 + i) 0) (get_or n i 0)
+  renewed_at : (i : ℕ) → i < 128 → get_or (renewed words n) i 0 ≡ renewed_word (get_or words i 0) (get_or words (128 + i) 0) (get_or words (256 + i) 0) (get_or n i 0)
   unfolding renewed
-  renewed-at i j =
-      let a = length-watched words h in
-      let b = length-protected words h in
-      let c = length-followed words h in
+  renewed_at i j =
+      let a = length_watched words h in
+      let b = length_protected words h in
+      let c = length_followed words h in
       let d = length_union in
-      let e = length-dropped in
-      let f = length-less in
-      get_d_zip bit_or (less (watchedOf words) (droppedBy words n)) n i 0 (omega arith) (omega arith)
+      let e = length_dropped in
+      let f = length_less in
+      get_d_zip bit_or (less (watched_of words) (dropped_by words n)) n i 0 (omega arith) (omega arith)
       ∙ rw (
-        get_d_zip without (watchedOf words) (droppedBy words n) i 0 (omega arith) (omega arith),
-        get_d_zip without (followedOf words) (union n (protectedOf words)) i 0 (omega arith) (omega arith),
-        get_d_zip bit_or n (protectedOf words) i 0 (omega arith) (omega arith),
+        get_d_zip without (watched_of words) (dropped_by words n) i 0 (omega arith) (omega arith),
+        get_d_zip without (followed_of words) (union n (protected_of words)) i 0 (omega arith) (omega arith),
+        get_d_zip bit_or n (protected_of words) i 0 (omega arith) (omega arith),
         get_or-take 128 words i 0 j,
         get_or-take 128 (drop 128 words) i 0 j,
         get_or-take 128 (drop 256 words) i 0 j,
@@ -116,109 +116,109 @@ module _ (words n : List ℕ) (h : 384 ≤ length words) (l : length n ≡ 128) 
       )
 
   -- a turn of the loop that renews the watch: from i on the words are still as they were
-  pub renew-turn : (rows : List ℕ) (i : ℕ) → rows ≡ paste words 0 (renewed words n) i → i < 128
-      → set rows i (renewedWord (get_or rows i 0) (get_or rows (128 + i) 0) (get_or rows (256 + i) 0) (get_or n i 0)) ≡ paste words 0 (renewed words n) (i + 1)
-  renew-turn rows i e j =
-      let r = length-renewed in
-      let old : (k : ℕ) → i ≤ k → get_or rows k 0 ≡ get_or words k 0 = λ k m. rw e (paste-past words 0 (renewed words n) i k 0 (omega arith) (omega arith) (omega arith)) in
-      rw (old i (omega arith), old (128 + i) (omega arith), old (256 + i) (omega arith), ← renewed-at i j)
-      (rw (zero-add i) at (paste-turn words rows 0 (renewed words n) i 0 e (omega arith) (omega arith)))
+  pub renew_turn : (rows : List ℕ) (i : ℕ) → rows ≡ paste words 0 (renewed words n) i → i < 128
+      → set rows i (renewed_word (get_or rows i 0) (get_or rows (128 + i) 0) (get_or rows (256 + i) 0) (get_or n i 0)) ≡ paste words 0 (renewed words n) (i + 1)
+  renew_turn rows i e j =
+      let r = length_renewed in
+      let old : (k : ℕ) → i ≤ k → get_or rows k 0 ≡ get_or words k 0 = λ k m. rw e (paste_past words 0 (renewed words n) i k 0 (omega arith) (omega arith) (omega arith)) in
+      rw (old i (omega arith), old (128 + i) (omega arith), old (256 + i) (omega arith), ← renewed_at i j)
+      (rw (zero-add i) at (paste_turn words rows 0 (renewed words n) i 0 e (omega arith) (omega arith)))
 
 -- ---- one of the three sets written over
 
 module _ (w p f s words : List ℕ) (lw : length w ≡ 128) (lp : length p ≡ 128) (lf : length f ≡ 128) (ls : length s ≡ 128) where
-  put-watched : paste (laid w p f words) 0 s 128 ≡ laid s p f words
-  put-watched = paste-part [] w (p ++ (f ++ drop 384 words)) s 0 128 refl lw ls
+  put_watched : paste (laid w p f words) 0 s 128 ≡ laid s p f words
+  put_watched = paste_part [] w (p ++ (f ++ drop 384 words)) s 0 128 refl lw ls
 
-  put-protected : paste (laid w p f words) 128 s 128 ≡ laid w s f words
-  put-protected = paste-part w p (f ++ drop 384 words) s 128 128 lw lp ls
+  put_protected : paste (laid w p f words) 128 s 128 ≡ laid w s f words
+  put_protected = paste_part w p (f ++ drop 384 words) s 128 128 lw lp ls
 
-  put-followed : paste (laid w p f words) 256 s 128 ≡ laid w p s words
-  put-followed =
+  put_followed : paste (laid w p f words) 256 s 128 ≡ laid w p s words
+  put_followed =
       let e : length (w ++ p) ≡ 256 = length-append w p ∙ omega arith in
       ap (λ (v : List ℕ). paste v 256 s 128) (sym (append_assoc w p (f ++ drop 384 words)))
-      ∙ paste-part (w ++ p) f (drop 384 words) s 256 128 e lf ls
+      ∙ paste_part (w ++ p) f (drop 384 words) s 256 128 e lf ls
       ∙ append_assoc w p (s ++ drop 384 words)
 
 -- what following writes
-pub follow-laid : (words n : List ℕ) → 384 ≤ length words → length n ≡ 128 → paste (paste words 0 (renewed words n) 128) 256 n 128 ≡ following words n
+pub follow_laid : (words n : List ℕ) → 384 ≤ length words → length n ≡ 128 → paste (paste words 0 (renewed words n) 128) 256 n 128 ≡ following words n
 unfolding following
-follow-laid words n h l =
-    let w = watchedOf words in
-    let p = protectedOf words in
-    let f = followedOf words in
+follow_laid words n h l =
+    let w = watched_of words in
+    let p = protected_of words in
+    let f = followed_of words in
     let s = renewed words n in
-    let lp = length-protected words h in
-    let lf = length-followed words h in
-    let ls = length-renewed words n h l in
+    let lp = length_protected words h in
+    let lf = length_followed words h in
+    let ls = length_renewed words n h l in
     ap (λ (v : List ℕ). paste (paste v 0 s 128) 256 n 128) (parted words h)
-    ∙ ap (λ (v : List ℕ). paste v 256 n 128) (put-watched w p f s words (length-watched words h) lp lf ls)
-    ∙ put-followed s p f n words ls lp lf l
+    ∙ ap (λ (v : List ℕ). paste v 256 n 128) (put_watched w p f s words (length_watched words h) lp lf ls)
+    ∙ put_followed s p f n words ls lp lf l
 
--- the well-known ones, where they are on, and then the extra ones
-pub protect-all : (w : List ℕ) (on : Bool) (extra : List ℕ) → addBits (cond on (addBits w knownPids) w) extra ≡ addBits w (protectedPids on extra)
-protect-all w true extra = addBits-append w knownPids extra
-protect-all w false extra = refl
+-- the well_known ones, where they are on, and then the extra ones
+pub protect_all : (w : List ℕ) (on : Bool) (extra : List ℕ) → add_bits (cond on (add_bits w known_pids) w) extra ≡ add_bits w (protected_pids on extra)
+protect_all w true extra = add_bits_append w known_pids extra
+protect_all w false extra = refl
 
-pub length-protecting : (on : Bool) (extra : List ℕ) → length (addBits noPids (protectedPids on extra)) ≡ 128
-length-protecting on extra = length-addBits noPids (protectedPids on extra)
+pub length_protecting : (on : Bool) (extra : List ℕ) → length (add_bits no_pids (protected_pids on extra)) ≡ 128
+length_protecting on extra = length_add_bits no_pids (protected_pids on extra)
 
 -- what opening writes
-pub fill-opened : (words : List ℕ) (on : Bool) (extra s n : List ℕ) → 384 ≤ length words → s ≡ addBits noPids (protectedPids on extra) → n ≡ noPids
+pub fill_opened : (words : List ℕ) (on : Bool) (extra s n : List ℕ) → 384 ≤ length words → s ≡ add_bits no_pids (protected_pids on extra) → n ≡ no_pids
     → paste (paste (paste words 0 s 128) 128 s 128) 256 n 128 ≡ filled words on extra
 unfolding filled
-fill-opened words on extra s n h es en =
-    let w = watchedOf words in
-    let p = protectedOf words in
-    let f = followedOf words in
-    let lw = length-watched words h in
-    let lp = length-protected words h in
-    let lf = length-followed words h in
-    let ls : length s ≡ 128 = ap length es ∙ length-protecting on extra in
+fill_opened words on extra s n h es en =
+    let w = watched_of words in
+    let p = protected_of words in
+    let f = followed_of words in
+    let lw = length_watched words h in
+    let lp = length_protected words h in
+    let lf = length_followed words h in
+    let ls : length s ≡ 128 = ap length es ∙ length_protecting on extra in
     ap (λ (v : List ℕ). paste (paste (paste v 0 s 128) 128 s 128) 256 n 128) (parted words h)
-    ∙ ap (λ (v : List ℕ). paste (paste v 128 s 128) 256 n 128) (put-watched w p f s words lw lp lf ls)
-    ∙ ap (λ (v : List ℕ). paste v 256 n 128) (put-protected s p f s words ls lp lf ls)
-    ∙ put-followed s s f n words ls ls lf (ap length en)
+    ∙ ap (λ (v : List ℕ). paste (paste v 128 s 128) 256 n 128) (put_watched w p f s words lw lp lf ls)
+    ∙ ap (λ (v : List ℕ). paste v 256 n 128) (put_protected s p f s words ls lp lf ls)
+    ∙ put_followed s s f n words ls ls lf (ap length en)
     ∙ rw (es, en)
 
 -- ---- the ways out of opening and of the question
 
-module _ (words : List ℕ) (on : Bool) (extra : List ℕ) (b : Bool) (e : b ≡ allPids extra) where
-  pub open-bad : not b ≡ true → openingBy (outcome.Refused BadPid) words ≡ opened words on extra
+module _ (words : List ℕ) (on : Bool) (extra : List ℕ) (b : Bool) (e : b ≡ all_pids extra) where
+  pub open_bad : not b ≡ true → opening_by (outcome.Refused BadPid) words ≡ opened words on extra
   unfolding opened
-  open-bad h = rw (← e, not-true b h)
+  open_bad h = rw (← e, not-true b h)
 
-  pub open-little : not b ≡ false → length words < 384 → openingBy (outcome.Refused TooLittle) words ≡ opened words on extra
+  pub open_little : not b ≡ false → length words < 384 → opening_by (outcome.Refused TooLittle) words ≡ opened words on extra
   unfolding opened
-  open-little h l = rw (← e, not-false b h, lt-leb 384 (length words) l)
+  open_little h l = rw (← e, not-false b h, lt-leb 384 (length words) l)
 
-  pub open-good : (w : List ℕ) → not b ≡ false → 384 ≤ length words → w ≡ filled words on extra → openingBy outcome.Done w ≡ opened words on extra
+  pub open_good : (w : List ℕ) → not b ≡ false → 384 ≤ length words → w ≡ filled words on extra → opening_by outcome.Done w ≡ opened words on extra
   unfolding opened
-  open-good w h l f = rw (← e, not-false b h, le-leb 384 (length words) l, f)
+  open_good w h l f = rw (← e, not-false b h, le-leb 384 (length words) l, f)
 
-  pub open-judged : not b ≡ false → allPids extra ≡ true
-  open-judged h = sym e ∙ not-false b h
+  pub open_judged : not b ≡ false → all_pids extra ≡ true
+  open_judged h = sym e ∙ not-false b h
 
-pub ask-short : (words : List ℕ) (pid : ℕ) → length words < 384 → replyNo (reply.Refused NotWhole) ≡ asked words pid
+pub ask_short : (words : List ℕ) (pid : ℕ) → length words < 384 → reply_no (reply.Refused NotWhole) ≡ asked words pid
 unfolding asked
-ask-short words pid h = rw (lt-leb 384 (length words) h)
+ask_short words pid h = rw (lt-leb 384 (length words) h)
 
-module _ (words : List ℕ) (pid : ℕ) (m : Made) (h : 384 ≤ length words) (e : m ≡ pidMade pid) where
-  pub ask-bad : m ≡ TooLarge → replyNo (reply.Refused BadPid) ≡ asked words pid
+module _ (words : List ℕ) (pid : ℕ) (m : Made) (h : 384 ≤ length words) (e : m ≡ pid_made pid) where
+  pub ask_bad : m ≡ TooLarge → reply_no (reply.Refused BadPid) ≡ asked words pid
   unfolding asked
-  ask-bad f = rw (le-leb 384 (length words) h, le-ltb pid 8192 (made_none pid m e f))
+  ask_bad f = rw (le-leb 384 (length words) h, le-ltb pid 8192 (made_none pid m e f))
 
   module _ (p : Pid) (f : m ≡ One p) where
-    pub ask-room : p.0 / 64 < length words
-    ask-room = let g = made_one pid m e p f in omega arith
+    pub ask_room : p.0 / 64 < length words
+    ask_room = let g = made_one pid m e p f in omega arith
 
-    pub ask-has : (b : Bool) (a : Reply) → b ≡ hasBit words p.0 → a ≡ replyOf b → replyNo a ≡ asked words pid
+    pub ask_has : (b : Bool) (a : Reply) → b ≡ has_bit words p.0 → a ≡ reply_of b → reply_no a ≡ asked words pid
     unfolding asked
-    ask-has b a eb ea =
+    ask_has b a eb ea =
         let g = made_one pid m e p f in
-        let s : hasBit (watchedOf words) pid ≡ b = has_first words 128 pid (omega arith) ∙ rw (← g.0) (sym eb) in
+        let s : has_bit (watched_of words) pid ≡ b = has_first words 128 pid (omega arith) ∙ rw (← g.0) (sym eb) in
         rw (ea, le-leb 384 (length words) h, lt-ltb pid 8192 g.1, s) (number b)
       where
-        number : (b : Bool) → replyNo (replyOf b) ≡ cond b 8 9
+        number : (b : Bool) → reply_no (reply_of b) ≡ cond b 8 9
         number true = refl
         number false = refl

@@ -4,18 +4,18 @@ use mathlib.Core.Path.{◌≡◌, sym, ap, ◌∙◌}
 use mathlib.Core.Bool.{Bool}
 use Prim.Native.Nat.{ℕ}
 use mathlib.Core.List.{List}
-use Rattle.answers.specs.Answers.{replyNo}
+use Rattle.answers.specs.Answers.{reply_no}
 use Rattle.answers.specs.declared.Outcome.{Outcome}
 use Rattle.answers.specs.declared.Reply.{Reply}
-use Rattle.answers.proofs.Laws.{outcome-apart, reply-apart}
-use Rattle.watched.specs.Store.{Opening, openingBy, opened, asked}
+use Rattle.answers.proofs.Laws.{outcome_apart, reply_apart}
+use Rattle.watched.specs.Store.{Opening, opening_by, opened, asked}
 
-pub unique-open :
-    (words : List ℕ) (wellKnown : Bool) (extra : List ℕ) (r q : Outcome) (v w : List ℕ) →
-    openingBy r v ≡ opened words wellKnown extra → openingBy q w ≡ opened words wellKnown extra → (r ≡ q) × (v ≡ w)
-unique-open words wellKnown extra r q v w a b =
-    let e : openingBy r v ≡ openingBy q w = a ∙ sym b in
-    (outcome-apart r q (ap (λ (l : Opening). l.answer) e), ap (λ (l : Opening). l.words) e)
+pub unique_open :
+    (words : List ℕ) (well_known : Bool) (extra : List ℕ) (r q : Outcome) (v w : List ℕ) →
+    opening_by r v ≡ opened words well_known extra → opening_by q w ≡ opened words well_known extra → (r ≡ q) × (v ≡ w)
+unique_open words well_known extra r q v w a b =
+    let e : opening_by r v ≡ opening_by q w = a ∙ sym b in
+    (outcome_apart r q (ap (λ (l : Opening). l.answer) e), ap (λ (l : Opening). l.words) e)
 
-pub unique-ask : (words : List ℕ) (pid : ℕ) (r q : Reply) → replyNo r ≡ asked words pid → replyNo q ≡ asked words pid → r ≡ q
-unique-ask words pid r q a b = reply-apart r q (a ∙ sym b)
+pub unique_ask : (words : List ℕ) (pid : ℕ) (r q : Reply) → reply_no r ≡ asked words pid → reply_no q ≡ asked words pid → r ≡ q
+unique_ask words pid r q a b = reply_apart r q (a ∙ sym b)

@@ -9,18 +9,18 @@ pub record Watch : Type 0 where
   pub followed : ℕ → Bool
 
 -- a PID is dropped where it is of the former N and is neither in the new N nor protected
-abbrev pub isDropped : Bool → Bool → Bool → Bool
-isDropped former new protected = former && not (new || protected)
+abbrev pub is_dropped : Bool → Bool → Bool → Bool
+is_dropped former new protected = former && not (new || protected)
 
 -- a PID is watched after N was followed where it was watched and is not dropped, or is in N
-abbrev pub staysWatched : Bool → Bool → Bool → Bool → Bool
-staysWatched watched former new protected = (watched && not (isDropped former new protected)) || new
+abbrev pub stays_watched : Bool → Bool → Bool → Bool → Bool
+stays_watched watched former new protected = (watched && not (is_dropped former new protected)) || new
 
 -- the watch after following N
-abbrev pub followedBy : (ℕ → Bool) → Watch → Watch
-followedBy n w =
+abbrev pub followed_by : (ℕ → Bool) → Watch → Watch
+followed_by n w =
     record {
-      watched = λ pid. staysWatched (w.watched pid) (w.followed pid) (n pid) (w.protected pid);
+      watched = λ pid. stays_watched (w.watched pid) (w.followed pid) (n pid) (w.protected pid);
       protected = w.protected;
       followed = n;
     }

@@ -1,15 +1,15 @@
 // The parts of opening and following, over words and PIDs that their callers have judged.
 ghost use Rattle.std.specs.Prelude.{◌≡◌, cond, true, ◌+◌, ◌≤◌, length};
 ghost use Rattle.std.proofs.Math.Seq.{paste};
-ghost use Rattle.laws.specs.Bits.{addBits, without};
-ghost use Rattle.section.specs.Ids.{knownPids};
-ghost use Rattle.watched.specs.Store.{allPids, noPids, protectedPids, filled, renewedWord, renewed, following};
+ghost use Rattle.laws.specs.Bits.{add_bits, without};
+ghost use Rattle.section.specs.Ids.{known_pids};
+ghost use Rattle.watched.specs.Store.{all_pids, no_pids, protected_pids, filled, renewed_word, renewed, following};
 
 use section::ids::Pid;
 
 // Whether each of them is a PID: 12 where one is not.
 pub fn pids_good(extra: &[u16]) -> bool
-    ensures { result ≡ allPids extra.now }
+    ensures { result ≡ all_pids extra.now }
 {
     let mut good = true;
     let mut i = 0;
@@ -23,7 +23,7 @@ pub fn pids_good(extra: &[u16]) -> bool
 // Writes the three sets of a watch that was opened.
 pub fn fill(words: &mut [u64], well_known: bool, extra: &[u16])
     requires in_bounds { 384 ≤ length words.old }
-    requires extra_value { allPids extra.now ≡ true }
+    requires extra_value { all_pids extra.now ≡ true }
     ensures { words.new ≡ filled words.old well_known extra.now }
 {
     let protected = protected_set(well_known, extra);
@@ -45,8 +45,8 @@ pub fn follow(words: &mut [u64], n: &[u64; 128])
 
 // The set of the PIDs that are watched and protected from the start.
 fn protected_set(well_known: bool, extra: &[u16]) -> [u64; 128]
-    requires { allPids extra.now ≡ true }
-    ensures { result ≡ addBits noPids (protectedPids well_known extra.now) }
+    requires { all_pids extra.now ≡ true }
+    ensures { result ≡ add_bits no_pids (protected_pids well_known extra.now) }
 {
     let mut set = no_pids();
     add_known(&mut set, well_known);
@@ -56,14 +56,14 @@ fn protected_set(well_known: bool, extra: &[u16]) -> [u64; 128]
 
 // The empty set.
 fn no_pids() -> [u64; 128]
-    ensures { result ≡ noPids }
+    ensures { result ≡ no_pids }
 {
     [0u64; 128]
 }
 
 // Adds the well-known PIDs to the set, where that setting is on.
 fn add_known(set: &mut [u64; 128], on: bool)
-    ensures { set.new ≡ cond on (addBits set.old knownPids) set.old }
+    ensures { set.new ≡ cond on (add_bits set.old known_pids) set.old }
 {
     if on {
         let known = section::ids::well_known();
@@ -73,8 +73,8 @@ fn add_known(set: &mut [u64; 128], on: bool)
 
 // Adds each PID to the set.
 fn add_all(set: &mut [u64; 128], pids: &[u16])
-    requires { allPids pids.now ≡ true }
-    ensures { set.new ≡ addBits set.old pids.now }
+    requires { all_pids pids.now ≡ true }
+    ensures { set.new ≡ add_bits set.old pids.now }
 {
     let mut i = 0;
     while i < pids.len() {
@@ -111,7 +111,7 @@ fn renew(words: &mut [u64], n: &[u64])
 
 // Of 64 PIDs those watched after n was followed. Dropped are those followed before that are neither in n nor protected.
 fn renewed_word(watched: u64, protected: u64, followed: u64, n: u64) -> u64
-    ensures { result ≡ renewedWord watched protected followed n }
+    ensures { result ≡ renewed_word watched protected followed n }
 {
     let dropped = less(followed, n | protected);
     less(watched, dropped) | n

@@ -2,8 +2,8 @@
 // protected, which following never drops, 256 to 383 those followed, the N of the last PAT. PID p is bit p % 64 of its set's word p / 64.
 // Every content of the words is whole; words past 384 are never read or written.
 ghost use Rattle.std.specs.Prelude.{◌≡◌};
-ghost use Rattle.answers.specs.Answers.{replyNo};
-ghost use Rattle.watched.specs.Store.{replyOf, openingBy, opened, asked};
+ghost use Rattle.answers.specs.Answers.{reply_no};
+ghost use Rattle.watched.specs.Store.{reply_of, opening_by, opened, asked};
 
 use answers::{Outcome, Refusal, Reply};
 use section::ids::{Made, Pid};
@@ -16,7 +16,7 @@ pub const WORDS: usize = 384;
 // Opens the watch: the well-known PIDs, where that setting is on, and the extra ones are watched and protected; none is followed. A refusal
 // writes nothing.
 pub fn open(words: &mut [u64], well_known: bool, extra: &[u16]) -> Outcome
-    ensures { openingBy result words.new ≡ opened words.old well_known extra.now }
+    ensures { opening_by result words.new ≡ opened words.old well_known extra.now }
 {
     if !inner::pids_good(extra) {
         return Outcome::Refused(Refusal::BadPid);
@@ -30,7 +30,7 @@ pub fn open(words: &mut [u64], well_known: bool, extra: &[u16]) -> Outcome
 
 // Whether a PID is watched.
 pub fn ask(words: &[u64], pid: u16) -> Reply
-    ensures { replyNo result ≡ asked words.now pid }
+    ensures { reply_no result ≡ asked words.now pid }
 {
     if words.len() < WORDS {
         return Reply::Refused(Refusal::NotWhole);
@@ -43,7 +43,7 @@ pub fn ask(words: &[u64], pid: u16) -> Reply
 
 // Yes where the PID is watched.
 fn reply(watched: bool) -> Reply
-    ensures { result ≡ replyOf watched }
+    ensures { result ≡ reply_of watched }
 {
     if watched { Reply::Yes } else { Reply::No }
 }

@@ -1,4 +1,4 @@
-use Rattle.alignment.proofs.Laws.{a-packet, a-loose, is_last, needs-more}
+use Rattle.alignment.proofs.Laws.{a_packet, a_loose, is_last, needs_more}
 use borrow.Author.Rules.{rules}
 use Rattle.alignment.proofs.head.Statement.{statement}
 use Rattle.alignment.proofs.head.Tie as tie
@@ -7,10 +7,10 @@ shared-slice-read-if2 : tie.Need-shared-slice-read-if2
 shared-slice-read-if2 c = search rules
 
 returns : tie.Need-returns
-returns c = search a-packet
+returns c = search a_packet
 
 returns-2 : tie.Need-returns-2
-returns-2 c = search a-loose
+returns-2 c = search a_loose
 
 at-end-requires : tie.Need-at-end-requires
 at-end-requires c κs = search rules

@@ -1,4 +1,4 @@
-use Rattle.arrivals.proofs.Ways.{arrival-made}
+use Rattle.arrivals.proofs.Ways.{arrival_made}
 use borrow.Author.Rules.{rules}
 use Rattle.arrivals.proofs.arrival_of.Statement.{statement}
 use Rattle.arrivals.proofs.arrival_of.Tie as tie
@@ -22,7 +22,7 @@ cast-t10 : tie.Need-overflow-cast-t10
 cast-t10 c = search rules
 
 returns : tie.Need-returns
-returns c = search arrival-made
+returns c = search arrival_made
 
 pub arrival-of-spec : {M : Type 1} → statement M
 arrival-of-spec =

@@ -1,6 +1,6 @@
 use native.Mathlib.Omega.{arith}
-use Rattle.arrivals.proofs.Ways.{eit-nowhere, eit-section}
-use Rattle.arrivals.proofs.Facts.{eit-arrived}
+use Rattle.arrivals.proofs.Ways.{eit_nowhere, eit_section}
+use Rattle.arrivals.proofs.Facts.{eit_arrived}
 use borrow.Author.Rules.{rules}
 use Rattle.arrivals.proofs.eit_arrival.Statement.{statement}
 use Rattle.arrivals.proofs.eit_arrival.Tie as tie
@@ -18,10 +18,10 @@ eit-read-requires : tie.Need-eit-read-requires
 eit-read-requires c κs = search rules
 
 returns : tie.Need-returns
-returns c = (search eit-nowhere, tt)
+returns c = (search eit_nowhere, tt)
 
 returns-2 : tie.Need-returns-2
-returns-2 c = let a = c.before.before.before.before.before.before.args in (search eit-section, eit-arrived a.bytes.now (omega (arith, c.before.before.before.before.before.shared-slice-known.given 7)) a.input a.pid c.eit-read.result (search eit-section))
+returns-2 c = let a = c.before.before.before.before.before.before.args in (search eit_section, eit_arrived a.bytes.now (omega (arith, c.before.before.before.before.before.shared-slice-known.given 7)) a.input a.pid c.eit-read.result (search eit_section))
 
 pub eit-arrival-spec : {M : Type 1} → statement M
 eit-arrival-spec =

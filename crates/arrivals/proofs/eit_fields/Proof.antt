@@ -1,4 +1,4 @@
-use Rattle.arrivals.proofs.Ways.{fields-none, fields-broken, fields-good}
+use Rattle.arrivals.proofs.Ways.{fields_none, fields_broken, fields_good}
 use borrow.Author.Rules.{rules}
 use Rattle.arrivals.proofs.eit_fields.Statement.{statement}
 use Rattle.arrivals.proofs.eit_fields.Tie as tie
@@ -19,13 +19,13 @@ arrival-of-requires : tie.Need-arrival-of-requires
 arrival-of-requires c κs = search rules
 
 returns : tie.Need-returns
-returns c = search fields-none
+returns c = search fields_none
 
 returns-2 : tie.Need-returns-2
-returns-2 c = search fields-broken
+returns-2 c = search fields_broken
 
 returns-3 : tie.Need-returns-3
-returns-3 c = search fields-good
+returns-3 c = search fields_good
 
 pub eit-fields-spec : {M : Type 1} → statement M
 eit-fields-spec =

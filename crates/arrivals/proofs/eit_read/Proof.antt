@@ -1,4 +1,4 @@
-use Rattle.arrivals.proofs.Ways.{eit-malformed, eit-short, eit-number, eit-crc, eit-good}
+use Rattle.arrivals.proofs.Ways.{eit_malformed, eit_short, eit_number, eit_crc, eit_good}
 use borrow.Author.Rules.{rules}
 use Rattle.arrivals.proofs.eit_read.Statement.{statement}
 use Rattle.arrivals.proofs.eit_read.Tie as tie
@@ -25,19 +25,19 @@ eit-fields-requires : tie.Need-eit-fields-requires
 eit-fields-requires c κs = search rules
 
 returns : tie.Need-returns
-returns c = search eit-malformed
+returns c = search eit_malformed
 
 returns-2 : tie.Need-returns-2
-returns-2 c = search eit-short
+returns-2 c = search eit_short
 
 returns-3 : tie.Need-returns-3
-returns-3 c = search eit-number
+returns-3 c = search eit_number
 
 returns-4 : tie.Need-returns-4
-returns-4 c = search eit-crc
+returns-4 c = search eit_crc
 
 returns-5 : tie.Need-returns-5
-returns-5 c = search eit-good
+returns-5 c = search eit_good
 
 pub eit-read-spec : {M : Type 1} → statement M
 eit-read-spec =

@@ -1,4 +1,4 @@
-use Rattle.arrivals.proofs.Ways.{words-made, words-refused, words-nowhere}
+use Rattle.arrivals.proofs.Ways.{words_made, words_refused, words_nowhere}
 use borrow.Author.Rules.{rules}
 use Rattle.arrivals.proofs.made_words.Statement.{statement}
 use Rattle.arrivals.proofs.made_words.Tie as tie
@@ -19,13 +19,13 @@ enum-told-2 : tie.Need-enum-told-2
 enum-told-2 c = search rules
 
 returns : tie.Need-returns
-returns c = search words-made
+returns c = search words_made
 
 returns-2 : tie.Need-returns-2
-returns-2 c = search words-refused
+returns-2 c = search words_refused
 
 returns-3 : tie.Need-returns-3
-returns-3 c = search words-nowhere
+returns-3 c = search words_nowhere
 
 pub made-words-spec : {M : Type 1} → statement M
 made-words-spec =

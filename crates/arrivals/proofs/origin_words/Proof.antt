@@ -1,4 +1,4 @@
-use Rattle.arrivals.proofs.Ways.{words-none, words-some}
+use Rattle.arrivals.proofs.Ways.{words_none, words_some}
 use borrow.Author.Rules.{rules}
 use Rattle.arrivals.proofs.origin_words.Statement.{statement}
 use Rattle.arrivals.proofs.origin_words.Tie as tie
@@ -25,11 +25,11 @@ made-words-requires c κs = search rules
 
 -- src/lib.rt:69:1
 returns : tie.Need-returns
-returns c = search words-none
+returns c = search words_none
 
 -- src/lib.rt:69:1
 returns-2 : tie.Need-returns-2
-returns-2 c = search words-some
+returns-2 c = search words_some
 
 pub origin-words-spec : {M : Type 1} → statement M
 origin-words-spec =

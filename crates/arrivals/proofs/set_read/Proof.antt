@@ -1,4 +1,4 @@
-use Rattle.arrivals.proofs.Ways.{set-malformed, set-short, set-number, set-crc, set-good}
+use Rattle.arrivals.proofs.Ways.{set_malformed, set_short, set_number, set_crc, set_good}
 use borrow.Author.Rules.{rules}
 use Rattle.arrivals.proofs.set_read.Statement.{statement}
 use Rattle.arrivals.proofs.set_read.Tie as tie
@@ -28,19 +28,19 @@ entry-of-requires : tie.Need-entry-of-requires
 entry-of-requires c κs = search rules
 
 returns : tie.Need-returns
-returns c = search set-malformed
+returns c = search set_malformed
 
 returns-2 : tie.Need-returns-2
-returns-2 c = search set-short
+returns-2 c = search set_short
 
 returns-3 : tie.Need-returns-3
-returns-3 c = search set-number
+returns-3 c = search set_number
 
 returns-4 : tie.Need-returns-4
-returns-4 c = search set-crc
+returns-4 c = search set_crc
 
 returns-5 : tie.Need-returns-5
-returns-5 c = search set-good
+returns-5 c = search set_good
 
 pub set-read-spec : {M : Type 1} → statement M
 set-read-spec =

@@ -1,4 +1,4 @@
-use Rattle.assemble.proofs.Laws.{part-ordered, part-inside, part_lies, has-places, few-under, can-add, can-keep, can-add-under, all_left}
+use Rattle.assemble.proofs.Laws.{part_ordered, part_inside, part_lies, has_places, few_under, can_add, can_keep, can_add_under, all_left_lem}
 use native.Mathlib.Omega.{arith}
 use borrow.Author.Rules.{rules}
 use Rattle.assemble.proofs.read.Statement.{statement}
@@ -8,13 +8,13 @@ split-requires : tie.Need-split-requires
 split-requires c κs = search rules
 
 sub-go-on : tie.Need-overflow-sub-go-on
-sub-go-on c = search part-ordered
+sub-go-on c = search part_ordered
 
 part-go-on-start : tie.Need-slice-bounds-go-on-start
-part-go-on-start c = search part-ordered
+part-go-on-start c = search part_ordered
 
 part-go-on-end : tie.Need-slice-bounds-go-on-end
-part-go-on-end c = search part-inside
+part-go-on-end c = search part_inside
 
 go-on-requires : tie.Need-go-on-requires
 go-on-requires c κs = search part_lies
@@ -23,16 +23,16 @@ tell-ended-requires : tie.Need-tell-ended-requires
 tell-ended-requires c κs = search rules
 
 begin-in-requires : tie.Need-begin-in-requires
-begin-in-requires c κs = search has-places
+begin-in-requires c κs = search has_places
 
 sub_at : tie.Need-overflow-sub-at
-sub_at c = search few-under
+sub_at c = search few_under
 
 add-keep : tie.Need-overflow-add-keep
 add-keep c = let a = c.before.before.before.before.before.before.before.before.before.before.before.before.before.before.before.before.before.before.before.before.args in
     let s = c.before.before.before.before.before.before.before.before.before.before.before.before.before.before.before.before.split in
     let g = c.before.before.before.before.before.before.before.before.before.before.before.before.before.go_on in
-    omega (arith, can-add a.buffer.now a.number a.under a.load a.packet.now a.places.now c.before.before.before.before.before.before.before.before.before.before.before.before.before.before.before.before.before.before.before.before.requires s.result s.ensures g.result g.ensures.0)
+    omega (arith, can_add a.buffer.now a.number a.under a.load a.packet.now a.places.now c.before.before.before.before.before.before.before.before.before.before.before.before.before.before.before.before.before.before.before.before.requires s.result s.ensures g.result g.ensures.0)
 
 sub-keep : tie.Need-overflow-sub-keep
 sub-keep c = search rules
@@ -51,7 +51,7 @@ keep-requires c κs = let a = c.before.before.before.before.before.before.before
     let b = c.before.before.before.before.before.before.begin-in in
     omega (
       arith,
-      can-keep a.buffer.now a.number a.under a.load a.packet.now a.places.now c.before.before.before.before.before.before.before.before.before.before.before.before.before.before.before.before.before.before.before.before.before.requires s.result s.ensures g.result g.ensures.0
+      can_keep a.buffer.now a.number a.under a.load a.packet.now a.places.now c.before.before.before.before.before.before.before.before.before.before.before.before.before.before.before.before.before.before.before.before.before.requires s.result s.ensures g.result g.ensures.0
           t.new.0 t.result t.ensures.0 t.ensures.1 b.result b.ensures.0 g.new.0 g.auto.0,
     )
 
@@ -63,7 +63,7 @@ add-t17 c = let a = c.before.before.before.before.before.before.before.before.be
     let b = c.before.before.before.before.before.before.before.before.before.before.before.begin-in in
     omega (
       arith,
-      can-add-under a.buffer.now a.number a.under a.load a.packet.now a.places.now c.before.before.before.before.before.before.before.before.before.before.before.before.before.before.before.before.before.before.before.before.before.before.before.before.before.before.requires s.result s.ensures g.result g.ensures.0
+      can_add_under a.buffer.now a.number a.under a.load a.packet.now a.places.now c.before.before.before.before.before.before.before.before.before.before.before.before.before.before.before.before.before.before.before.before.before.before.before.before.before.before.requires s.result s.ensures g.result g.ensures.0
           t.new.0 t.result t.ensures.0 t.ensures.1 b.result b.ensures.0,
     )
 
@@ -79,7 +79,7 @@ returns c = let a = c.before.before.before.before.before.before.before.before.be
     let g = c.before.before.before.before.before.before.before.before.before.before.before.before.before.before.before.before.before.before.before.go_on in
     let t = c.before.before.before.before.before.before.before.before.before.before.before.before.before.before.before.tell-ended in
     let b = c.before.before.before.before.before.before.before.before.before.before.before.begin-in in
-    all_left a.buffer.now a.number a.under a.load a.packet.now a.places.now c.before.before.before.before.before.before.before.before.before.before.before.before.before.before.before.before.before.before.before.before.before.before.before.before.before.before.requires s.result s.ensures g.result g.ensures.0
+    all_left_lem a.buffer.now a.number a.under a.load a.packet.now a.places.now c.before.before.before.before.before.before.before.before.before.before.before.before.before.before.before.before.before.before.before.before.before.before.before.before.before.before.requires s.result s.ensures g.result g.ensures.0
     t.new.0 t.result t.ensures.0 t.ensures.1 b.result b.ensures.0 g.new.0 c.before.before.before.before.keep.new.0 b.new.1.1.0 g.ensures.1 c.before.before.before.before.keep.ensures b.ensures.1
 
 pub read_spec : {M : Type 1} → statement M

@@ -1,4 +1,4 @@
-use Rattle.assemble.proofs.Laws.{goes_on, jumps}
+use Rattle.assemble.proofs.Laws.{goes_on_lem, jumps}
 use borrow.Author.Rules.{rules}
 use Rattle.assemble.proofs.span_by.Statement.{statement}
 use Rattle.assemble.proofs.span_by.Tie as tie
@@ -10,7 +10,7 @@ span-in-requires : tie.Need-span-in-requires
 span-in-requires c κs = search rules
 
 returns : tie.Need-returns
-returns c = search goes_on
+returns c = search goes_on_lem
 
 returns-2 : tie.Need-returns-2
 returns-2 c = search jumps

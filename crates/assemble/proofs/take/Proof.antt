@@ -1,4 +1,4 @@
-use Rattle.assemble.proofs.Laws.{repeat-words, repeat-buffer, repeat-places, span-reads, read-words, read-buffer, read-places}
+use Rattle.assemble.proofs.Laws.{repeat_words, repeat_buffer, repeat_places, span_reads, read_words, read_buffer, read_places}
 use borrow.Author.Rules.{rules}
 use Rattle.assemble.proofs.take.Statement.{statement}
 use Rattle.assemble.proofs.take.Tie as tie
@@ -10,13 +10,13 @@ mark-requires : tie.Need-mark-requires
 mark-requires c κs = search rules
 
 returns : tie.Need-returns
-returns c = (search repeat-words, (search repeat-buffer, search repeat-places))
+returns c = (search repeat_words, (search repeat_buffer, search repeat_places))
 
 span-by-requires : tie.Need-span-by-requires
 span-by-requires c κs = search rules
 
 read-requires : tie.Need-read-requires
-read-requires c κs = search span-reads
+read-requires c κs = search span_reads
 
 add-t19 : tie.Need-overflow-add-t19
 add-t19 c = search rules
@@ -31,7 +31,7 @@ same-length-2 : tie.Need-same-length-2
 same-length-2 c = search rules
 
 returns-2 : tie.Need-returns-2
-returns-2 c = (search read-words, (search read-buffer, search read-places))
+returns-2 c = (search read_words, (search read_buffer, search read_places))
 
 pub take_spec : {M : Type 1} → statement M
 take_spec =

@@ -1,10 +1,10 @@
-use Rattle.assemble.proofs.Laws.{none-ended, one_ended}
+use Rattle.assemble.proofs.Laws.{none_ended, one_ended}
 use borrow.Author.Rules.{rules}
 use Rattle.assemble.proofs.tell_ended.Statement.{statement}
 use Rattle.assemble.proofs.tell_ended.Tie as tie
 
 returns : tie.Need-returns
-returns c = let a = c.before.before.args in none-ended a.places.now a.number a.ended c.if1.true
+returns c = let a = c.before.before.args in none_ended a.places.now a.number a.ended c.if1.true
 
 mul-place : tie.Need-overflow-mul-place
 mul-place c = search rules

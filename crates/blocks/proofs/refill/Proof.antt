@@ -9,8 +9,8 @@ sub-kept c = search rules
 to-front-requires : tie.Need-to-front-requires
 to-front-requires c κs = search rules
 
-add-end : tie.Need-overflow-add-end
-add-end c = search rules
+add_end : tie.Need-overflow-add-end
+add_end c = search rules
 
 sub_read : tie.Need-overflow-sub-read
 sub_read c = search rules
@@ -39,7 +39,7 @@ refill-spec =
     (tie.spec
     sub-kept
     to-front-requires
-    add-end
+    add_end
     sub_read
     part-read-start
     part-read-end

@@ -1,4 +1,4 @@
-use Rattle.clocks.proofs.Ways.{too_short, by-table, never}
+use Rattle.clocks.proofs.Ways.{too_short, by_table, never}
 use borrow.Author.Rules.{rules}
 use Rattle.clocks.proofs.is_clock.Statement.{statement}
 use Rattle.clocks.proofs.is_clock.Tie as tie
@@ -19,7 +19,7 @@ shared-slice-read-result-2 c = search rules
 
 -- src/lib.rt:31:1
 returns-2 : tie.Need-returns-2
-returns-2 c = (by-table c.before.before.before.args.section.now c.before.before.if1.false, λ e. c.before.before.if1.false)
+returns-2 c = (by_table c.before.before.before.args.section.now c.before.before.if1.false, λ e. c.before.before.if1.false)
 
 pub is-clock-spec : {M : Type 1} → statement M
 is-clock-spec =

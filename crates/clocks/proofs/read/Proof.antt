@@ -1,5 +1,5 @@
 use native.Mathlib.Omega.{arith}
-use Rattle.clocks.proofs.Ways.{is-clock, no-clock}
+use Rattle.clocks.proofs.Ways.{is_clock_lem, no_clock}
 use borrow.Author.Rules.{rules}
 use Rattle.clocks.proofs.read.Statement.{statement}
 use Rattle.clocks.proofs.read.Tie as tie
@@ -43,11 +43,11 @@ stamped-requires c κs = search rules
 
 -- src/lib.rt:65:9
 returns : tie.Need-returns
-returns c = is-clock c.before.before.before.before.before.before.before.before.before.before.args.section.now c.before.before.before.before.before.before.before.before.is-clock.result c.before.before.before.before.before.before.before.before.is-clock.ensures.0 c.before.before.before.before.day-of.result c.stamped.result c.before.before.before.before.before.before.before.if1.true c.before.before.before.before.day-of.ensures c.stamped.ensures
+returns c = is_clock_lem c.before.before.before.before.before.before.before.before.before.before.args.section.now c.before.before.before.before.before.before.before.before.is-clock.result c.before.before.before.before.before.before.before.before.is-clock.ensures.0 c.before.before.before.before.day-of.result c.stamped.result c.before.before.before.before.before.before.before.if1.true c.before.before.before.before.day-of.ensures c.stamped.ensures
 
 -- src/lib.rt:60:1
 returns-2 : tie.Need-returns-2
-returns-2 c = no-clock c.before.before.before.args.section.now c.before.is-clock.result c.before.is-clock.ensures.0 c.if1.false
+returns-2 c = no_clock c.before.before.before.args.section.now c.before.is-clock.result c.before.is-clock.ensures.0 c.if1.false
 
 pub read_spec : {M : Type 1} → statement M
 read_spec =

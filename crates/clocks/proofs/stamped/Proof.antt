@@ -1,4 +1,4 @@
-use Rattle.clocks.proofs.Ways.{no-date, no-time, is-time}
+use Rattle.clocks.proofs.Ways.{no_date, no_time, is_time}
 use borrow.Author.Rules.{rules}
 use Rattle.clocks.proofs.stamped.Statement.{statement}
 use Rattle.clocks.proofs.stamped.Tie as tie
@@ -33,15 +33,15 @@ enum-told-4 c = search rules
 
 -- src/lib.rt:42:1
 returns : tie.Need-returns
-returns c = search no-date
+returns c = search no_date
 
 -- src/lib.rt:42:1
 returns-2 : tie.Need-returns-2
-returns-2 c = search no-time
+returns-2 c = search no_time
 
 -- src/lib.rt:42:1
 returns-3 : tie.Need-returns-3
-returns-3 c = search is-time
+returns-3 c = search is_time
 
 pub stamped-spec : {M : Type 1} → statement M
 stamped-spec =

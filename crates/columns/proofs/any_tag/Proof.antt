@@ -6,7 +6,7 @@ use lib.Dec.{eqb}
 use lib.ListN.{length, drop}
 use borrow.Author.Rules.{rules}
 use Rattle.laws.specs.Lists.{any}
-use Rattle.columns.proofs.Ways.{any-turn, any-end}
+use Rattle.columns.proofs.Ways.{any_turn, any_end}
 use Rattle.columns.proofs.any_tag.Statement.{statement}
 use Rattle.columns.proofs.any_tag.Tie as tie
 
@@ -32,10 +32,10 @@ loop-less : tie.Need-loop-smaller invariant-loop decreases-loop
 loop-less c = search rules
 
 loop-again : tie.Need-loop-preserved invariant-loop decreases-loop
-loop-again c = (search rules, search any-turn)
+loop-again c = (search rules, search any_turn)
 
 returns : tie.Need-returns invariant-loop decreases-loop
-returns c = search any-end
+returns c = search any_end
 
 pub any-tag-spec : {M : Type 1} → statement M
 any-tag-spec =

@@ -4,7 +4,7 @@ use mathlib.Core.Path.{◌≡◌, refl}
 use lib.ListN.{length}
 use borrow.Author.Rules.{rules}
 use Rattle.columns.specs.Columns.{Tells}
-use Rattle.columns.proofs.Ways.{tells_none, tells_more, tells-fewer}
+use Rattle.columns.proofs.Ways.{tells_none, tells_more, tells_fewer}
 use Rattle.columns.proofs.fill.Statement.{statement}
 use Rattle.columns.proofs.fill.Tie as tie
 
@@ -42,7 +42,7 @@ same_length : tie.Need-same-length invariant-loop decreases-loop
 same_length c = search rules
 
 returns : tie.Need-returns invariant-loop decreases-loop
-returns c = search (tells-fewer, rules)
+returns c = search (tells_fewer, rules)
 
 pub fill_spec : {M : Type 1} → statement M
 fill_spec =

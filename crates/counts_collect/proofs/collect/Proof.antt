@@ -1,4 +1,4 @@
-use Rattle.counts_collect.proofs.Ways.{to-eit, to-sets}
+use Rattle.counts_collect.proofs.Ways.{to_eit, to_sets}
 use borrow.Author.Rules.{rules}
 use Rattle.counts_collect.proofs.collect.Statement.{statement}
 use Rattle.counts_collect.proofs.collect.Tie as tie
@@ -38,7 +38,7 @@ same-length-5 c = search rules
 
 -- src/lib.rt:106:9
 returns : tie.Need-returns
-returns c = search to-eit
+returns c = search to_eit
 
 -- src/lib.rt:109:9
 push-set-requires : tie.Need-push-set-requires
@@ -58,7 +58,7 @@ same-length-8 c = search rules
 
 -- src/lib.rt:77:1
 returns-2 : tie.Need-returns-2
-returns-2 c = search to-sets
+returns-2 c = search to_sets
 
 pub collect-spec : {M : Type 1} → statement M
 collect-spec =

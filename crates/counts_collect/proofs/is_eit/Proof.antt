@@ -1,4 +1,4 @@
-use Rattle.counts_collect.proofs.Ways.{empty, by-table}
+use Rattle.counts_collect.proofs.Ways.{empty, by_table}
 use borrow.Author.Rules.{rules}
 use Rattle.counts_collect.proofs.is_eit.Statement.{statement}
 use Rattle.counts_collect.proofs.is_eit.Tie as tie
@@ -19,7 +19,7 @@ shared-slice-read-result-2 c = search rules
 
 -- src/lib.rt:19:1
 returns-2 : tie.Need-returns-2
-returns-2 c = search by-table
+returns-2 c = search by_table
 
 pub is-eit-spec : {M : Type 1} → statement M
 is-eit-spec =

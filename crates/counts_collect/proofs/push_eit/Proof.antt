@@ -1,4 +1,4 @@
-use Rattle.counts_collect.proofs.Ways.{eit-pushed}
+use Rattle.counts_collect.proofs.Ways.{eit_pushed_lem}
 use borrow.Author.Rules.{rules}
 use Rattle.counts_collect.proofs.push_eit.Statement.{statement}
 use Rattle.counts_collect.proofs.push_eit.Tie as tie
@@ -42,7 +42,7 @@ same-length-5 c = search rules
 
 -- src/lib.rt:47:1
 returns : tie.Need-returns
-returns c = search eit-pushed
+returns c = search eit_pushed_lem
 
 pub push-eit-spec : {M : Type 1} → statement M
 push-eit-spec =

@@ -1,4 +1,4 @@
-use Rattle.counts_collect.proofs.Ways.{set-pushed}
+use Rattle.counts_collect.proofs.Ways.{set_pushed}
 use borrow.Author.Rules.{rules}
 use Rattle.counts_collect.proofs.push_set.Statement.{statement}
 use Rattle.counts_collect.proofs.push_set.Tie as tie
@@ -34,7 +34,7 @@ same-length-3 c = search rules
 
 -- src/lib.rt:29:1
 returns : tie.Need-returns
-returns c = search set-pushed
+returns c = search set_pushed
 
 pub push-set-spec : {M : Type 1} → statement M
 push-set-spec =

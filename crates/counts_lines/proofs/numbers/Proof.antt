@@ -1,5 +1,5 @@
 use mathlib.Core.Path.{refl}
-use Rattle.counts_lines.specs.Lines.{numbersOf}
+use Rattle.counts_lines.specs.Lines.{numbers_of}
 use borrow.Author.Rules.{rules}
 use Rattle.counts_lines.proofs.numbers.Statement.{statement}
 use Rattle.counts_lines.proofs.numbers.Tie as tie
@@ -48,7 +48,7 @@ element-copy-out-t36 c = search rules
 
 -- src/lib.rt:21:1
 returns : tie.Need-returns
-unfolding numbersOf
+unfolding numbers_of
 returns c = refl
 
 pub numbers-spec : {M : Type 1} → statement M

@@ -3,7 +3,7 @@ use Prim.Native.Nat.{◌+◌, ◌*◌, ◌-◌, ◌≤◌}
 use native.Mathlib.Omega.{arith}
 use lib.ListN.{length}
 use borrow.Author.Rules.{rules}
-use Rattle.counts_lines.proofs.Ways.{Left, left-first, left-turn, left-none}
+use Rattle.counts_lines.proofs.Ways.{Left, left_first, left_turn, left_none}
 use Rattle.counts_lines.proofs.put_numbers.Statement.{statement}
 use Rattle.counts_lines.proofs.put_numbers.Tie as tie
 use Rattle.counts_lines.proofs.put_numbers.Reads as reads
@@ -18,7 +18,7 @@ decreases-loop line₀ at numbers to₀ k₀ line to k = length numbers - k
 
 -- src/lib.rt:127:5
 loop-holds : tie.Need-loop-init invariant-loop decreases-loop
-loop-holds c = (omega arith, refl, omega arith, left-first c.before.before.args.line.now c.before.before.args.at c.before.before.args.numbers.now)
+loop-holds c = (omega arith, refl, omega arith, left_first c.before.before.args.line.now c.before.before.args.at c.before.before.args.numbers.now)
 
 -- src/lib.rt:128:35
 mul-put-number : tie.Need-overflow-mul-put-number invariant-loop decreases-loop
@@ -42,7 +42,7 @@ loop-less c = search rules
 
 -- src/lib.rt:127:5
 loop-again : tie.Need-loop-preserved invariant-loop decreases-loop
-loop-again c = (omega arith, search rules, omega (arith, c.before.before.put-number.ensures.1, c.before.before.before.before.before.before.loop.invariant.2), left-turn c.before.before.before.before.before.before.before.before.before.args.line.now c.before.before.before.before.before.before.before.before.before.args.at c.before.before.before.before.before.before.before.before.before.args.numbers.now c.before.before.before.before.before.before.loop.line c.before.before.put-number.new.0 c.before.before.before.before.before.before.loop.to c.before.before.put-number.result c.before.before.before.before.before.before.loop.k c.before.before.before.before.before.loop-test.true c.before.before.before.before.before.before.loop.invariant.3 c.before.before.put-number.ensures.0)
+loop-again c = (omega arith, search rules, omega (arith, c.before.before.put-number.ensures.1, c.before.before.before.before.before.before.loop.invariant.2), left_turn c.before.before.before.before.before.before.before.before.before.args.line.now c.before.before.before.before.before.before.before.before.before.args.at c.before.before.before.before.before.before.before.before.before.args.numbers.now c.before.before.before.before.before.before.loop.line c.before.before.put-number.new.0 c.before.before.before.before.before.before.loop.to c.before.before.put-number.result c.before.before.before.before.before.before.loop.k c.before.before.before.before.before.loop-test.true c.before.before.before.before.before.before.loop.invariant.3 c.before.before.put-number.ensures.0)
 
 -- src/lib.rt:120:1
 same_length : tie.Need-same-length invariant-loop decreases-loop
@@ -50,7 +50,7 @@ same_length c = search rules
 
 -- src/lib.rt:120:1
 returns : tie.Need-returns invariant-loop decreases-loop
-returns c = (left-none c.before.before.before.before.args.line.now c.before.before.before.before.args.at c.before.before.before.before.args.numbers.now c.before.loop.line c.before.loop.to c.before.loop.k (omega arith) c.before.loop.invariant.3, omega (arith, c.before.loop.invariant.0, c.before.loop.invariant.2))
+returns c = (left_none c.before.before.before.before.args.line.now c.before.before.before.before.args.at c.before.before.before.before.args.numbers.now c.before.loop.line c.before.loop.to c.before.loop.k (omega arith) c.before.loop.invariant.3, omega (arith, c.before.loop.invariant.0, c.before.loop.invariant.2))
 
 pub put-numbers-spec : {M : Type 1} → statement M
 put-numbers-spec =

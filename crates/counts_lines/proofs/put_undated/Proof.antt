@@ -1,4 +1,4 @@
-use Rattle.counts_lines.proofs.Ways.{clock-alone}
+use Rattle.counts_lines.proofs.Ways.{clock_alone}
 use borrow.Author.Rules.{rules}
 use Rattle.counts_lines.proofs.put_undated.Statement.{statement}
 use Rattle.counts_lines.proofs.put_undated.Tie as tie
@@ -21,7 +21,7 @@ put-requires c κs = search rules
 
 -- src/lib.rt:101:1
 returns : tie.Need-returns
-returns c = clock-alone _ _ _ _ c.before.before.before.before.args.hours c.before.before.before.before.args.minutes c.before.before.before.before.args.seconds c.before.before.before.clock-text.ensures c.put.ensures
+returns c = clock_alone _ _ _ _ c.before.before.before.before.args.hours c.before.before.before.before.args.minutes c.before.before.before.before.args.seconds c.before.before.before.clock-text.ensures c.put.ensures
 
 pub put-undated-spec : {M : Type 1} → statement M
 put-undated-spec =

@@ -3,10 +3,10 @@ use Prim.Native.Nat.{◌-◌, ◌≤◌}
 use native.Mathlib.Omega.{arith}
 use lib.ListN.{length}
 use borrow.Author.Rules.{rules}
-use Rattle.store.specs.Store as sets-memory
-use Rattle.eit_state.specs.State as eit-memory
+use Rattle.store.specs.Store as sets_memory
+use Rattle.eit_state.specs.State as eit_memory
 use Rattle.counts_collect.specs.Collected.{held as both}
-use Rattle.counts_places.specs.Collected.{collectedFrom}
+use Rattle.counts_places.specs.Collected.{collected_from}
 use Rattle.counts_places.proofs.Ways.{turn, start, all}
 use Rattle.counts_places.proofs.collect_all.Statement.{statement}
 use Rattle.counts_places.proofs.collect_all.Tie as tie
@@ -17,7 +17,7 @@ use Rattle.counts_places.proofs.collect_at.Reads as collect-at-reads
 abbrev invariant-loop : tie.invariant-loop
 invariant-loop heads₀ slots₀ cells₀ eit-heads₀ eit-slots₀ eit-cells₀ schedule-heads₀ units₀ tally₀ places count pid packet buffers held₀ k₀ heads slots cells eit-heads eit-slots eit-cells schedule-heads units tally held k =
     (k ≤ count) × (length heads ≡ length heads₀) × (length slots ≡ length slots₀) × (length cells ≡ length cells₀) × (length eit-heads ≡ length eit-heads₀) × (length eit-slots ≡ length eit-slots₀) × (length eit-cells ≡ length eit-cells₀) × (length schedule-heads ≡ length schedule-heads₀) × (length units ≡ length units₀)
-    × (collectedFrom places packet buffers pid (count - k) k (both (sets-memory.store held.sets heads slots cells) (eit-memory.store held.eit eit-heads eit-slots eit-cells schedule-heads units) tally) ≡ collectedFrom places packet buffers pid count 0 (both (sets-memory.store held₀.sets heads₀ slots₀ cells₀) (eit-memory.store held₀.eit eit-heads₀ eit-slots₀ eit-cells₀ schedule-heads₀ units₀) tally₀))
+    × (collected_from places packet buffers pid (count - k) k (both (sets-memory.store held.sets heads slots cells) (eit-memory.store held.eit eit-heads eit-slots eit-cells schedule-heads units) tally) ≡ collected_from places packet buffers pid count 0 (both (sets-memory.store held₀.sets heads₀ slots₀ cells₀) (eit-memory.store held₀.eit eit-heads₀ eit-slots₀ eit-cells₀ schedule-heads₀ units₀) tally₀))
 
 abbrev decreases-loop : tie.decreases-loop
 decreases-loop heads₀ slots₀ cells₀ eit-heads₀ eit-slots₀ eit-cells₀ schedule-heads₀ units₀ tally₀ places count pid packet buffers held₀ k₀ heads slots cells eit-heads eit-slots eit-cells schedule-heads units tally held k = count - k

@@ -1,4 +1,4 @@
-use Rattle.counts_tell.proofs.Ways.{no-clock, a-clock}
+use Rattle.counts_tell.proofs.Ways.{no_clock, a_clock}
 use borrow.Author.Rules.{rules}
 use Rattle.counts_tell.proofs.tell_section.Statement.{statement}
 use Rattle.counts_tell.proofs.tell_section.Tie as tie
@@ -25,11 +25,11 @@ tell-time-requires c κs = search rules
 
 -- src/lib.rt:55:1
 returns : tie.Need-returns
-returns c = search no-clock
+returns c = search no_clock
 
 -- src/lib.rt:55:1
 returns-2 : tie.Need-returns-2
-returns-2 c = search a-clock
+returns-2 c = search a_clock
 
 pub tell-section-spec : {M : Type 1} → statement M
 tell-section-spec =

@@ -1,4 +1,4 @@
-use Rattle.counts_tell.proofs.Ways.{due, not-due}
+use Rattle.counts_tell.proofs.Ways.{due, not_due}
 use borrow.Author.Rules.{rules}
 use Rattle.counts_tell.proofs.tell_time.Statement.{statement}
 use Rattle.counts_tell.proofs.tell_time.Tie as tie
@@ -31,7 +31,7 @@ returns c = search due
 
 -- src/lib.rt:43:1
 returns-2 : tie.Need-returns-2
-returns-2 c = search not-due
+returns-2 c = search not_due
 
 pub tell-time-spec : {M : Type 1} → statement M
 tell-time-spec =

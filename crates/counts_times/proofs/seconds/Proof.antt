@@ -1,4 +1,4 @@
-use Rattle.counts_times.proofs.Ways.{is-time, no-time}
+use Rattle.counts_times.proofs.Ways.{is_time, no_time}
 use borrow.Author.Rules.{rules}
 use Rattle.counts_times.proofs.seconds.Statement.{statement}
 use Rattle.counts_times.proofs.seconds.Tie as tie
@@ -20,11 +20,11 @@ enum_told c = search rules
 
 -- src/lib.rt:28:1
 returns : tie.Need-returns
-returns c = search is-time
+returns c = search is_time
 
 -- src/lib.rt:28:1
 returns-2 : tie.Need-returns-2
-returns-2 c = search no-time
+returns-2 c = search no_time
 
 pub seconds-spec : {M : Type 1} → statement M
 seconds-spec = tie.close (tie.spec time-of-requires enum-known-s enum_told returns returns-2)

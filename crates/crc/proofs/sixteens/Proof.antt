@@ -3,19 +3,19 @@ use mathlib.Core.Path.{◌≡◌, refl, ap, ◌∙◌}
 use Prim.Native.Nat.{ℕ, ◌+◌, ◌-◌, ◌*◌, ◌/◌, ◌%◌, ◌≤◌, ◌<◌}
 use native.Mathlib.Omega.{arith}
 use lib.ListN.{length, get_or, take}
-use Rattle.crc.specs.Crc.{crcFrom, crcOf}
+use Rattle.crc.specs.Crc.{crc_from, crc_of}
 use Rattle.crc.proofs.Messages.{taken16}
 use Rattle.crc.proofs.sixteens.Statement.{statement}
 use Rattle.crc.proofs.sixteens.Tie as tie
 
 abbrev invariant-loop : tie.invariant-loop
-invariant-loop s r₀ i₀ r i = (i ≤ length s) × (i % 16 ≡ 0) × (r ≡ crcOf (take i s))
+invariant-loop s r₀ i₀ r i = (i ≤ length s) × (i % 16 ≡ 0) × (r ≡ crc_of (take i s))
 
 abbrev decreases-loop : tie.decreases-loop
 decreases-loop s r₀ i₀ r i = length s - i
 
 loop-holds : tie.Need-loop-init invariant-loop decreases-loop
-unfolding crcFrom
+unfolding crc_from
 loop-holds c = (omega arith, refl, refl)
 
 sub-loop : tie.Need-overflow-sub-loop invariant-loop decreases-loop
@@ -68,7 +68,7 @@ returns : tie.Need-returns invariant-loop decreases-loop
 returns c =
     let s = c.before.before.before.args.s.now in
     let e : c.before.loop.i ≡ length s / 16 * 16 = omega arith in
-    c.before.loop.invariant.2 ∙ ap (λ (i : ℕ). crcOf (take i s)) e
+    c.before.loop.invariant.2 ∙ ap (λ (i : ℕ). crc_of (take i s)) e
 
 pub sixteens-spec : {M : Type 1} → statement M
 sixteens-spec =

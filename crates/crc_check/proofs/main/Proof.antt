@@ -1,7 +1,7 @@
 -- `crc_check::main` meets its contract: antt works the definition out at these bytes. Assumes nothing.
 use borrow.Author.Rules.{rules}
 use borrow.Author.Tests.{eq-eqb}
-use Rattle.crc.specs.Crc.{bitIn, bitsIn, crcFrom}
+use Rattle.crc.specs.Crc.{bit_in, bits_in, crc_from}
 use Rattle.crc_check.proofs.main.Statement.{statement}
 use Rattle.crc_check.proofs.main.Tie as tie
 
@@ -24,15 +24,15 @@ crc-requires-2 : tie.Need-crc-requires-2
 crc-requires-2 c κs = search rules
 
 expect-requires : tie.Need-expect-requires
-unfolding crcFrom bitsIn bitIn
+unfolding crc_from bits_in bit_in
 expect-requires c κs = let d = c.before.before.before.before in eq-eqb d.crc-bitwise.result 0x0376E6E7 d.crc-bitwise.ensures
 
 expect-requires-2 : tie.Need-expect-requires-2
-unfolding crcFrom bitsIn bitIn
+unfolding crc_from bits_in bit_in
 expect-requires-2 c κs = let d = c.before.before.before in eq-eqb d.crc.result 0x0376E6E7 d.crc.ensures
 
 expect-requires-3 : tie.Need-expect-requires-3
-unfolding crcFrom bitsIn bitIn
+unfolding crc_from bits_in bit_in
 expect-requires-3 c κs = let d = c.before.before in eq-eqb d.crc2.result 0 d.crc2.ensures
 
 slice-aggregate-say : tie.Need-slice-aggregate-say

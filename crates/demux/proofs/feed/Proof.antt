@@ -1,7 +1,7 @@
-use Rattle.pats.specs.Store.{recordOf}
-use Rattle.gate_pats.specs.Store.{keptOf}
-use Rattle.demux_store.specs.Store.{store_of, fedBy}
-use Rattle.demux_store.proofs.Laws.{feed-refused, feed-goes, feed-takes}
+use Rattle.pats.specs.Store.{record_of}
+use Rattle.gate_pats.specs.Store.{kept_of}
+use Rattle.demux_store.specs.Store.{store_of, fed_by}
+use Rattle.demux_store.proofs.Laws.{feed_refused, feed_goes, feed_takes}
 use borrow.Author.Rules.{rules}
 use Rattle.demux.proofs.feed.Statement.{statement}
 use Rattle.demux.proofs.feed.Tie as tie
@@ -19,7 +19,7 @@ take-requires : tie.Need-take-requires
 take-requires c κs = let a = c.before.before.before.before.before.before.before.before.before.before.before.before.before.before.before.before.before.before.before.before.before.before.before.before.before.args in
     let j = c.before.before.before.before.before.before.before.before.before.before.before.judge in
     let x = c.before.before.before.before.before.before.before.before.before.plan.given in
-    feed-takes (store_of (keptOf a.gate a.counters a.keys.now a.changes.now (recordOf a.words.now a.pat-slots.now a.pat-cells.now)) a.streams a.pids.now a.buffers.now a.places.now) a.input a.packet.now j.result j.ensures (λ i. (c.before.before.before.before.before.before.before.before.before.before.before.before.before.before.before.before.before.shared-slice-known.given i).fits) x.0.0 x.1
+    feed_takes (store_of (kept_of a.gate a.counters a.keys.now a.changes.now (record_of a.words.now a.pat-slots.now a.pat-cells.now)) a.streams a.pids.now a.buffers.now a.places.now) a.input a.packet.now j.result j.ensures (λ i. (c.before.before.before.before.before.before.before.before.before.before.before.before.before.before.before.before.before.shared-slice-known.given i).fits) x.0.0 x.1
 
 same_length : tie.Need-same-length
 same_length c = search rules
@@ -37,7 +37,7 @@ returns : tie.Need-returns
 returns c = let a = c.before.before.before.before.before.before.before.before.before.before.before.before.before.before.before.before.before.args in
     let j = c.before.before.before.judge in
     let x = c.before.refusal.given in
-    feed-refused (store_of (keptOf a.gate a.counters a.keys.now a.changes.now (recordOf a.words.now a.pat-slots.now a.pat-cells.now)) a.streams a.pids.now a.buffers.now a.places.now) a.input a.packet.now j.result j.ensures x.0.0 x.1
+    feed_refused (store_of (kept_of a.gate a.counters a.keys.now a.changes.now (record_of a.words.now a.pat-slots.now a.pat-cells.now)) a.streams a.pids.now a.buffers.now a.places.now) a.input a.packet.now j.result j.ensures x.0.0 x.1
 
 same-length-5 : tie.Need-same-length-5
 same-length-5 c = search rules
@@ -69,8 +69,8 @@ returns-2 c = let a = c.before.before.before.before.before.before.before.before.
     let x = c.before.before.before.before.before.before.before.before.before.before.before.before.before.before.before.before.before.before.before.before.before.before.before.before.before.before.plan.given in
     let r = c.before.before.before.before.before.before.before.before.before.before.before.before.before.before.before.before.take in
     let l = r.new.1.1.1 in
-    feed-goes (store_of (keptOf a.gate a.counters a.keys.now a.changes.now (recordOf a.words.now a.pat-slots.now a.pat-cells.now)) a.streams a.pids.now a.buffers.now a.places.now) a.input a.packet.now j.result j.ensures x.0.0
-    (fedBy r.result l.0 l.1.0 (recordOf l.1.1.0 l.1.1.1.0 l.1.1.1.1.0) l.1.1.1.1.1.0 l.1.1.1.1.1.1.0 l.1.1.1.1.1.1.1.1.1.0) x.1 r.ensures
+    feed_goes (store_of (kept_of a.gate a.counters a.keys.now a.changes.now (record_of a.words.now a.pat-slots.now a.pat-cells.now)) a.streams a.pids.now a.buffers.now a.places.now) a.input a.packet.now j.result j.ensures x.0.0
+    (fed_by r.result l.0 l.1.0 (record_of l.1.1.0 l.1.1.1.0 l.1.1.1.1.0) l.1.1.1.1.1.0 l.1.1.1.1.1.1.0 l.1.1.1.1.1.1.1.1.1.0) x.1 r.ensures
 
 pub feed-spec : {M : Type 1} → statement M
 feed-spec =

@@ -1,10 +1,10 @@
 use Rattle.ring_index.specs.Store.{index_of}
-use Rattle.pats.specs.Store.{recordOf}
-use Rattle.gate_pats_indexed.specs.Store.{keptBy}
-use Rattle.demux_indexed_turns.specs.Acts.{wordsBy, tellsBy, actsBy}
+use Rattle.pats.specs.Store.{record_of}
+use Rattle.gate_pats_indexed.specs.Store.{kept_by}
+use Rattle.demux_indexed_turns.specs.Acts.{words_by, tells_by, acts_by}
 use Rattle.demux_indexed_turns.specs.Offers.{SteadyBy}
-use Rattle.demux_store.proofs.Carried.{plan-forgets, plan-reads, planned-malformed, planned-nothing, planned-unwatched, planned-none, planned-read}
-use Rattle.demux_indexed_store.specs.Carried.{store_of, fedBy}
+use Rattle.demux_store.proofs.Carried.{plan_forgets, plan_reads, planned_malformed, planned_nothing, planned_unwatched, planned_none, planned_read}
+use Rattle.demux_indexed_store.specs.Carried.{store_of, fed_by}
 use borrow.Author.Rules.{rules}
 use Rattle.demux_indexed_carry.proofs.take.Statement.{statement}
 use Rattle.demux_indexed_carry.proofs.take.Tie as tie
@@ -27,7 +27,7 @@ enum-known-plan c = search rules
 forget-requires : tie.Need-forget-requires
 forget-requires c κs = let a = c.before.before.before.before.before.before.before.before.before.before.before.before.before.before.before.args in
     let x = c.before.before.plan.given in
-    plan-forgets (SteadyBy 64) (store_of (keptBy a.gate a.counters a.keys.now a.changes.now (index_of a.buckets.now a.links.now) (recordOf a.words.now a.pat-slots.now a.pat-cells.now)) a.streams a.pids.now a.buffers.now a.places.now) a.packet.now a.plan c.before.before.before.before.before.before.before.before.before.before.before.before.before.before.before.requires x.0.0 x.1
+    plan_forgets (SteadyBy 64) (store_of (kept_by a.gate a.counters a.keys.now a.changes.now (index_of a.buckets.now a.links.now) (record_of a.words.now a.pat-slots.now a.pat-cells.now)) a.streams a.pids.now a.buffers.now a.places.now) a.packet.now a.plan c.before.before.before.before.before.before.before.before.before.before.before.before.before.before.before.requires x.0.0 x.1
 
 count-requires-2 : tie.Need-count-requires-2
 count-requires-2 c κs = search rules
@@ -44,15 +44,15 @@ enum-known-plan-2 c = search rules
 read-requires : tie.Need-read-requires
 read-requires c κs = let a = c.before.before.before.before.before.before.before.before.before.before.before.before.before.before.before.before.before.before.before.before.before.before.before.before.args in
     let x = c.before.before.before.before.before.before.before.before.before.before.before.plan2.given in
-    plan-reads (SteadyBy 64) (store_of (keptBy a.gate a.counters a.keys.now a.changes.now (index_of a.buckets.now a.links.now) (recordOf a.words.now a.pat-slots.now a.pat-cells.now)) a.streams a.pids.now a.buffers.now a.places.now) a.packet.now a.plan c.before.before.before.before.before.before.before.before.before.before.before.before.before.before.before.before.before.before.before.before.before.before.before.before.requires x.0.0 x.1
+    plan_reads (SteadyBy 64) (store_of (kept_by a.gate a.counters a.keys.now a.changes.now (index_of a.buckets.now a.links.now) (record_of a.words.now a.pat-slots.now a.pat-cells.now)) a.streams a.pids.now a.buffers.now a.places.now) a.packet.now a.plan c.before.before.before.before.before.before.before.before.before.before.before.before.before.before.before.before.before.before.before.before.before.before.before.before.requires x.0.0 x.1
 
 returns : tie.Need-returns
 returns c = let a = c.before.before.before.before.before.before.before.before.before.before.before.before.before.before.args in
-    planned-malformed wordsBy tellsBy actsBy (store_of (keptBy a.gate a.counters a.keys.now a.changes.now (index_of a.buckets.now a.links.now) (recordOf a.words.now a.pat-slots.now a.pat-cells.now)) a.streams a.pids.now a.buffers.now a.places.now) a.input a.packet.now a.plan c.count-malformed.result c.before.enum_told.given.1 c.count-malformed.ensures
+    planned_malformed words_by tells_by acts_by (store_of (kept_by a.gate a.counters a.keys.now a.changes.now (index_of a.buckets.now a.links.now) (record_of a.words.now a.pat-slots.now a.pat-cells.now)) a.streams a.pids.now a.buffers.now a.places.now) a.input a.packet.now a.plan c.count-malformed.result c.before.enum_told.given.1 c.count-malformed.ensures
 
 returns-2 : tie.Need-returns-2
 returns-2 c = let a = c.before.before.before.before.before.before.before.before.before.before.before.before.before.before.args in
-    planned-nothing wordsBy tellsBy actsBy (store_of (keptBy a.gate a.counters a.keys.now a.changes.now (index_of a.buckets.now a.links.now) (recordOf a.words.now a.pat-slots.now a.pat-cells.now)) a.streams a.pids.now a.buffers.now a.places.now) a.input a.packet.now a.plan c.count.result c.before.enum-told2.given.1 c.count.ensures
+    planned_nothing words_by tells_by acts_by (store_of (kept_by a.gate a.counters a.keys.now a.changes.now (index_of a.buckets.now a.links.now) (record_of a.words.now a.pat-slots.now a.pat-cells.now)) a.streams a.pids.now a.buffers.now a.places.now) a.input a.packet.now a.plan c.count.result c.before.enum-told2.given.1 c.count.ensures
 
 same_length : tie.Need-same-length
 same_length c = search rules
@@ -61,11 +61,11 @@ returns-3 : tie.Need-returns-3
 returns-3 c = let a = c.before.before.before.before.before.before.before.before.before.before.before.before.before.before.before.before.before.before.before.args in
     let x = c.before.before.before.before.before.before.plan.given in
     let f = c.before.before.before.forget in
-    planned-unwatched wordsBy tellsBy actsBy (store_of (keptBy a.gate a.counters a.keys.now a.changes.now (index_of a.buckets.now a.links.now) (recordOf a.words.now a.pat-slots.now a.pat-cells.now)) a.streams a.pids.now a.buffers.now a.places.now) a.input a.packet.now a.plan c.count2.result x.0.0 f.new.0 x.1 f.ensures c.count2.ensures
+    planned_unwatched words_by tells_by acts_by (store_of (kept_by a.gate a.counters a.keys.now a.changes.now (index_of a.buckets.now a.links.now) (record_of a.words.now a.pat-slots.now a.pat-cells.now)) a.streams a.pids.now a.buffers.now a.places.now) a.input a.packet.now a.plan c.count2.result x.0.0 f.new.0 x.1 f.ensures c.count2.ensures
 
 returns-4 : tie.Need-returns-4
 returns-4 c = let a = c.before.before.before.before.before.before.before.before.before.before.before.before.before.before.args in
-    planned-none wordsBy tellsBy actsBy (store_of (keptBy a.gate a.counters a.keys.now a.changes.now (index_of a.buckets.now a.links.now) (recordOf a.words.now a.pat-slots.now a.pat-cells.now)) a.streams a.pids.now a.buffers.now a.places.now) a.input a.packet.now a.plan c.count3.result c.before.enum-told3.given.1 c.count3.ensures
+    planned_none words_by tells_by acts_by (store_of (kept_by a.gate a.counters a.keys.now a.changes.now (index_of a.buckets.now a.links.now) (record_of a.words.now a.pat-slots.now a.pat-cells.now)) a.streams a.pids.now a.buffers.now a.places.now) a.input a.packet.now a.plan c.count3.result c.before.enum-told3.given.1 c.count3.ensures
 
 same-length-2 : tie.Need-same-length-2
 same-length-2 c = search rules
@@ -102,8 +102,8 @@ returns-5 c = let a = c.before.before.before.before.before.before.before.before.
     let x = c.before.before.before.before.before.before.before.before.before.before.before.before.before.before.before.before.before.before.before.before.before.before.before.before.before.before.before.before.before.before.before.before.plan2.given in
     let r = c.before.before.before.before.before.before.before.before.before.before.before.before.before.before.before.before.before.before.before.before.read in
     let l = r.new.1.1.1 in
-    planned-read wordsBy tellsBy actsBy (store_of (keptBy a.gate a.counters a.keys.now a.changes.now (index_of a.buckets.now a.links.now) (recordOf a.words.now a.pat-slots.now a.pat-cells.now)) a.streams a.pids.now a.buffers.now a.places.now) a.input a.packet.now a.plan x.0.0
-    (fedBy r.result l.0 l.1.0 (index_of l.1.1.0 l.1.1.1.0) (recordOf l.1.1.1.1.0 l.1.1.1.1.1.0 l.1.1.1.1.1.1.0) l.1.1.1.1.1.1.1.0 l.1.1.1.1.1.1.1.1.0 l.1.1.1.1.1.1.1.1.1.1.1.0) x.1 r.ensures
+    planned_read words_by tells_by acts_by (store_of (kept_by a.gate a.counters a.keys.now a.changes.now (index_of a.buckets.now a.links.now) (record_of a.words.now a.pat-slots.now a.pat-cells.now)) a.streams a.pids.now a.buffers.now a.places.now) a.input a.packet.now a.plan x.0.0
+    (fed_by r.result l.0 l.1.0 (index_of l.1.1.0 l.1.1.1.0) (record_of l.1.1.1.1.0 l.1.1.1.1.1.0 l.1.1.1.1.1.1.0) l.1.1.1.1.1.1.1.0 l.1.1.1.1.1.1.1.1.0 l.1.1.1.1.1.1.1.1.1.1.1.0) x.1 r.ensures
 
 pub take_spec : {M : Type 1} → statement M
 take_spec =

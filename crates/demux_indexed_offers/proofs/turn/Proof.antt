@@ -1,6 +1,6 @@
 use native.Mathlib.Omega.{arith}
 use Rattle.ring_index.specs.Store.{index_of}
-use Rattle.demux_indexed_turns.proofs.Laws.{turn-done}
+use Rattle.demux_indexed_turns.proofs.Laws.{turn_done}
 use borrow.Author.Rules.{rules}
 use Rattle.demux_indexed_offers.proofs.turn.Statement.{statement}
 use Rattle.demux_indexed_offers.proofs.turn.Tie as tie
@@ -51,7 +51,7 @@ returns c = let a = c.before.before.before.before.before.before.before.before.be
     let p = c.before.before.before.before.before.before.before.before.before.before.before.before.before.before.before.before.before.before.before.before.before.before.before.before.before.before.before.before.before.before.before.before.place_at in
     let s = c.before.before.before.before.before.before.before.before.before.before.before.before.before.before.before.before.before.before.before.before.before.before.before.section-at in
     let t = c.before.before.before.before.tell in
-    turn-done a.held a.keys.now a.changes.now (index_of a.buckets.now a.links.now) a.words.now a.pat-slots.now a.pat-cells.now a.pids.now a.places.now
+    turn_done a.held a.keys.now a.changes.now (index_of a.buckets.now a.links.now) a.words.now a.pat-slots.now a.pat-cells.now a.pids.now a.places.now
     a.packet.now a.buffers.now a.input a.pid a.k p.result s.result.now o.result
     l.0 l.1.0 (index_of l.1.1.0 l.1.1.1.0) l.1.1.1.1.0 l.1.1.1.1.1.0 l.1.1.1.1.1.1.0 l.1.1.1.1.1.1.1.0 t.new.0 p.ensures s.ensures o.ensures.0 o.ensures.1 t.ensures
 

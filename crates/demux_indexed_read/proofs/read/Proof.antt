@@ -1,11 +1,11 @@
 use mathlib.Core.Path.{◌∙◌}
 use Rattle.ring_index.specs.Store.{index_of}
-use Rattle.pats.specs.Store.{recordOf}
-use Rattle.gate_pats_indexed.specs.Store.{keptBy}
-use Rattle.demux_indexed_turns.specs.Acts.{wordsBy, tellsBy, actsBy}
-use Rattle.demux_indexed_turns.specs.Offers.{heldBy, SteadyBy}
+use Rattle.pats.specs.Store.{record_of}
+use Rattle.gate_pats_indexed.specs.Store.{kept_by}
+use Rattle.demux_indexed_turns.specs.Acts.{words_by, tells_by, acts_by}
+use Rattle.demux_indexed_turns.specs.Offers.{held_by, SteadyBy}
 use Rattle.demux_indexed_turns.proofs.Steady.{fewer}
-use Rattle.demux_store.proofs.Carried.{turns-ok, payload-read}
+use Rattle.demux_store.proofs.Carried.{turns_ok, payload_read}
 use Rattle.demux_indexed_store.specs.Carried.{store_of}
 use borrow.Author.Rules.{rules}
 use Rattle.demux_indexed_read.proofs.read.Statement.{statement}
@@ -17,7 +17,7 @@ read-requires c κs = search rules
 offers-requires : tie.Need-offers-requires
 offers-requires c κs = let a = c.before.before.before.before.before.before.before.before.before.before.before.before.before.before.before.before.before.before.before.before.before.before.before.before.before.before.before.before.before.before.before.before.before.args in
     let r = c.before.before.before.before.before.before.before.before.before.before.before.before.before.before.before.before.read in
-    turns-ok SteadyBy fewer (store_of (keptBy a.gate a.counters a.keys.now a.changes.now (index_of a.buckets.now a.links.now) (recordOf a.words.now a.pat-slots.now a.pat-cells.now)) a.streams a.pids.now a.buffers.now a.places.now) a.packet.now a.reading c.before.before.before.before.before.before.before.before.before.before.before.before.before.before.before.before.before.before.before.before.before.before.before.before.before.before.before.before.before.before.before.before.before.requires r.result r.new.0 r.new.1.1.0 r.ensures.0 r.auto.0 r.auto.1.1.0
+    turns_ok SteadyBy fewer (store_of (kept_by a.gate a.counters a.keys.now a.changes.now (index_of a.buckets.now a.links.now) (record_of a.words.now a.pat-slots.now a.pat-cells.now)) a.streams a.pids.now a.buffers.now a.places.now) a.packet.now a.reading c.before.before.before.before.before.before.before.before.before.before.before.before.before.before.before.before.before.before.before.before.before.before.before.before.before.before.before.before.before.before.before.before.before.requires r.result r.new.0 r.new.1.1.0 r.ensures.0 r.auto.0 r.auto.1.1.0
 
 count-requires : tie.Need-count-requires
 count-requires c κs = c.before.before.before.before.before.before.before.before.before.before.before.before.before.before.before.before.before.before.before.before.before.before.before.before.before.before.before.before.before.before.before.before.before.before.before.before.before.before.before.before.before.before.before.before.before.before.before.before.before.before.before.before.before.before.requires.counts
@@ -57,7 +57,7 @@ returns c = let a = c.before.before.before.before.before.before.before.before.be
     let r = c.before.before.before.before.before.before.before.before.before.before.before.before.before.before.before.before.before.before.before.before.before.before.before.before.before.before.before.before.before.before.before.before.before.before.before.before.before.before.read in
     let o = c.before.before.before.before.before.before.before.before.before.before.before.before.before.before.before.before.before.before.before.before.before.offers in
     let l = o.new.1 in
-    payload-read wordsBy tellsBy actsBy (store_of (keptBy a.gate a.counters a.keys.now a.changes.now (index_of a.buckets.now a.links.now) (recordOf a.words.now a.pat-slots.now a.pat-cells.now)) a.streams a.pids.now a.buffers.now a.places.now) a.input a.packet.now a.reading r.result r.new.0 r.new.1.0 r.new.1.1.0 (heldBy o.result l.0 l.1.0 (index_of l.1.1.0 l.1.1.1.0) (recordOf l.1.1.1.1.0 l.1.1.1.1.1.0 l.1.1.1.1.1.1.0) l.1.1.1.1.1.1.1.0 l.1.1.1.1.1.1.1.1.1.1.1.1.0)
+    payload_read words_by tells_by acts_by (store_of (kept_by a.gate a.counters a.keys.now a.changes.now (index_of a.buckets.now a.links.now) (record_of a.words.now a.pat-slots.now a.pat-cells.now)) a.streams a.pids.now a.buffers.now a.places.now) a.input a.packet.now a.reading r.result r.new.0 r.new.1.0 r.new.1.1.0 (held_by o.result l.0 l.1.0 (index_of l.1.1.0 l.1.1.1.0) (record_of l.1.1.1.1.0 l.1.1.1.1.1.0 l.1.1.1.1.1.1.0) l.1.1.1.1.1.1.1.0 l.1.1.1.1.1.1.1.1.1.1.1.1.0)
     c.count.result r.ensures.0 r.ensures.1.0 r.ensures.1.1.0 r.ensures.1.1.1 o.ensures c.count.ensures
 
 pub read_spec : {M : Type 1} → statement M

@@ -1,5 +1,5 @@
 use Rattle.ring_index.specs.Store.{index_of}
-use Rattle.demux_indexed_turns.proofs.Section.{no-pat-back}
+use Rattle.demux_indexed_turns.proofs.Section.{no_pat_back}
 use borrow.Author.Rules.{rules}
 use Rattle.demux_indexed_section.proofs.offer.Statement.{statement}
 use Rattle.demux_indexed_section.proofs.offer.Tie as tie
@@ -67,7 +67,7 @@ returns-2 c = let a = c.before.before.before.before.before.before.before.before.
     let l = t.new.1.1 in
     let q = c.before.before.before.before.before.before.before.before.before.before.before.before.before.before.before.before.before.before.before.before.before.before.before.is-readable in (
       t.ensures,
-      no-pat-back a.gate a.counters a.keys.now a.changes.now (index_of a.buckets.now a.links.now) a.words.now a.pat-slots.now a.pat-cells.now a.input a.pid a.section.now q.result t.result
+      no_pat_back a.gate a.counters a.keys.now a.changes.now (index_of a.buckets.now a.links.now) a.words.now a.pat-slots.now a.pat-cells.now a.input a.pid a.section.now q.result t.result
           l.0 l.1.0 (index_of l.1.1.0 l.1.1.1.0) l.1.1.1.1.0 l.1.1.1.1.1.0 l.1.1.1.1.1.1.0 a.pids.now q.ensures c.before.before.before.before.before.before.before.before.before.before.before.before.before.before.before.before.before.before.before.before.before.before.if1.false c.before.before.before.before.before.before.before.before.before.before.before.before.before.before.before.before.before.before.before.before.before.before.before.before.before.before.before.before.before.before.before.before.before.requires.words t.ensures,
     )
 

@@ -1,5 +1,5 @@
 use native.Mathlib.Omega.{arith}
-use Rattle.demux_turns.proofs.Laws.{copied-long, pat-back}
+use Rattle.demux_turns.proofs.Laws.{copied_long, pat_back}
 use borrow.Author.Rules.{rules}
 use Rattle.demux_indexed_section.proofs.offer_pat.Statement.{statement}
 use Rattle.demux_indexed_section.proofs.offer_pat.Tie as tie
@@ -20,7 +20,7 @@ give-back-requires : tie.Need-give-back-requires
 give-back-requires c κs = let a = c.before.before.before.before.before.before.before.before.before.before.before.before.before.before.before.before.before.before.before.before.before.before.before.before.before.before.before.before.before.before.before.before.before.before.before.before.before.before.args in
     let s = c.before.before.before.before.before.before.before.before.before.before.before.before.before.before.before.before.before.before.before.before.before.before.before.before.before.before.copy-set in
     let t = c.before.before.before.before.before.before.before.before.before.before.before.before.before.before.before.before.before.take in
-    let n = copied-long a.words.now s.new.0 t.new.1.1.1.1.1.1.0 a.pids.now s.ensures c.before.before.before.before.before.before.before.before.before.before.before.before.before.before.before.before.before.before.before.before.before.before.before.before.before.before.before.before.before.before.before.before.before.before.before.before.before.before.requires.words in
+    let n = copied_long a.words.now s.new.0 t.new.1.1.1.1.1.1.0 a.pids.now s.ensures c.before.before.before.before.before.before.before.before.before.before.before.before.before.before.before.before.before.before.before.before.before.before.before.before.before.before.before.before.before.before.before.before.before.before.before.before.before.before.requires.words in
     let m = t.auto.1.1.1.1.1.1.0 in
     record { long = c.before.before.before.before.before.before.before.before.before.before.before.before.before.before.before.before.before.before.before.before.before.before.before.before.before.before.before.before.before.before.before.before.before.before.before.before.before.before.requires.long; first = omega (arith, n, m, c.before.before.before.before.before.before.before.before.before.before.before.before.before.before.before.before.before.before.before.before.before.before.before.before.before.before.before.before.before.before.before.before.before.before.before.before.before.before.requires.words); second = omega (arith, n, m, c.before.before.before.before.before.before.before.before.before.before.before.before.before.before.before.before.before.before.before.before.before.before.before.before.before.before.before.before.before.before.before.before.before.before.before.before.before.before.requires.words) }
 
@@ -53,7 +53,7 @@ returns c = let a = c.before.before.before.before.before.before.before.before.be
     let s = c.before.before.before.before.before.before.before.before.before.before.before.before.before.before.before.before.before.before.before.before.before.before.before.before.before.before.before.before.before.copy-set in
     let t = c.before.before.before.before.before.before.before.before.before.before.before.before.before.before.before.before.before.before.before.before.take in
     let b = c.before.before.give-back in
-    (t.ensures, pat-back a.words.now s.new.0 t.new.1.1.1.1.1.1.0 a.pids.now s.ensures b.new.0 b.ensures)
+    (t.ensures, pat_back a.words.now s.new.0 t.new.1.1.1.1.1.1.0 a.pids.now s.ensures b.new.0 b.ensures)
 
 pub offer-pat-spec : {M : Type 1} → statement M
 offer-pat-spec =

@@ -1,4 +1,4 @@
-use Rattle.demux_judge.proofs.Laws.{all_whole}
+use Rattle.demux_judge.proofs.Laws.{all_whole_lem}
 use borrow.Author.Rules.{rules}
 use Rattle.demux_judge.proofs.is_whole.Statement.{statement}
 use Rattle.demux_judge.proofs.is_whole.Tie as tie
@@ -13,7 +13,7 @@ is-lent-whole-requires : tie.Need-is-lent-whole-requires
 is-lent-whole-requires c κs = search rules
 
 returns : tie.Need-returns
-returns c = search all_whole
+returns c = search all_whole_lem
 
 pub is-whole-spec : {M : Type 1} → statement M
 is-whole-spec =

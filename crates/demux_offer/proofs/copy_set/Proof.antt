@@ -1,4 +1,4 @@
-use Rattle.demux_turns.proofs.Laws.{copy-turn, copy-end}
+use Rattle.demux_turns.proofs.Laws.{copy_turn, copy_end}
 use mathlib.Core.Path.{◌≡◌, refl}
 use Prim.Native.Nat.{◌≤◌, ◌-◌}
 use native.Mathlib.Omega.{arith}
@@ -35,13 +35,13 @@ loop-less : tie.Need-loop-smaller invariant-loop decreases-loop
 loop-less c = search rules
 
 loop-again : tie.Need-loop-preserved invariant-loop decreases-loop
-loop-again c = (omega arith, simp length-set c.before.before.loop.invariant.1, search copy-turn)
+loop-again c = (omega arith, simp length-set c.before.before.loop.invariant.1, search copy_turn)
 
 same_length : tie.Need-same-length invariant-loop decreases-loop
 same_length c = search rules
 
 returns : tie.Need-returns invariant-loop decreases-loop
-returns c = search copy-end
+returns c = search copy_end
 
 pub copy-set-spec : {M : Type 1} → statement M
 copy-set-spec =

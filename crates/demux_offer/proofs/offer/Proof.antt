@@ -1,4 +1,4 @@
-use Rattle.demux_turns.proofs.Laws.{no-pat-back}
+use Rattle.demux_turns.proofs.Laws.{no_pat_back}
 use borrow.Author.Rules.{rules}
 use Rattle.demux_offer.proofs.offer.Statement.{statement}
 use Rattle.demux_offer.proofs.offer.Tie as tie
@@ -53,7 +53,7 @@ returns-2 c = let a = c.before.before.before.before.before.before.before.before.
     let t = c.before.before.before.before.before.before.before.before.before.before.take in
     let l = t.new.1.1 in (
       t.ensures,
-      no-pat-back a.gate a.counters a.keys.now a.changes.now a.words.now a.pat-slots.now a.pat-cells.now a.input a.pid a.section.now c.before.before.before.before.before.before.before.before.before.before.before.before.before.before.before.before.before.is-readable.result t.result
+      no_pat_back a.gate a.counters a.keys.now a.changes.now a.words.now a.pat-slots.now a.pat-cells.now a.input a.pid a.section.now c.before.before.before.before.before.before.before.before.before.before.before.before.before.before.before.before.before.is-readable.result t.result
           l.0 l.1.0 l.1.1.0 l.1.1.1.0 l.1.1.1.1.0 a.pids.now c.before.before.before.before.before.before.before.before.before.before.before.before.before.before.before.before.before.is-readable.ensures c.before.before.before.before.before.before.before.before.before.before.before.before.before.before.before.before.if1.false c.before.before.before.before.before.before.before.before.before.before.before.before.before.before.before.before.before.before.before.before.before.before.before.before.before.requires.words t.ensures,
     )
 

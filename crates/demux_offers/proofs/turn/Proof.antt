@@ -1,5 +1,5 @@
 use native.Mathlib.Omega.{arith}
-use Rattle.demux_turns.proofs.Laws.{turn-done}
+use Rattle.demux_turns.proofs.Laws.{turn_done}
 use borrow.Author.Rules.{rules}
 use Rattle.demux_offers.proofs.turn.Statement.{statement}
 use Rattle.demux_offers.proofs.turn.Tie as tie
@@ -41,7 +41,7 @@ returns : tie.Need-returns
 returns c = let a = c.before.before.before.before.before.before.before.before.before.before.before.before.before.before.before.before.before.before.before.before.before.before.before.before.before.before.before.before.before.before.before.before.before.before.before.before.before.args in
     let o = c.before.before.before.before.before.before.before.before.before.before.before.before.before.before.before.before.before.before.offer in
     let l = o.new.1.1 in
-    turn-done a.held a.keys.now a.changes.now a.words.now a.pat-slots.now a.pat-cells.now a.pids.now a.places.now a.packet.now a.buffers.now a.input a.pid a.k
+    turn_done a.held a.keys.now a.changes.now a.words.now a.pat-slots.now a.pat-cells.now a.pids.now a.places.now a.packet.now a.buffers.now a.input a.pid a.k
     c.before.before.before.before.before.before.before.before.before.before.before.before.before.before.before.before.before.before.before.before.before.before.before.before.before.before.place_at.result c.before.before.before.before.before.before.before.before.before.before.before.before.before.before.before.before.before.before.before.section-at.result.now o.result l.0 l.1.0 l.1.1.0 l.1.1.1.0 l.1.1.1.1.0 l.1.1.1.1.1.0 c.before.before.before.before.tell.new.0
     c.before.before.before.before.before.before.before.before.before.before.before.before.before.before.before.before.before.before.before.before.before.before.before.before.before.before.place_at.ensures c.before.before.before.before.before.before.before.before.before.before.before.before.before.before.before.before.before.before.before.section-at.ensures o.ensures.0 o.ensures.1 c.before.before.before.before.tell.ensures
 

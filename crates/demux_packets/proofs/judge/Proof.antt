@@ -1,6 +1,6 @@
 use mathlib.Core.Path.{sym, ◌∙◌}
 use Rattle.packet.proofs.Loads.{as_read}
-use Rattle.demux_packets.proofs.Laws.{is-malformed, has-nothing, has-payload}
+use Rattle.demux_packets.proofs.Laws.{is_malformed_lem, has_nothing, has_payload}
 use borrow.Author.Rules.{rules}
 use Rattle.demux_packets.proofs.judge.Statement.{statement}
 use Rattle.demux_packets.proofs.judge.Tie as tie
@@ -25,13 +25,13 @@ judge-load-requires c κs =
     (search rules, (as_read a.packet.now x.0.0 (λ i. (c.before.before.before.before.before.before.shared-slice-known.given i).fits) (sym r.ensures ∙ x.1)).pid)
 
 returns : tie.Need-returns
-returns c = search is-malformed
+returns c = search is_malformed_lem
 
 returns-2 : tie.Need-returns-2
-returns-2 c = search has-nothing
+returns-2 c = search has_nothing
 
 returns-3 : tie.Need-returns-3
-returns-3 c = search has-payload
+returns-3 c = search has_payload
 
 pub judge-spec : {M : Type 1} → statement M
 judge-spec =

@@ -1,4 +1,4 @@
-use Rattle.demux_packets.proofs.Laws.{its_own, a-free-one, none_free}
+use Rattle.demux_packets.proofs.Laws.{its_own, a_free_one, none_free}
 use borrow.Author.Rules.{rules}
 use Rattle.demux_packets.proofs.judge_buffer.Statement.{statement}
 use Rattle.demux_packets.proofs.judge_buffer.Tie as tie
@@ -16,7 +16,7 @@ lowest-free-requires : tie.Need-lowest-free-requires
 lowest-free-requires c κs = search rules
 
 returns-2 : tie.Need-returns-2
-returns-2 c = search a-free-one
+returns-2 c = search a_free_one
 
 returns-3 : tie.Need-returns-3
 returns-3 c = search none_free

@@ -1,4 +1,4 @@
-use Rattle.demux_packets.proofs.Laws.{is-watched, not-watched}
+use Rattle.demux_packets.proofs.Laws.{is_watched, not_watched}
 use borrow.Author.Rules.{rules}
 use Rattle.demux_packets.proofs.judge_load.Statement.{statement}
 use Rattle.demux_packets.proofs.judge_load.Tie as tie
@@ -10,10 +10,10 @@ judge-buffer-requires : tie.Need-judge-buffer-requires
 judge-buffer-requires c κs = search rules
 
 returns : tie.Need-returns
-returns c = search is-watched
+returns c = search is_watched
 
 returns-2 : tie.Need-returns-2
-returns-2 c = search not-watched
+returns-2 c = search not_watched
 
 pub judge-load-spec : {M : Type 1} → statement M
 judge-load-spec = tie.close (tie.spec has-requires judge-buffer-requires returns returns-2)

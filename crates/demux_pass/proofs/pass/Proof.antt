@@ -1,10 +1,10 @@
 use Prim.Native.Nat.{◌/◌}
 use lib.ListN.{length}
-use Rattle.pats.specs.Store.{recordOf}
-use Rattle.gate_pats.specs.Store.{keptOf}
+use Rattle.pats.specs.Store.{record_of}
+use Rattle.gate_pats.specs.Store.{kept_of}
 use Rattle.demux_store.specs.Store.{store_of}
-use Rattle.demux_pass.proofs.Ready.{can-pass}
-use Rattle.demux_pass.proofs.Store.{pass-none, pass-some}
+use Rattle.demux_pass.proofs.Ready.{can_pass}
+use Rattle.demux_pass.proofs.Store.{pass_none, pass_some}
 use borrow.Author.Rules.{rules}
 use Rattle.demux_pass.proofs.pass.Statement.{statement}
 use Rattle.demux_pass.proofs.pass.Tie as tie
@@ -32,7 +32,7 @@ pass-requires c κs =
     let a = c.before.before.before.before.before.before.before.before.before.before.before.before.before.before.before.args in
     let j = c.before.before.before.judge in
     let x = c.before.enum-told2.given in
-    can-pass a.gate a.counters (length a.keys.now) (length a.changes.now) (recordOf a.words.now a.pat-slots.now a.pat-cells.now) (length a.buffers.now) a.input
+    can_pass a.gate a.counters (length a.keys.now) (length a.changes.now) (record_of a.words.now a.pat-slots.now a.pat-cells.now) (length a.buffers.now) a.input
     (length a.places.now) a.streams a.pids.now _ x.0.0 j.result j.ensures x.1
 
 same_length : tie.Need-same-length
@@ -43,7 +43,7 @@ returns c =
     let a = c.before.before.before.before.before.before.before.before.before.before.before.before.before.before.args in
     let j = c.before.before.judge in
     let x = c.enum_told.given in
-    pass-none (length a.packets.now / 188) (store_of (keptOf a.gate a.counters a.keys.now a.changes.now (recordOf a.words.now a.pat-slots.now a.pat-cells.now)) a.streams a.pids.now a.buffers.now a.places.now) a.input _ a.packets.now j.result x.0.0 j.ensures x.1
+    pass_none (length a.packets.now / 188) (store_of (kept_of a.gate a.counters a.keys.now a.changes.now (record_of a.words.now a.pat-slots.now a.pat-cells.now)) a.streams a.pids.now a.buffers.now a.places.now) a.input _ a.packets.now j.result x.0.0 j.ensures x.1
 
 same-length-2 : tie.Need-same-length-2
 same-length-2 c = search rules
@@ -54,7 +54,7 @@ returns-2 c =
     let j = c.before.before.before.before.before.before.judge in
     let x = c.before.before.before.before.enum-told2.given in
     let r = c.before.before.pass in
-    pass-some (keptOf a.gate a.counters a.keys.now a.changes.now (recordOf a.words.now a.pat-slots.now a.pat-cells.now)) a.streams a.pids.now a.buffers.now a.places.now a.input _ a.packets.now j.result x.0.0 r.result r.new.1.1.0 j.ensures x.1 r.ensures
+    pass_some (kept_of a.gate a.counters a.keys.now a.changes.now (record_of a.words.now a.pat-slots.now a.pat-cells.now)) a.streams a.pids.now a.buffers.now a.places.now a.input _ a.packets.now j.result x.0.0 r.result r.new.1.1.0 j.ensures x.1 r.ensures
 
 pub pass_spec : {M : Type 1} → statement M
 pass_spec =

@@ -1,4 +1,4 @@
-use Rattle.demux_places.proofs.Laws.{short-told, mismatch-told}
+use Rattle.demux_places.proofs.Laws.{short_told, mismatch_told}
 use borrow.Author.Rules.{rules}
 use Rattle.demux_places.proofs.failed.Statement.{statement}
 use Rattle.demux_places.proofs.failed.Tie as tie
@@ -16,10 +16,10 @@ cast-t6 : tie.Need-overflow-cast-t6
 cast-t6 c = search rules
 
 returns : tie.Need-returns
-returns c = search short-told
+returns c = search short_told
 
 returns-2 : tie.Need-returns-2
-returns-2 c = search mismatch-told
+returns-2 c = search mismatch_told
 
 pub failed-spec : {M : Type 1} → statement M
 failed-spec = tie.close (tie.spec enum_told enum-known-failure cast-t5 cast-t6 returns returns-2)

@@ -1,4 +1,4 @@
-use Rattle.demux_places.proofs.Laws.{emitted-told, suppressed-told, failed-told, refused-told}
+use Rattle.demux_places.proofs.Laws.{emitted_told, suppressed_told, failed_told, refused_told}
 use borrow.Author.Rules.{rules}
 use Rattle.demux_places.proofs.outcome_of.Statement.{statement}
 use Rattle.demux_places.proofs.outcome_of.Tie as tie
@@ -25,16 +25,16 @@ cast-t6 : tie.Need-overflow-cast-t6
 cast-t6 c = search rules
 
 returns : tie.Need-returns
-returns c = search emitted-told
+returns c = search emitted_told
 
 returns-2 : tie.Need-returns-2
-returns-2 c = search suppressed-told
+returns-2 c = search suppressed_told
 
 returns-3 : tie.Need-returns-3
-returns-3 c = search failed-told
+returns-3 c = search failed_told
 
 returns-4 : tie.Need-returns-4
-returns-4 c = search refused-told
+returns-4 c = search refused_told
 
 pub outcome-of-spec : {M : Type 1} → statement M
 outcome-of-spec =

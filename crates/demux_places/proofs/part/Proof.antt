@@ -1,4 +1,4 @@
-use Rattle.demux_places.proofs.Laws.{part-past, part-short, part-there}
+use Rattle.demux_places.proofs.Laws.{part_past, part_short, part_there}
 use borrow.Author.Rules.{rules}
 use Rattle.demux_places.proofs.part.Statement.{statement}
 use Rattle.demux_places.proofs.part.Tie as tie
@@ -13,7 +13,7 @@ part-result-end : tie.Need-slice-bounds-result-end
 part-result-end c = search rules
 
 returns : tie.Need-returns
-returns c = search part-past
+returns c = search part_past
 
 part-result-start-2 : tie.Need-slice-bounds-result-start-2
 part-result-start-2 c = search rules
@@ -22,7 +22,7 @@ part-result-end-2 : tie.Need-slice-bounds-result-end-2
 part-result-end-2 c = search rules
 
 returns-2 : tie.Need-returns-2
-returns-2 c = search part-short
+returns-2 c = search part_short
 
 add-to : tie.Need-overflow-add-to
 add-to c = search rules
@@ -37,7 +37,7 @@ part-result-end-3 : tie.Need-slice-bounds-result-end-3
 part-result-end-3 c = search rules
 
 returns-3 : tie.Need-returns-3
-returns-3 c = search part-there
+returns-3 c = search part_there
 
 pub part-spec : {M : Type 1} → statement M
 part-spec =

@@ -1,4 +1,4 @@
-use Rattle.demux_places.proofs.Laws.{second_word, third-word, told-then}
+use Rattle.demux_places.proofs.Laws.{second_word, third_word, told_then}
 use borrow.Author.Rules.{rules}
 use Rattle.demux_places.proofs.tell.Statement.{statement}
 use Rattle.demux_places.proofs.tell.Tie as tie
@@ -31,13 +31,13 @@ mul-places-3 : tie.Need-overflow-mul-places-3
 mul-places-3 c = search rules
 
 slice-write-places-3 : tie.Need-slice-write-places-3
-slice-write-places-3 c = search third-word
+slice-write-places-3 c = search third_word
 
 same_length : tie.Need-same-length
 same_length c = search rules
 
 returns : tie.Need-returns
-returns c = search told-then
+returns c = search told_then
 
 pub tell-spec : {M : Type 1} → statement M
 tell-spec =

@@ -4,7 +4,7 @@ use lib.ListN.{length}
 use native.Mathlib.Omega.{arith}
 use borrow.Author.Rules.{rules}
 use Rattle.differences.specs.Walk.{SameTo}
-use Rattle.differences.proofs.Places.{same_byte, place_found, place-ends}
+use Rattle.differences.proofs.Places.{same_byte, place_found, place_ends}
 use Rattle.differences.proofs.first_place.Statement.{statement}
 use Rattle.differences.proofs.first_place.Tie as tie
 
@@ -42,7 +42,7 @@ loop-again : tie.Need-loop-preserved invariant-loop decreases-loop
 loop-again c = (search rules, search same_byte)
 
 returns-2 : tie.Need-returns-2 invariant-loop decreases-loop
-returns-2 c = (search place-ends, search rules)
+returns-2 c = (search place_ends, search rules)
 
 pub first-place-spec : {M : Type 1} → statement M
 first-place-spec =

@@ -1,4 +1,4 @@
-use Rattle.differences.proofs.Listing.{put-out}
+use Rattle.differences.proofs.Listing.{put_out}
 use borrow.Author.Rules.{rules}
 use Rattle.differences.proofs.put.Statement.{statement}
 use Rattle.differences.proofs.put.Tie as tie
@@ -16,7 +16,7 @@ returns : tie.Need-returns
 returns c = search rules
 
 returns-2 : tie.Need-returns-2
-returns-2 c = search put-out
+returns-2 c = search put_out
 
 pub put_spec : {M : Type 1} → statement M
 put_spec = tie.close (tie.spec mul-list slice-write-list same_length returns returns-2)

@@ -1,10 +1,10 @@
-use Rattle.differences.proofs.Listing.{count_none, words-none, count-some, words-some}
+use Rattle.differences.proofs.Listing.{count_none, words_none, count_some, words_some}
 use borrow.Author.Rules.{rules}
 use Rattle.differences.proofs.put_entry.Statement.{statement}
 use Rattle.differences.proofs.put_entry.Tie as tie
 
 returns : tie.Need-returns
-returns c = ((search count_none, search rules), search words-none)
+returns c = ((search count_none, search rules), search words_none)
 
 cast-put : tie.Need-overflow-cast-put
 cast-put c = search rules
@@ -40,7 +40,7 @@ same_length : tie.Need-same-length
 same_length c = search rules
 
 returns-2 : tie.Need-returns-2
-returns-2 c = ((search count-some, search rules), words-some c.before.before.before.before.before.before.before.before.before.before.before.before.before.before.before.before.before.before.before.args.list.now c.before.before.before.before.before.before.before.before.before.before.before.before.before.before.put.new.0 c.before.before.before.before.before.before.before.before.before.before.put2.new.0 c.before.before.before.before.before.before.put3.new.0 c.before.before.put4.new.0 c.before.before.before.before.before.before.before.before.before.before.before.before.before.before.before.before.before.before.before.args.rank c.before.before.before.before.before.before.before.before.before.before.before.before.before.before.before.before.before.before.before.args.at c.before.before.before.before.before.before.before.before.before.before.before.before.before.before.before.before.before.before.before.args.d c.before.before.before.before.before.before.before.before.before.before.before.before.before.before.before.before.if1.false c.before.before.before.before.before.before.before.before.before.before.before.before.before.before.put.ensures c.before.before.before.before.before.before.before.before.before.before.put2.ensures c.before.before.before.before.before.before.put3.ensures c.before.before.put4.ensures)
+returns-2 c = ((search count_some, search rules), words_some c.before.before.before.before.before.before.before.before.before.before.before.before.before.before.before.before.before.before.before.args.list.now c.before.before.before.before.before.before.before.before.before.before.before.before.before.before.put.new.0 c.before.before.before.before.before.before.before.before.before.before.put2.new.0 c.before.before.before.before.before.before.put3.new.0 c.before.before.put4.new.0 c.before.before.before.before.before.before.before.before.before.before.before.before.before.before.before.before.before.before.before.args.rank c.before.before.before.before.before.before.before.before.before.before.before.before.before.before.before.before.before.before.before.args.at c.before.before.before.before.before.before.before.before.before.before.before.before.before.before.before.before.before.before.before.args.d c.before.before.before.before.before.before.before.before.before.before.before.before.before.before.before.before.if1.false c.before.before.before.before.before.before.before.before.before.before.before.before.before.before.put.ensures c.before.before.before.before.before.before.before.before.before.before.put2.ensures c.before.before.before.before.before.before.put3.ensures c.before.before.put4.ensures)
 
 pub put-entry-spec : {M : Type 1} → statement M
 put-entry-spec =

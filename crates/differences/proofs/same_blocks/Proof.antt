@@ -4,7 +4,7 @@ use lib.ListN.{length}
 use native.Mathlib.Omega.{arith}
 use borrow.Author.Rules.{rules}
 use Rattle.differences.specs.Walk.{SameTo}
-use Rattle.differences.proofs.Places.{same-starts, same_block}
+use Rattle.differences.proofs.Places.{same_starts, same_block}
 use Rattle.differences.proofs.same_blocks.Statement.{statement}
 use Rattle.differences.proofs.same_blocks.Tie as tie
 
@@ -18,7 +18,7 @@ shorter-requires : tie.Need-shorter-requires invariant-loop decreases-loop
 shorter-requires c κs = search rules
 
 loop-holds : tie.Need-loop-init invariant-loop decreases-loop
-loop-holds c = (search rules, search rules, search same-starts)
+loop-holds c = (search rules, search rules, search same_starts)
 
 sub-loop : tie.Need-overflow-sub-loop invariant-loop decreases-loop
 sub-loop c = search rules

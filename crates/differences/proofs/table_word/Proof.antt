@@ -1,14 +1,14 @@
 use native.Mathlib.Omega.{arith}
-use Rattle.differences.proofs.Tabling.{word-neither, word-second, word_first, word-both}
+use Rattle.differences.proofs.Tabling.{word_neither, word_second, word_first, word_both}
 use borrow.Author.Rules.{rules}
 use Rattle.differences.proofs.table_word.Statement.{statement}
 use Rattle.differences.proofs.table_word.Tie as tie
 
 returns : tie.Need-returns
-returns c = search word-neither
+returns c = search word_neither
 
 returns-2 : tie.Need-returns-2
-returns-2 c = search word-second
+returns-2 c = search word_second
 
 returns-3 : tie.Need-returns-3
 returns-3 c = search word_first
@@ -38,7 +38,7 @@ add-result-2 : tie.Need-overflow-add-result-2
 add-result-2 c = search rules
 
 returns-4 : tie.Need-returns-4
-returns-4 c = word-both c.before.before.before.before.before.before.before.before.before.before.args.x.now c.before.before.before.before.before.before.before.before.before.before.args.y.now c.before.before.before.unless.result c.unless2.result c.before.before.before.before.before.before.before.if1.false c.before.before.before.before.before.before.if3.false c.before.before.before.unless.ensures.0 c.unless2.ensures.0
+returns-4 c = word_both c.before.before.before.before.before.before.before.before.before.before.args.x.now c.before.before.before.before.before.before.before.before.before.before.args.y.now c.before.before.before.unless.result c.unless2.result c.before.before.before.before.before.before.before.if1.false c.before.before.before.before.before.before.if3.false c.before.before.before.unless.ensures.0 c.unless2.ensures.0
 
 pub table-word-spec : {M : Type 1} → statement M
 table-word-spec =

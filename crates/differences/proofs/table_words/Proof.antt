@@ -5,7 +5,7 @@ use Prim.Native.Nat.{◌-◌, ◌≤◌}
 use lib.ListN.{length}
 use native.Mathlib.Omega.{arith}
 use borrow.Author.Rules.{rules}
-use Rattle.differences.proofs.Tabling.{Side, side-starts, side-leads, side-turn, words_to, tabling-starts, tabling-turn, tabling-ends}
+use Rattle.differences.proofs.Tabling.{Side, side_starts, side_leads, side_turn, words_to, tabling_starts, tabling_turn, tabling_ends}
 use Rattle.differences.proofs.table_words.Statement.{statement}
 use Rattle.differences.proofs.table_words.Tie as tie
 
@@ -16,7 +16,7 @@ abbrev decreases-loop : tie.decreases-loop
 decreases-loop first second base words₀ i₀ j₀ t₀ words i j t = 16 - t
 
 loop-holds : tie.Need-loop-init invariant-loop decreases-loop
-loop-holds c = (search rules, refl, tabling-starts c.before.before.args.base c.before.before.args.first.now c.before.before.args.second.now (replicate 16 0), search side-starts, search side-starts)
+loop-holds c = (search rules, refl, tabling_starts c.before.before.args.base c.before.before.args.first.now c.before.before.args.second.now (replicate 16 0), search side_starts, search side_starts)
 
 add-table : tie.Need-overflow-add-table invariant-loop decreases-loop
 add-table c = search rules
@@ -58,16 +58,16 @@ loop-again : tie.Need-loop-preserved invariant-loop decreases-loop
 loop-again c = (
   search rules,
   search rules,
-  tabling-turn c.before.before.before.before.before.before.before.before.before.args.base c.before.before.before.before.before.before.before.before.before.args.first.now c.before.before.before.before.before.before.before.before.before.args.second.now (replicate 16 0) c.before.before.before.before.before.before.loop.words c.before.before.before.before.before.before.loop.t c.before.before.table-word.result c.before.before.before.before.table_at.result.now c.before.before.before.table-at2.result.now c.before.before.before.before.before.before.loop.invariant.2 c.before.before.before.before.before.loop-test.true
-      (c.before.before.before.before.table_at.ensures.0 ∙ side-leads c.before.before.before.before.before.before.before.before.before.args.base c.before.before.before.before.before.before.before.before.before.args.first.now c.before.before.before.before.before.before.loop.i c.before.before.before.before.before.before.loop.t c.before.before.before.before.before.before.loop.invariant.3)
-      (c.before.before.before.table-at2.ensures.0 ∙ side-leads c.before.before.before.before.before.before.before.before.before.args.base c.before.before.before.before.before.before.before.before.before.args.second.now c.before.before.before.before.before.before.loop.j c.before.before.before.before.before.before.loop.t c.before.before.before.before.before.before.loop.invariant.4)
+  tabling_turn c.before.before.before.before.before.before.before.before.before.args.base c.before.before.before.before.before.before.before.before.before.args.first.now c.before.before.before.before.before.before.before.before.before.args.second.now (replicate 16 0) c.before.before.before.before.before.before.loop.words c.before.before.before.before.before.before.loop.t c.before.before.table-word.result c.before.before.before.before.table_at.result.now c.before.before.before.table-at2.result.now c.before.before.before.before.before.before.loop.invariant.2 c.before.before.before.before.before.loop-test.true
+      (c.before.before.before.before.table_at.ensures.0 ∙ side_leads c.before.before.before.before.before.before.before.before.before.args.base c.before.before.before.before.before.before.before.before.before.args.first.now c.before.before.before.before.before.before.loop.i c.before.before.before.before.before.before.loop.t c.before.before.before.before.before.before.loop.invariant.3)
+      (c.before.before.before.table-at2.ensures.0 ∙ side_leads c.before.before.before.before.before.before.before.before.before.args.base c.before.before.before.before.before.before.before.before.before.args.second.now c.before.before.before.before.before.before.loop.j c.before.before.before.before.before.before.loop.t c.before.before.before.before.before.before.loop.invariant.4)
       c.before.before.table-word.ensures,
-  side-turn c.before.before.before.before.before.before.before.before.before.args.base c.before.before.before.before.before.before.before.before.before.args.first.now c.before.before.before.before.before.before.loop.i c.before.before.before.before.before.before.loop.t c.before.before.before.before.before.before.loop.invariant.3 c.before.pass.result c.before.pass.ensures,
-  side-turn c.before.before.before.before.before.before.before.before.before.args.base c.before.before.before.before.before.before.before.before.before.args.second.now c.before.before.before.before.before.before.loop.j c.before.before.before.before.before.before.loop.t c.before.before.before.before.before.before.loop.invariant.4 c.pass2.result c.pass2.ensures,
+  side_turn c.before.before.before.before.before.before.before.before.before.args.base c.before.before.before.before.before.before.before.before.before.args.first.now c.before.before.before.before.before.before.loop.i c.before.before.before.before.before.before.loop.t c.before.before.before.before.before.before.loop.invariant.3 c.before.pass.result c.before.pass.ensures,
+  side_turn c.before.before.before.before.before.before.before.before.before.args.base c.before.before.before.before.before.before.before.before.before.args.second.now c.before.before.before.before.before.before.loop.j c.before.before.before.before.before.before.loop.t c.before.before.before.before.before.before.loop.invariant.4 c.pass2.result c.pass2.ensures,
 )
 
 returns : tie.Need-returns invariant-loop decreases-loop
-returns c = tabling-ends c.before.before.before.before.args.base c.before.before.before.before.args.first.now c.before.before.before.before.args.second.now (replicate 16 0) c.before.loop.words c.before.loop.t c.before.loop.invariant.2 refl c.loop-test.false c.before.loop.invariant.0
+returns c = tabling_ends c.before.before.before.before.args.base c.before.before.before.before.args.first.now c.before.before.before.before.args.second.now (replicate 16 0) c.before.loop.words c.before.loop.t c.before.loop.invariant.2 refl c.loop-test.false c.before.loop.invariant.0
 
 pub table-words-spec : {M : Type 1} → statement M
 table-words-spec =

@@ -1,5 +1,5 @@
-use Rattle.eit.proofs.Calls.{cleared-broken, cleared-without, cleared-done}
-use Rattle.eit_pids.proofs.Heads.{heads-fit}
+use Rattle.eit.proofs.Calls.{cleared_broken, cleared_without, cleared_done}
+use Rattle.eit_pids.proofs.Heads.{heads_fit}
 use borrow.Author.Rules.{rules}
 use Rattle.eit.proofs.clear.Statement.{statement}
 use Rattle.eit.proofs.clear.Tie as tie
@@ -15,11 +15,11 @@ is-whole-requires c κs = search rules
 
 -- src/lib.rt:93:12
 any-row-without-pid-requires : tie.Need-any-row-without-pid-requires
-any-row-without-pid-requires c κs = search heads-fit
+any-row-without-pid-requires c κs = search heads_fit
 
 -- src/lib.rt:94:13
 returns : tie.Need-returns
-returns c = search cleared-without
+returns c = search cleared_without
 
 -- src/lib.rt:99:9
 cleared-requires : tie.Need-cleared-requires
@@ -27,7 +27,7 @@ cleared-requires c κs = search rules
 
 -- src/lib.rt:99:9
 returns-2 : tie.Need-returns-2
-returns-2 c = search cleared-done
+returns-2 c = search cleared_done
 
 -- src/lib.rt:101:5
 cleared-requires-2 : tie.Need-cleared-requires-2
@@ -35,7 +35,7 @@ cleared-requires-2 c κs = search rules
 
 -- src/lib.rt:82:1
 returns-3 : tie.Need-returns-3
-returns-3 c = search cleared-broken
+returns-3 c = search cleared_broken
 
 pub clear_spec : {M : Type 1} → statement M
 clear_spec =

@@ -1,4 +1,4 @@
-use Rattle.eit.proofs.Calls.{dropped-refused, dropped-matching, dropping-may}
+use Rattle.eit.proofs.Calls.{dropped_refused, dropped_matching, dropping_may}
 use borrow.Author.Rules.{rules}
 use Rattle.eit.proofs.drop.Statement.{statement}
 use Rattle.eit.proofs.drop.Tie as tie
@@ -21,7 +21,7 @@ enum-known-f c = search rules
 
 -- src/lib.rt:182:17
 drop-matching-requires : tie.Need-drop-matching-requires
-drop-matching-requires c κs = let a = c.before.before.before.before.before.before.before.before.before.before.before.before.before.before.before.before.before.args in dropping-may a.eit a.heads.now a.slots.now a.cells.now a.schedule-heads.now a.units.now c.before.before.before.before.before.before.before.admit-filter.result c.before.before.before.before.before.f.given.0.0 c.before.before.before.before.before.before.before.admit-filter.ensures.1 c.before.before.before.before.before.f.given.1
+drop-matching-requires c κs = let a = c.before.before.before.before.before.before.before.before.before.before.before.before.before.before.before.before.before.args in dropping_may a.eit a.heads.now a.slots.now a.cells.now a.schedule_heads.now a.units.now c.before.before.before.before.before.before.before.admit-filter.result c.before.before.before.before.before.f.given.0.0 c.before.before.before.before.before.before.before.admit-filter.ensures.1 c.before.before.before.before.before.f.given.1
 
 -- src/lib.rt:165:1
 same_length : tie.Need-same-length
@@ -41,7 +41,7 @@ same-length-4 c = search rules
 
 -- src/lib.rt:165:1
 returns : tie.Need-returns
-returns c = let a = c.before.before.before.before.before.before.before.before.before.before.before.before.before.args in dropped-refused a.eit a.heads.now a.slots.now a.cells.now a.schedule-heads.now a.units.now a.filter c.before.before.before.admit-filter.result c.before.before.before.admit-filter.ensures.0 c.before.refusal.given.0.0 c.before.refusal.given.1
+returns c = let a = c.before.before.before.before.before.before.before.before.before.before.before.before.before.args in dropped_refused a.eit a.heads.now a.slots.now a.cells.now a.schedule_heads.now a.units.now a.filter c.before.before.before.admit-filter.result c.before.before.before.admit-filter.ensures.0 c.before.refusal.given.0.0 c.before.refusal.given.1
 
 -- src/lib.rt:165:1
 same-length-5 : tie.Need-same-length-5
@@ -61,7 +61,7 @@ same-length-8 c = search rules
 
 -- src/lib.rt:165:1
 returns-2 : tie.Need-returns-2
-returns-2 c = search dropped-matching
+returns-2 c = search dropped_matching
 
 pub drop_spec : {M : Type 1} → statement M
 drop_spec =

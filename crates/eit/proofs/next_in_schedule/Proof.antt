@@ -1,5 +1,5 @@
-use Rattle.eit.proofs.Questions.{in-broken, in_without, in_table, schedules-there}
-use Rattle.eit_pids.proofs.Heads.{heads-fit}
+use Rattle.eit.proofs.Questions.{in_broken, in_without, in_table, schedules_there}
+use Rattle.eit_pids.proofs.Heads.{heads_fit}
 use borrow.Author.Rules.{rules}
 use Rattle.eit.proofs.next_in_schedule.Statement.{statement}
 use Rattle.eit.proofs.next_in_schedule.Tie as tie
@@ -16,7 +16,7 @@ is-whole-requires c κs = search rules
 
 -- src/lib.rt:170:12
 any-row-without-pid-requires : tie.Need-any-row-without-pid-requires
-any-row-without-pid-requires c κs = search heads-fit
+any-row-without-pid-requires c κs = search heads_fit
 
 -- src/lib.rt:171:13
 no-section-requires : tie.Need-no-section-requires
@@ -28,7 +28,7 @@ returns c = search in_without
 
 -- src/lib.rt:173:9
 in-schedule-requires : tie.Need-in-schedule-requires
-in-schedule-requires c κs = let a = c.before.before.before.before.before.before.before.before.before.before.args in schedules-there a.eit a.heads.now a.slots.now a.cells.now a.schedule-heads.now a.units.now _ c.before.before.before.is_whole.ensures c.before.before.if1.true
+in-schedule-requires c κs = let a = c.before.before.before.before.before.before.before.before.before.before.args in schedules_there a.eit a.heads.now a.slots.now a.cells.now a.schedule_heads.now a.units.now _ c.before.before.before.is_whole.ensures c.before.before.if1.true
 
 -- src/lib.rt:173:9
 returns-2 : tie.Need-returns-2
@@ -40,7 +40,7 @@ no-section-requires-2 c κs = search rules
 
 -- src/lib.rt:155:1
 returns-3 : tie.Need-returns-3
-returns-3 c = search in-broken
+returns-3 c = search in_broken
 
 pub next-in-schedule-spec : {M : Type 1} → statement M
 next-in-schedule-spec =

@@ -1,4 +1,4 @@
-use Rattle.eit.proofs.Calls.{opened-done}
+use Rattle.eit.proofs.Calls.{opened_done}
 use borrow.Author.Rules.{rules}
 use Rattle.eit.proofs.open.Statement.{statement}
 use Rattle.eit.proofs.open.Tie as tie
@@ -12,7 +12,7 @@ opened-requires c κs = search rules
 
 -- src/lib.rt:22:1
 returns : tie.Need-returns
-returns c = search opened-done
+returns c = search opened_done
 
 pub open_spec : {M : Type 1} → statement M
 open_spec = tie.close (tie.spec opened-requires returns)

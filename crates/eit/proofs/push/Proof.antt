@@ -1,4 +1,4 @@
-use Rattle.eit.proofs.Calls.{pushed-refused, pushed-done, admitted-whole, admitted-numbered, admitted-counts}
+use Rattle.eit.proofs.Calls.{pushed_refused, pushed_done, admitted_whole, admitted_numbered, admitted_counts}
 use borrow.Author.Rules.{rules}
 use Rattle.eit.proofs.push.Statement.{statement}
 use Rattle.eit.proofs.push.Tie as tie
@@ -26,7 +26,7 @@ push-whole-requires c κs = let a = c.before.before.before.before.before.before.
     let e = c.before.before.before.before.before.before.a.given.1 in
     let x = c.before.before.before.before.before.before.a.given.0.0 in
     let v = c.before.before.before.before.before.before.before.before.admit.result in
-    (admitted-whole a.eit a.heads.now a.slots.now a.cells.now a.schedule-heads.now a.units.now v o x e, (admitted-numbered a.eit a.heads.now a.slots.now a.cells.now a.schedule-heads.now a.units.now v o x e, admitted-counts a.eit a.heads.now a.slots.now a.cells.now a.schedule-heads.now a.units.now v o x e))
+    (admitted_whole a.eit a.heads.now a.slots.now a.cells.now a.schedule_heads.now a.units.now v o x e, (admitted_numbered a.eit a.heads.now a.slots.now a.cells.now a.schedule_heads.now a.units.now v o x e, admitted_counts a.eit a.heads.now a.slots.now a.cells.now a.schedule_heads.now a.units.now v o x e))
 
 -- src/lib.rt:73:1
 same_length : tie.Need-same-length
@@ -50,7 +50,7 @@ same-length-5 c = search rules
 
 -- src/lib.rt:73:1
 returns : tie.Need-returns
-returns c = let a = c.before.before.before.before.before.before.before.before.before.before.before.before.before.before.before.args in pushed-refused a.eit a.heads.now a.slots.now a.cells.now a.schedule-heads.now a.units.now a.input a.pid a.bytes.now c.before.before.before.admit.result c.before.before.before.admit.ensures.0 c.before.refusal.given.0.0 c.before.refusal.given.1
+returns c = let a = c.before.before.before.before.before.before.before.before.before.before.before.before.before.before.before.args in pushed_refused a.eit a.heads.now a.slots.now a.cells.now a.schedule_heads.now a.units.now a.input a.pid a.bytes.now c.before.before.before.admit.result c.before.before.before.admit.ensures.0 c.before.refusal.given.0.0 c.before.refusal.given.1
 
 -- src/lib.rt:73:1
 same-length-6 : tie.Need-same-length-6
@@ -74,7 +74,7 @@ same-length-10 c = search rules
 
 -- src/lib.rt:73:1
 returns-2 : tie.Need-returns-2
-returns-2 c = search pushed-done
+returns-2 c = search pushed_done
 
 pub push_spec : {M : Type 1} → statement M
 push_spec =

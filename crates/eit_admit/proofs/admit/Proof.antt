@@ -1,5 +1,5 @@
-use Rattle.eit_admit.proofs.Ways.{admit-broken, admit-full, admit-without, admit-read, admit-may}
-use Rattle.eit_pids.proofs.Heads.{heads-fit, either-without}
+use Rattle.eit_admit.proofs.Ways.{admit_broken, admit_full, admit_without, admit_read, admit_may}
+use Rattle.eit_pids.proofs.Heads.{heads_fit, either_without}
 use borrow.Author.Rules.{rules}
 use Rattle.eit_admit.proofs.admit.Statement.{statement}
 use Rattle.eit_admit.proofs.admit.Tie as tie
@@ -20,16 +20,16 @@ counters-full-requires c κs = search rules
 
 -- src/lib.rt:31:13
 returns : tie.Need-returns
-returns c = (search admit-full, tt)
+returns c = (search admit_full, tt)
 
 -- src/lib.rt:33:27
 any-without-pid-requires : tie.Need-any-without-pid-requires
-any-without-pid-requires c κs = let a = c.before.before.before.before.before.before.before.before.before.before.args in let s = c.before.before.before.look in (heads-fit a.eit a.heads.now a.slots.now a.cells.now a.schedule-heads.now a.units.now s.result.whole s.ensures.0 c.before.before.if1.true).schedules
+any-without-pid-requires c κs = let a = c.before.before.before.before.before.before.before.before.before.before.args in let s = c.before.before.before.look in (heads_fit a.eit a.heads.now a.slots.now a.cells.now a.schedule_heads.now a.units.now s.result.whole s.ensures.0 c.before.before.if1.true).schedules
 
 -- src/lib.rt:34:13
 returns-2 : tie.Need-returns-2
 returns-2 c = let a = c.before.before.before.before.before.before.before.before.before.before.before.before.before.args in let s = c.before.before.before.before.before.before.look in let f = c.before.before.before.before.counters-full in let n = c.before.before.any-without-pid in
-    (admit-without a.eit a.heads.now a.slots.now a.cells.now a.schedule-heads.now a.units.now a.input a.pid a.bytes.now s.result.whole s.ensures.0 c.before.before.before.before.before.if1.true f.result f.ensures c.before.before.before.if2.false _ (either-without a.eit a.heads.now a.schedule-heads.now s.result.without n.result (s.ensures.1 c.before.before.before.before.before.if1.true) n.ensures) c.if3.true, tt)
+    (admit_without a.eit a.heads.now a.slots.now a.cells.now a.schedule_heads.now a.units.now a.input a.pid a.bytes.now s.result.whole s.ensures.0 c.before.before.before.before.before.if1.true f.result f.ensures c.before.before.before.if2.false _ (either_without a.eit a.heads.now a.schedule_heads.now s.result.without n.result (s.ensures.1 c.before.before.before.before.before.if1.true) n.ensures) c.if3.true, tt)
 
 -- src/lib.rt:36:9
 eit-arrival-requires : tie.Need-eit-arrival-requires
@@ -38,11 +38,11 @@ eit-arrival-requires c κs = search rules
 -- src/lib.rt:36:9
 returns-3 : tie.Need-returns-3
 returns-3 c = let a = c.before.before.before.before.before.before.before.before.before.before.before.before.before.before.args in let s = c.before.before.before.before.before.before.before.look in let f = c.before.before.before.before.before.counters-full in let n = c.before.before.before.any-without-pid in
-    (admit-read a.eit a.heads.now a.slots.now a.cells.now a.schedule-heads.now a.units.now a.input a.pid a.bytes.now s.result.whole s.ensures.0 c.before.before.before.before.before.before.if1.true f.result f.ensures c.before.before.before.before.if2.false _ (either-without a.eit a.heads.now a.schedule-heads.now s.result.without n.result (s.ensures.1 c.before.before.before.before.before.before.if1.true) n.ensures) c.eit-arrival.result c.before.if3.false c.eit-arrival.ensures.0, admit-may a.eit a.heads.now a.slots.now a.cells.now a.schedule-heads.now a.units.now a.input a.pid a.bytes.now s.result.whole s.ensures.0 c.before.before.before.before.before.before.if1.true f.result f.ensures c.eit-arrival.result c.before.before.before.before.if2.false (let z = c.before.before.before.before.before.before.before.before.before.before.before.before.before.before.well-formed.0 in search z) (let z = c.before.before.before.before.before.before.before.before.before.before.before.before.before.before.well-formed.0 in search z) c.eit-arrival.ensures.1)
+    (admit_read a.eit a.heads.now a.slots.now a.cells.now a.schedule_heads.now a.units.now a.input a.pid a.bytes.now s.result.whole s.ensures.0 c.before.before.before.before.before.before.if1.true f.result f.ensures c.before.before.before.before.if2.false _ (either_without a.eit a.heads.now a.schedule_heads.now s.result.without n.result (s.ensures.1 c.before.before.before.before.before.before.if1.true) n.ensures) c.eit-arrival.result c.before.if3.false c.eit-arrival.ensures.0, admit_may a.eit a.heads.now a.slots.now a.cells.now a.schedule_heads.now a.units.now a.input a.pid a.bytes.now s.result.whole s.ensures.0 c.before.before.before.before.before.before.if1.true f.result f.ensures c.eit-arrival.result c.before.before.before.before.if2.false (let z = c.before.before.before.before.before.before.before.before.before.before.before.before.before.before.well-formed.0 in search z) (let z = c.before.before.before.before.before.before.before.before.before.before.before.before.before.before.well-formed.0 in search z) c.eit-arrival.ensures.1)
 
 -- src/lib.rt:14:1
 returns-4 : tie.Need-returns-4
-returns-4 c = (search admit-broken, tt)
+returns-4 c = (search admit_broken, tt)
 
 pub admit-spec : {M : Type 1} → statement M
 admit-spec =

@@ -1,5 +1,5 @@
-use Rattle.eit_admit.proofs.Ways.{drop-broken, drop-without, drop-read, drop-may}
-use Rattle.eit_pids.proofs.Heads.{heads-fit}
+use Rattle.eit_admit.proofs.Ways.{drop_broken, drop_without, drop_read, drop_may}
+use Rattle.eit_pids.proofs.Heads.{heads_fit}
 use borrow.Author.Rules.{rules}
 use Rattle.eit_admit.proofs.admit_filter.Statement.{statement}
 use Rattle.eit_admit.proofs.admit_filter.Tie as tie
@@ -14,19 +14,19 @@ is-whole-requires : tie.Need-is-whole-requires
 is-whole-requires c κs = search rules
 
 any-row-without-pid-requires : tie.Need-any-row-without-pid-requires
-any-row-without-pid-requires c κs = search heads-fit
+any-row-without-pid-requires c κs = search heads_fit
 
 returns : tie.Need-returns
-returns c = (search drop-without, tt)
+returns c = (search drop_without, tt)
 
 read-filter-requires : tie.Need-read-filter-requires
 read-filter-requires c κs = search rules
 
 returns-2 : tie.Need-returns-2
-returns-2 c = (search drop-read, search drop-may)
+returns-2 c = (search drop_read, search drop_may)
 
 returns-3 : tie.Need-returns-3
-returns-3 c = (search drop-broken, tt)
+returns-3 c = (search drop_broken, tt)
 
 pub admit-filter-spec : {M : Type 1} → statement M
 admit-filter-spec =

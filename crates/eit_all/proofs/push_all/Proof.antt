@@ -1,5 +1,5 @@
-use Rattle.eit_each.specs.Each.{afterAll}
-use Rattle.eit_all.proofs.Ways.{all-pushed, all-cut, all-long, all_whole}
+use Rattle.eit_each.specs.Each.{after_all}
+use Rattle.eit_all.proofs.Ways.{all_pushed, all_cut, all_long, all_whole_lem}
 use borrow.Author.Rules.{rules}
 use Rattle.eit_all.proofs.push_all.Statement.{statement}
 use Rattle.eit_all.proofs.push_all.Tie as tie
@@ -16,7 +16,7 @@ enum_told : tie.Need-enum-told
 enum_told c = search rules
 
 push-listed-requires : tie.Need-push-listed-requires
-push-listed-requires c κs = let a = c.before.before.before.before.before.before.before.before.before.before.before.before.before.before.args in all_whole a.eit a.heads.now a.slots.now a.cells.now a.schedule-heads.now a.units.now a.list.now c.before.before.before.before.before.before.before.judge.result c.before.before.before.before.before.before.before.judge.ensures c.before.before.before.before.before.enum_told.given.1
+push-listed-requires c κs = let a = c.before.before.before.before.before.before.before.before.before.before.before.before.before.before.args in all_whole_lem a.eit a.heads.now a.slots.now a.cells.now a.schedule_heads.now a.units.now a.list.now c.before.before.before.before.before.before.before.judge.result c.before.before.before.before.before.before.before.judge.ensures c.before.before.before.before.before.enum_told.given.1
 
 enum-told-2 : tie.Need-enum-told-2
 enum-told-2 c = search rules
@@ -46,13 +46,13 @@ same-length-5 : tie.Need-same-length-5
 same-length-5 c = search rules
 
 returns : tie.Need-returns
-returns c = let a = c.before.before.before.before.before.before.before.before.before.before.before.before.before.before.before.before.before.before.before.before.before.before.before.before.before.args in let k = c.before.before.before.before.before.before.before.before.before.before.push-listed in all-pushed a.eit a.heads.now a.slots.now a.cells.now a.schedule-heads.now a.units.now a.list.now c.before.before.before.before.before.before.before.before.before.before.before.before.before.before.before.before.before.before.judge.result c.before.before.before.before.before.before.before.before.before.before.before.before.before.before.before.before.before.before.judge.ensures (afterAll k.result k.new.1.0 k.new.1.1.0 k.new.1.1.1.0 k.new.1.1.1.1.0 k.new.1.1.1.1.1.0) c.before.before.before.before.before.before.before.before.before.before.before.before.before.before.before.before.enum_told.given.1 k.ensures
+returns c = let a = c.before.before.before.before.before.before.before.before.before.before.before.before.before.before.before.before.before.before.before.before.before.before.before.before.before.args in let k = c.before.before.before.before.before.before.before.before.before.before.push-listed in all_pushed a.eit a.heads.now a.slots.now a.cells.now a.schedule_heads.now a.units.now a.list.now c.before.before.before.before.before.before.before.before.before.before.before.before.before.before.before.before.before.before.judge.result c.before.before.before.before.before.before.before.before.before.before.before.before.before.before.before.before.before.before.judge.ensures (after_all k.result k.new.1.0 k.new.1.1.0 k.new.1.1.1.0 k.new.1.1.1.1.0 k.new.1.1.1.1.1.0) c.before.before.before.before.before.before.before.before.before.before.before.before.before.before.before.before.enum_told.given.1 k.ensures
 
 returns-2 : tie.Need-returns-2
-returns-2 c = let a = c.before.before.before.before.before.before.before.before.before.before.args in all-cut a.eit a.heads.now a.slots.now a.cells.now a.schedule-heads.now a.units.now a.list.now c.before.before.before.judge.result c.before.before.before.judge.ensures c.refuse.result c.before.enum-told2.given.1 c.refuse.ensures
+returns-2 c = let a = c.before.before.before.before.before.before.before.before.before.before.args in all_cut a.eit a.heads.now a.slots.now a.cells.now a.schedule_heads.now a.units.now a.list.now c.before.before.before.judge.result c.before.before.before.judge.ensures c.refuse.result c.before.enum-told2.given.1 c.refuse.ensures
 
 returns-3 : tie.Need-returns-3
-returns-3 c = let a = c.before.before.before.before.before.before.before.before.before.before.args in all-long a.eit a.heads.now a.slots.now a.cells.now a.schedule-heads.now a.units.now a.list.now c.before.before.before.judge.result c.before.before.before.judge.ensures c.refuse2.result c.before.enum-told3.given.1 c.refuse2.ensures
+returns-3 c = let a = c.before.before.before.before.before.before.before.before.before.before.args in all_long a.eit a.heads.now a.slots.now a.cells.now a.schedule_heads.now a.units.now a.list.now c.before.before.before.judge.result c.before.before.before.judge.ensures c.refuse2.result c.before.enum-told3.given.1 c.refuse2.ensures
 
 pub push-all-spec : {M : Type 1} → statement M
 push-all-spec =

@@ -1,4 +1,4 @@
-use Rattle.eit_carry.proofs.Ways.{carried-leave, carried-conflict, carried-repeat, carried-keep, conflict-runs, conflict-may, repeat_runs, repeat-may, keep-may}
+use Rattle.eit_carry.proofs.Ways.{carried_leave, carried_conflict, carried_repeat, carried_keep, conflict_runs, conflict_may, repeat_runs, repeat_may, keep_may}
 use borrow.Author.Rules.{rules}
 use Rattle.eit_carry.proofs.carry.Statement.{statement}
 use Rattle.eit_carry.proofs.carry.Tie as tie
@@ -17,10 +17,10 @@ enum-known-plan-2 : tie.Need-enum-known-plan-2
 enum-known-plan-2 c = search rules
 
 risen-requires : tie.Need-risen-requires
-risen-requires c κs = search conflict-runs
+risen-requires c κs = search conflict_runs
 
 conflict-requires : tie.Need-conflict-requires
-conflict-requires c κs = search conflict-may
+conflict-requires c κs = search conflict_may
 
 -- src/lib.rt:283:22
 enum-known-plan-3 : tie.Need-enum-known-plan-3
@@ -30,7 +30,7 @@ risen-requires-2 : tie.Need-risen-requires-2
 risen-requires-2 c κs = search repeat_runs
 
 settle-requires : tie.Need-settle-requires
-settle-requires c κs = search repeat-may
+settle-requires c κs = search repeat_may
 
 -- src/lib.rt:284:20
 enum-known-plan-4 : tie.Need-enum-known-plan-4
@@ -38,11 +38,11 @@ enum-known-plan-4 c = search rules
 
 -- src/lib.rt:284:26
 keep-section-requires : tie.Need-keep-section-requires
-keep-section-requires c κs = search keep-may
+keep-section-requires c κs = search keep_may
 
 -- src/lib.rt:260:1
 returns : tie.Need-returns
-returns c = search carried-leave
+returns c = search carried_leave
 
 -- src/lib.rt:260:1
 same_length : tie.Need-same-length
@@ -50,7 +50,7 @@ same_length c = search rules
 
 -- src/lib.rt:260:1
 returns-2 : tie.Need-returns-2
-returns-2 c = search carried-conflict
+returns-2 c = search carried_conflict
 
 -- src/lib.rt:260:1
 same-length-2 : tie.Need-same-length-2
@@ -70,7 +70,7 @@ same-length-5 c = search rules
 
 -- src/lib.rt:260:1
 returns-3 : tie.Need-returns-3
-returns-3 c = search carried-repeat
+returns-3 c = search carried_repeat
 
 -- src/lib.rt:260:1
 same-length-6 : tie.Need-same-length-6
@@ -94,7 +94,7 @@ same-length-10 c = search rules
 
 -- src/lib.rt:260:1
 returns-4 : tie.Need-returns-4
-returns-4 c = search carried-keep
+returns-4 c = search carried_keep
 
 pub carry-spec : {M : Type 1} → statement M
 carry-spec =

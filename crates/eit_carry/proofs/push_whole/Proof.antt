@@ -1,4 +1,4 @@
-use Rattle.eit_carry.proofs.Ways.{whole-may, whole-done}
+use Rattle.eit_carry.proofs.Ways.{whole_may, whole_done}
 use borrow.Author.Rules.{rules}
 use Rattle.eit_carry.proofs.push_whole.Statement.{statement}
 use Rattle.eit_carry.proofs.push_whole.Tie as tie
@@ -13,7 +13,7 @@ plan-section-requires c κs = search rules
 
 -- src/lib.rt:136:5
 carry-requires : tie.Need-carry-requires
-carry-requires c κs = let a = c.before.before.before.before.before.before.before.before.before.before.before.before.before.before.before.before.before.args in let p = c.before.before.before.before.before.before.before.before.before.before.before.before.before.before.before.before.before.requires in whole-may a.eit a.heads.now a.slots.now a.cells.now a.schedule-heads.now a.units.now a.bytes.now a.a c.before.before.before.before.before.plan-section.result c.before.before.before.before.before.plan-section.ensures p.0 p.1.0 p.1.1
+carry-requires c κs = let a = c.before.before.before.before.before.before.before.before.before.before.before.before.before.before.before.before.before.args in let p = c.before.before.before.before.before.before.before.before.before.before.before.before.before.before.before.before.before.requires in whole_may a.eit a.heads.now a.slots.now a.cells.now a.schedule_heads.now a.units.now a.bytes.now a.a c.before.before.before.before.before.plan-section.result c.before.before.before.before.before.plan-section.ensures p.0 p.1.0 p.1.1
 
 -- src/lib.rt:120:1
 same_length : tie.Need-same-length
@@ -37,7 +37,7 @@ same-length-5 c = search rules
 
 -- src/lib.rt:120:1
 returns : tie.Need-returns
-returns c = search whole-done
+returns c = search whole_done
 
 pub push-whole-spec : {M : Type 1} → statement M
 push-whole-spec =

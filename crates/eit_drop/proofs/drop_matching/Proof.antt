@@ -1,4 +1,4 @@
-use Rattle.eit_drop.proofs.Laws.{matching-left}
+use Rattle.eit_drop.proofs.Laws.{matching_left}
 use borrow.Author.Rules.{rules}
 use Rattle.eit_drop.proofs.drop_matching.Statement.{statement}
 use Rattle.eit_drop.proofs.drop_matching.Tie as tie
@@ -42,7 +42,7 @@ same-length-4 c = search rules
 
 -- src/lib.rt:95:1
 returns : tie.Need-returns
-returns c = search matching-left
+returns c = search matching_left
 
 pub drop-matching-spec : {M : Type 1} → statement M
 drop-matching-spec =

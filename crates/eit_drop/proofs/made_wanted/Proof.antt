@@ -1,4 +1,4 @@
-use Rattle.eit_drop.proofs.Laws.{wanted-one, wanted-large}
+use Rattle.eit_drop.proofs.Laws.{wanted_one, wanted_large}
 use borrow.Author.Rules.{rules}
 use Rattle.eit_drop.proofs.made_wanted.Statement.{statement}
 use Rattle.eit_drop.proofs.made_wanted.Tie as tie
@@ -16,10 +16,10 @@ enum_told : tie.Need-enum-told
 enum_told c = search rules
 
 returns : tie.Need-returns
-returns c = search wanted-one
+returns c = search wanted_one
 
 returns-2 : tie.Need-returns-2
-returns-2 c = search wanted-large
+returns-2 c = search wanted_large
 
 pub made-wanted-spec : {M : Type 1} → statement M
 made-wanted-spec =

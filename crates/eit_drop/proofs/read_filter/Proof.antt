@@ -1,4 +1,4 @@
-use Rattle.eit_drop.proofs.Laws.{filter-refused, filter-matching}
+use Rattle.eit_drop.proofs.Laws.{filter_refused, filter_matching}
 use borrow.Author.Rules.{rules}
 use Rattle.eit_drop.proofs.read_filter.Statement.{statement}
 use Rattle.eit_drop.proofs.read_filter.Tie as tie
@@ -25,11 +25,11 @@ fields-of-requires c κs = search rules
 
 -- src/lib.rt:84:1
 returns : tie.Need-returns
-returns c = search filter-refused
+returns c = search filter_refused
 
 -- src/lib.rt:84:1
 returns-2 : tie.Need-returns-2
-returns-2 c = search filter-matching
+returns-2 c = search filter_matching
 
 pub read-filter-spec : {M : Type 1} → statement M
 read-filter-spec =

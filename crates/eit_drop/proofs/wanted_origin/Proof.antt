@@ -1,4 +1,4 @@
-use Rattle.eit_drop.proofs.Laws.{wanted-any, wanted-without, wanted-exactly}
+use Rattle.eit_drop.proofs.Laws.{wanted_any, wanted_without, wanted_exactly}
 use borrow.Author.Rules.{rules}
 use Rattle.eit_drop.proofs.wanted_origin.Statement.{statement}
 use Rattle.eit_drop.proofs.wanted_origin.Tie as tie
@@ -22,13 +22,13 @@ made-wanted-requires : tie.Need-made-wanted-requires
 made-wanted-requires c κs = search rules
 
 returns : tie.Need-returns
-returns c = search wanted-any
+returns c = search wanted_any
 
 returns-2 : tie.Need-returns-2
-returns-2 c = search wanted-without
+returns-2 c = search wanted_without
 
 returns-3 : tie.Need-returns-3
-returns-3 c = search wanted-exactly
+returns-3 c = search wanted_exactly
 
 pub wanted-origin-spec : {M : Type 1} → statement M
 wanted-origin-spec =

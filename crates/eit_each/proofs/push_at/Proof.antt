@@ -8,8 +8,8 @@ use Rattle.eit_each.proofs.push_at.Reads as reads
 use Rattle.eit_each.proofs.push_at.Lts as lts
 use Rattle.eit_ready.proofs.push_ready.Reads as push-ready-reads
 
-add-end : tie.Need-overflow-add-end
-add-end c = search rules
+add_end : tie.Need-overflow-add-end
+add_end c = search rules
 
 sub-push-ready : tie.Need-overflow-sub-push-ready
 sub-push-ready c = search rules
@@ -39,13 +39,13 @@ same-length-5 : tie.Need-same-length-5
 same-length-5 c = search rules
 
 returns : tie.Need-returns
-returns c = let a = c.before.before.before.before.before.before.before.before.before.before.before.before.before.before.before.before.before.before.before.before.before.before.before.before.args in let k = c.before.before.before.before.before.before.before.before.before.before.push-ready in (at_pushed (store a.eit a.heads.now a.slots.now a.cells.now a.schedule-heads.now a.units.now) a.list.now a.place (pushed k.result k.new.1.0 k.new.1.1.0 k.new.1.1.1.0 k.new.1.1.1.1.0 k.new.1.1.1.1.1.0) k.ensures.0, k.ensures.1)
+returns c = let a = c.before.before.before.before.before.before.before.before.before.before.before.before.before.before.before.before.before.before.before.before.before.before.before.before.args in let k = c.before.before.before.before.before.before.before.before.before.before.push-ready in (at_pushed (store a.eit a.heads.now a.slots.now a.cells.now a.schedule_heads.now a.units.now) a.list.now a.place (pushed k.result k.new.1.0 k.new.1.1.0 k.new.1.1.1.0 k.new.1.1.1.1.0 k.new.1.1.1.1.1.0) k.ensures.0, k.ensures.1)
 
 pub push-at-spec : {M : Type 1} → statement M
 push-at-spec =
     tie.close
     (tie.spec
-    add-end
+    add_end
     sub-push-ready
     part-push-ready-start
     part-push-ready-end

@@ -6,9 +6,9 @@ use lib.ListN.{length}
 use Rattle.eit_state.specs.State.{store}
 use Rattle.eit.specs.Store.{pushed}
 use Rattle.eit_ready.specs.Ready.{Pushable}
-use Rattle.log_list.specs.List.{givensFrom, WholeFrom}
-use Rattle.eit_each.specs.Each.{pushedEach}
-use Rattle.eit_each.proofs.Ways.{goes_on, stops, each-end, each_turn, each-stop}
+use Rattle.log_list.specs.List.{givens_from, WholeFrom}
+use Rattle.eit_each.specs.Each.{pushed_each}
+use Rattle.eit_each.proofs.Ways.{goes_on_lem, stops, each_end, each_turn, each_stop}
 use Rattle.eit_each.proofs.push_each.Statement.{statement}
 use Rattle.eit_each.proofs.push_each.Tie as tie
 use Rattle.eit_each.proofs.push_each.Reads as reads
@@ -18,7 +18,7 @@ use Rattle.eit_each.proofs.push_at.Reads as push-at-reads
 use Rattle.eit_state.proofs.PushAnswer.number.Reads as number-reads
 
 abbrev invariant-loop : tie.invariant-loop
-invariant-loop heads₀ slots₀ cells₀ schedule-heads₀ units₀ list from held₀ at₀ heads slots cells schedule-heads units held at = (length heads ≡ length heads₀) × (length slots ≡ length slots₀) × (length cells ≡ length cells₀) × (length schedule-heads ≡ length schedule-heads₀) × (length units ≡ length units₀) × Pushable (store held heads slots cells schedule-heads units) × WholeFrom list at × (pushedEach at (store held heads slots cells schedule-heads units) (givensFrom list at) ≡ pushedEach from (store held₀ heads₀ slots₀ cells₀ schedule-heads₀ units₀) (givensFrom list from))
+invariant-loop heads₀ slots₀ cells₀ schedule-heads₀ units₀ list from held₀ at₀ heads slots cells schedule-heads units held at = (length heads ≡ length heads₀) × (length slots ≡ length slots₀) × (length cells ≡ length cells₀) × (length schedule-heads ≡ length schedule-heads₀) × (length units ≡ length units₀) × Pushable (store held heads slots cells schedule-heads units) × WholeFrom list at × (pushed_each at (store held heads slots cells schedule-heads units) (givens_from list at) ≡ pushed_each from (store held₀ heads₀ slots₀ cells₀ schedule-heads₀ units₀) (givens_from list from))
 
 abbrev decreases-loop : tie.decreases-loop
 decreases-loop heads₀ slots₀ cells₀ schedule-heads₀ units₀ list from held₀ at₀ heads slots cells schedule-heads units held at = length list - at
@@ -54,13 +54,13 @@ same-length-5 : tie.Need-same-length-5 invariant-loop decreases-loop
 same-length-5 c = search rules
 
 returns : tie.Need-returns invariant-loop decreases-loop
-returns c = let a = c.before.before.before.before.before.before.before.before.before.before.before.before.before.before.before.before.before.before.before.before.before.before.before.before.before.before.before.before.before.args in let i = c.before.before.before.before.before.before.before.before.before.before.before.before.before.before.before.before.before.before.before.before.before.before.loop in let k = c.before.before.before.before.before.before.before.before.before.before.before.before.before.before.push_at in let l = pushed k.result k.new.1.0 k.new.1.1.0 k.new.1.1.1.0 k.new.1.1.1.1.0 k.new.1.1.1.1.1.0 in sym (each-stop a.list.now i.at (store i.held i.heads i.slots i.cells i.schedule-heads i.units) c.before.before.before.before.before.before.before.before.before.before.before.before.before.before.before.before.before.before.before.before.section-at.result c.before.before.before.before.before.before.before.before.before.before.before.before.before.before.before.before.before.before.before.before.section-at.ensures l k.ensures.0 (stops k.result.answer l.store c.before.number.result c.before.number.ensures c.if1.true)) ∙ i.invariant.7
+returns c = let a = c.before.before.before.before.before.before.before.before.before.before.before.before.before.before.before.before.before.before.before.before.before.before.before.before.before.before.before.before.before.args in let i = c.before.before.before.before.before.before.before.before.before.before.before.before.before.before.before.before.before.before.before.before.before.before.loop in let k = c.before.before.before.before.before.before.before.before.before.before.before.before.before.before.push_at in let l = pushed k.result k.new.1.0 k.new.1.1.0 k.new.1.1.1.0 k.new.1.1.1.1.0 k.new.1.1.1.1.1.0 in sym (each_stop a.list.now i.at (store i.held i.heads i.slots i.cells i.schedule_heads i.units) c.before.before.before.before.before.before.before.before.before.before.before.before.before.before.before.before.before.before.before.before.section-at.result c.before.before.before.before.before.before.before.before.before.before.before.before.before.before.before.before.before.before.before.before.section-at.ensures l k.ensures.0 (stops k.result.answer l.store c.before.number.result c.before.number.ensures c.if1.true)) ∙ i.invariant.7
 
 loop-less : tie.Need-loop-smaller invariant-loop decreases-loop
 loop-less c = let w = c.before.before.before.before.before.before.before.before.before.before.before.before.before.before.before.before.before.before.before.before.section-at.ensures in omega (arith, w.later, w.behind.within, c.before.before.before.before.before.before.before.before.before.before.before.before.before.before.before.before.before.before.before.before.before.loop-test.true)
 
 loop-again : tie.Need-loop-preserved invariant-loop decreases-loop
-loop-again c = let a = c.before.before.before.before.before.before.before.before.before.before.before.before.before.before.before.before.before.before.before.before.before.before.before.before.before.before.before.before.before.args in let i = c.before.before.before.before.before.before.before.before.before.before.before.before.before.before.before.before.before.before.before.before.before.before.loop in let k = c.before.before.before.before.before.before.before.before.before.before.before.before.before.before.push_at in let l = pushed k.result k.new.1.0 k.new.1.1.0 k.new.1.1.1.0 k.new.1.1.1.1.0 k.new.1.1.1.1.1.0 in (search rules, search rules, search rules, search rules, search rules, k.ensures.1, c.before.before.before.before.before.before.before.before.before.before.before.before.before.before.before.before.before.before.before.before.section-at.ensures.behind, sym (each_turn a.list.now i.at (store i.held i.heads i.slots i.cells i.schedule-heads i.units) c.before.before.before.before.before.before.before.before.before.before.before.before.before.before.before.before.before.before.before.before.section-at.result c.before.before.before.before.before.before.before.before.before.before.before.before.before.before.before.before.before.before.before.before.section-at.ensures l k.ensures.0 (goes_on k.result.answer l.store c.before.number.result c.before.number.ensures c.if1.false)) ∙ i.invariant.7)
+loop-again c = let a = c.before.before.before.before.before.before.before.before.before.before.before.before.before.before.before.before.before.before.before.before.before.before.before.before.before.before.before.before.before.args in let i = c.before.before.before.before.before.before.before.before.before.before.before.before.before.before.before.before.before.before.before.before.before.before.loop in let k = c.before.before.before.before.before.before.before.before.before.before.before.before.before.before.push_at in let l = pushed k.result k.new.1.0 k.new.1.1.0 k.new.1.1.1.0 k.new.1.1.1.1.0 k.new.1.1.1.1.1.0 in (search rules, search rules, search rules, search rules, search rules, k.ensures.1, c.before.before.before.before.before.before.before.before.before.before.before.before.before.before.before.before.before.before.before.before.section-at.ensures.behind, sym (each_turn a.list.now i.at (store i.held i.heads i.slots i.cells i.schedule_heads i.units) c.before.before.before.before.before.before.before.before.before.before.before.before.before.before.before.before.before.before.before.before.section-at.result c.before.before.before.before.before.before.before.before.before.before.before.before.before.before.before.before.before.before.before.before.section-at.ensures l k.ensures.0 (goes_on_lem k.result.answer l.store c.before.number.result c.before.number.ensures c.if1.false)) ∙ i.invariant.7)
 
 same-length-6 : tie.Need-same-length-6 invariant-loop decreases-loop
 same-length-6 c = search rules
@@ -78,7 +78,7 @@ same-length-10 : tie.Need-same-length-10 invariant-loop decreases-loop
 same-length-10 c = search rules
 
 returns-2 : tie.Need-returns-2 invariant-loop decreases-loop
-returns-2 c = let a = c.before.before.before.before.before.before.before.before.args in let i = c.before.loop in sym (each-end a.list.now i.at (store i.held i.heads i.slots i.cells i.schedule-heads i.units) c.loop-test.false) ∙ i.invariant.7
+returns-2 c = let a = c.before.before.before.before.before.before.before.before.args in let i = c.before.loop in sym (each_end a.list.now i.at (store i.held i.heads i.slots i.cells i.schedule_heads i.units) c.loop-test.false) ∙ i.invariant.7
 
 pub push-each-spec : {M : Type 1} → statement M
 push-each-spec =

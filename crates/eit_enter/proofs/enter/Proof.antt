@@ -1,4 +1,4 @@
-use Rattle.eit_enter.proofs.Ways.{room_row, room-heads, room-units, entered-done}
+use Rattle.eit_enter.proofs.Ways.{room_row, room_heads, room_units, entered_done}
 use mathlib.Core.Path.{refl}
 use borrow.Author.Rules.{rules}
 use Rattle.eit_enter.proofs.enter.Statement.{statement}
@@ -24,7 +24,7 @@ find-room-requires c κs = search rules
 
 -- src/lib.rt:156:5
 put-head-requires : tie.Need-put-head-requires
-put-head-requires c κs = (search room_row, search room-heads)
+put-head-requires c κs = (search room_row, search room_heads)
 
 -- src/lib.rt:157:61
 own-table-requires : tie.Need-own-table-requires
@@ -32,11 +32,11 @@ own-table-requires c κs = search rules
 
 -- src/lib.rt:157:5
 put-units-requires : tie.Need-put-units-requires
-put-units-requires c κs = (search (room-units, refl), search rules, search rules, search rules)
+put-units-requires c κs = (search (room_units, refl), search rules, search rules, search rules)
 
 -- src/lib.rt:158:33
 tables-there-requires : tie.Need-tables-there-requires
-tables-there-requires c κs = search room-units
+tables-there-requires c κs = search room_units
 
 -- src/lib.rt:158:9
 entered-answer-requires : tie.Need-entered-answer-requires
@@ -56,7 +56,7 @@ same-length-2 c = search rules
 
 -- src/lib.rt:134:1
 returns : tie.Need-returns
-returns c = search entered-done
+returns c = search entered_done
 
 pub enter_spec : {M : Type 1} → statement M
 enter_spec =

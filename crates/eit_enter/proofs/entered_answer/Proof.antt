@@ -1,4 +1,4 @@
-use Rattle.eit_enter.proofs.Ways.{answer-out}
+use Rattle.eit_enter.proofs.Ways.{answer_out}
 use borrow.Author.Rules.{rules}
 use Rattle.eit_enter.proofs.entered_answer.Statement.{statement}
 use Rattle.eit_enter.proofs.entered_answer.Tie as tie
@@ -7,7 +7,7 @@ use Rattle.eit_enter.proofs.entered_answer.Lts as lts
 
 -- src/lib.rt:123:1
 returns : tie.Need-returns
-returns c = search answer-out
+returns c = search answer_out
 
 -- src/lib.rt:123:1
 returns-2 : tie.Need-returns-2

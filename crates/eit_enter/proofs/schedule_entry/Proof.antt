@@ -1,4 +1,4 @@
-use Rattle.eit_enter.proofs.Ways.{entry-made}
+use Rattle.eit_enter.proofs.Ways.{entry_made}
 use borrow.Author.Rules.{rules}
 use Rattle.eit_enter.proofs.schedule_entry.Statement.{statement}
 use Rattle.eit_enter.proofs.schedule_entry.Tie as tie
@@ -12,7 +12,7 @@ with-table-requires c κs = search rules
 
 -- src/lib.rt:110:1
 returns : tie.Need-returns
-returns c = search entry-made
+returns c = search entry_made
 
 pub schedule-entry-spec : {M : Type 1} → statement M
 schedule-entry-spec = tie.close (tie.spec with-table-requires returns)

@@ -1,4 +1,4 @@
-use Rattle.eit_next.proofs.Ways.{row-none, row_in}
+use Rattle.eit_next.proofs.Ways.{row_none, row_in}
 use borrow.Author.Rules.{rules}
 use Rattle.eit_next.proofs.in_row.Statement.{statement}
 use Rattle.eit_next.proofs.in_row.Tie as tie
@@ -26,7 +26,7 @@ no-section-requires c κs = search rules
 
 -- src/lib.rt:10:1
 returns-2 : tie.Need-returns-2
-returns-2 c = search row-none
+returns-2 c = search row_none
 
 pub in-row-spec : {M : Type 1} → statement M
 in-row-spec =

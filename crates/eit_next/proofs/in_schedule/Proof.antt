@@ -1,4 +1,4 @@
-use Rattle.eit_next.proofs.Ways.{in-no-row, in-no-table, in_table}
+use Rattle.eit_next.proofs.Ways.{in_no_row, in_no_table, in_table}
 use borrow.Author.Rules.{rules}
 use Rattle.eit_next.proofs.in_schedule.Statement.{statement}
 use Rattle.eit_next.proofs.in_schedule.Tie as tie
@@ -14,7 +14,7 @@ no-section-requires c κs = search rules
 
 -- src/lib.rt:41:9
 returns : tie.Need-returns
-returns c = search in-no-row
+returns c = search in_no_row
 
 -- src/lib.rt:43:8
 tables-of-requires : tie.Need-tables-of-requires
@@ -26,7 +26,7 @@ no-section-requires-2 c κs = search rules
 
 -- src/lib.rt:44:9
 returns-2 : tie.Need-returns-2
-returns-2 c = search in-no-table
+returns-2 c = search in_no_table
 
 -- src/lib.rt:46:26
 mul-in-unit : tie.Need-overflow-mul-in-unit

@@ -1,4 +1,4 @@
-use Rattle.eit_next.proofs.Ways.{unit-there, unit-absent}
+use Rattle.eit_next.proofs.Ways.{unit_there, unit_absent}
 use borrow.Author.Rules.{rules}
 use Rattle.eit_next.proofs.in_unit.Statement.{statement}
 use Rattle.eit_next.proofs.in_unit.Tie as tie
@@ -23,7 +23,7 @@ next-slot-requires c κs = search rules
 
 -- src/lib.rt:266:9
 returns : tie.Need-returns
-returns c = search unit-there
+returns c = search unit_there
 
 -- src/lib.rt:268:5
 no-section-requires : tie.Need-no-section-requires
@@ -31,7 +31,7 @@ no-section-requires c κs = search rules
 
 -- src/lib.rt:261:1
 returns-2 : tie.Need-returns-2
-returns-2 c = search unit-absent
+returns-2 c = search unit_absent
 
 pub in-unit-spec : {M : Type 1} → statement M
 in-unit-spec =

@@ -1,4 +1,4 @@
-use Rattle.eit_pids.proofs.Heads.{either-without}
+use Rattle.eit_pids.proofs.Heads.{either_without}
 use borrow.Author.Rules.{rules}
 use Rattle.eit_pids.proofs.any_row_without_pid.Statement.{statement}
 use Rattle.eit_pids.proofs.any_row_without_pid.Tie as tie
@@ -16,7 +16,7 @@ any-without-pid-requires-2 c κs = search rules
 
 -- src/lib.rt:7:1
 returns : tie.Need-returns
-returns c = search either-without
+returns c = search either_without
 
 pub any-row-without-pid-spec : {M : Type 1} → statement M
 any-row-without-pid-spec =

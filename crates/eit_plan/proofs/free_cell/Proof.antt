@@ -1,5 +1,5 @@
 use Rattle.eit_state.specs.State.{rows}
-use Rattle.eit_plan.proofs.Plans.{cell-conflict, cell-repeat, cell-goes}
+use Rattle.eit_plan.proofs.Plans.{cell_conflict, cell_repeat, cell_goes}
 use borrow.Author.Rules.{rules}
 use Rattle.eit_plan.proofs.free_cell.Statement.{statement}
 use Rattle.eit_plan.proofs.free_cell.Tie as tie
@@ -30,15 +30,15 @@ lowest-free-requires c κs = search rules
 
 -- src/lib.rt:36:1
 returns : tie.Need-returns
-returns c = let a = c.before.before.before.before.before.before.before.args in cell-conflict (rows a.eit a.heads.now a.slots.now a.schedule-heads.now a.units.now) a.place c.enum_told.given.0.0 c.enum_told.given.1
+returns c = let a = c.before.before.before.before.before.before.before.args in cell_conflict (rows a.eit a.heads.now a.slots.now a.schedule_heads.now a.units.now) a.place c.enum_told.given.0.0 c.enum_told.given.1
 
 -- src/lib.rt:36:1
 returns-2 : tie.Need-returns-2
-returns-2 c = let a = c.before.before.before.before.before.before.before.args in cell-repeat (rows a.eit a.heads.now a.slots.now a.schedule-heads.now a.units.now) a.place c.enum-told2.given.0.0 c.enum-told2.given.1
+returns-2 c = let a = c.before.before.before.before.before.before.before.args in cell_repeat (rows a.eit a.heads.now a.slots.now a.schedule_heads.now a.units.now) a.place c.enum-told2.given.0.0 c.enum-told2.given.1
 
 -- src/lib.rt:36:1
 returns-3 : tie.Need-returns-3
-returns-3 c = search cell-goes
+returns-3 c = search cell_goes
 
 pub free-cell-spec : {M : Type 1} → statement M
 free-cell-spec =

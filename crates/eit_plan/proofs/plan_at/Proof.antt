@@ -1,4 +1,4 @@
-use Rattle.eit_plan.proofs.Plans.{at-conflict, at-repeat, at-cell, at_none}
+use Rattle.eit_plan.proofs.Plans.{at_conflict, at_repeat, at_cell, at_none}
 use borrow.Author.Rules.{rules}
 use Rattle.eit_plan.proofs.plan_at.Statement.{statement}
 use Rattle.eit_plan.proofs.plan_at.Tie as tie
@@ -19,15 +19,15 @@ enum-known-place-3 c = search rules
 
 -- src/lib.rt:77:17
 returns : tie.Need-returns
-returns c = search at-cell
+returns c = search at_cell
 
 -- src/lib.rt:69:1
 returns-2 : tie.Need-returns-2
-returns-2 c = search at-conflict
+returns-2 c = search at_conflict
 
 -- src/lib.rt:69:1
 returns-3 : tie.Need-returns-3
-returns-3 c = search at-repeat
+returns-3 c = search at_repeat
 
 -- src/lib.rt:69:1
 returns-4 : tie.Need-returns-4

@@ -1,5 +1,5 @@
 use lib.ListN.{length}
-use Rattle.eit_repeats.proofs.Ways.{column-may}
+use Rattle.eit_repeats.proofs.Ways.{column_may}
 use borrow.Author.Rules.{rules}
 use Rattle.eit_repeats.proofs.push_first.Statement.{statement}
 use Rattle.eit_repeats.proofs.push_first.Tie as tie
@@ -24,7 +24,7 @@ slice-aggregate-fill c = search rules
 
 -- src/lib.rt:152:9
 fill-requires : tie.Need-fill-requires
-fill-requires c κs = let a = c.before.before.before.before.before.before.before.before.before.before.args in column-may a.eit.sets a.heads.now a.slots.now a.cells.now c.before.before.room.result (length a.list.now) c.before.before.before.before.pays.result c.before.before.room.ensures c.before.before.before.before.pays.ensures c.before.before.before.if1.true c.before.before.before.before.before.before.before.before.before.before.requires.0
+fill-requires c κs = let a = c.before.before.before.before.before.before.before.before.before.before.args in column_may a.eit.sets a.heads.now a.slots.now a.cells.now c.before.before.room.result (length a.list.now) c.before.before.before.before.pays.result c.before.before.room.ensures c.before.before.before.before.pays.ensures c.before.before.before.if1.true c.before.before.before.before.before.before.before.before.before.before.requires.0
 
 -- src/lib.rt:153:55
 slice-aggregate-push-repeats : tie.Need-slice-aggregate-push-repeats
@@ -32,7 +32,7 @@ slice-aggregate-push-repeats c = search rules
 
 -- src/lib.rt:153:9
 push-repeats-requires : tie.Need-push-repeats-requires
-push-repeats-requires c κs = let a = c.before.before.before.before.before.before.before.before.before.before.before.before.before.before.args in let m = (column-may a.eit.sets a.heads.now a.slots.now a.cells.now c.before.before.before.before.before.before.room.result (length a.list.now) c.before.before.before.before.before.before.before.before.pays.result c.before.before.before.before.before.before.room.ensures c.before.before.before.before.before.before.before.before.pays.ensures c.before.before.before.before.before.before.before.if1.true c.before.before.before.before.before.before.before.before.before.before.before.before.before.before.requires.0).0 in (record { whole = c.before.before.before.before.before.before.before.before.before.before.before.before.before.before.requires.0; long = search rules; tells = c.before.before.before.fill.ensures }, c.before.before.before.before.before.before.before.before.before.before.before.before.before.before.requires.1)
+push-repeats-requires c κs = let a = c.before.before.before.before.before.before.before.before.before.before.before.before.before.before.args in let m = (column_may a.eit.sets a.heads.now a.slots.now a.cells.now c.before.before.before.before.before.before.room.result (length a.list.now) c.before.before.before.before.before.before.before.before.pays.result c.before.before.before.before.before.before.room.ensures c.before.before.before.before.before.before.before.before.pays.ensures c.before.before.before.before.before.before.before.if1.true c.before.before.before.before.before.before.before.before.before.before.before.before.before.before.requires.0).0 in (record { whole = c.before.before.before.before.before.before.before.before.before.before.before.before.before.before.requires.0; long = search rules; tells = c.before.before.before.fill.ensures }, c.before.before.before.before.before.before.before.before.before.before.before.before.before.before.requires.1)
 
 -- src/lib.rt:153:9
 same_length : tie.Need-same-length

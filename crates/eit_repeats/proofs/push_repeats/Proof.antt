@@ -3,9 +3,9 @@ use mathlib.Core.Path.{◌≡◌, refl}
 use lib.ListN.{length}
 use native.Mathlib.Omega.{arith}
 use borrow.Author.Rules.{rules}
-use Rattle.log_list.specs.List.{givenAt}
+use Rattle.log_list.specs.List.{given_at}
 use Rattle.eit_repeats.specs.Repeats.{Searchable, Passed}
-use Rattle.eit_repeats.proofs.Ways.{searchable-touched, repeat_runs, passed_none, passed-more}
+use Rattle.eit_repeats.proofs.Ways.{searchable_touched, repeat_runs, passed_none, passed_more}
 use Rattle.eit_repeats.proofs.push_repeats.Statement.{statement}
 use Rattle.eit_repeats.proofs.push_repeats.Tie as tie
 use Rattle.eit_repeats.proofs.push_repeats.Reads as reads
@@ -43,11 +43,11 @@ returns c = c.before.before.before.before.before.before.before.loop.invariant.2
 
 -- src/lib.rt:115:9
 risen-requires : tie.Need-risen-requires invariant-loop decreases-loop
-risen-requires c κs = let a = c.before.before.before.before.before.before.before.before.before.before.before.before.before.args in let i = c.before.before.before.before.before.before.before.loop in repeat_runs i.held i.heads a.slots.now a.cells.now (givenAt a.list.now c.before.before.before.before.before.section-at.result) c.before.before.before.row_at.result (c.before.before.before.row_at.ensures c.if1.false)
+risen-requires c κs = let a = c.before.before.before.before.before.before.before.before.before.before.before.before.before.args in let i = c.before.before.before.before.before.before.before.loop in repeat_runs i.held i.heads a.slots.now a.cells.now (given_at a.list.now c.before.before.before.before.before.section-at.result) c.before.before.before.row_at.result (c.before.before.before.row_at.ensures c.if1.false)
 
 -- src/lib.rt:117:9
 touch-requires : tie.Need-touch-requires invariant-loop decreases-loop
-touch-requires c κs = let w = c.before.before.before.before.before.before.before.before.before.before.loop.invariant.1.whole in omega (arith, w.used, w.heads-long, c.before.before.before.if1.false)
+touch-requires c κs = let w = c.before.before.before.before.before.before.before.before.before.before.loop.invariant.1.whole in omega (arith, w.used, w.heads_long, c.before.before.before.if1.false)
 
 -- src/lib.rt:118:14
 add_at : tie.Need-overflow-add-at invariant-loop decreases-loop
@@ -59,7 +59,7 @@ loop-less c = let w = c.before.before.before.before.before.before.before.before.
 
 -- src/lib.rt:108:5
 loop-again : tie.Need-loop-preserved invariant-loop decreases-loop
-loop-again c = let a = c.before.before.before.before.before.before.before.before.before.before.before.before.before.before.before.before.before.before.before.before.args in let i = c.before.before.before.before.before.before.before.before.before.before.before.before.before.before.loop in let o = c.before.before.before.before.before.before.before.before.before.before.row_at.ensures c.before.before.before.before.before.before.before.if1.false in (search rules, searchable-touched i.held c.before.before.before.before.before.before.risen.result i.heads a.slots.now a.cells.now a.tags.now c.before.before.before.touch.new.0 c.before.before.before.before.before.before.before.before.before.before.row_at.result c.before.before.before.before.before.before.risen.ensures c.before.before.before.touch.ensures i.invariant.1, passed-more a.list.now a.slots.now a.cells.now a.eit a.heads.now i.held i.heads i.at c.before.before.before.before.before.before.before.before.before.before.before.before.section-at.result c.before.before.before.before.before.before.before.before.before.before.row_at.result c.before.before.before.before.before.before.risen.result c.before.before.before.touch.new.0 i.invariant.2 c.before.before.before.before.before.before.before.before.before.before.before.before.section-at.ensures o c.before.before.before.before.before.before.risen.ensures c.before.before.before.touch.ensures)
+loop-again c = let a = c.before.before.before.before.before.before.before.before.before.before.before.before.before.before.before.before.before.before.before.before.args in let i = c.before.before.before.before.before.before.before.before.before.before.before.before.before.before.loop in let o = c.before.before.before.before.before.before.before.before.before.before.row_at.ensures c.before.before.before.before.before.before.before.if1.false in (search rules, searchable_touched i.held c.before.before.before.before.before.before.risen.result i.heads a.slots.now a.cells.now a.tags.now c.before.before.before.touch.new.0 c.before.before.before.before.before.before.before.before.before.before.row_at.result c.before.before.before.before.before.before.risen.ensures c.before.before.before.touch.ensures i.invariant.1, passed_more a.list.now a.slots.now a.cells.now a.eit a.heads.now i.held i.heads i.at c.before.before.before.before.before.before.before.before.before.before.before.before.section-at.result c.before.before.before.before.before.before.before.before.before.before.row_at.result c.before.before.before.before.before.before.risen.result c.before.before.before.touch.new.0 i.invariant.2 c.before.before.before.before.before.before.before.before.before.before.before.before.section-at.ensures o c.before.before.before.before.before.before.risen.ensures c.before.before.before.touch.ensures)
 
 -- src/lib.rt:94:1
 same-length-2 : tie.Need-same-length-2 invariant-loop decreases-loop

@@ -1,4 +1,4 @@
-use Rattle.eit_repeats.proofs.Ways.{repeat-at}
+use Rattle.eit_repeats.proofs.Ways.{repeat_at}
 use borrow.Author.Rules.{rules}
 use Rattle.eit_repeats.proofs.row_at.Statement.{statement}
 use Rattle.eit_repeats.proofs.row_at.Tie as tie
@@ -7,8 +7,8 @@ use Rattle.eit_repeats.proofs.row_at.Lts as lts
 use Rattle.eit_repeats.proofs.row_repeated.Reads as row-repeated-reads
 
 -- src/lib.rt:105:15
-add-end : tie.Need-overflow-add-end
-add-end c = search rules
+add_end : tie.Need-overflow-add-end
+add_end c = search rules
 
 -- src/lib.rt:114:9
 sub-row-repeated : tie.Need-overflow-sub-row-repeated
@@ -28,13 +28,13 @@ row-repeated-requires c κs = search rules
 
 -- src/lib.rt:91:1
 returns : tie.Need-returns
-returns c = λ h. let a = c.before.before.before.before.before.before.before.before.args in repeat-at a.eit a.heads.now a.slots.now a.cells.now a.list.now a.place c.row-repeated.result (c.row-repeated.ensures h)
+returns c = λ h. let a = c.before.before.before.before.before.before.before.before.args in repeat_at a.eit a.heads.now a.slots.now a.cells.now a.list.now a.place c.row-repeated.result (c.row-repeated.ensures h)
 
 pub row-at-spec : {M : Type 1} → statement M
 row-at-spec =
     tie.close
     (tie.spec
-    add-end
+    add_end
     sub-row-repeated
     part-row-repeated-start
     part-row-repeated-end

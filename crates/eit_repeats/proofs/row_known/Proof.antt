@@ -1,5 +1,5 @@
 use native.Mathlib.Omega.{arith}
-use Rattle.eit_repeats.proofs.Ways.{row-long, row-known}
+use Rattle.eit_repeats.proofs.Ways.{row_long, row_known}
 use borrow.Author.Rules.{rules}
 use Rattle.eit_repeats.proofs.row_known.Statement.{statement}
 use Rattle.eit_repeats.proofs.row_known.Tie as tie
@@ -39,7 +39,7 @@ enum-known-row c = search rules
 
 -- src/lib.rt:57:37
 becomes-of-requires : tie.Need-becomes-of-requires
-becomes-of-requires c κs = let a = c.before.before.before.before.before.before.before.before.before.before.before.before.before.before.args in row-long a.sets a.heads.now a.slots.now a.cells.now a.tags.now a.bytes.now a.a c.before.before.before.before.before.before.before.before.before.before.before.before.before.before.requires.0 c.before.before.before.before.before.find.result c.before.before.before.before.before.find.ensures c.before.before.before.before.if2.false c.before.before.before.place-known.result c.before.before.before.place-known.ensures c.before.row.given.0.0 c.before.row.given.1
+becomes-of-requires c κs = let a = c.before.before.before.before.before.before.before.before.before.before.before.before.before.before.args in row_long a.sets a.heads.now a.slots.now a.cells.now a.tags.now a.bytes.now a.a c.before.before.before.before.before.before.before.before.before.before.before.before.before.before.requires.0 c.before.before.before.before.before.find.result c.before.before.before.before.before.find.ensures c.before.before.before.before.if2.false c.before.before.before.place-known.result c.before.before.before.place-known.ensures c.before.row.given.0.0 c.before.row.given.1
 
 -- src/lib.rt:58:31
 enum-told-3 : tie.Need-enum-told-3
@@ -67,7 +67,7 @@ returns-4 c = λ h. absurd (omega arith)
 
 -- src/lib.rt:32:1
 returns-5 : tie.Need-returns-5
-returns-5 c = λ h. let a = c.before.before.before.before.before.before.before.before.before.before.before.before.before.before.before.before.before.args in row-known a.sets a.heads.now a.slots.now a.cells.now a.tags.now a.bytes.now a.a c.before.before.before.before.before.before.before.before.before.before.before.before.before.before.before.before.before.requires.0 c.before.before.before.before.before.before.before.before.find.result c.before.before.before.before.before.before.before.before.find.ensures c.before.before.before.before.before.before.before.if2.false c.before.before.before.before.before.before.place-known.result c.before.before.before.before.before.before.place-known.ensures c.before.before.before.before.row.given.0.0 c.before.before.before.before.row.given.1 c.before.before.before.before.before.before.before.before.before.before.if1.false c.before.before.becomes-of.result c.before.before.becomes-of.ensures c.enum-told3.given.1
+returns-5 c = λ h. let a = c.before.before.before.before.before.before.before.before.before.before.before.before.before.before.before.before.before.args in row_known a.sets a.heads.now a.slots.now a.cells.now a.tags.now a.bytes.now a.a c.before.before.before.before.before.before.before.before.before.before.before.before.before.before.before.before.before.requires.0 c.before.before.before.before.before.before.before.before.find.result c.before.before.before.before.before.before.before.before.find.ensures c.before.before.before.before.before.before.before.if2.false c.before.before.before.before.before.before.place-known.result c.before.before.before.before.before.before.place-known.ensures c.before.before.before.before.row.given.0.0 c.before.before.before.before.row.given.1 c.before.before.before.before.before.before.before.before.before.before.if1.false c.before.before.becomes-of.result c.before.before.becomes-of.ensures c.enum-told3.given.1
 
 -- src/lib.rt:32:1
 returns-6 : tie.Need-returns-6

@@ -2,14 +2,14 @@
 use mathlib.Core.Path.{◌∙◌, sym}
 use native.Mathlib.Omega.{arith}
 use lib.ListN.{length}
-use Rattle.laws.proofs.Entries.{entries-empty, entries-short, entries-past, entries-more}
-use Rattle.laws.proofs.Lists.{rest_part, rest-length}
+use Rattle.laws.proofs.Entries.{entries_empty, entries_short, entries_past, entries_more}
+use Rattle.laws.proofs.Lists.{rest_part, rest_length}
 use Prim.Native.Nat.{ℕ, ◌<◌}
 use borrow.Fn.Kinds.{In}
 use borrow.Fn.PlainCycle.{Measures, is, falls, and}
 use Rattle.eit_section.proofs.events.Reads as events
-use Rattle.eit_section.proofs.events.Kinds as events-kinds
-use Rattle.eit_section.proofs.+events.Lts-events as events-lts
+use Rattle.eit_section.proofs.events.Kinds as events_kinds
+use Rattle.eit_section.proofs.+events.Lts-events as events_lts
 use Rattle.eit_section.proofs.event_size.Reads as event-size-reads
 use Rattle.eit_section.proofs.+events.{statement}
 use Rattle.eit_section.proofs.+events.Tie.{close}
@@ -29,7 +29,7 @@ events-returns : (t : ℕ) → events-lts.Need-returns (
   events-below t,
   events.Post,
 ) (events-at t) events.Post
-events-returns t c = sym (entries-empty 12 (omega arith) _ c.if1.true)
+events-returns t c = sym (entries_empty 12 (omega arith) _ c.if1.true)
 
 events-returns-2 : (t : ℕ) → events-lts.Need-returns-2 (
   event-size-reads.Asked,
@@ -37,7 +37,7 @@ events-returns-2 : (t : ℕ) → events-lts.Need-returns-2 (
   events-below t,
   events.Post,
 ) (events-at t) events.Post
-events-returns-2 t c = sym (entries-short 12 (omega arith) _ c.before.if1.false c.if2.true)
+events-returns-2 t c = sym (entries_short 12 (omega arith) _ c.before.if1.false c.if2.true)
 
 events-event-size-requires : (t : ℕ) → events-lts.Need-event-size-requires (
   event-size-reads.Asked,
@@ -53,7 +53,7 @@ events-returns-3 : (t : ℕ) → events-lts.Need-returns-3 (
   events-below t,
   events.Post,
 ) (events-at t) events.Post
-events-returns-3 t c = sym (entries-past 12 (omega arith) _ c.before.before.if2.false (omega arith))
+events-returns-3 t c = sym (entries_past 12 (omega arith) _ c.before.before.if2.false (omega arith))
 
 events-sub-events : (t : ℕ) → events-lts.Need-overflow-sub-events (
   event-size-reads.Asked,
@@ -85,7 +85,7 @@ events-events-requires : (t : ℕ) → events-lts.Need-events-requires (
   events-below t,
   events.Post,
 ) (events-at t) events.Post
-events-events-requires t c κs = (omega (arith, rest-length c.before.before.event-size.result c.before.before.before.before.before.before.args.s.now), tt)
+events-events-requires t c κs = (omega (arith, rest_length c.before.before.event-size.result c.before.before.before.before.before.before.args.s.now), tt)
 
 events-returns-4 : (t : ℕ) → events-lts.Need-returns-4 (
   event-size-reads.Asked,
@@ -94,7 +94,7 @@ events-returns-4 : (t : ℕ) → events-lts.Need-returns-4 (
   events.Post,
 ) (events-at t) events.Post
 events-returns-4 t c = let s = c.before.before.before.before.before.before.before.args.s.now in
-    c.events.ensures ∙ rw (rest_part, c.before.before.before.event-size.ensures) (sym (entries-more 12 (omega arith) s c.before.before.before.before.if2.false (omega arith)))
+    c.events.ensures ∙ rw (rest_part, c.before.before.before.event-size.ensures) (sym (entries_more 12 (omega arith) s c.before.before.before.before.if2.false (omega arith)))
 
 pub +events-spec : {M : Type 1} → statement M
 +events-spec = close μ-events λ t. events-lts.spec (

@@ -1,11 +1,11 @@
 -- `eit_section::is_laid_out` meets its contract. Assumes nothing.
-use Rattle.eit_section.proofs.Laws.{layout-short, layout-events}
+use Rattle.eit_section.proofs.Laws.{layout_short, layout_events}
 use borrow.Author.Rules.{rules}
 use Rattle.eit_section.proofs.is_laid_out.Statement.{statement}
 use Rattle.eit_section.proofs.is_laid_out.Tie as tie
 
 returns : tie.Need-returns
-returns c = search layout-short
+returns c = search layout_short
 
 sub-crc : tie.Need-overflow-sub-crc
 sub-crc c = search rules
@@ -23,7 +23,7 @@ events-requires : tie.Need-events-requires
 events-requires c κs = search rules
 
 returns-2 : tie.Need-returns-2
-returns-2 c = search layout-events
+returns-2 c = search layout_events
 
 pub is-laid-out-spec : {M : Type 1} → statement M
 is-laid-out-spec =

@@ -1,4 +1,4 @@
-use Rattle.eit_section.proofs.Laws.{read-broken, read-good, layout-long}
+use Rattle.eit_section.proofs.Laws.{read_broken, read_good, layout_long}
 use borrow.Author.Rules.{rules}
 use Rattle.eit_section.proofs.read_as.Statement.{statement}
 use Rattle.eit_section.proofs.read_as.Tie as tie
@@ -13,15 +13,15 @@ is-laid-out-requires c κs = search rules
 
 -- src/lib.rt:74:9
 returns : tie.Need-returns
-returns c = search read-broken
+returns c = search read_broken
 
 -- src/lib.rt:76:19
 fields-requires : tie.Need-fields-requires
-fields-requires c κs = search layout-long
+fields-requires c κs = search layout_long
 
 -- src/lib.rt:70:1
 returns-2 : tie.Need-returns-2
-returns-2 c = search read-good
+returns-2 c = search read_good
 
 pub read-as-spec : {M : Type 1} → statement M
 read-as-spec = tie.close (tie.spec is-laid-out-requires returns fields-requires returns-2)

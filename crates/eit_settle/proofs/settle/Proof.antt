@@ -1,4 +1,4 @@
-use Rattle.eit_settle.proofs.Ways.{settle-done}
+use Rattle.eit_settle.proofs.Ways.{settle_done}
 use borrow.Author.Rules.{rules}
 use Rattle.eit_settle.proofs.settle.Statement.{statement}
 use Rattle.eit_settle.proofs.settle.Tie as tie
@@ -44,7 +44,7 @@ same-length-3 c = search rules
 
 -- src/lib.rt:190:1
 returns : tie.Need-returns
-returns c = search settle-done
+returns c = search settle_done
 
 pub settle-spec : {M : Type 1} → statement M
 settle-spec =

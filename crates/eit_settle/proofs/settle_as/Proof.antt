@@ -1,4 +1,4 @@
-use Rattle.eit_settle.proofs.Ways.{as-stays, as-out, as-range, as-entered}
+use Rattle.eit_settle.proofs.Ways.{as_stays, as_out, as_range, as_entered}
 use borrow.Author.Rules.{rules}
 use Rattle.eit_settle.proofs.settle_as.Statement.{statement}
 use Rattle.eit_settle.proofs.settle_as.Tie as tie
@@ -28,15 +28,15 @@ enter-requires c κs = search rules
 
 -- src/lib.rt:37:1
 returns : tie.Need-returns
-returns c = search as-stays
+returns c = search as_stays
 
 -- src/lib.rt:37:1
 returns-2 : tie.Need-returns-2
-returns-2 c = search as-out
+returns-2 c = search as_out
 
 -- src/lib.rt:37:1
 returns-3 : tie.Need-returns-3
-returns-3 c = search as-range
+returns-3 c = search as_range
 
 -- src/lib.rt:37:1
 same_length : tie.Need-same-length
@@ -48,7 +48,7 @@ same-length-2 c = search rules
 
 -- src/lib.rt:37:1
 returns-4 : tie.Need-returns-4
-returns-4 c = search as-entered
+returns-4 c = search as_entered
 
 pub settle-as-spec : {M : Type 1} → statement M
 settle-as-spec =

@@ -1,4 +1,4 @@
-use Rattle.eit_state.proofs.Ways.{cleared-yes, cleared-no}
+use Rattle.eit_state.proofs.Ways.{cleared_yes, cleared_no}
 use borrow.Author.Rules.{rules}
 use Rattle.eit_state.proofs.cleared.Statement.{statement}
 use Rattle.eit_state.proofs.cleared.Tie as tie
@@ -17,11 +17,11 @@ with-schedules-requires c κs = search rules
 
 -- src/lib.rt:188:9
 returns : tie.Need-returns
-returns c = search cleared-yes
+returns c = search cleared_yes
 
 -- src/lib.rt:182:1
 returns-2 : tie.Need-returns-2
-returns-2 c = search cleared-no
+returns-2 c = search cleared_no
 
 pub cleared-spec : {M : Type 1} → statement M
 cleared-spec = tie.close (tie.spec with-sets-requires with-schedules-requires returns returns-2)

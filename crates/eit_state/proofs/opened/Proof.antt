@@ -1,4 +1,4 @@
-use Rattle.eit_state.proofs.Ways.{opened-yes, opened-no}
+use Rattle.eit_state.proofs.Ways.{opened_yes, opened_no}
 use borrow.Author.Rules.{rules}
 use Rattle.eit_state.proofs.opened.Statement.{statement}
 use Rattle.eit_state.proofs.opened.Tie as tie
@@ -12,11 +12,11 @@ settings-fit-requires c κs = search rules
 
 -- src/lib.rt:170:9
 returns : tie.Need-returns
-returns c = search opened-yes
+returns c = search opened_yes
 
 -- src/lib.rt:145:1
 returns-2 : tie.Need-returns-2
-returns-2 c = search opened-no
+returns-2 c = search opened_no
 
 pub opened-spec : {M : Type 1} → statement M
 opened-spec = tie.close (tie.spec settings-fit-requires returns returns-2)

@@ -1,5 +1,5 @@
 use mathlib.Core.Path.{refl}
-use Rattle.entry_words.specs.Words.{descriptorWords}
+use Rattle.entry_words.specs.Words.{descriptor_words}
 use Rattle.entry_words.proofs.descriptor_words.Statement.{statement}
 use Rattle.entry_words.proofs.descriptor_words.Tie as tie
 use Rattle.entry_words.proofs.descriptor_words.Reads as reads
@@ -7,7 +7,7 @@ use Rattle.entry_words.proofs.descriptor_words.Lts as lts
 
 -- src/lib.rt:128:1
 returns : tie.Need-returns
-unfolding descriptorWords
+unfolding descriptor_words
 returns c = refl
 
 pub descriptor-words-spec : {M : Type 1} → statement M

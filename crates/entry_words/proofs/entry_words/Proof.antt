@@ -1,4 +1,4 @@
-use Rattle.entry_words.proofs.Laws.{entry-event, entry-stream, entry-service, entry-plain}
+use Rattle.entry_words.proofs.Laws.{entry_event, entry_stream, entry_service, entry_plain}
 use borrow.Author.Rules.{rules}
 use Rattle.entry_words.proofs.entry_words.Statement.{statement}
 use Rattle.entry_words.proofs.entry_words.Tie as tie
@@ -20,7 +20,7 @@ event-words-requires c κs = search rules
 
 -- src/lib.rt:170:9
 returns : tie.Need-returns
-returns c = search entry-event
+returns c = search entry_event
 
 -- src/lib.rt:173:9
 stream-words-requires : tie.Need-stream-words-requires
@@ -28,7 +28,7 @@ stream-words-requires c κs = search rules
 
 -- src/lib.rt:173:9
 returns-2 : tie.Need-returns-2
-returns-2 c = search entry-stream
+returns-2 c = search entry_stream
 
 -- src/lib.rt:176:9
 service-words-requires : tie.Need-service-words-requires
@@ -36,7 +36,7 @@ service-words-requires c κs = search rules
 
 -- src/lib.rt:176:9
 returns-3 : tie.Need-returns-3
-returns-3 c = search entry-service
+returns-3 c = search entry_service
 
 -- src/lib.rt:178:5
 plain-words-requires : tie.Need-plain-words-requires
@@ -44,7 +44,7 @@ plain-words-requires c κs = search rules
 
 -- src/lib.rt:165:1
 returns-4 : tie.Need-returns-4
-returns-4 c = search entry-plain
+returns-4 c = search entry_plain
 
 pub entry-words-spec : {M : Type 1} → statement M
 entry-words-spec =

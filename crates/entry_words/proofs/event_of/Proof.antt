@@ -1,4 +1,4 @@
-use Rattle.entry_words.proofs.Laws.{event-read}
+use Rattle.entry_words.proofs.Laws.{event_read}
 use borrow.Author.Rules.{rules}
 use Rattle.entry_words.proofs.event_of.Statement.{statement}
 use Rattle.entry_words.proofs.event_of.Tie as tie
@@ -71,7 +71,7 @@ count-requires c κs = search rules
 
 -- src/lib.rt:43:1
 returns : tie.Need-returns
-returns c = (search event-read, search rules)
+returns c = (search event_read, search rules)
 
 pub event-of-spec : {M : Type 1} → statement M
 event-of-spec =

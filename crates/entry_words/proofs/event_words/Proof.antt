@@ -1,4 +1,4 @@
-use Rattle.entry_words.proofs.Laws.{event-told}
+use Rattle.entry_words.proofs.Laws.{event_told}
 use borrow.Author.Rules.{rules}
 use Rattle.entry_words.proofs.event_words.Statement.{statement}
 use Rattle.entry_words.proofs.event_words.Tie as tie
@@ -37,7 +37,7 @@ flag-word-requires c κs = search rules
 
 -- src/lib.rt:74:1
 returns : tie.Need-returns
-returns c = search event-told
+returns c = search event_told
 
 pub event-words-spec : {M : Type 1} → statement M
 event-words-spec =

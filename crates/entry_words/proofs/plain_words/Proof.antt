@@ -1,4 +1,4 @@
-use Rattle.entry_words.proofs.Laws.{plain-told}
+use Rattle.entry_words.proofs.Laws.{plain_told}
 use borrow.Author.Rules.{rules}
 use Rattle.entry_words.proofs.plain_words.Statement.{statement}
 use Rattle.entry_words.proofs.plain_words.Tie as tie
@@ -25,7 +25,7 @@ cast-t7 c = search rules
 
 -- src/lib.rt:96:1
 returns : tie.Need-returns
-returns c = search plain-told
+returns c = search plain_told
 
 pub plain-words-spec : {M : Type 1} → statement M
 plain-words-spec = tie.close (tie.spec word-requires cast-t5 count-requires cast-t7 returns)

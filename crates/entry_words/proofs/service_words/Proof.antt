@@ -1,4 +1,4 @@
-use Rattle.entry_words.proofs.Laws.{service-told}
+use Rattle.entry_words.proofs.Laws.{service_told}
 use borrow.Author.Rules.{rules}
 use Rattle.entry_words.proofs.service_words.Statement.{statement}
 use Rattle.entry_words.proofs.service_words.Tie as tie
@@ -50,7 +50,7 @@ byte-word-requires-3 c κs = search rules
 
 -- src/lib.rt:149:1
 returns : tie.Need-returns
-returns c = search service-told
+returns c = search service_told
 
 pub service-words-spec : {M : Type 1} → statement M
 service-words-spec =

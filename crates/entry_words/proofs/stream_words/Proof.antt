@@ -1,4 +1,4 @@
-use Rattle.entry_words.proofs.Laws.{stream-told}
+use Rattle.entry_words.proofs.Laws.{stream_told}
 use borrow.Author.Rules.{rules}
 use Rattle.entry_words.proofs.stream_words.Statement.{statement}
 use Rattle.entry_words.proofs.stream_words.Tie as tie
@@ -33,7 +33,7 @@ cast-t9 c = search rules
 
 -- src/lib.rt:123:1
 returns : tie.Need-returns
-returns c = search stream-told
+returns c = search stream_told
 
 pub stream-words-spec : {M : Type 1} → statement M
 stream-words-spec =

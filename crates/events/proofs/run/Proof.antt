@@ -1,6 +1,6 @@
 use borrow.Author.Rules.{rules}
 use borrow.Author.Tests.{ltb-true}
-use Rattle.laws.proofs.Tests.{and-true}
+use Rattle.laws.proofs.Tests.{and_true}
 use native.Mathlib.Omega.{arith}
 use Rattle.events.proofs.run.Statement.{statement}
 use Rattle.events.proofs.run.Tie as tie
@@ -37,11 +37,11 @@ turn-requires c κs = search rules
 
 -- src/main.rt:188:9
 sub-turns : tie.Need-overflow-sub-turns invariant-loop decreases-loop
-sub-turns c = ltb-true 0 c.before.before.before.before.before.before.before.before.before.before.before.loop.turns (and-true c.before.before.before.before.before.before.before.before.before.before.before.loop.more _ c.before.before.before.before.before.before.before.before.before.before.loop-test.true).1
+sub-turns c = ltb-true 0 c.before.before.before.before.before.before.before.before.before.before.before.loop.turns (and_true c.before.before.before.before.before.before.before.before.before.before.before.loop.more _ c.before.before.before.before.before.before.before.before.before.before.loop-test.true).1
 
 -- src/main.rt:173:5
 loop-less : tie.Need-loop-smaller invariant-loop decreases-loop
-loop-less c = let h = ltb-true 0 c.before.before.before.before.before.before.before.before.before.before.before.loop.turns (and-true c.before.before.before.before.before.before.before.before.before.before.before.loop.more _ c.before.before.before.before.before.before.before.before.before.before.loop-test.true).1 in omega arith
+loop-less c = let h = ltb-true 0 c.before.before.before.before.before.before.before.before.before.before.before.loop.turns (and_true c.before.before.before.before.before.before.before.before.before.before.before.loop.more _ c.before.before.before.before.before.before.before.before.before.before.loop-test.true).1 in omega arith
 
 -- src/main.rt:173:5
 loop-again : tie.Need-loop-preserved invariant-loop decreases-loop

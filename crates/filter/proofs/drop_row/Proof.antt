@@ -1,5 +1,5 @@
 use native.Mathlib.Omega.{arith}
-use Rattle.filter.proofs.Laws.{row-leaves, row_stays}
+use Rattle.filter.proofs.Laws.{row_leaves, row_stays}
 use borrow.Author.Rules.{rules}
 use Rattle.filter.proofs.drop_row.Statement.{statement}
 use Rattle.filter.proofs.drop_row.Tie as tie
@@ -26,7 +26,7 @@ same-length-2 : tie.Need-same-length-2
 same-length-2 c = search rules
 
 returns : tie.Need-returns
-returns c = (search row-leaves, omega arith, omega arith)
+returns c = (search row_leaves, omega arith, omega arith)
 
 same-length-3 : tie.Need-same-length-3
 same-length-3 c = search rules

@@ -1,4 +1,4 @@
-use Rattle.filter.proofs.Laws.{origin-fits}
+use Rattle.filter.proofs.Laws.{origin_fits}
 use borrow.Author.Rules.{rules}
 use Rattle.filter.proofs.fits_origin.Statement.{statement}
 use Rattle.filter.proofs.fits_origin.Tie as tie
@@ -10,7 +10,7 @@ fits-requires-2 : tie.Need-fits-requires-2
 fits-requires-2 c κs = search rules
 
 returns : tie.Need-returns
-returns c = search origin-fits
+returns c = search origin_fits
 
 pub fits-origin-spec : {M : Type 1} → statement M
 fits-origin-spec = tie.close (tie.spec fits-requires fits-requires-2 returns)

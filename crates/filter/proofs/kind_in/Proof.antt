@@ -1,4 +1,4 @@
-use Rattle.filter.proofs.Laws.{kind-of-set}
+use Rattle.filter.proofs.Laws.{kind_of_set}
 use borrow.Author.Rules.{rules}
 use Rattle.filter.proofs.kind_in.Statement.{statement}
 use Rattle.filter.proofs.kind_in.Tie as tie
@@ -13,7 +13,7 @@ enum-told-2 : tie.Need-enum-told-2
 enum-told-2 c = search rules
 
 returns : tie.Need-returns
-returns c = search kind-of-set
+returns c = search kind_of_set
 
 returns-2 : tie.Need-returns-2
 returns-2 c = search rules

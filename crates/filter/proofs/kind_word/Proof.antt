@@ -1,4 +1,4 @@
-use Rattle.filter.proofs.Laws.{kind-byte, kind-past}
+use Rattle.filter.proofs.Laws.{kind_byte, kind_past}
 use borrow.Author.Rules.{rules}
 use Rattle.filter.proofs.kind_word.Statement.{statement}
 use Rattle.filter.proofs.kind_word.Tie as tie
@@ -21,11 +21,11 @@ kind-told-requires c κs = search rules
 
 -- src/lib.rt:58:9
 returns : tie.Need-returns
-returns c = search kind-byte
+returns c = search kind_byte
 
 -- src/lib.rt:54:1
 returns-2 : tie.Need-returns-2
-returns-2 c = search kind-past
+returns-2 c = search kind_past
 
 pub kind-word-spec : {M : Type 1} → statement M
 kind-word-spec =

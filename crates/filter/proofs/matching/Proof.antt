@@ -1,4 +1,4 @@
-use Rattle.filter.proofs.Laws.{all-match}
+use Rattle.filter.proofs.Laws.{all_match}
 use borrow.Author.Rules.{rules}
 use Rattle.filter.proofs.matching.Statement.{statement}
 use Rattle.filter.proofs.matching.Tie as tie
@@ -25,7 +25,7 @@ fits-requires-5 : tie.Need-fits-requires-5
 fits-requires-5 c κs = search rules
 
 returns : tie.Need-returns
-returns c = search all-match
+returns c = search all_match
 
 pub matching-spec : {M : Type 1} → statement M
 matching-spec =

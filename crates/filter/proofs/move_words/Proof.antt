@@ -3,7 +3,7 @@ use Prim.Native.Nat.{◌≤◌, ◌-◌}
 use native.Mathlib.Omega.{arith}
 use lib.ListN.{length}
 use lib.Seq.{paste, paste-zero}
-use Rattle.filter.proofs.Laws.{part, move-turn, move-end}
+use Rattle.filter.proofs.Laws.{part, move_turn, move_end}
 use borrow.Author.Rules.{rules}
 use Rattle.filter.proofs.move_words.Statement.{statement}
 use Rattle.filter.proofs.move_words.Tie as tie
@@ -42,13 +42,13 @@ loop-less : tie.Need-loop-smaller invariant-loop decreases-loop
 loop-less c = search rules
 
 loop-again : tie.Need-loop-preserved invariant-loop decreases-loop
-loop-again c = (search rules, search rules, search move-turn)
+loop-again c = (search rules, search rules, search move_turn)
 
 same_length : tie.Need-same-length invariant-loop decreases-loop
 same_length c = search rules
 
 returns : tie.Need-returns invariant-loop decreases-loop
-returns c = search move-end
+returns c = search move_end
 
 pub move-words-spec : {M : Type 1} → statement M
 move-words-spec =

@@ -1,4 +1,4 @@
-use Rattle.filter.proofs.Laws.{head-removed}
+use Rattle.filter.proofs.Laws.{head_removed}
 use borrow.Author.Rules.{rules}
 use Rattle.filter.proofs.remove_head.Statement.{statement}
 use Rattle.filter.proofs.remove_head.Tie as tie
@@ -19,7 +19,7 @@ same_length : tie.Need-same-length
 same_length c = search rules
 
 returns : tie.Need-returns
-returns c = search head-removed
+returns c = search head_removed
 
 pub remove-head-spec : {M : Type 1} → statement M
 remove-head-spec =

@@ -1,6 +1,6 @@
 use lib.ListN.{length}
-use Rattle.gate.specs.Store.{store_of, leftBy}
-use Rattle.gate.proofs.Laws.{fits, offered-refused, offered-failed, offered-arrived}
+use Rattle.gate.specs.Store.{store_of, left_by}
+use Rattle.gate.proofs.Laws.{fits, offered_refused, offered_failed, offered_arrived}
 use Rattle.offers.proofs.Facts.{counts, admits}
 use borrow.Author.Rules.{rules}
 use Rattle.gate.proofs.offer.Statement.{statement}
@@ -46,7 +46,7 @@ returns c =
     let w = c.before.before.before.before.before.is_whole in
     let j = c.before.before.before.before.judge in
     let x = c.before.before.refusal.given in
-    offered-refused (store_of a.gate a.counters a.keys.now a.changes.now a.words.now) a.input a.pid a.section.now w.result w.ensures j.result j.ensures.0 x.0.0 c.refuse.result x.1 c.refuse.ensures
+    offered_refused (store_of a.gate a.counters a.keys.now a.changes.now a.words.now) a.input a.pid a.section.now w.result w.ensures j.result j.ensures.0 x.0.0 c.refuse.result x.1 c.refuse.ensures
 
 returns-2 : tie.Need-returns-2
 returns-2 c =
@@ -54,7 +54,7 @@ returns-2 c =
     let w = c.before.before.before.before.before.is_whole in
     let j = c.before.before.before.before.judge in
     let x = c.before.before.failure.given in
-    offered-failed (store_of a.gate a.counters a.keys.now a.changes.now a.words.now) a.input a.pid a.section.now w.result w.ensures j.result j.ensures.0 x.0.0 c.fail.result x.1 c.fail.ensures
+    offered_failed (store_of a.gate a.counters a.keys.now a.changes.now a.words.now) a.input a.pid a.section.now w.result w.ensures j.result j.ensures.0 x.0.0 c.fail.result x.1 c.fail.ensures
 
 same_length : tie.Need-same-length
 same_length c = search rules
@@ -72,8 +72,8 @@ returns-3 c =
     let j = c.before.before.before.before.before.before.before.before.before.before.before.before.before.judge in
     let x = c.before.before.before.before.before.before.before.before.before.before.before.arrival.given in
     let d = c.before.before.before.before.before.before.admit in
-    offered-arrived (store_of a.gate a.counters a.keys.now a.changes.now a.words.now) a.input a.pid a.section.now w.result w.ensures j.result j.ensures.0 x.0.0
-    (leftBy d.result d.new.1.1.0 d.new.1.1.1.0 d.new.1.1.1.1.0) x.1 d.ensures
+    offered_arrived (store_of a.gate a.counters a.keys.now a.changes.now a.words.now) a.input a.pid a.section.now w.result w.ensures j.result j.ensures.0 x.0.0
+    (left_by d.result d.new.1.1.0 d.new.1.1.1.0 d.new.1.1.1.1.0) x.1 d.ensures
 
 pub offer-spec : {M : Type 1} → statement M
 offer-spec =

@@ -1,5 +1,5 @@
 use lib.ListN.{length}
-use Rattle.gate.proofs.Laws.{opened-pid, opened-little, opened-yes, pids-good, words-room}
+use Rattle.gate.proofs.Laws.{opened_pid, opened_little, opened_yes, pids_good, words_room}
 use borrow.Author.Rules.{rules}
 use Rattle.gate.proofs.open.Statement.{statement}
 use Rattle.gate.proofs.open.Tie as tie
@@ -20,7 +20,7 @@ begin-requires c κs = search rules
 
 -- src/lib.rt:110:9
 returns : tie.Need-returns
-returns c = search opened-pid
+returns c = search opened_pid
 
 -- src/lib.rt:112:9
 can-open-requires : tie.Need-can-open-requires
@@ -33,13 +33,13 @@ begin-requires-2 c κs = search rules
 -- src/lib.rt:113:9
 returns-2 : tie.Need-returns-2
 returns-2 c = let a = c.before.before.before.before.before.before.before.before.before.args in
-    opened-little a.settings a.extra.now a.words.now (length a.keys.now) (length a.changes.now) _ c.before.before.before.before.pids-good.ensures c.before.before.before.if1.false _ c.before.before.can-open.ensures _ c.before.if2.true c.begin2.ensures
+    opened_little a.settings a.extra.now a.words.now (length a.keys.now) (length a.changes.now) _ c.before.before.before.before.pids-good.ensures c.before.before.before.if1.false _ c.before.before.can-open.ensures _ c.before.if2.true c.begin2.ensures
 
 -- src/lib.rt:115:5
 fill-requires : tie.Need-fill-requires
 fill-requires c κs = let a = c.before.before.before.before.before.before.before.before.before.args in (
-  words-room a.settings a.extra.now a.words.now (length a.keys.now) (length a.changes.now) _ c.before.before.before.before.pids-good.ensures c.before.before.before.if1.false _ c.before.before.can-open.ensures c.before.if2.false,
-  pids-good a.settings a.extra.now a.words.now (length a.keys.now) (length a.changes.now) _ c.before.before.before.before.pids-good.ensures c.before.before.before.if1.false,
+  words_room a.settings a.extra.now a.words.now (length a.keys.now) (length a.changes.now) _ c.before.before.before.before.pids-good.ensures c.before.before.before.if1.false _ c.before.before.can-open.ensures c.before.if2.false,
+  pids_good a.settings a.extra.now a.words.now (length a.keys.now) (length a.changes.now) _ c.before.before.before.before.pids-good.ensures c.before.before.before.if1.false,
 )
 
 -- src/lib.rt:116:5
@@ -53,7 +53,7 @@ same_length c = search rules
 -- src/lib.rt:100:1
 returns-3 : tie.Need-returns-3
 returns-3 c = let a = c.before.before.before.before.before.before.before.before.before.before.before.before.before.args in
-    opened-yes a.settings a.extra.now a.words.now (length a.keys.now) (length a.changes.now) _ c.before.before.before.before.before.before.before.before.pids-good.ensures c.before.before.before.before.before.before.before.if1.false _ c.before.before.before.before.before.before.can-open.ensures _ _ c.before.before.before.before.before.if2.false c.before.before.before.fill.ensures c.begin3.ensures
+    opened_yes a.settings a.extra.now a.words.now (length a.keys.now) (length a.changes.now) _ c.before.before.before.before.before.before.before.before.pids-good.ensures c.before.before.before.before.before.before.before.if1.false _ c.before.before.before.before.before.before.can-open.ensures _ _ c.before.before.before.before.before.if2.false c.before.before.before.fill.ensures c.begin3.ensures
 
 pub open_spec : {M : Type 1} → statement M
 open_spec =

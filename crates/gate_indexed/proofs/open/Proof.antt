@@ -1,5 +1,5 @@
 use lib.ListN.{length}
-use Rattle.gate_indexed.proofs.Laws.{opened-pid, opened-little, opened-yes, pids-good, buckets-room, words-room}
+use Rattle.gate_indexed.proofs.Laws.{opened_pid, opened_little, opened_yes, pids_good, buckets_room, words_room}
 use borrow.Author.Rules.{rules}
 use Rattle.gate_indexed.proofs.open.Statement.{statement}
 use Rattle.gate_indexed.proofs.open.Tie as tie
@@ -22,7 +22,7 @@ begin-requires c κs = search rules
 
 -- src/lib.rt:33:9
 returns : tie.Need-returns
-returns c = search opened-pid
+returns c = search opened_pid
 
 -- src/lib.rt:35:9
 can-open-requires : tie.Need-can-open-requires
@@ -35,7 +35,7 @@ begin-requires-2 c κs = search rules
 -- src/lib.rt:36:9
 returns-2 : tie.Need-returns-2
 returns-2 c = let a = c.before.before.before.before.before.before.before.before.before.before.before.args in
-    opened-little a.settings a.extra.now a.buckets.now a.words.now (length a.keys.now) (length a.changes.now) (length a.links.now) _ c.before.before.before.before.pids-good.ensures c.before.before.before.if1.false _ c.before.before.can-open.ensures _ c.before.if2.true c.begin2.ensures
+    opened_little a.settings a.extra.now a.buckets.now a.words.now (length a.keys.now) (length a.changes.now) (length a.links.now) _ c.before.before.before.before.pids-good.ensures c.before.before.before.if1.false _ c.before.before.can-open.ensures _ c.before.if2.true c.begin2.ensures
 
 -- src/lib.rt:38:27
 room-requires : tie.Need-room-requires
@@ -44,13 +44,13 @@ room-requires c κs = search rules
 -- src/lib.rt:38:5
 clear-requires : tie.Need-clear-requires
 clear-requires c κs = let a = c.before.before.before.before.before.before.before.before.before.before.before.before.args in
-    buckets-room a.settings a.extra.now a.buckets.now a.words.now (length a.keys.now) (length a.changes.now) (length a.links.now) _ c.before.before.before.before.before.pids-good.ensures c.before.before.before.before.if1.false _ c.before.before.before.can-open.ensures c.before.before.if2.false _ c.room.ensures
+    buckets_room a.settings a.extra.now a.buckets.now a.words.now (length a.keys.now) (length a.changes.now) (length a.links.now) _ c.before.before.before.before.before.pids-good.ensures c.before.before.before.before.if1.false _ c.before.before.before.can-open.ensures c.before.before.if2.false _ c.room.ensures
 
 -- src/lib.rt:39:5
 fill-requires : tie.Need-fill-requires
 fill-requires c κs = let a = c.before.before.before.before.before.before.before.before.before.before.before.before.before.before.before.before.args in (
-  words-room a.settings a.extra.now a.buckets.now a.words.now (length a.keys.now) (length a.changes.now) (length a.links.now) _ c.before.before.before.before.before.before.before.before.before.pids-good.ensures c.before.before.before.before.before.before.before.before.if1.false _ c.before.before.before.before.before.before.before.can-open.ensures c.before.before.before.before.before.before.if2.false,
-  pids-good a.settings a.extra.now a.buckets.now a.words.now (length a.keys.now) (length a.changes.now) (length a.links.now) _ c.before.before.before.before.before.before.before.before.before.pids-good.ensures c.before.before.before.before.before.before.before.before.if1.false,
+  words_room a.settings a.extra.now a.buckets.now a.words.now (length a.keys.now) (length a.changes.now) (length a.links.now) _ c.before.before.before.before.before.before.before.before.before.pids-good.ensures c.before.before.before.before.before.before.before.before.if1.false _ c.before.before.before.before.before.before.before.can-open.ensures c.before.before.before.before.before.before.if2.false,
+  pids_good a.settings a.extra.now a.buckets.now a.words.now (length a.keys.now) (length a.changes.now) (length a.links.now) _ c.before.before.before.before.before.before.before.before.before.pids-good.ensures c.before.before.before.before.before.before.before.before.if1.false,
 )
 
 -- src/lib.rt:40:5
@@ -68,7 +68,7 @@ same-length-2 c = search rules
 -- src/lib.rt:21:1
 returns-3 : tie.Need-returns-3
 returns-3 c = let a = c.before.before.before.before.before.before.before.before.before.before.before.before.before.before.before.before.before.before.before.before.args in
-    opened-yes a.settings a.extra.now a.buckets.now a.words.now (length a.keys.now) (length a.changes.now) (length a.links.now) _ c.before.before.before.before.before.before.before.before.before.before.before.before.before.pids-good.ensures c.before.before.before.before.before.before.before.before.before.before.before.before.if1.false _ c.before.before.before.before.before.before.before.before.before.before.before.can-open.ensures _ _ _ _ c.before.before.before.before.before.before.before.before.before.before.if2.false c.before.before.before.before.before.before.before.before.room.ensures c.before.before.before.before.before.before.before.clear.ensures c.before.before.before.fill.ensures c.begin3.ensures
+    opened_yes a.settings a.extra.now a.buckets.now a.words.now (length a.keys.now) (length a.changes.now) (length a.links.now) _ c.before.before.before.before.before.before.before.before.before.before.before.before.before.pids-good.ensures c.before.before.before.before.before.before.before.before.before.before.before.before.if1.false _ c.before.before.before.before.before.before.before.before.before.before.before.can-open.ensures _ _ _ _ c.before.before.before.before.before.before.before.before.before.before.if2.false c.before.before.before.before.before.before.before.before.room.ensures c.before.before.before.before.before.before.before.clear.ensures c.before.before.before.fill.ensures c.begin3.ensures
 
 pub open_spec : {M : Type 1} → statement M
 open_spec =

@@ -42,8 +42,8 @@ use denote.Triple.Table.{entered, cited}
 use denote.Triple.Walked.{says, Stays, stay_ref, stay_dropped, gave_slice, walk_of, AllGo, Goes-ref, Goes-dropped, Goes-gave_slice, Walks, ends_at, walked, walk_Meets}
 use denote.Triple.Clauses.{ensured, lasts}
 use denote.Exit.{yes}
-use Rattle.pats.specs.Store.{recordOf}
-use Rattle.gate_pats.specs.Store.{keptOf, leftWith, offeredWith}
+use Rattle.pats.specs.Store.{record_of}
+use Rattle.gate_pats.specs.Store.{kept_of, left_with, offered_with}
 use Rattle.gate_state.specs.declared.Gate.{Gate}
 use Rattle.counters.specs.declared.Counters.{Counters}
 use Rattle.gate_state.specs.declared.Offered.{Offered}
@@ -124,7 +124,7 @@ module _ {M : Type 1} {𝓤 : Ura M} (𝓛 : Logic 𝓤) (at_mem : Memory → SP
 
   -- what is said of what `gate_pats::offer` returns and of the slices' last lists
   abbrev Said : Offered → List ℕ → List ℕ → List ℕ → List ℕ → List ℕ → Type 0
-  Said r xs ys zs us ts = leftWith r xs ys (recordOf zs us ts) ≡ offeredWith (keptOf g h ks.now ms.now (recordOf ws.now ps.now cs.now)) input pid s.now
+  Said r xs ys zs us ts = left_with r xs ys (record_of zs us ts) ≡ offered_with (kept_of g h ks.now ms.now (record_of ws.now ps.now cs.now)) input pid s.now
 
   abbrev told : Offered → Told
   told r = record { answer = r.answer; gate = r.gate }

@@ -1,4 +1,4 @@
-use Rattle.gate_pats.proofs.Laws.{ready-record, offered-broken, offered-full, offered-ready}
+use Rattle.gate_pats.proofs.Laws.{ready_record, offered_broken, offered_full, offered_ready}
 use borrow.Author.Rules.{rules}
 use Rattle.gate_pats.proofs.offer.Statement.{statement}
 use Rattle.gate_pats.proofs.offer.Tie as tie
@@ -44,7 +44,7 @@ enum-told-3 c = search rules
 
 -- src/lib.rt:86:25
 take-requires : tie.Need-take-requires
-take-requires c κs = search ready-record
+take-requires c κs = search ready_record
 
 -- src/lib.rt:65:1
 same_length : tie.Need-same-length
@@ -60,7 +60,7 @@ same-length-3 c = search rules
 
 -- src/lib.rt:65:1
 returns : tie.Need-returns
-returns c = search offered-broken
+returns c = search offered_broken
 
 -- src/lib.rt:65:1
 same-length-4 : tie.Need-same-length-4
@@ -79,7 +79,7 @@ returns-2 : tie.Need-returns-2
 returns-2 c =
     let a = c.before.before.before.before.before.before.before.before.before.before.before.before.before.before.before.args in
     let x = c.before.before.before.before.before.state-of in
-    offered-full a.gate a.counters a.keys.now a.changes.now a.words.now a.pat-slots.now a.pat-cells.now a.input a.pid a.section.now x.result x.ensures.0
+    offered_full a.gate a.counters a.keys.now a.changes.now a.words.now a.pat-slots.now a.pat-cells.now a.input a.pid a.section.now x.result x.ensures.0
     c.before.before.is_whole.result c.before.full.result c.refuse2.result c.before.before.before.enum-told2.given.1 c.before.before.is_whole.ensures c.before.full.ensures c.refuse2.ensures
 
 -- src/lib.rt:65:1
@@ -104,7 +104,7 @@ same-length-11 c = search rules
 
 -- src/lib.rt:65:1
 returns-3 : tie.Need-returns-3
-returns-3 c = search offered-ready
+returns-3 c = search offered_ready
 
 pub offer-spec : {M : Type 1} → statement M
 offer-spec =

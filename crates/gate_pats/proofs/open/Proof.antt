@@ -1,4 +1,4 @@
-use Rattle.gate_pats.proofs.Laws.{begin-ok, opened-there, opened-not}
+use Rattle.gate_pats.proofs.Laws.{begin_ok, opened_there, opened_not}
 use borrow.Author.Rules.{rules}
 use Rattle.gate_pats.proofs.open.Statement.{statement}
 use Rattle.gate_pats.proofs.open.Tie as tie
@@ -20,7 +20,7 @@ open-requires c κs = search rules
 
 -- src/lib.rt:38:9
 begin-requires : tie.Need-begin-requires
-begin-requires c κs = search begin-ok
+begin-requires c κs = search begin_ok
 
 -- src/lib.rt:39:9
 same_length : tie.Need-same-length
@@ -28,7 +28,7 @@ same_length c = search rules
 
 -- src/lib.rt:39:9
 returns : tie.Need-returns
-returns c = search opened-there
+returns c = search opened_there
 
 -- src/lib.rt:41:23
 refusal-requires : tie.Need-refusal-requires
@@ -40,7 +40,7 @@ begin-requires-2 c κs = search rules
 
 -- src/lib.rt:23:1
 returns-2 : tie.Need-returns-2
-returns-2 c = search opened-not
+returns-2 c = search opened_not
 
 pub open_spec : {M : Type 1} → statement M
 open_spec =

@@ -1,4 +1,4 @@
-use Rattle.gate_pats.proofs.Laws.{begin-ok, record-there, record-not}
+use Rattle.gate_pats.proofs.Laws.{begin_ok, record_there, record_not}
 use borrow.Author.Rules.{rules}
 use Rattle.gate_pats.proofs.open_record.Statement.{statement}
 use Rattle.gate_pats.proofs.open_record.Tie as tie
@@ -19,7 +19,7 @@ open-requires c κs = search rules
 
 -- src/lib.rt:57:9
 begin-requires : tie.Need-begin-requires
-begin-requires c κs = search begin-ok
+begin-requires c κs = search begin_ok
 
 -- src/lib.rt:58:9
 same_length : tie.Need-same-length
@@ -27,7 +27,7 @@ same_length c = search rules
 
 -- src/lib.rt:58:9
 returns : tie.Need-returns
-returns c = search record-there
+returns c = search record_there
 
 -- src/lib.rt:60:5
 refusal-requires : tie.Need-refusal-requires
@@ -35,7 +35,7 @@ refusal-requires c κs = search rules
 
 -- src/lib.rt:45:1
 returns-2 : tie.Need-returns-2
-returns-2 c = search record-not
+returns-2 c = search record_not
 
 pub open-record-spec : {M : Type 1} → statement M
 open-record-spec =

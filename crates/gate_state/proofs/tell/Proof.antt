@@ -1,4 +1,4 @@
-use Rattle.gate_state.specs.State.{seenBy}
+use Rattle.gate_state.specs.State.{seen_by}
 use borrow.Author.Rules.{rules}
 use Rattle.gate_state.proofs.tell.Statement.{statement}
 use Rattle.gate_state.proofs.tell.Tie as tie
@@ -14,7 +14,7 @@ counted-requires : tie.Need-counted-requires
 counted-requires c κs = search rules
 
 returns : tie.Need-returns
-unfolding seenBy
+unfolding seen_by
 returns c = cc
 
 pub tell-spec : {M : Type 1} → statement M

@@ -1,4 +1,4 @@
-use Rattle.guides.proofs.Ways.{alike-sets, compare-not, compare-none, compare-pid, compare-key, compare_alike, listed-not, listed-none, listed-pid, listed-key, listed-alike}
+use Rattle.guides.proofs.Ways.{alike_sets, compare_not, compare_none, compare_pid, compare_key, compare_alike, listed_not, listed_none, listed_pid, listed_key, listed_alike}
 use borrow.Author.Rules.{rules}
 use Rattle.guides.proofs.compare.Statement.{statement}
 use Rattle.guides.proofs.compare.Tie as tie
@@ -34,25 +34,25 @@ enum-told-5 : tie.Need-enum-told-5
 enum-told-5 c = search rules
 
 compare-sets-requires : tie.Need-compare-sets-requires
-compare-sets-requires c κs = search alike-sets
+compare-sets-requires c κs = search alike_sets
 
 returns : tie.Need-returns
-returns c = (search compare-not, search listed-not)
+returns c = (search compare_not, search listed_not)
 
 returns-2 : tie.Need-returns-2
-returns-2 c = (search compare-none, search listed-none)
+returns-2 c = (search compare_none, search listed_none)
 
 returns-3 : tie.Need-returns-3
-returns-3 c = (search compare-pid, search listed-pid)
+returns-3 c = (search compare_pid, search listed_pid)
 
 returns-4 : tie.Need-returns-4
-returns-4 c = (search compare-key, search listed-key)
+returns-4 c = (search compare_key, search listed_key)
 
 same_length : tie.Need-same-length
 same_length c = search rules
 
 returns-5 : tie.Need-returns-5
-returns-5 c = (search compare_alike, search listed-alike)
+returns-5 c = (search compare_alike, search listed_alike)
 
 pub compare-spec : {M : Type 1} → statement M
 compare-spec =

@@ -1,4 +1,4 @@
-use Rattle.guides.proofs.Ways.{alike-schedules, schedules-no, schedules-without, schedules-bad, schedules-other, schedules-alike, list-no, list-without, list-bad, list-other, list-alike, tables-no, tables-without, tables-bad, tables-other, tables-alike}
+use Rattle.guides.proofs.Ways.{alike_schedules, schedules_no, schedules_without, schedules_bad, schedules_other, schedules_alike, list_no, list_without, list_bad, list_other, list_alike, tables_no, tables_without, tables_bad, tables_other, tables_alike}
 use borrow.Author.Rules.{rules}
 use Rattle.guides.proofs.compare_schedules.Statement.{statement}
 use Rattle.guides.proofs.compare_schedules.Tie as tie
@@ -34,25 +34,25 @@ enum-told-5 : tie.Need-enum-told-5
 enum-told-5 c = search rules
 
 compare-tables-requires : tie.Need-compare-tables-requires
-compare-tables-requires c κs = search alike-schedules
+compare-tables-requires c κs = search alike_schedules
 
 returns : tie.Need-returns
-returns c = (search schedules-no, (search tables-no, search list-no))
+returns c = (search schedules_no, (search tables_no, search list_no))
 
 returns-2 : tie.Need-returns-2
-returns-2 c = (search schedules-without, (search tables-without, search list-without))
+returns-2 c = (search schedules_without, (search tables_without, search list_without))
 
 returns-3 : tie.Need-returns-3
-returns-3 c = (search schedules-bad, (search tables-bad, search list-bad))
+returns-3 c = (search schedules_bad, (search tables_bad, search list_bad))
 
 returns-4 : tie.Need-returns-4
-returns-4 c = (search schedules-other, (search tables-other, search list-other))
+returns-4 c = (search schedules_other, (search tables_other, search list_other))
 
 same_length : tie.Need-same-length
 same_length c = search rules
 
 returns-5 : tie.Need-returns-5
-returns-5 c = (search schedules-alike, (search tables-alike, search list-alike))
+returns-5 c = (search schedules_alike, (search tables_alike, search list_alike))
 
 pub compare-schedules-spec : {M : Type 1} → statement M
 compare-schedules-spec =

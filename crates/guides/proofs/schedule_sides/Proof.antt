@@ -1,4 +1,4 @@
-use Rattle.guides.proofs.Ways.{schedules-not, first-long, second-long, schedules-none, schedules-pid, schedules-second-none, schedules-second, schedules-keyed}
+use Rattle.guides.proofs.Ways.{schedules_not, first_long, second_long, schedules_none, schedules_pid, schedules_second_none, schedules_second, schedules_keyed}
 use borrow.Author.Rules.{rules}
 use Rattle.guides.proofs.schedule_sides.Statement.{statement}
 use Rattle.guides.proofs.schedule_sides.Tie as tie
@@ -10,7 +10,7 @@ is-schedule-requires-2 : tie.Need-is-schedule-requires-2
 is-schedule-requires-2 c κs = search rules
 
 returns : tie.Need-returns
-returns c = search schedules-not
+returns c = search schedules_not
 
 pid-word-requires : tie.Need-pid-word-requires
 pid-word-requires c κs = search rules
@@ -43,28 +43,28 @@ enum-known-q : tie.Need-enum-known-q
 enum-known-q c = search rules
 
 schedule-key-in-requires : tie.Need-schedule-key-in-requires
-schedule-key-in-requires c κs = search first-long
+schedule-key-in-requires c κs = search first_long
 
 schedule-key-in-requires-2 : tie.Need-schedule-key-in-requires-2
-schedule-key-in-requires-2 c κs = search second-long
+schedule-key-in-requires-2 c κs = search second_long
 
 keyed-requires : tie.Need-keyed-requires
 keyed-requires c κs = search rules
 
 returns-2 : tie.Need-returns-2
-returns-2 c = search schedules-none
+returns-2 c = search schedules_none
 
 returns-3 : tie.Need-returns-3
-returns-3 c = search schedules-pid
+returns-3 c = search schedules_pid
 
 returns-4 : tie.Need-returns-4
-returns-4 c = search schedules-second-none
+returns-4 c = search schedules_second_none
 
 returns-5 : tie.Need-returns-5
-returns-5 c = search schedules-second
+returns-5 c = search schedules_second
 
 returns-6 : tie.Need-returns-6
-returns-6 c = search schedules-keyed
+returns-6 c = search schedules_keyed
 
 pub schedule-sides-spec : {M : Type 1} → statement M
 schedule-sides-spec =

@@ -1,4 +1,4 @@
-use Rattle.guides.proofs.Ways.{sets-not, first-room, second-room, sets-none, sets-pid, sets-second-none, sets-second, sets-keyed}
+use Rattle.guides.proofs.Ways.{sets_not, first_room, second_room, sets_none, sets_pid, sets_second_none, sets_second, sets_keyed}
 use borrow.Author.Rules.{rules}
 use Rattle.guides.proofs.set_sides.Statement.{statement}
 use Rattle.guides.proofs.set_sides.Tie as tie
@@ -10,7 +10,7 @@ is-set-requires-2 : tie.Need-is-set-requires-2
 is-set-requires-2 c κs = search rules
 
 returns : tie.Need-returns
-returns c = search sets-not
+returns c = search sets_not
 
 pid-word-requires : tie.Need-pid-word-requires
 pid-word-requires c κs = search rules
@@ -43,28 +43,28 @@ enum-known-q : tie.Need-enum-known-q
 enum-known-q c = search rules
 
 key-in-requires : tie.Need-key-in-requires
-key-in-requires c κs = search first-room
+key-in-requires c κs = search first_room
 
 key-in-requires-2 : tie.Need-key-in-requires-2
-key-in-requires-2 c κs = search second-room
+key-in-requires-2 c κs = search second_room
 
 keyed-requires : tie.Need-keyed-requires
 keyed-requires c κs = search rules
 
 returns-2 : tie.Need-returns-2
-returns-2 c = search sets-none
+returns-2 c = search sets_none
 
 returns-3 : tie.Need-returns-3
-returns-3 c = search sets-pid
+returns-3 c = search sets_pid
 
 returns-4 : tie.Need-returns-4
-returns-4 c = search sets-second-none
+returns-4 c = search sets_second_none
 
 returns-5 : tie.Need-returns-5
-returns-5 c = search sets-second
+returns-5 c = search sets_second
 
 returns-6 : tie.Need-returns-6
-returns-6 c = search sets-keyed
+returns-6 c = search sets_keyed
 
 pub set-sides-spec : {M : Type 1} → statement M
 set-sides-spec =

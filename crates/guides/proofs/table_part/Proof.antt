@@ -1,4 +1,4 @@
-use Rattle.guides.proofs.Ways.{table-there, table_none, is-schedule}
+use Rattle.guides.proofs.Ways.{table_there, table_none, is_schedule_lem}
 use borrow.Author.Rules.{rules}
 use Rattle.guides.proofs.table_part.Statement.{statement}
 use Rattle.guides.proofs.table_part.Tie as tie
@@ -7,7 +7,7 @@ is-schedule-requires : tie.Need-is-schedule-requires
 is-schedule-requires c κs = search rules
 
 table-of-requires : tie.Need-table-of-requires
-table-of-requires c κs = search is-schedule
+table-of-requires c κs = search is_schedule_lem
 
 sub-result : tie.Need-overflow-sub-result
 sub-result c = search rules
@@ -19,7 +19,7 @@ part-result-end : tie.Need-slice-bounds-result-end
 part-result-end c = search rules
 
 returns : tie.Need-returns
-returns c = search table-there
+returns c = search table_there
 
 returns-2 : tie.Need-returns-2
 returns-2 c = search table_none

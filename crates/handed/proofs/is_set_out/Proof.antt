@@ -1,4 +1,4 @@
-use Rattle.handed.proofs.Ways.{set_past, set-in}
+use Rattle.handed.proofs.Ways.{set_past, set_in_lem}
 use borrow.Author.Rules.{rules}
 use Rattle.handed.proofs.is_set_out.Statement.{statement}
 use Rattle.handed.proofs.is_set_out.Tie as tie
@@ -12,7 +12,7 @@ mark-requires c κs = search rules
 
 -- src/lib.rt:57:9
 returns : tie.Need-returns
-returns c = search set-in
+returns c = search set_in_lem
 
 -- src/lib.rt:52:1
 returns-2 : tie.Need-returns-2

@@ -1,4 +1,4 @@
-use Rattle.host_eit.proofs.Calls.{eit-cleared}
+use Rattle.host_eit.proofs.Calls.{eit_cleared_lem}
 use borrow.Author.Rules.{rules}
 use Rattle.host_eit.proofs.clear.Statement.{statement}
 use Rattle.host_eit.proofs.clear.Tie as tie
@@ -13,7 +13,7 @@ write-turned-requires : tie.Need-write-turned-requires
 write-turned-requires c κs = search rules
 
 returns : tie.Need-returns
-returns c = search eit-cleared
+returns c = search eit_cleared_lem
 
 pub clear_spec : {M : Type 1} → statement M
 clear_spec =

@@ -1,4 +1,4 @@
-use Rattle.host_eit.proofs.Calls.{eit-dropped}
+use Rattle.host_eit.proofs.Calls.{eit_dropped_lem}
 use borrow.Author.Rules.{rules}
 use Rattle.host_eit.proofs.drop.Statement.{statement}
 use Rattle.host_eit.proofs.drop.Tie as tie
@@ -28,7 +28,7 @@ same-length-4 : tie.Need-same-length-4
 same-length-4 c = search rules
 
 returns : tie.Need-returns
-returns c = search eit-dropped
+returns c = search eit_dropped_lem
 
 pub drop_spec : {M : Type 1} → statement M
 drop_spec =

@@ -1,4 +1,4 @@
-use Rattle.host_eit.proofs.Calls.{eit-next}
+use Rattle.host_eit.proofs.Calls.{eit_next_lem}
 use borrow.Author.Rules.{rules}
 use Rattle.host_eit.proofs.next.Statement.{statement}
 use Rattle.host_eit.proofs.next.Tie as tie
@@ -13,7 +13,7 @@ write-next-requires : tie.Need-write-next-requires
 write-next-requires c κs = search rules
 
 returns : tie.Need-returns
-returns c = search eit-next
+returns c = search eit_next_lem
 
 pub next-spec : {M : Type 1} → statement M
 next-spec =

@@ -1,4 +1,4 @@
-use Rattle.host_eit.proofs.Calls.{eit-next-in}
+use Rattle.host_eit.proofs.Calls.{eit_next_in_lem}
 use borrow.Author.Rules.{rules}
 use Rattle.host_eit.proofs.next_in_schedule.Statement.{statement}
 use Rattle.host_eit.proofs.next_in_schedule.Tie as tie
@@ -13,7 +13,7 @@ write-next-requires : tie.Need-write-next-requires
 write-next-requires c κs = search rules
 
 returns : tie.Need-returns
-returns c = search eit-next-in
+returns c = search eit_next_in_lem
 
 pub next-in-schedule-spec : {M : Type 1} → statement M
 next-in-schedule-spec =

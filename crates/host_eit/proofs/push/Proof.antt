@@ -1,4 +1,4 @@
-use Rattle.host_eit.proofs.Calls.{eit-pushed}
+use Rattle.host_eit.proofs.Calls.{eit_pushed_lem}
 use borrow.Author.Rules.{rules}
 use Rattle.host_eit.proofs.push.Statement.{statement}
 use Rattle.host_eit.proofs.push.Tie as tie
@@ -34,7 +34,7 @@ same-length-5 : tie.Need-same-length-5
 same-length-5 c = search rules
 
 returns : tie.Need-returns
-returns c = search eit-pushed
+returns c = search eit_pushed_lem
 
 pub push_spec : {M : Type 1} → statement M
 push_spec =

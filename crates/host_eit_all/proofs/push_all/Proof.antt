@@ -1,4 +1,4 @@
-use Rattle.host_eit_all.proofs.Calls.{all_left}
+use Rattle.host_eit_all.proofs.Calls.{all_left_lem}
 use borrow.Author.Rules.{rules}
 use Rattle.host_eit_all.proofs.push_all.Statement.{statement}
 use Rattle.host_eit_all.proofs.push_all.Tie as tie
@@ -28,7 +28,7 @@ same-length-5 : tie.Need-same-length-5
 same-length-5 c = search rules
 
 returns : tie.Need-returns
-returns c = search all_left
+returns c = search all_left_lem
 
 pub push-all-spec : {M : Type 1} → statement M
 push-all-spec =

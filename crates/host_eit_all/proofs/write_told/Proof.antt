@@ -1,4 +1,4 @@
-use Rattle.host_eit_all.proofs.Calls.{told-pushed, told-long}
+use Rattle.host_eit_all.proofs.Calls.{told_pushed, told_long}
 use borrow.Author.Rules.{rules}
 use Rattle.host_eit_all.proofs.write_told.Statement.{statement}
 use Rattle.host_eit_all.proofs.write_told.Tie as tie
@@ -13,10 +13,10 @@ enum_told : tie.Need-enum-told
 enum_told c = search rules
 
 returns : tie.Need-returns
-returns c = search told-pushed
+returns c = search told_pushed
 
 returns-2 : tie.Need-returns-2
-returns-2 c = search told-long
+returns-2 c = search told_long
 
 pub write-told-spec : {M : Type 1} → statement M
 write-told-spec =

@@ -1,4 +1,4 @@
-use Rattle.host_eit_words.proofs.Laws.{filter-read}
+use Rattle.host_eit_words.proofs.Laws.{filter_read}
 use borrow.Author.Rules.{rules}
 use Rattle.host_eit_words.proofs.filter.Statement.{statement}
 use Rattle.host_eit_words.proofs.filter.Tie as tie
@@ -46,7 +46,7 @@ wanted-requires-6 : tie.Need-wanted-requires-6
 wanted-requires-6 c κs = search rules
 
 returns : tie.Need-returns
-returns c = search filter-read
+returns c = search filter_read
 
 pub filter-spec : {M : Type 1} → statement M
 filter-spec =

@@ -1,4 +1,4 @@
-use Rattle.host_words.proofs.Laws.{pushes-are}
+use Rattle.host_words.proofs.Laws.{pushes_are}
 use borrow.Author.Rules.{rules}
 use Rattle.host_eit_words.proofs.write_pushed.Statement.{statement}
 use Rattle.host_eit_words.proofs.write_pushed.Tie as tie
@@ -13,7 +13,7 @@ number-requires : tie.Need-number-requires
 number-requires c κs = search rules
 
 returns : tie.Need-returns
-returns c = search pushes-are
+returns c = search pushes_are
 
 pub write-pushed-spec : {M : Type 1} → statement M
 write-pushed-spec =

@@ -1,4 +1,4 @@
-use Rattle.host_eit_words.proofs.Laws.{set-row-written, schedule-row-written}
+use Rattle.host_eit_words.proofs.Laws.{set_row_written, schedule_row_written}
 use borrow.Author.Rules.{rules}
 use Rattle.host_eit_words.proofs.write_row.Statement.{statement}
 use Rattle.host_eit_words.proofs.write_row.Tie as tie
@@ -19,10 +19,10 @@ returns : tie.Need-returns
 returns c = search rules
 
 returns-2 : tie.Need-returns-2
-returns-2 c = search set-row-written
+returns-2 c = search set_row_written
 
 returns-3 : tie.Need-returns-3
-returns-3 c = search schedule-row-written
+returns-3 c = search schedule_row_written
 
 returns-4 : tie.Need-returns-4
 returns-4 c = search rules

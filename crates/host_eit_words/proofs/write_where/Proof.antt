@@ -1,4 +1,4 @@
-use Rattle.host_eit_words.proofs.Laws.{eit-written}
+use Rattle.host_eit_words.proofs.Laws.{eit_written}
 use borrow.Author.Rules.{rules}
 use Rattle.host_eit_words.proofs.write_where.Statement.{statement}
 use Rattle.host_eit_words.proofs.write_where.Tie as tie
@@ -13,7 +13,7 @@ enum-told-2 : tie.Need-enum-told-2
 enum-told-2 c = search rules
 
 returns : tie.Need-returns
-returns c = search eit-written
+returns c = search eit_written
 
 returns-2 : tie.Need-returns-2
 returns-2 c = search rules

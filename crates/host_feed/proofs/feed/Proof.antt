@@ -1,5 +1,5 @@
-use Rattle.pats.specs.Store.{recordOf}
-use Rattle.host_feed.proofs.Calls.{packet-fed}
+use Rattle.pats.specs.Store.{record_of}
+use Rattle.host_feed.proofs.Calls.{packet_fed_lem}
 use borrow.Author.Rules.{rules}
 use Rattle.host_feed.proofs.feed.Statement.{statement}
 use Rattle.host_feed.proofs.feed.Tie as tie
@@ -51,8 +51,8 @@ returns c = let a = c.before.before.before.before.before.before.before.before.be
     let h = c.before.before.before.before.before.before.before.before.before.before.before.before.before.before.before.before.before.before.before.before.before.before.before.before.before.before.before.before.before.before.before.before.read in
     let s = c.before.before.before.before.before.before.before.before.before.before.before.before.before.before.before.before.before.before.before.before.before.before.before.before.before.before.before.before.before.before.streams in
     let q = c.before.before.before.before.before.before.before.before.before.before.before.before.before.before.before.before.before.before.before.before.before.before.before.before.before.before.before.before.before.number in
-    packet-fed a.gate.now a.streams.now a.keys.now a.changes.now (recordOf a.watch.now a.pat-slots.now a.pat-cells.now) a.pids.now a.buffers.now a.input a.packet.now a.places.now a.finished.now
-    h.result s.result q.result f.result l.0 l.1.0 (recordOf l.1.1.0 l.1.1.1.0 l.1.1.1.1.0) l.1.1.1.1.1.0 l.1.1.1.1.1.1.0 l.1.1.1.1.1.1.1.1.1.0 w.new.0 w.new.1.0 w.new.1.1.0 w.result h.ensures s.ensures q.ensures f.ensures w.ensures
+    packet_fed_lem a.gate.now a.streams.now a.keys.now a.changes.now (record_of a.watch.now a.pat-slots.now a.pat-cells.now) a.pids.now a.buffers.now a.input a.packet.now a.places.now a.finished.now
+    h.result s.result q.result f.result l.0 l.1.0 (record_of l.1.1.0 l.1.1.1.0 l.1.1.1.1.0) l.1.1.1.1.1.0 l.1.1.1.1.1.1.0 l.1.1.1.1.1.1.1.1.1.0 w.new.0 w.new.1.0 w.new.1.1.0 w.result h.ensures s.ensures q.ensures f.ensures w.ensures
 
 pub feed-spec : {M : Type 1} → statement M
 feed-spec =

@@ -1,4 +1,4 @@
-use Rattle.host_gate.proofs.Calls.{watch-asked}
+use Rattle.host_gate.proofs.Calls.{watch_asked_lem}
 use borrow.Author.Rules.{rules}
 use Rattle.host_gate.proofs.ask.Statement.{statement}
 use Rattle.host_gate.proofs.ask.Tie as tie
@@ -22,7 +22,7 @@ number-requires-2 c κs = search rules
 
 -- src/lib.rt:47:1
 returns : tie.Need-returns
-returns c = search watch-asked
+returns c = search watch_asked_lem
 
 pub ask-spec : {M : Type 1} → statement M
 ask-spec =

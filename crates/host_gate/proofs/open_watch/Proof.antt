@@ -1,4 +1,4 @@
-use Rattle.host_gate.proofs.Calls.{watch-opened}
+use Rattle.host_gate.proofs.Calls.{watch_opened_lem}
 use borrow.Author.Rules.{rules}
 use Rattle.host_gate.proofs.open_watch.Statement.{statement}
 use Rattle.host_gate.proofs.open_watch.Tie as tie
@@ -26,7 +26,7 @@ same_length c = search rules
 
 -- src/lib.rt:63:1
 returns : tie.Need-returns
-returns c = search watch-opened
+returns c = search watch_opened_lem
 
 pub open-watch-spec : {M : Type 1} → statement M
 open-watch-spec =

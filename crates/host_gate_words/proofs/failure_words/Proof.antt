@@ -1,4 +1,4 @@
-use Rattle.host_gate_words.proofs.Laws.{short-words, mismatch-words}
+use Rattle.host_gate_words.proofs.Laws.{short_words, mismatch_words}
 use borrow.Author.Rules.{rules}
 use Rattle.host_gate_words.proofs.failure_words.Statement.{statement}
 use Rattle.host_gate_words.proofs.failure_words.Tie as tie
@@ -23,11 +23,11 @@ cast-t8 c = search rules
 
 -- src/lib.rt:146:1
 returns : tie.Need-returns
-returns c = search short-words
+returns c = search short_words
 
 -- src/lib.rt:146:1
 returns-2 : tie.Need-returns-2
-returns-2 c = search mismatch-words
+returns-2 c = search mismatch_words
 
 pub failure-words-spec : {M : Type 1} → statement M
 failure-words-spec =

@@ -1,4 +1,4 @@
-use Rattle.host_gate_words.proofs.Laws.{gate-is}
+use Rattle.host_gate_words.proofs.Laws.{gate_is}
 use borrow.Author.Rules.{rules}
 use Rattle.host_gate_words.proofs.gate.Statement.{statement}
 use Rattle.host_gate_words.proofs.gate.Tie as tie
@@ -36,7 +36,7 @@ element-copy-out-t24 c = search rules
 
 -- src/lib.rt:84:1
 returns : tie.Need-returns
-returns c = search gate-is
+returns c = search gate_is
 
 pub gate-spec : {M : Type 1} → statement M
 gate-spec =

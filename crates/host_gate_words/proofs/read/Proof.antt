@@ -1,4 +1,4 @@
-use Rattle.host_gate_words.proofs.Laws.{held-are}
+use Rattle.host_gate_words.proofs.Laws.{held_are}
 use borrow.Author.Rules.{rules}
 use Rattle.host_gate_words.proofs.read.Statement.{statement}
 use Rattle.host_gate_words.proofs.read.Tie as tie
@@ -17,7 +17,7 @@ counters-requires c κs = search rules
 
 -- src/gates.rt:58:1
 returns : tie.Need-returns
-returns c = search held-are
+returns c = search held_are
 
 pub read_spec : {M : Type 1} → statement M
 read_spec = tie.close (tie.spec gate-requires counters-requires returns)

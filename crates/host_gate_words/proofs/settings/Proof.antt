@@ -1,4 +1,4 @@
-use Rattle.host_gate_words.proofs.Laws.{settings-are}
+use Rattle.host_gate_words.proofs.Laws.{settings_are}
 use borrow.Author.Rules.{rules}
 use Rattle.host_gate_words.proofs.settings.Statement.{statement}
 use Rattle.host_gate_words.proofs.settings.Tie as tie
@@ -10,7 +10,7 @@ well-known-requires : tie.Need-well-known-requires
 well-known-requires c κs = search rules
 
 returns : tie.Need-returns
-returns c = search settings-are
+returns c = search settings_are
 
 pub settings-spec : {M : Type 1} → statement M
 settings-spec = tie.close (tie.spec follow-asked-requires well-known-requires returns)

@@ -1,4 +1,4 @@
-use Rattle.host_gate_words.proofs.Laws.{failure-written}
+use Rattle.host_gate_words.proofs.Laws.{failure_written}
 use borrow.Author.Rules.{rules}
 use Rattle.host_gate_words.proofs.write_failure.Statement.{statement}
 use Rattle.host_gate_words.proofs.write_failure.Tie as tie
@@ -33,7 +33,7 @@ returns-2 c = search rules
 
 -- src/lib.rt:156:1
 returns-3 : tie.Need-returns-3
-returns-3 c = search failure-written
+returns-3 c = search failure_written
 
 -- src/lib.rt:156:1
 returns-4 : tie.Need-returns-4

@@ -1,4 +1,4 @@
-use Rattle.host_gate_words.proofs.Laws.{told-are}
+use Rattle.host_gate_words.proofs.Laws.{told_are}
 use borrow.Author.Rules.{rules}
 use Rattle.host_gate_words.proofs.write_offered.Statement.{statement}
 use Rattle.host_gate_words.proofs.write_offered.Tie as tie
@@ -20,7 +20,7 @@ number-requires c κs = search rules
 
 -- src/gates.rt:133:1
 returns : tie.Need-returns
-returns c = search told-are
+returns c = search told_are
 
 pub write-offered-spec : {M : Type 1} → statement M
 write-offered-spec = tie.close (tie.spec write-counts-requires write-failure-requires number-requires returns)

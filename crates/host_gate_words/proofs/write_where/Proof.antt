@@ -1,4 +1,4 @@
-use Rattle.host_gate_words.proofs.Laws.{all-written, none_written}
+use Rattle.host_gate_words.proofs.Laws.{all_written, none_written}
 use borrow.Author.Rules.{rules}
 use Rattle.host_gate_words.proofs.write_where.Statement.{statement}
 use Rattle.host_gate_words.proofs.write_where.Tie as tie
@@ -19,7 +19,7 @@ enum-told-2 c = search rules
 
 -- src/words.rt:94:1
 returns : tie.Need-returns
-returns c = search all-written
+returns c = search all_written
 
 -- src/words.rt:94:1
 returns-2 : tie.Need-returns-2

@@ -1,4 +1,4 @@
-use Rattle.host_guides.proofs.Calls.{sets-compared}
+use Rattle.host_guides.proofs.Calls.{sets_compared_lem}
 use borrow.Author.Rules.{rules}
 use Rattle.host_guides.proofs.compare.Statement.{statement}
 use Rattle.host_guides.proofs.compare.Tie as tie
@@ -30,7 +30,7 @@ same_length c = search rules
 
 -- src/lib.rt:34:1
 returns : tie.Need-returns
-returns c = search sets-compared
+returns c = search sets_compared_lem
 
 pub compare-spec : {M : Type 1} → statement M
 compare-spec =

@@ -1,4 +1,4 @@
-use Rattle.host_guides.proofs.Calls.{schedules-compared}
+use Rattle.host_guides.proofs.Calls.{schedules_compared_lem}
 use borrow.Author.Rules.{rules}
 use Rattle.host_guides.proofs.compare_schedules.Statement.{statement}
 use Rattle.host_guides.proofs.compare_schedules.Tie as tie
@@ -30,7 +30,7 @@ same_length c = search rules
 
 -- src/lib.rt:51:1
 returns : tie.Need-returns
-returns c = search schedules-compared
+returns c = search schedules_compared_lem
 
 pub compare-schedules-spec : {M : Type 1} → statement M
 compare-schedules-spec =

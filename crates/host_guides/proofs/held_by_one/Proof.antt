@@ -1,4 +1,4 @@
-use Rattle.host_guides.proofs.Calls.{held_one}
+use Rattle.host_guides.proofs.Calls.{held_one_lem}
 use borrow.Author.Rules.{rules}
 use Rattle.host_guides.proofs.held_by_one.Statement.{statement}
 use Rattle.host_guides.proofs.held_by_one.Tie as tie
@@ -17,7 +17,7 @@ write-held-requires c κs = search rules
 
 -- src/lib.rt:81:1
 returns : tie.Need-returns
-returns c = search held_one
+returns c = search held_one_lem
 
 pub held-by-one-spec : {M : Type 1} → statement M
 held-by-one-spec = tie.close (tie.spec held-requires write-held-requires returns)

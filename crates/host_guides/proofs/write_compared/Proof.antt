@@ -1,4 +1,4 @@
-use Rattle.host_guides.proofs.Calls.{compared-written, compared-kept}
+use Rattle.host_guides.proofs.Calls.{compared_written, compared_kept}
 use borrow.Author.Rules.{rules}
 use Rattle.host_guides.proofs.write_compared.Statement.{statement}
 use Rattle.host_guides.proofs.write_compared.Tie as tie
@@ -21,11 +21,11 @@ flag-requires-2 c κs = search rules
 
 -- src/lib.rt:22:1
 returns : tie.Need-returns
-returns c = search compared-written
+returns c = search compared_written
 
 -- src/lib.rt:22:1
 returns-2 : tie.Need-returns-2
-returns-2 c = search compared-kept
+returns-2 c = search compared_kept
 
 pub write-compared-spec : {M : Type 1} → statement M
 write-compared-spec =

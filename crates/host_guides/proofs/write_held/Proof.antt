@@ -1,4 +1,4 @@
-use Rattle.host_guides.proofs.Calls.{held-written, held_kept}
+use Rattle.host_guides.proofs.Calls.{held_written, held_kept}
 use borrow.Author.Rules.{rules}
 use Rattle.host_guides.proofs.write_held.Statement.{statement}
 use Rattle.host_guides.proofs.write_held.Tie as tie
@@ -16,7 +16,7 @@ cast-t6 c = search rules
 
 -- src/lib.rt:69:1
 returns : tie.Need-returns
-returns c = search held-written
+returns c = search held_written
 
 -- src/lib.rt:69:1
 returns-2 : tie.Need-returns-2

@@ -1,5 +1,5 @@
-use Rattle.pats.specs.Store.{recordOf}
-use Rattle.host_indexed.proofs.Calls.{gate-offered}
+use Rattle.pats.specs.Store.{record_of}
+use Rattle.host_indexed.proofs.Calls.{gate_offered_lem}
 use borrow.Author.Rules.{rules}
 use Rattle.host_indexed.proofs.offer.Statement.{statement}
 use Rattle.host_indexed.proofs.offer.Tie as tie
@@ -64,7 +64,7 @@ returns : tie.Need-returns
 returns c =
     let a = c.before.before.before.before.before.before.before.before.before.before.before.before.before.before.before.before.before.before.before.before.before.before.before.before.before.before.before.before.before.before.before.before.before.before.before.before.before.args in
     let o = c.before.before.before.before.before.before.before.before.before.before.before.before.before.before.before.before.before.offer in
-    gate-offered a.gate.now a.keys.now a.changes.now a.buckets.now a.links.now (recordOf a.watch.now a.pat-slots.now a.pat-cells.now) a.input a.pid a.section.now a.failure.now _ _ _ o.result _ _ _ _ (recordOf o.new.1.1.1.1.1.1.0 o.new.1.1.1.1.1.1.1.0 o.new.1.1.1.1.1.1.1.1.0) _ _ _ c.before.before.before.before.before.before.before.before.before.before.before.before.before.before.before.before.before.before.before.before.before.before.before.before.before.before.before.read.ensures c.before.before.before.before.before.before.before.before.before.before.before.before.before.before.before.before.before.before.before.before.before.before.before.before.before.before.number.ensures c.before.before.before.before.before.before.before.before.before.before.before.before.before.before.before.before.before.before.before.before.before.before.before.before.before.number2.ensures o.ensures c.write-offered.ensures
+    gate_offered_lem a.gate.now a.keys.now a.changes.now a.buckets.now a.links.now (record_of a.watch.now a.pat-slots.now a.pat-cells.now) a.input a.pid a.section.now a.failure.now _ _ _ o.result _ _ _ _ (record_of o.new.1.1.1.1.1.1.0 o.new.1.1.1.1.1.1.1.0 o.new.1.1.1.1.1.1.1.1.0) _ _ _ c.before.before.before.before.before.before.before.before.before.before.before.before.before.before.before.before.before.before.before.before.before.before.before.before.before.before.before.read.ensures c.before.before.before.before.before.before.before.before.before.before.before.before.before.before.before.before.before.before.before.before.before.before.before.before.before.before.number.ensures c.before.before.before.before.before.before.before.before.before.before.before.before.before.before.before.before.before.before.before.before.before.before.before.before.before.number2.ensures o.ensures c.write-offered.ensures
 
 pub offer-spec : {M : Type 1} → statement M
 offer-spec =

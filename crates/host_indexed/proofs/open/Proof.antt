@@ -1,4 +1,4 @@
-use Rattle.host_indexed.proofs.Calls.{gate-opened}
+use Rattle.host_indexed.proofs.Calls.{gate_opened_lem}
 use borrow.Author.Rules.{rules}
 use Rattle.host_indexed.proofs.open.Statement.{statement}
 use Rattle.host_indexed.proofs.open.Tie as tie
@@ -32,7 +32,7 @@ same-length-2 c = search rules
 returns : tie.Need-returns
 returns c =
     let a = c.before.before.before.before.before.before.before.before.before.before.before.before.before.before.before.before.before.before.args in
-    gate-opened a.gate.now a.capacity a.settings a.change-rule a.extra.now a.keys.now a.changes.now a.buckets.now a.links.now a.pat-slots.now a.pat-cells.now a.watch.now _ c.before.before.before.before.before.before.«open».result _ _ _ _ c.before.before.before.before.before.before.before.before.before.settings.ensures c.before.before.before.before.before.before.«open».ensures c.write-opened.ensures
+    gate_opened_lem a.gate.now a.capacity a.settings a.change-rule a.extra.now a.keys.now a.changes.now a.buckets.now a.links.now a.pat-slots.now a.pat-cells.now a.watch.now _ c.before.before.before.before.before.before.«open».result _ _ _ _ c.before.before.before.before.before.before.before.before.before.settings.ensures c.before.before.before.before.before.before.«open».ensures c.write-opened.ensures
 
 pub open_spec : {M : Type 1} → statement M
 open_spec =

@@ -1,4 +1,4 @@
-use Rattle.host_log_records.proofs.Laws.{laid-part}
+use Rattle.host_log_records.proofs.Laws.{laid_part}
 use borrow.Author.Rules.{rules}
 use Rattle.host_log_records.proofs.lay.Statement.{statement}
 use Rattle.host_log_records.proofs.lay.Tie as tie
@@ -28,7 +28,7 @@ same_length c = search rules
 
 -- src/lib.rt:75:1
 returns : tie.Need-returns
-returns c = search laid-part
+returns c = search laid_part
 
 pub lay-spec : {M : Type 1} → statement M
 lay-spec =

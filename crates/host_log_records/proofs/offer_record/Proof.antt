@@ -1,4 +1,4 @@
-use Rattle.host_log_records.proofs.Laws.{offer-room, offer-made, offer-overlong, offer-unknown}
+use Rattle.host_log_records.proofs.Laws.{offer_room, offer_made_lem, offer_overlong, offer_unknown}
 use borrow.Author.Rules.{rules}
 use Rattle.host_log_records.proofs.offer_record.Statement.{statement}
 use Rattle.host_log_records.proofs.offer_record.Tie as tie
@@ -14,7 +14,7 @@ use Rattle.section.proofs.header.ChangeRule.of.Reads as of-reads
 
 -- src/lib.rt:98:9
 returns : tie.Need-returns
-returns c = search offer-overlong
+returns c = search offer_overlong
 
 -- src/lib.rt:100:8
 is-known-requires : tie.Need-is-known-requires
@@ -42,15 +42,15 @@ offer-record-requires c κs = search rules
 
 -- src/lib.rt:106:9
 write-entry-requires : tie.Need-write-entry-requires
-write-entry-requires c κs = search (rules, offer-room)
+write-entry-requires c κs = search (rules, offer_room)
 
 -- src/lib.rt:107:9
 returns-2 : tie.Need-returns-2
-returns-2 c = search offer-made
+returns-2 c = search offer_made_lem
 
 -- src/lib.rt:86:1
 returns-3 : tie.Need-returns-3
-returns-3 c = search offer-unknown
+returns-3 c = search offer_unknown
 
 pub offer-record-spec : {M : Type 1} → statement M
 offer-record-spec =

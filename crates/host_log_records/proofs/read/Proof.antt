@@ -1,4 +1,4 @@
-use Rattle.host_log_records.proofs.Laws.{place-fits, read_found, read-end, read-unknown, read-cut}
+use Rattle.host_log_records.proofs.Laws.{place_fits, read_found, read_end, read_unknown, read_cut}
 use borrow.Author.Rules.{rules}
 use Rattle.host_log_records.proofs.read.Statement.{statement}
 use Rattle.host_log_records.proofs.read.Tie as tie
@@ -22,7 +22,7 @@ record-size-requires c κs = search rules
 
 -- src/lib.rt:46:37
 add-write-record : tie.Need-overflow-add-write-record
-add-write-record c = search (rules, place-fits)
+add-write-record c = search (rules, place_fits)
 
 -- src/lib.rt:46:13
 write-record-requires : tie.Need-write-record-requires
@@ -46,15 +46,15 @@ returns c = search read_found
 
 -- src/lib.rt:40:1
 returns-2 : tie.Need-returns-2
-returns-2 c = search read-end
+returns-2 c = search read_end
 
 -- src/lib.rt:40:1
 returns-3 : tie.Need-returns-3
-returns-3 c = search read-unknown
+returns-3 c = search read_unknown
 
 -- src/lib.rt:40:1
 returns-4 : tie.Need-returns-4
-returns-4 c = search read-cut
+returns-4 c = search read_cut
 
 pub read_spec : {M : Type 1} → statement M
 read_spec =

@@ -1,4 +1,4 @@
-use Rattle.host_log_records.proofs.Laws.{set_room, set-made}
+use Rattle.host_log_records.proofs.Laws.{set_room, set_made_lem}
 use borrow.Author.Rules.{rules}
 use Rattle.host_log_records.proofs.set_record.Statement.{statement}
 use Rattle.host_log_records.proofs.set_record.Tie as tie
@@ -27,7 +27,7 @@ write-entry-requires c κs = search (rules, set_room)
 
 -- src/lib.rt:113:1
 returns : tie.Need-returns
-returns c = search set-made
+returns c = search set_made_lem
 
 pub set-record-spec : {M : Type 1} → statement M
 set-record-spec =

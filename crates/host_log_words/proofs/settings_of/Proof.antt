@@ -1,4 +1,4 @@
-use Rattle.host_log_words.proofs.Laws.{settings-read}
+use Rattle.host_log_words.proofs.Laws.{settings_read}
 use borrow.Author.Rules.{rules}
 use Rattle.host_log_words.proofs.settings_of.Statement.{statement}
 use Rattle.host_log_words.proofs.settings_of.Tie as tie
@@ -48,7 +48,7 @@ pids-for-requires c κs = search rules
 
 -- src/lib.rt:17:1
 returns : tie.Need-returns
-returns c = search settings-read
+returns c = search settings_read
 
 pub settings-of-spec : {M : Type 1} → statement M
 settings-of-spec =

@@ -1,4 +1,4 @@
-use Rattle.host_log_words.proofs.Laws.{place-written, place_kept}
+use Rattle.host_log_words.proofs.Laws.{place_written, place_kept}
 use borrow.Author.Rules.{rules}
 use Rattle.host_log_words.proofs.write_place.Statement.{statement}
 use Rattle.host_log_words.proofs.write_place.Tie as tie
@@ -12,7 +12,7 @@ number-requires c κs = search rules
 
 -- src/lib.rt:32:1
 returns : tie.Need-returns
-returns c = search place-written
+returns c = search place_written
 
 -- src/lib.rt:32:1
 returns-2 : tie.Need-returns-2

@@ -1,4 +1,4 @@
-use Rattle.host_logs.proofs.Laws.{log-checked}
+use Rattle.host_logs.proofs.Laws.{log_checked_lem}
 use borrow.Author.Rules.{rules}
 use Rattle.host_logs.proofs.check.Statement.{statement}
 use Rattle.host_logs.proofs.check.Tie as tie
@@ -42,7 +42,7 @@ same-length-5 c = search rules
 
 -- src/lib.rt:44:1
 returns : tie.Need-returns
-returns c = search log-checked
+returns c = search log_checked_lem
 
 pub check-spec : {M : Type 1} → statement M
 check-spec =

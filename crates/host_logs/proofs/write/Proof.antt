@@ -1,4 +1,4 @@
-use Rattle.host_logs.proofs.Laws.{log-written}
+use Rattle.host_logs.proofs.Laws.{log_written_lem}
 use borrow.Author.Rules.{rules}
 use Rattle.host_logs.proofs.write.Statement.{statement}
 use Rattle.host_logs.proofs.write.Tie as tie
@@ -46,7 +46,7 @@ same-length-6 c = search rules
 
 -- src/lib.rt:76:1
 returns : tie.Need-returns
-returns c = search log-written
+returns c = search log_written_lem
 
 pub write_spec : {M : Type 1} → statement M
 write_spec =

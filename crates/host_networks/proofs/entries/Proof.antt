@@ -1,4 +1,4 @@
-use Rattle.host_networks.proofs.Calls.{section-read}
+use Rattle.host_networks.proofs.Calls.{section_read_lem}
 use borrow.Author.Rules.{rules}
 use Rattle.host_networks.proofs.entries.Statement.{statement}
 use Rattle.host_networks.proofs.entries.Tie as tie
@@ -16,7 +16,7 @@ same_length : tie.Need-same-length
 same_length c = search rules
 
 returns : tie.Need-returns
-returns c = search section-read
+returns c = search section_read_lem
 
 pub entries-spec : {M : Type 1} → statement M
 entries-spec = tie.close (tie.spec reader-of-requires entries-requires write-read-requires same_length returns)

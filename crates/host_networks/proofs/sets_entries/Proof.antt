@@ -1,4 +1,4 @@
-use Rattle.host_networks.proofs.Calls.{set-read}
+use Rattle.host_networks.proofs.Calls.{set_read_lem}
 use borrow.Author.Rules.{rules}
 use Rattle.host_networks.proofs.sets_entries.Statement.{statement}
 use Rattle.host_networks.proofs.sets_entries.Tie as tie
@@ -19,7 +19,7 @@ same_length : tie.Need-same-length
 same_length c = search rules
 
 returns : tie.Need-returns
-returns c = search set-read
+returns c = search set_read_lem
 
 pub sets-entries-spec : {M : Type 1} → statement M
 sets-entries-spec = tie.close (tie.spec reader-of-requires sets-requires entries-of-set-requires write-read-requires same_length returns)

@@ -1,4 +1,4 @@
-use Rattle.host_pass_indexed.proofs.Calls.{packets-passed}
+use Rattle.host_pass_indexed.proofs.Calls.{packets_passed_lem}
 use borrow.Author.Rules.{rules}
 use Rattle.host_pass_indexed.proofs.pass.Statement.{statement}
 use Rattle.host_pass_indexed.proofs.pass.Tie as tie
@@ -22,7 +22,7 @@ same_length : tie.Need-same-length
 same_length c = search rules
 
 returns : tie.Need-returns
-returns c = search packets-passed
+returns c = search packets_passed_lem
 
 pub pass_spec : {M : Type 1} → statement M
 pass_spec =

@@ -1,4 +1,4 @@
-use Rattle.host_sets.proofs.Calls.{sets-cleared}
+use Rattle.host_sets.proofs.Calls.{sets_cleared_lem}
 use borrow.Author.Rules.{rules}
 use Rattle.host_sets.proofs.clear.Statement.{statement}
 use Rattle.host_sets.proofs.clear.Tie as tie
@@ -13,7 +13,7 @@ write-cleared-requires : tie.Need-write-cleared-requires
 write-cleared-requires c κs = search rules
 
 returns : tie.Need-returns
-returns c = search sets-cleared
+returns c = search sets_cleared_lem
 
 pub clear_spec : {M : Type 1} → statement M
 clear_spec =

@@ -1,4 +1,4 @@
-use Rattle.host_sets.proofs.Calls.{sets-opened}
+use Rattle.host_sets.proofs.Calls.{sets_opened_lem}
 use borrow.Author.Rules.{rules}
 use Rattle.host_sets.proofs.open.Statement.{statement}
 use Rattle.host_sets.proofs.open.Tie as tie
@@ -10,7 +10,7 @@ write-opened-requires : tie.Need-write-opened-requires
 write-opened-requires c κs = search rules
 
 returns : tie.Need-returns
-returns c = search sets-opened
+returns c = search sets_opened_lem
 
 pub open_spec : {M : Type 1} → statement M
 open_spec = tie.close (tie.spec open-requires write-opened-requires returns)

@@ -1,4 +1,4 @@
-use Rattle.host_sets.proofs.Calls.{sets-pushed}
+use Rattle.host_sets.proofs.Calls.{sets_pushed_lem}
 use borrow.Author.Rules.{rules}
 use Rattle.host_sets.proofs.push.Statement.{statement}
 use Rattle.host_sets.proofs.push.Tie as tie
@@ -28,7 +28,7 @@ same-length-3 : tie.Need-same-length-3
 same-length-3 c = search rules
 
 returns : tie.Need-returns
-returns c = search sets-pushed
+returns c = search sets_pushed_lem
 
 pub push_spec : {M : Type 1} → statement M
 push_spec =

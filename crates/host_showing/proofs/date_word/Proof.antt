@@ -1,4 +1,4 @@
-use Rattle.host_showing.proofs.Calls.{date-spelt}
+use Rattle.host_showing.proofs.Calls.{date_spelt}
 use borrow.Author.Rules.{rules}
 use Rattle.host_showing.proofs.date_word.Statement.{statement}
 use Rattle.host_showing.proofs.date_word.Tie as tie
@@ -31,7 +31,7 @@ enum_told : tie.Need-enum-told
 enum_told c = search rules
 
 returns : tie.Need-returns
-returns c = search date-spelt
+returns c = search date_spelt
 
 returns-2 : tie.Need-returns-2
 returns-2 c = search rules

@@ -1,4 +1,4 @@
-use Rattle.host_showing.proofs.Calls.{set-listed}
+use Rattle.host_showing.proofs.Calls.{set_listed_lem}
 use borrow.Author.Rules.{rules}
 use Rattle.host_showing.proofs.eit_events.Statement.{statement}
 use Rattle.host_showing.proofs.eit_events.Tie as tie
@@ -16,7 +16,7 @@ same_length : tie.Need-same-length
 same_length c = search rules
 
 returns : tie.Need-returns
-returns c = search set-listed
+returns c = search set_listed_lem
 
 pub eit-events-spec : {M : Type 1} → statement M
 eit-events-spec =

@@ -1,4 +1,4 @@
-use Rattle.host_showing.proofs.Calls.{table-listed}
+use Rattle.host_showing.proofs.Calls.{table_listed_lem}
 use borrow.Author.Rules.{rules}
 use Rattle.host_showing.proofs.eit_events_in_schedule.Statement.{statement}
 use Rattle.host_showing.proofs.eit_events_in_schedule.Tie as tie
@@ -16,7 +16,7 @@ same_length : tie.Need-same-length
 same_length c = search rules
 
 returns : tie.Need-returns
-returns c = search table-listed
+returns c = search table_listed_lem
 
 pub eit-events-in-schedule-spec : {M : Type 1} → statement M
 eit-events-in-schedule-spec =

@@ -1,4 +1,4 @@
-use Rattle.host_showing.proofs.Calls.{section-listed}
+use Rattle.host_showing.proofs.Calls.{section_listed_lem}
 use borrow.Author.Rules.{rules}
 use Rattle.host_showing.proofs.events.Statement.{statement}
 use Rattle.host_showing.proofs.events.Tie as tie
@@ -13,7 +13,7 @@ same_length : tie.Need-same-length
 same_length c = search rules
 
 returns : tie.Need-returns
-returns c = search section-listed
+returns c = search section_listed_lem
 
 pub events-spec : {M : Type 1} → statement M
 events-spec = tie.close (tie.spec events-requires write-listed-requires same_length returns)

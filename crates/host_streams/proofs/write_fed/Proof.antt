@@ -1,4 +1,4 @@
-use Rattle.host_streams.proofs.Laws.{told-are}
+use Rattle.host_streams.proofs.Laws.{told_are}
 use borrow.Author.Rules.{rules}
 use Rattle.host_streams.proofs.write_fed.Statement.{statement}
 use Rattle.host_streams.proofs.write_fed.Tie as tie
@@ -16,7 +16,7 @@ number-requires : tie.Need-number-requires
 number-requires c κs = search rules
 
 returns : tie.Need-returns
-returns c = search told-are
+returns c = search told_are
 
 pub write-fed-spec : {M : Type 1} → statement M
 write-fed-spec =

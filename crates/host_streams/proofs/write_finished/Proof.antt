@@ -1,4 +1,4 @@
-use Rattle.host_streams.proofs.Laws.{finished-written}
+use Rattle.host_streams.proofs.Laws.{finished_written}
 use borrow.Author.Rules.{rules}
 use Rattle.host_streams.proofs.write_finished.Statement.{statement}
 use Rattle.host_streams.proofs.write_finished.Tie as tie
@@ -16,7 +16,7 @@ enum-told-3 : tie.Need-enum-told-3
 enum-told-3 c = search rules
 
 returns : tie.Need-returns
-returns c = search finished-written
+returns c = search finished_written
 
 returns-2 : tie.Need-returns-2
 returns-2 c = search rules

@@ -1,4 +1,4 @@
-use Rattle.laid.proofs.Walks.{rest-room, end-here, end_none}
+use Rattle.laid.proofs.Walks.{rest_room, end_here, end_none}
 use borrow.Author.Rules.{rules}
 use Rattle.laid.proofs.end_at.Statement.{statement}
 use Rattle.laid.proofs.end_at.Tie as tie
@@ -16,13 +16,13 @@ part-section-length-end : tie.Need-slice-bounds-section-length-end
 part-section-length-end c = search rules
 
 section-length-requires : tie.Need-section-length-requires
-section-length-requires c κs = search rest-room
+section-length-requires c κs = search rest_room
 
 add-result-2 : tie.Need-overflow-add-result-2
 add-result-2 c = search rules
 
 returns : tie.Need-returns
-returns c = search end-here
+returns c = search end_here
 
 returns-2 : tie.Need-returns-2
 returns-2 c = search end_none

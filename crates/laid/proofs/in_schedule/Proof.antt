@@ -1,4 +1,4 @@
-use Rattle.laid.proofs.Ways.{schedule-after}
+use Rattle.laid.proofs.Ways.{schedule_after}
 use borrow.Author.Rules.{rules}
 use Rattle.laid.proofs.in_schedule.Statement.{statement}
 use Rattle.laid.proofs.in_schedule.Tie as tie
@@ -28,7 +28,7 @@ in-table-requires : tie.Need-in-table-requires
 in-table-requires c κs = search rules
 
 returns : tie.Need-returns
-returns c = schedule-after c.before.before.before.before.before.before.before.before.before.before.args.x.now c.before.before.before.before.before.before.before.before.before.before.args.y.now c.before.before.before.before.before.before.before.schedule-key-in.result c.before.before.before.before.before.before.schedule-key-in2.result c.before.before.before.before.before.same_key.result c.in_table.result c.before.before.before.before.before.before.before.schedule-key-in.ensures c.before.before.before.before.before.before.schedule-key-in2.ensures c.before.before.before.before.before.same_key.ensures c.in_table.ensures
+returns c = schedule_after c.before.before.before.before.before.before.before.before.before.before.args.x.now c.before.before.before.before.before.before.before.before.before.before.args.y.now c.before.before.before.before.before.before.before.schedule-key-in.result c.before.before.before.before.before.before.schedule-key-in2.result c.before.before.before.before.before.same_key.result c.in_table.result c.before.before.before.before.before.before.before.schedule-key-in.ensures c.before.before.before.before.before.before.schedule-key-in2.ensures c.before.before.before.before.before.same_key.ensures c.in_table.ensures
 
 pub in-schedule-spec : {M : Type 1} → statement M
 in-schedule-spec =

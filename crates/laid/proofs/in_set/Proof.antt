@@ -1,4 +1,4 @@
-use Rattle.laid.proofs.Ways.{set_after}
+use Rattle.laid.proofs.Ways.{set_after_lem}
 use borrow.Author.Rules.{rules}
 use Rattle.laid.proofs.in_set.Statement.{statement}
 use Rattle.laid.proofs.in_set.Tie as tie
@@ -16,7 +16,7 @@ in-table-requires : tie.Need-in-table-requires
 in-table-requires c κs = search rules
 
 returns : tie.Need-returns
-returns c = search set_after
+returns c = search set_after_lem
 
 pub in-set-spec : {M : Type 1} → statement M
 in-set-spec =

@@ -1,4 +1,4 @@
-use Rattle.laid.proofs.Ways.{joins-schedule, joins_set}
+use Rattle.laid.proofs.Ways.{joins_schedule, joins_set}
 use borrow.Author.Rules.{rules}
 use Rattle.laid.proofs.joins.Statement.{statement}
 use Rattle.laid.proofs.joins.Tie as tie
@@ -10,7 +10,7 @@ in-set-requires : tie.Need-in-set-requires
 in-set-requires c κs = search rules
 
 returns : tie.Need-returns
-returns c = search joins-schedule
+returns c = search joins_schedule
 
 returns-2 : tie.Need-returns-2
 returns-2 c = search joins_set

@@ -1,4 +1,4 @@
-use Rattle.laid.proofs.Ways.{key-made}
+use Rattle.laid.proofs.Ways.{key_made}
 use borrow.Author.Rules.{rules}
 use Rattle.laid.proofs.key_of.Statement.{statement}
 use Rattle.laid.proofs.key_of.Tie as tie
@@ -28,7 +28,7 @@ word-if-requires-2 : tie.Need-word-if-requires-2
 word-if-requires-2 c κs = search rules
 
 returns : tie.Need-returns
-returns c = search key-made
+returns c = search key_made
 
 pub key-of-spec : {M : Type 1} → statement M
 key-of-spec =

@@ -1,10 +1,10 @@
-use Rattle.laid.proofs.Ways.{size-short, size-there, size_none}
+use Rattle.laid.proofs.Ways.{size_short, size_there, size_none}
 use borrow.Author.Rules.{rules}
 use Rattle.laid.proofs.long_size.Statement.{statement}
 use Rattle.laid.proofs.long_size.Tie as tie
 
 returns : tie.Need-returns
-returns c = search size-short
+returns c = search size_short
 
 section-length-requires : tie.Need-section-length-requires
 section-length-requires c κs = search rules
@@ -16,7 +16,7 @@ long-form-requires : tie.Need-long-form-requires
 long-form-requires c κs = search rules
 
 returns-2 : tie.Need-returns-2
-returns-2 c = search size-there
+returns-2 c = search size_there
 
 returns-3 : tie.Need-returns-3
 returns-3 c = search size_none

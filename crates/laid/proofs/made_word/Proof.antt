@@ -1,4 +1,4 @@
-use Rattle.laid.proofs.Ways.{word-one, word_none}
+use Rattle.laid.proofs.Ways.{word_one, word_none}
 use borrow.Author.Rules.{rules}
 use Rattle.laid.proofs.made_word.Statement.{statement}
 use Rattle.laid.proofs.made_word.Tie as tie
@@ -13,7 +13,7 @@ enum_told : tie.Need-enum-told
 enum_told c = search rules
 
 returns : tie.Need-returns
-returns c = search word-one
+returns c = search word_one
 
 returns-2 : tie.Need-returns-2
 returns-2 c = search word_none

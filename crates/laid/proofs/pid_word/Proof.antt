@@ -1,4 +1,4 @@
-use Rattle.laid.proofs.Ways.{pid-some, pid-none}
+use Rattle.laid.proofs.Ways.{pid_some, pid_none}
 use borrow.Author.Rules.{rules}
 use Rattle.laid.proofs.pid_word.Statement.{statement}
 use Rattle.laid.proofs.pid_word.Tie as tie
@@ -16,10 +16,10 @@ made-word-requires : tie.Need-made-word-requires
 made-word-requires c κs = search rules
 
 returns : tie.Need-returns
-returns c = search pid-none
+returns c = search pid_none
 
 returns-2 : tie.Need-returns-2
-returns-2 c = search pid-some
+returns-2 c = search pid_some
 
 pub pid-word-spec : {M : Type 1} → statement M
 pid-word-spec =

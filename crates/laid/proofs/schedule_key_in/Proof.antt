@@ -1,4 +1,4 @@
-use Rattle.laid.proofs.Ways.{key-kind}
+use Rattle.laid.proofs.Ways.{key_kind}
 use borrow.Author.Rules.{rules}
 use Rattle.laid.proofs.schedule_key_in.Statement.{statement}
 use Rattle.laid.proofs.schedule_key_in.Tie as tie
@@ -16,7 +16,7 @@ key-of-requires : tie.Need-key-of-requires
 key-of-requires c κs = search rules
 
 returns : tie.Need-returns
-returns c = search key-kind
+returns c = search key_kind
 
 pub schedule-key-in-spec : {M : Type 1} → statement M
 schedule-key-in-spec =

@@ -1,4 +1,4 @@
-use Rattle.laid.proofs.Walks.{part-here, part-other, part-sized, part-empty}
+use Rattle.laid.proofs.Walks.{part_here, part_other, part_sized, part_empty}
 use borrow.Author.Rules.{rules}
 use Rattle.laid.proofs.section_at.Statement.{statement}
 use Rattle.laid.proofs.section_at.Tie as tie
@@ -28,10 +28,10 @@ part-result-end-2 : tie.Need-slice-bounds-result-end-2
 part-result-end-2 c = search rules
 
 returns : tie.Need-returns
-returns c = (search part-here, search part-sized)
+returns c = (search part_here, search part_sized)
 
 returns-2 : tie.Need-returns-2
-returns-2 c = (search part-other, search part-empty)
+returns-2 c = (search part_other, search part_empty)
 
 pub section-at-spec : {M : Type 1} → statement M
 section-at-spec =

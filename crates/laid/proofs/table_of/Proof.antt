@@ -1,4 +1,4 @@
-use Rattle.laid.proofs.Tables.{schedule-starts, part-ordered, part-fits, part-of-table}
+use Rattle.laid.proofs.Tables.{schedule_starts, part_ordered, part_fits, part_of_table}
 use borrow.Author.Rules.{rules}
 use Rattle.laid.proofs.table_of.Statement.{statement}
 use Rattle.laid.proofs.table_of.Tie as tie
@@ -7,7 +7,7 @@ wide-requires : tie.Need-wide-requires
 wide-requires c κs = search rules
 
 pass-requires : tie.Need-pass-requires
-pass-requires c κs = search schedule-starts
+pass-requires c κs = search schedule_starts
 
 wide-requires-2 : tie.Need-wide-requires-2
 wide-requires-2 c κs = search rules
@@ -28,7 +28,7 @@ part-result-end : tie.Need-slice-bounds-result-end
 part-result-end c = search rules
 
 returns : tie.Need-returns
-returns c = search part-of-table
+returns c = search part_of_table
 
 pub table-of-spec : {M : Type 1} → statement M
 table-of-spec =

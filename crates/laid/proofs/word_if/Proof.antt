@@ -1,4 +1,4 @@
-use Rattle.laid.proofs.Ways.{word-there}
+use Rattle.laid.proofs.Ways.{word_there}
 use borrow.Author.Rules.{rules}
 use Rattle.laid.proofs.word_if.Statement.{statement}
 use Rattle.laid.proofs.word_if.Tie as tie
@@ -10,7 +10,7 @@ cast-result : tie.Need-overflow-cast-result
 cast-result c = search rules
 
 returns : tie.Need-returns
-returns c = search word-there
+returns c = search word_there
 
 returns-2 : tie.Need-returns-2
 returns-2 c = search rules

@@ -3,16 +3,16 @@ use mathlib.Core.Path.{◌≡◌, refl, sym, ap, ◌∙◌}
 use Prim.Native.Nat.{◌+◌, ◌-◌, ◌*◌}
 use native.Mathlib.Omega.{arith}
 use lib.ListN.{length}
-use Rattle.listing.proofs.Ways.{entries-end, entries-short, entries-past, entries-more, descriptors-one, descriptors-past, descriptors-more}
+use Rattle.listing.proofs.Ways.{entries_end, entries_short, entries_past, entries_more, descriptors_one, descriptors_past, descriptors_more}
 use Prim.Native.Nat.{ℕ, ◌<◌}
 use borrow.Fn.Kinds.{In}
 use borrow.Fn.PlainCycle.{Measures, is, falls, and}
 use Rattle.listing.proofs.descriptors.Reads as descriptors
-use Rattle.listing.proofs.descriptors.Kinds as descriptors-kinds
-use Rattle.listing.proofs.+descriptors_entries.Lts-descriptors as descriptors-lts
+use Rattle.listing.proofs.descriptors.Kinds as descriptors_kinds
+use Rattle.listing.proofs.+descriptors_entries.Lts-descriptors as descriptors_lts
 use Rattle.listing.proofs.entries.Reads as entries
-use Rattle.listing.proofs.entries.Kinds as entries-kinds
-use Rattle.listing.proofs.+descriptors_entries.Lts-entries as entries-lts
+use Rattle.listing.proofs.entries.Kinds as entries_kinds
+use Rattle.listing.proofs.+descriptors_entries.Lts-entries as entries_lts
 use Rattle.listing.proofs.count_at.Reads as count-at-reads
 use Rattle.listing.proofs.put_descriptor.Reads as put-descriptor-reads
 use Rattle.listing.proofs.put_entry.Reads as put-entry-reads
@@ -92,7 +92,7 @@ descriptors-returns-2 : (t : ℕ) → descriptors-lts.Need-returns-2 (
 ) (descriptors-at t) descriptors.Post
 descriptors-returns-2 t c = let a = c.before.before.before.before.args in
     let e : a.left ≡ 1 = omega arith in
-    rw e (sym (descriptors-one a.of a.s.now a.at a.list.now a.k (omega arith)))
+    rw e (sym (descriptors_one a.of a.s.now a.at a.list.now a.k (omega arith)))
 
 -- src/lib.rt:113:23
 descriptors-add-wide : (t : ℕ) → descriptors-lts.Need-overflow-add-wide (
@@ -145,7 +145,7 @@ descriptors-returns-3 : (t : ℕ) → descriptors-lts.Need-returns-3 (
   descriptors.Post,
 ) (descriptors-at t) descriptors.Post
 descriptors-returns-3 t c = let a = c.before.before.before.before.before.before.before.args in
-    sym (descriptors-past a.of a.s.now a.at a.list.now a.k a.left _ c.before.wide.ensures.0 c.before.before.before.if2.false (omega arith) (omega arith))
+    sym (descriptors_past a.of a.s.now a.at a.list.now a.k a.left _ c.before.wide.ensures.0 c.before.before.before.if2.false (omega arith) (omega arith))
 
 -- src/lib.rt:117:5
 descriptors-put-descriptor-requires : (t : ℕ) → descriptors-lts.Need-put-descriptor-requires (
@@ -253,7 +253,7 @@ descriptors-returns-4 t c = let a = c.before.before.before.before.before.before.
     let e = c.before.before.before.before.before.before.before.before.before.wide.ensures.0 in
     let p = c.before.before.before.before.before.before.put-descriptor.ensures in
     c.before.before.descriptors.ensures
-    ∙ rw p (sym (descriptors-more a.of a.s.now a.at a.list.now a.k a.left _ e c.before.before.before.before.before.before.before.before.before.before.before.if2.false (omega arith) (omega arith)))
+    ∙ rw p (sym (descriptors_more a.of a.s.now a.at a.list.now a.k a.left _ e c.before.before.before.before.before.before.before.before.before.before.before.if2.false (omega arith) (omega arith)))
 
 -- src/lib.rt:81:9
 entries-returns : (t : ℕ) → entries-lts.Need-returns (
@@ -264,7 +264,7 @@ entries-returns : (t : ℕ) → entries-lts.Need-returns (
   descriptors-below t,
   descriptors.Post,
 ) (entries_at t) entries.Post
-entries-returns t c = let a = c.before.before.before.args in sym (entries-end a.of a.s.now a.at a.list.now a.k c.if1.true)
+entries-returns t c = let a = c.before.before.before.args in sym (entries_end a.of a.s.now a.at a.list.now a.k c.if1.true)
 
 -- src/lib.rt:83:8
 entries-sub-if2 : (t : ℕ) → entries-lts.Need-overflow-sub-if2 (
@@ -286,7 +286,7 @@ entries-returns-2 : (t : ℕ) → entries-lts.Need-returns-2 (
   descriptors-below t,
   descriptors.Post,
 ) (entries_at t) entries.Post
-entries-returns-2 t c = let a = c.before.before.before.before.args in sym (entries-short a.of a.s.now a.at a.list.now a.k c.before.if1.false c.if2.true)
+entries-returns-2 t c = let a = c.before.before.before.before.args in sym (entries_short a.of a.s.now a.at a.list.now a.k c.before.if1.false c.if2.true)
 
 -- src/lib.rt:86:9
 entries-count-at-requires : (t : ℕ) → entries-lts.Need-count-at-requires (
@@ -330,7 +330,7 @@ entries-returns-3 : (t : ℕ) → entries-lts.Need-returns-3 (
   descriptors-below t,
   descriptors.Post,
 ) (entries_at t) entries.Post
-entries-returns-3 t c = let a = c.before.before.before.before.before.before.args in sym (entries-past a.of a.s.now a.at a.list.now a.k c.before.before.before.if1.false c.before.before.if2.false (omega arith))
+entries-returns-3 t c = let a = c.before.before.before.before.before.before.args in sym (entries_past a.of a.s.now a.at a.list.now a.k c.before.before.before.if1.false c.before.before.if2.false (omega arith))
 
 -- src/lib.rt:90:5
 entries-put-entry-requires : (t : ℕ) → entries-lts.Need-put-entry-requires (
@@ -400,7 +400,7 @@ entries-returns-4 t c = let a = c.before.before.before.before.before.before.befo
     let e = c.before.before.before.before.before.before.before.before.before.count_at.ensures.0 in
     let p = c.before.before.before.before.before.before.put-entry.ensures in
     c.before.before.descriptors.ensures
-    ∙ rw (e, p) (sym (entries-more a.of a.s.now a.at a.list.now a.k (omega (arith, c.before.before.before.before.before.before.before.before.before.before.before.before.before.before.requires.1.header)) c.before.before.before.before.before.before.before.before.before.before.if2.false (omega arith)))
+    ∙ rw (e, p) (sym (entries_more a.of a.s.now a.at a.list.now a.k (omega (arith, c.before.before.before.before.before.before.before.before.before.before.before.before.before.before.requires.1.header)) c.before.before.before.before.before.before.before.before.before.before.if2.false (omega arith)))
 
 pub +descriptors-entries-spec : {M : Type 1} → statement M
 +descriptors-entries-spec = close μ-descriptors μ-entries (λ t. descriptors-lts.spec (

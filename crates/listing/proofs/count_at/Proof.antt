@@ -1,4 +1,4 @@
-use Rattle.listing.proofs.Ways.{count-read}
+use Rattle.listing.proofs.Ways.{count_read_lem}
 use borrow.Author.Rules.{rules}
 use Rattle.listing.proofs.count_at.Statement.{statement}
 use Rattle.listing.proofs.count_at.Tie as tie
@@ -28,7 +28,7 @@ count-requires c κs = search rules
 
 -- src/lib.rt:26:1
 returns : tie.Need-returns
-returns c = (search count-read, search rules)
+returns c = (search count_read_lem, search rules)
 
 pub count-at-spec : {M : Type 1} → statement M
 count-at-spec =

@@ -1,4 +1,4 @@
-use Rattle.listing.proofs.Ways.{put-before, put-none, put-room}
+use Rattle.listing.proofs.Ways.{put_before, put_none, put_room}
 use mathlib.Core.Path.{◌∙◌}
 use borrow.Author.Rules.{rules}
 use Rattle.listing.proofs.put.Statement.{statement}
@@ -8,7 +8,7 @@ use Rattle.listing.proofs.put.Lts as lts
 use Rattle.listing.proofs.write.Reads as write-reads
 
 returns : tie.Need-returns
-returns c = search put-before
+returns c = search put_before
 
 mul-write : tie.Need-overflow-mul-write
 mul-write c = search rules
@@ -20,10 +20,10 @@ same_length : tie.Need-same-length
 same_length c = search rules
 
 returns-2 : tie.Need-returns-2
-returns-2 c = search (put-room, ◌∙◌)
+returns-2 c = search (put_room, ◌∙◌)
 
 returns-3 : tie.Need-returns-3
-returns-3 c = search put-none
+returns-3 c = search put_none
 
 pub put_spec : {M : Type 1} → statement M
 put_spec = tie.close (tie.spec returns mul-write write-requires same_length returns-2 returns-3)

@@ -1,4 +1,4 @@
-use Rattle.listing.proofs.Ways.{descriptor-put}
+use Rattle.listing.proofs.Ways.{descriptor_put}
 use borrow.Author.Rules.{rules}
 use Rattle.listing.proofs.put_descriptor.Statement.{statement}
 use Rattle.listing.proofs.put_descriptor.Tie as tie
@@ -37,7 +37,7 @@ same_length c = search rules
 
 -- src/lib.rt:66:1
 returns : tie.Need-returns
-returns c = search descriptor-put
+returns c = search descriptor_put
 
 pub put-descriptor-spec : {M : Type 1} → statement M
 put-descriptor-spec =

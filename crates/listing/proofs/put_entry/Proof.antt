@@ -1,4 +1,4 @@
-use Rattle.listing.proofs.Ways.{entry-put}
+use Rattle.listing.proofs.Ways.{entry_put}
 use borrow.Author.Rules.{rules}
 use Rattle.listing.proofs.put_entry.Statement.{statement}
 use Rattle.listing.proofs.put_entry.Tie as tie
@@ -41,7 +41,7 @@ same_length c = search rules
 
 -- src/lib.rt:58:1
 returns : tie.Need-returns
-returns c = search entry-put
+returns c = search entry_put
 
 pub put-entry-spec : {M : Type 1} → statement M
 put-entry-spec =

@@ -5,7 +5,7 @@ use Prim.Native.Nat.{◌≤◌, ◌-◌}
 use native.Mathlib.Omega.{arith}
 use lib.ListN.{length, length-set}
 use lib.Seq.{paste, paste-zero}
-use Rattle.laws.proofs.Lists.{paste-turn, paste-end}
+use Rattle.laws.proofs.Lists.{paste_turn, paste_end}
 use Rattle.listing.proofs.write.Statement.{statement}
 use Rattle.listing.proofs.write.Tie as tie
 
@@ -41,13 +41,13 @@ loop-less c = search rules
 
 loop-again : tie.Need-loop-preserved invariant-loop decreases-loop
 loop-again c = let l = c.before.before.loop in
-    (omega arith, simp length-set l.invariant.1, paste-turn c.before.before.before.args.list.now l.list c.before.before.before.args.at c.before.before.before.args.words.now l.i 0 l.invariant.2 (omega arith) (omega arith))
+    (omega arith, simp length-set l.invariant.1, paste_turn c.before.before.before.args.list.now l.list c.before.before.before.args.at c.before.before.before.args.words.now l.i 0 l.invariant.2 (omega arith) (omega arith))
 
 same_length : tie.Need-same-length invariant-loop decreases-loop
 same_length c = search rules
 
 returns : tie.Need-returns invariant-loop decreases-loop
-returns c = let l = c.before.loop in paste-end c.before.before.args.list.now l.list c.before.before.args.at c.before.before.args.words.now l.i 12 l.invariant.2 (omega arith)
+returns c = let l = c.before.loop in paste_end c.before.before.args.list.now l.list c.before.before.args.at c.before.before.args.words.now l.i 12 l.invariant.2 (omega arith)
 
 pub write_spec : {M : Type 1} → statement M
 write_spec =

@@ -1,4 +1,4 @@
-use Rattle.log_check.proofs.Laws.{beside-laid, beside-passed}
+use Rattle.log_check.proofs.Laws.{beside_laid, beside_passed}
 use native.Mathlib.Omega.{arith}
 use borrow.Author.Rules.{rules}
 use Rattle.log_check.proofs.beside.Statement.{statement}
@@ -21,11 +21,11 @@ part-compare-end c = search rules
 
 -- src/lib.rt:97:5
 compare-requires : tie.Need-compare-requires
-compare-requires c κs = search beside-laid
+compare-requires c κs = search beside_laid
 
 -- src/lib.rt:91:1
 returns : tie.Need-returns
-returns c = search beside-passed
+returns c = search beside_passed
 
 pub beside-spec : {M : Type 1} → statement M
 beside-spec =

@@ -1,6 +1,6 @@
 use mathlib.Core.Path.{refl}
 use Rattle.log_sections.specs.Steps.{memory}
-use Rattle.log_check.proofs.Laws.{check-long, check-cut, check-without, check-little, check-whole, check-walked}
+use Rattle.log_check.proofs.Laws.{check_long, check_cut, check_without, check_little, check_whole, check_walked}
 use borrow.Author.Rules.{rules}
 use Rattle.log_check.proofs.check.Statement.{statement}
 use Rattle.log_check.proofs.check.Tie as tie
@@ -52,7 +52,7 @@ enum-known-prepared c = search rules
 -- src/lib.rt:152:17
 walk-requires : tie.Need-walk-requires
 walk-requires c κs = let a = c.before.before.before.before.before.before.before.before.before.before.before.before.before.before.before.before.before.before.before.before.before.args in
-    check-whole a.settings a.sections.now a.log.now (memory a.keys.now a.changes.now a.heads.now a.slots.now a.cells.now) c.before.before.before.before.before.before.before.before.prepare.ensures c.before.before.before.before.before.before.prepared.given.1
+    check_whole a.settings a.sections.now a.log.now (memory a.keys.now a.changes.now a.heads.now a.slots.now a.cells.now) c.before.before.before.before.before.before.before.before.prepare.ensures c.before.before.before.before.before.before.prepared.given.1
 
 -- src/lib.rt:153:13
 told-requires : tie.Need-told-requires
@@ -81,7 +81,7 @@ same-length-5 c = refl
 -- src/lib.rt:134:1
 returns : tie.Need-returns
 returns c = let a = c.before.before.before.before.before.before.before.before.before.before.before.before.before.before.before.before.args in
-    check-long a.settings a.sections.now a.log.now (memory a.keys.now a.changes.now a.heads.now a.slots.now a.cells.now) c.before.before.before.prepare.ensures c.before.enum_told.given.1 c.refused.ensures
+    check_long a.settings a.sections.now a.log.now (memory a.keys.now a.changes.now a.heads.now a.slots.now a.cells.now) c.before.before.before.prepare.ensures c.before.enum_told.given.1 c.refused.ensures
 
 -- src/lib.rt:134:1
 same-length-6 : tie.Need-same-length-6
@@ -106,7 +106,7 @@ same-length-10 c = refl
 -- src/lib.rt:134:1
 returns-2 : tie.Need-returns-2
 returns-2 c = let a = c.before.before.before.before.before.before.before.before.before.before.before.before.before.before.before.before.args in
-    check-cut a.settings a.sections.now a.log.now (memory a.keys.now a.changes.now a.heads.now a.slots.now a.cells.now) c.before.before.before.prepare.ensures c.before.enum-told2.given.1 c.refused2.ensures
+    check_cut a.settings a.sections.now a.log.now (memory a.keys.now a.changes.now a.heads.now a.slots.now a.cells.now) c.before.before.before.prepare.ensures c.before.enum-told2.given.1 c.refused2.ensures
 
 -- src/lib.rt:134:1
 same-length-11 : tie.Need-same-length-11
@@ -131,7 +131,7 @@ same-length-15 c = refl
 -- src/lib.rt:134:1
 returns-3 : tie.Need-returns-3
 returns-3 c = let a = c.before.before.before.before.before.before.before.before.before.before.before.before.before.before.before.before.args in
-    check-without a.settings a.sections.now a.log.now (memory a.keys.now a.changes.now a.heads.now a.slots.now a.cells.now) c.before.before.before.prepare.ensures c.before.enum-told3.given.1 c.refused3.ensures
+    check_without a.settings a.sections.now a.log.now (memory a.keys.now a.changes.now a.heads.now a.slots.now a.cells.now) c.before.before.before.prepare.ensures c.before.enum-told3.given.1 c.refused3.ensures
 
 same-length-16 : tie.Need-same-length-16
 same-length-16 c = refl
@@ -151,7 +151,7 @@ same-length-20 c = refl
 -- src/lib.rt:134:1
 returns-4 : tie.Need-returns-4
 returns-4 c = let a = c.before.before.before.before.before.before.before.before.before.before.before.before.before.before.before.before.args in
-    check-little a.settings a.sections.now a.log.now (memory a.keys.now a.changes.now a.heads.now a.slots.now a.cells.now) c.before.before.before.prepare.ensures c.before.enum-told4.given.1 c.refused4.ensures
+    check_little a.settings a.sections.now a.log.now (memory a.keys.now a.changes.now a.heads.now a.slots.now a.cells.now) c.before.before.before.prepare.ensures c.before.enum-told4.given.1 c.refused4.ensures
 
 -- src/lib.rt:134:1
 same-length-21 : tie.Need-same-length-21
@@ -178,7 +178,7 @@ returns-5 : tie.Need-returns-5
 returns-5 c = let a = c.before.before.before.before.before.before.before.before.before.before.before.before.before.before.before.before.before.before.before.before.before.before.before.before.before.before.before.before.before.before.before.before.before.args in
     let w = c.before.before.before.before.before.before.before.before.before.before.before.walk in
     let x = w.new.1 in
-    check-walked a.settings a.sections.now a.log.now (memory a.keys.now a.changes.now a.heads.now a.slots.now a.cells.now) c.before.before.before.before.before.before.before.before.before.before.before.before.before.before.before.before.before.before.before.before.prepare.ensures c.before.before.before.before.before.before.before.before.before.before.before.before.before.before.before.before.before.before.prepared.given.1 (memory x.0 x.1.0 x.1.1.0 x.1.1.1.0 x.1.1.1.1.0) w.ensures c.told.ensures
+    check_walked a.settings a.sections.now a.log.now (memory a.keys.now a.changes.now a.heads.now a.slots.now a.cells.now) c.before.before.before.before.before.before.before.before.before.before.before.before.before.before.before.before.before.before.before.before.prepare.ensures c.before.before.before.before.before.before.before.before.before.before.before.before.before.before.before.before.before.before.prepared.given.1 (memory x.0 x.1.0 x.1.1.0 x.1.1.1.0 x.1.1.1.1.0) w.ensures c.told.ensures
 
 pub check-spec : {M : Type 1} → statement M
 check-spec =

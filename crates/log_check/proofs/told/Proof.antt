@@ -1,4 +1,4 @@
-use Rattle.log_check.proofs.Laws.{told-yes, told-unknown, told-cut, told-missing, told-many, told-differs}
+use Rattle.log_check.proofs.Laws.{told_yes, told_unknown, told_cut, told_missing, told_many, told_differs}
 use borrow.Author.Rules.{rules}
 use Rattle.log_check.proofs.told.Statement.{statement}
 use Rattle.log_check.proofs.told.Tie as tie
@@ -36,27 +36,27 @@ enum-told-6 c = search rules
 
 -- src/lib.rt:60:1
 returns : tie.Need-returns
-returns c = search told-yes
+returns c = search told_yes
 
 -- src/lib.rt:60:1
 returns-2 : tie.Need-returns-2
-returns-2 c = search told-unknown
+returns-2 c = search told_unknown
 
 -- src/lib.rt:60:1
 returns-3 : tie.Need-returns-3
-returns-3 c = search told-cut
+returns-3 c = search told_cut
 
 -- src/lib.rt:60:1
 returns-4 : tie.Need-returns-4
-returns-4 c = search told-missing
+returns-4 c = search told_missing
 
 -- src/lib.rt:60:1
 returns-5 : tie.Need-returns-5
-returns-5 c = search told-many
+returns-5 c = search told_many
 
 -- src/lib.rt:60:1
 returns-6 : tie.Need-returns-6
-returns-6 c = search told-differs
+returns-6 c = search told_differs
 
 pub told-spec : {M : Type 1} → statement M
 told-spec =

@@ -1,4 +1,4 @@
-use Rattle.log_check.proofs.Laws.{On, starts-on, step-entry, turn_on, turn-stops, walked_end}
+use Rattle.log_check.proofs.Laws.{On, starts_on, step_entry, turn_on, turn_stops, walked_end}
 use mathlib.Core.Path.{refl, ◌∙◌}
 use Prim.Native.Nat.{◌-◌}
 use native.Mathlib.Omega.{arith}
@@ -30,7 +30,7 @@ loop-holds : tie.Need-loop-init invariant-loop decreases-loop
 loop-holds c = let a = c.before.before.before.before.before.before.before.args in (
   c.before.before.before.before.before.before.before.requires,
   record { keys = refl; changes = refl; heads = refl; slots = refl; cells = refl },
-  starts-on a.sections.now a.log.now (lent a.run a.keys.now a.changes.now a.heads.now a.slots.now a.cells.now),
+  starts_on a.sections.now a.log.now (lent a.run a.keys.now a.changes.now a.heads.now a.slots.now a.cells.now),
 )
 
 -- src/lib.rt:118:13
@@ -39,7 +39,7 @@ take-one-requires c κs = (c.before.before.before.before.before.before.loop.inva
 
 -- src/lib.rt:121:13
 beside-requires : tie.Need-beside-requires invariant-loop decreases-loop
-beside-requires c κs = step-entry c.before.before.before.before.before.before.before.before.before.before.before.take-one.ensures
+beside-requires c κs = step_entry c.before.before.before.before.before.before.before.before.before.before.before.take-one.ensures
 
 -- src/lib.rt:122:13
 passes-requires : tie.Need-passes-requires invariant-loop decreases-loop
@@ -67,7 +67,7 @@ same-length-5 c = c.before.before.before.before.before.before.before.before.befo
 
 -- src/lib.rt:123:13
 returns : tie.Need-returns invariant-loop decreases-loop
-returns c = turn-stops c.before.before.before.before.before.before.before.before.before.before.before.before.before.before.take-one.ensures c.before.before.before.before.before.before.before.before.before.before.before.before.before.before.before.before.before.before.before.before.before.loop.invariant.2 c.before.before.beside.ensures c.before.passes.ensures c.if1.true
+returns c = turn_stops c.before.before.before.before.before.before.before.before.before.before.before.before.before.before.take-one.ensures c.before.before.before.before.before.before.before.before.before.before.before.before.before.before.before.before.before.before.before.before.before.loop.invariant.2 c.before.before.beside.ensures c.before.passes.ensures c.if1.true
 
 -- src/lib.rt:117:5
 loop-less : tie.Need-loop-smaller invariant-loop decreases-loop

@@ -1,4 +1,4 @@
-use Rattle.log_compare.proofs.Laws.{one-missing, one-met, ends-later, ends-within, one-differs, one_passes}
+use Rattle.log_compare.proofs.Laws.{one_missing, one_met, ends_later, ends_within, one_differs, one_passes}
 use borrow.Author.Rules.{rules}
 use Rattle.log_compare.proofs.compare_one.Statement.{statement}
 use Rattle.log_compare.proofs.compare_one.Tie as tie
@@ -15,7 +15,7 @@ told-requires c κs = search rules
 
 -- src/lib.rt:68:9
 returns : tie.Need-returns
-returns c = search one-missing
+returns c = search one_missing
 
 -- src/lib.rt:70:9
 met-requires : tie.Need-met-requires
@@ -27,19 +27,19 @@ passes-requires c κs = search rules
 
 -- src/lib.rt:72:9
 returns-2 : tie.Need-returns-2
-returns-2 c = search one-met
+returns-2 c = search one_met
 
 -- src/lib.rt:75:27
 sub-same-bytes : tie.Need-overflow-sub-same-bytes
-sub-same-bytes c = search ends-later
+sub-same-bytes c = search ends_later
 
 -- src/lib.rt:75:27
 part-same-bytes-start : tie.Need-slice-bounds-same-bytes-start
-part-same-bytes-start c = search (ends-later, rules)
+part-same-bytes-start c = search (ends_later, rules)
 
 -- src/lib.rt:75:27
 part-same-bytes-end : tie.Need-slice-bounds-same-bytes-end
-part-same-bytes-end c = search (ends-within, rules)
+part-same-bytes-end c = search (ends_within, rules)
 
 -- src/lib.rt:75:9
 same-bytes-requires : tie.Need-same-bytes-requires
@@ -51,7 +51,7 @@ told-requires-2 c κs = search rules
 
 -- src/lib.rt:76:9
 returns-3 : tie.Need-returns-3
-returns-3 c = search one-differs
+returns-3 c = search one_differs
 
 -- src/lib.rt:64:1
 returns-4 : tie.Need-returns-4

@@ -1,4 +1,4 @@
-use Rattle.log_compare.proofs.Laws.{none-ends, none-met, none_over}
+use Rattle.log_compare.proofs.Laws.{none_ends, none_met, none_over}
 use borrow.Author.Rules.{rules}
 use Rattle.log_compare.proofs.finish.Statement.{statement}
 use Rattle.log_compare.proofs.finish.Tie as tie
@@ -14,7 +14,7 @@ told-requires c κs = search rules
 
 -- src/lib.rt:104:9
 returns : tie.Need-returns
-returns c = search none-ends
+returns c = search none_ends
 
 -- src/lib.rt:106:9
 met-requires : tie.Need-met-requires
@@ -26,7 +26,7 @@ passes-requires c κs = search rules
 
 -- src/lib.rt:108:9
 returns-2 : tie.Need-returns-2
-returns-2 c = search none-met
+returns-2 c = search none_met
 
 -- src/lib.rt:110:5
 told-requires-2 : tie.Need-told-requires-2

@@ -1,4 +1,4 @@
-use Rattle.log_compare.proofs.Laws.{met-unknown, met-cut, met-whole}
+use Rattle.log_compare.proofs.Laws.{met_unknown, met_cut, met_whole}
 use borrow.Author.Rules.{rules}
 use Rattle.log_compare.proofs.met.Statement.{statement}
 use Rattle.log_compare.proofs.met.Tie as tie
@@ -21,7 +21,7 @@ told-requires c κs = search rules
 
 -- src/lib.rt:55:9
 returns : tie.Need-returns
-returns c = search met-unknown
+returns c = search met_unknown
 
 -- src/lib.rt:57:8
 sub-if2 : tie.Need-overflow-sub-if2
@@ -33,7 +33,7 @@ told-requires-2 c κs = search rules
 
 -- src/lib.rt:58:9
 returns-2 : tie.Need-returns-2
-returns-2 c = search met-cut
+returns-2 c = search met_cut
 
 -- src/lib.rt:60:23
 add-told : tie.Need-overflow-add-told
@@ -45,7 +45,7 @@ told-requires-3 c κs = search rules
 
 -- src/lib.rt:49:1
 returns-3 : tie.Need-returns-3
-returns-3 c = search met-whole
+returns-3 c = search met_whole
 
 pub met-spec : {M : Type 1} → statement M
 met-spec =

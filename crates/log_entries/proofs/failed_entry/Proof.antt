@@ -1,4 +1,4 @@
-use Rattle.log_entries.proofs.Laws.{failed-short, failed-mismatch}
+use Rattle.log_entries.proofs.Laws.{failed_short, failed_mismatch}
 use borrow.Author.Rules.{rules}
 use Rattle.log_entries.proofs.failed_entry.Statement.{statement}
 use Rattle.log_entries.proofs.failed_entry.Tie as tie
@@ -21,7 +21,7 @@ of-6-requires c κs = search rules
 
 -- src/lib.rt:119:9
 returns : tie.Need-returns
-returns c = search failed-short
+returns c = search failed_short
 
 -- src/lib.rt:121:65
 cast-failed-2 : tie.Need-overflow-cast-failed-2
@@ -37,7 +37,7 @@ of-6-requires-2 c κs = search rules
 
 -- src/lib.rt:114:1
 returns-2 : tie.Need-returns-2
-returns-2 c = search failed-mismatch
+returns-2 c = search failed_mismatch
 
 pub failed-entry-spec : {M : Type 1} → statement M
 failed-entry-spec =

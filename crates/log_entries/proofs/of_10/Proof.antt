@@ -1,4 +1,4 @@
-use Rattle.log_entries.proofs.Entries.{laid-10}
+use Rattle.log_entries.proofs.Entries.{laid_10}
 use borrow.Author.Rules.{rules}
 use Rattle.log_entries.proofs.of_10.Statement.{statement}
 use Rattle.log_entries.proofs.of_10.Tie as tie
@@ -47,7 +47,7 @@ array-read-t32 c = search rules
 
 -- src/lib.rt:88:1
 returns : tie.Need-returns
-returns c = search laid-10
+returns c = search laid_10
 
 pub of-10-spec : {M : Type 1} → statement M
 of-10-spec =

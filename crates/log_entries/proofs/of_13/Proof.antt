@@ -1,4 +1,4 @@
-use Rattle.log_entries.proofs.Entries.{laid-13}
+use Rattle.log_entries.proofs.Entries.{laid_13}
 use borrow.Author.Rules.{rules}
 use Rattle.log_entries.proofs.of_13.Statement.{statement}
 use Rattle.log_entries.proofs.of_13.Tie as tie
@@ -59,7 +59,7 @@ array-read-t41 c = search rules
 
 -- src/lib.rt:101:1
 returns : tie.Need-returns
-returns c = search laid-13
+returns c = search laid_13
 
 pub of-13-spec : {M : Type 1} → statement M
 of-13-spec =

@@ -1,4 +1,4 @@
-use Rattle.log_entries.proofs.Entries.{laid-6}
+use Rattle.log_entries.proofs.Entries.{laid_6}
 use borrow.Author.Rules.{rules}
 use Rattle.log_entries.proofs.of_6.Statement.{statement}
 use Rattle.log_entries.proofs.of_6.Tie as tie
@@ -31,7 +31,7 @@ array-read-t20 c = search rules
 
 -- src/lib.rt:63:1
 returns : tie.Need-returns
-returns c = search laid-6
+returns c = search laid_6
 
 pub of-6-spec : {M : Type 1} → statement M
 of-6-spec =

@@ -1,4 +1,4 @@
-use Rattle.log_entries.proofs.Entries.{laid-8}
+use Rattle.log_entries.proofs.Entries.{laid_8}
 use borrow.Author.Rules.{rules}
 use Rattle.log_entries.proofs.of_8.Statement.{statement}
 use Rattle.log_entries.proofs.of_8.Tie as tie
@@ -39,7 +39,7 @@ array-read-t26 c = search rules
 
 -- src/lib.rt:75:1
 returns : tie.Need-returns
-returns c = search laid-8
+returns c = search laid_8
 
 pub of-8-spec : {M : Type 1} → statement M
 of-8-spec =

@@ -1,4 +1,4 @@
-use Rattle.log_entries.proofs.Laws.{seen-made}
+use Rattle.log_entries.proofs.Laws.{seen_made}
 use borrow.Author.Rules.{rules}
 use Rattle.log_entries.proofs.seen_entry.Statement.{statement}
 use Rattle.log_entries.proofs.seen_entry.Tie as tie
@@ -17,7 +17,7 @@ of-13-requires c κs = search rules
 
 -- src/lib.rt:125:1
 returns : tie.Need-returns
-returns c = search seen-made
+returns c = search seen_made
 
 pub seen-entry-spec : {M : Type 1} → statement M
 seen-entry-spec = tie.close (tie.spec seen-requires of-13-requires returns)

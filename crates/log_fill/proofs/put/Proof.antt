@@ -1,4 +1,4 @@
-use Rattle.log_fill.proofs.Laws.{put-done}
+use Rattle.log_fill.proofs.Laws.{put_done}
 use borrow.Author.Rules.{rules}
 use Rattle.log_fill.proofs.put.Statement.{statement}
 use Rattle.log_fill.proofs.put.Tie as tie
@@ -41,7 +41,7 @@ same_length c = search rules
 
 -- src/lib.rt:20:1
 returns : tie.Need-returns
-returns c = search put-done
+returns c = search put_done
 
 pub put_spec : {M : Type 1} → statement M
 put_spec =

@@ -1,4 +1,4 @@
-use Rattle.log_fill.proofs.Laws.{On, starts-on, turn_on, filled-end}
+use Rattle.log_fill.proofs.Laws.{On, starts_on, turn_on, filled_end}
 use mathlib.Core.Path.{◌≡◌, refl, ◌∙◌}
 use Prim.Native.Nat.{◌-◌}
 use native.Mathlib.Omega.{arith}
@@ -29,7 +29,7 @@ loop-holds c = let a = c.before.before.before.before.before.before.before.args i
   c.before.before.before.before.before.before.before.requires,
   record { keys = refl; changes = refl; heads = refl; slots = refl; cells = refl },
   refl,
-  starts-on a.sections.now a.room.now (lent a.run a.keys.now a.changes.now a.heads.now a.slots.now a.cells.now),
+  starts_on a.sections.now a.room.now (lent a.run a.keys.now a.changes.now a.heads.now a.slots.now a.cells.now),
 )
 
 -- src/lib.rt:49:13
@@ -87,7 +87,7 @@ same-length-6 c = search rules
 
 -- src/lib.rt:32:1
 returns : tie.Need-returns invariant-loop decreases-loop
-returns c = filled-end c.loop-test.false c.before.loop.invariant.3
+returns c = filled_end c.loop-test.false c.before.loop.invariant.3
 
 pub write-all-spec : {M : Type 1} → statement M
 write-all-spec =

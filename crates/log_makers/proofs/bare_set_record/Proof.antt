@@ -1,4 +1,4 @@
-use Rattle.log_makers.proofs.Laws.{bare-long-enough, bare-made, bare-none}
+use Rattle.log_makers.proofs.Laws.{bare_long_enough, bare_made, bare_none}
 use borrow.Author.Rules.{rules}
 use Rattle.log_makers.proofs.bare_set_record.Statement.{statement}
 use Rattle.log_makers.proofs.bare_set_record.Tie as tie
@@ -13,10 +13,10 @@ none-requires : tie.Need-none-requires
 none-requires c κs = search rules
 
 returns : tie.Need-returns
-returns c = search bare-none
+returns c = search bare_none
 
 header-of-requires : tie.Need-header-of-requires
-header-of-requires c κs = search bare-long-enough
+header-of-requires c κs = search bare_long_enough
 
 bare-set-requires : tie.Need-bare-set-requires
 bare-set-requires c κs = search rules
@@ -25,7 +25,7 @@ of-8-requires : tie.Need-of-8-requires
 of-8-requires c κs = search rules
 
 returns-2 : tie.Need-returns-2
-returns-2 c = search bare-made
+returns-2 c = search bare_made
 
 pub bare-set-record-spec : {M : Type 1} → statement M
 bare-set-record-spec =

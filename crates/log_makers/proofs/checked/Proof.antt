@@ -1,4 +1,4 @@
-use Rattle.log_makers.proofs.Laws.{checked-none, checked-some}
+use Rattle.log_makers.proofs.Laws.{checked_none, checked_some}
 use borrow.Author.Rules.{rules}
 use Rattle.log_makers.proofs.checked.Statement.{statement}
 use Rattle.log_makers.proofs.checked.Tie as tie
@@ -9,7 +9,7 @@ use Rattle.log_makers.proofs.checked_change.Reads as checked-change-reads
 
 -- src/lib.rt:198:9
 returns : tie.Need-returns
-returns c = search checked-none
+returns c = search checked_none
 
 -- src/lib.rt:200:21
 shared-slice-read-bare : tie.Need-shared-slice-read-bare
@@ -25,7 +25,7 @@ bare-requires c κs = search rules
 
 -- src/lib.rt:193:1
 returns-2 : tie.Need-returns-2
-returns-2 c = search checked-some
+returns-2 c = search checked_some
 
 pub checked-spec : {M : Type 1} → statement M
 checked-spec =

@@ -1,4 +1,4 @@
-use Rattle.log_makers.proofs.Laws.{found-parts, found_none}
+use Rattle.log_makers.proofs.Laws.{found_parts_lem, found_none}
 use borrow.Author.Rules.{rules}
 use Rattle.log_makers.proofs.found_entry.Statement.{statement}
 use Rattle.log_makers.proofs.found_entry.Tie as tie
@@ -25,7 +25,7 @@ none-requires c κs = search rules
 
 -- src/lib.rt:131:1
 returns : tie.Need-returns
-returns c = search found-parts
+returns c = search found_parts_lem
 
 -- src/lib.rt:131:1
 returns-2 : tie.Need-returns-2

@@ -1,4 +1,4 @@
-use Rattle.log_makers.proofs.Laws.{headed-read}
+use Rattle.log_makers.proofs.Laws.{headed_read}
 use borrow.Author.Rules.{rules}
 use Rattle.log_makers.proofs.headed.Statement.{statement}
 use Rattle.log_makers.proofs.headed.Tie as tie
@@ -30,7 +30,7 @@ stored-crc-requires c κs = search rules
 
 -- src/lib.rt:156:1
 returns : tie.Need-returns
-returns c = search headed-read
+returns c = search headed_read
 
 pub headed-spec : {M : Type 1} → statement M
 headed-spec =

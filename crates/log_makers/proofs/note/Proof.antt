@@ -1,4 +1,4 @@
-use Rattle.log_makers.proofs.Laws.{noted-emitted, noted-suppressed, noted-failed, noted-refused, noted-nowhere}
+use Rattle.log_makers.proofs.Laws.{noted_emitted, noted_suppressed, noted_failed, noted_refused, noted_nowhere}
 use borrow.Author.Rules.{rules}
 use Rattle.log_makers.proofs.note.Statement.{statement}
 use Rattle.log_makers.proofs.note.Tie as tie
@@ -56,19 +56,19 @@ none-requires c κs = search rules
 
 -- src/lib.rt:228:9
 returns : tie.Need-returns
-returns c = search noted-emitted
+returns c = search noted_emitted
 
 -- src/lib.rt:228:9
 returns-2 : tie.Need-returns-2
-returns-2 c = search noted-suppressed
+returns-2 c = search noted_suppressed
 
 -- src/lib.rt:228:9
 returns-3 : tie.Need-returns-3
-returns-3 c = search noted-failed
+returns-3 c = search noted_failed
 
 -- src/lib.rt:228:9
 returns-4 : tie.Need-returns-4
-returns-4 c = search noted-refused
+returns-4 c = search noted_refused
 
 -- src/lib.rt:237:5
 none-requires-2 : tie.Need-none-requires-2
@@ -76,7 +76,7 @@ none-requires-2 c κs = search rules
 
 -- src/lib.rt:223:1
 returns-5 : tie.Need-returns-5
-returns-5 c = search noted-nowhere
+returns-5 c = search noted_nowhere
 
 pub note-spec : {M : Type 1} → statement M
 note-spec =

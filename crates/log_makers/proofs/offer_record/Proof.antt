@@ -1,4 +1,4 @@
-use Rattle.log_makers.proofs.Laws.{offer-long, offer-done}
+use Rattle.log_makers.proofs.Laws.{offer_long, offer_done}
 use borrow.Author.Rules.{rules}
 use Rattle.log_makers.proofs.offer_record.Statement.{statement}
 use Rattle.log_makers.proofs.offer_record.Tie as tie
@@ -13,7 +13,7 @@ none-requires c κs = search rules
 
 -- src/lib.rt:252:9
 returns : tie.Need-returns
-returns c = search offer-long
+returns c = search offer_long
 
 -- src/lib.rt:259:16
 note-requires : tie.Need-note-requires
@@ -21,7 +21,7 @@ note-requires c κs = search rules
 
 -- src/lib.rt:242:1
 returns-2 : tie.Need-returns-2
-returns-2 c = search offer-done
+returns-2 c = search offer_done
 
 pub offer-record-spec : {M : Type 1} → statement M
 offer-record-spec = tie.close (tie.spec none-requires returns note-requires returns-2)

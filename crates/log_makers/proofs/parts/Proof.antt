@@ -1,4 +1,4 @@
-use Rattle.log_makers.proofs.Laws.{parts_none, parts-headed, parts-long, parts-tot, parts-plain}
+use Rattle.log_makers.proofs.Laws.{parts_none, parts_headed, parts_long, parts_tot, parts_plain}
 use borrow.Author.Rules.{rules}
 use Rattle.log_makers.proofs.parts.Statement.{statement}
 use Rattle.log_makers.proofs.parts.Tie as tie
@@ -24,7 +24,7 @@ headed-requires c κs = search rules
 
 -- src/lib.rt:212:13
 returns-2 : tie.Need-returns-2
-returns-2 c = search parts-headed
+returns-2 c = search parts_headed
 
 -- src/lib.rt:214:9
 checked-requires : tie.Need-checked-requires
@@ -32,7 +32,7 @@ checked-requires c κs = search rules
 
 -- src/lib.rt:214:9
 returns-3 : tie.Need-returns-3
-returns-3 c = search parts-long
+returns-3 c = search parts_long
 
 -- src/lib.rt:216:8
 shared-slice-read-if4 : tie.Need-shared-slice-read-if4
@@ -44,7 +44,7 @@ checked-requires-2 c κs = search rules
 
 -- src/lib.rt:217:9
 returns-4 : tie.Need-returns-4
-returns-4 c = search parts-tot
+returns-4 c = search parts_tot
 
 -- src/lib.rt:219:21
 shared-slice-read-bare : tie.Need-shared-slice-read-bare
@@ -60,7 +60,7 @@ bare-requires c κs = search rules
 
 -- src/lib.rt:204:1
 returns-5 : tie.Need-returns-5
-returns-5 c = search parts-plain
+returns-5 c = search parts_plain
 
 pub parts-spec : {M : Type 1} → statement M
 parts-spec =

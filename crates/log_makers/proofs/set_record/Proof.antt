@@ -1,4 +1,4 @@
-use Rattle.log_makers.proofs.Laws.{long-enough, set-none, set-no-pid, set-pid, set-bad-pid}
+use Rattle.log_makers.proofs.Laws.{long_enough, set_none, set_no_pid, set_pid, set_bad_pid}
 use borrow.Author.Rules.{rules}
 use Rattle.log_makers.proofs.set_record.Statement.{statement}
 use Rattle.log_makers.proofs.set_record.Tie as tie
@@ -15,7 +15,7 @@ none-requires c κs = search rules
 
 -- src/lib.rt:282:9
 returns : tie.Need-returns
-returns c = search set-none
+returns c = search set_none
 
 -- src/lib.rt:285:61
 enum_told : tie.Need-enum-told
@@ -30,7 +30,7 @@ enum-known-pid c = search rules
 
 -- src/lib.rt:288:50
 header-of-requires : tie.Need-header-of-requires
-header-of-requires c κs = search long-enough
+header-of-requires c κs = search long_enough
 
 -- src/lib.rt:288:23
 set-requires : tie.Need-set-requires
@@ -46,15 +46,15 @@ none-requires-3 c κs = search rules
 
 -- src/lib.rt:278:1
 returns-2 : tie.Need-returns-2
-returns-2 c = search set-no-pid
+returns-2 c = search set_no_pid
 
 -- src/lib.rt:278:1
 returns-3 : tie.Need-returns-3
-returns-3 c = search set-pid
+returns-3 c = search set_pid
 
 -- src/lib.rt:278:1
 returns-4 : tie.Need-returns-4
-returns-4 c = search set-bad-pid
+returns-4 c = search set_bad_pid
 
 pub set-record-spec : {M : Type 1} → statement M
 set-record-spec =

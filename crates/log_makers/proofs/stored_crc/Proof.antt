@@ -1,4 +1,4 @@
-use Rattle.section.specs.Header.{storedCrc}
+use Rattle.section.specs.Header.{stored_crc}
 use borrow.Author.Rules.{rules}
 use Rattle.log_makers.proofs.stored_crc.Statement.{statement}
 use Rattle.log_makers.proofs.stored_crc.Tie as tie
@@ -16,7 +16,7 @@ stored-requires c κs = search rules
 
 -- src/lib.rt:148:1
 returns : tie.Need-returns
-unfolding storedCrc
+unfolding stored_crc
 returns c = c.stored.ensures
 
 pub stored-crc-spec : {M : Type 1} → statement M

@@ -1,4 +1,4 @@
-use Rattle.log_measure.proofs.Laws.{On, starts-on, turn_on, turn-stops, measured-end}
+use Rattle.log_measure.proofs.Laws.{On, starts_on, turn_on, turn_stops, measured_end}
 use mathlib.Core.Path.{refl, ◌∙◌}
 use Prim.Native.Nat.{◌-◌}
 use native.Mathlib.Omega.{arith}
@@ -26,7 +26,7 @@ loop-holds : tie.Need-loop-init invariant-loop decreases-loop
 loop-holds c = let a = c.before.before.before.before.before.before.args in (
   c.before.before.before.before.before.before.requires,
   record { keys = refl; changes = refl; heads = refl; slots = refl; cells = refl },
-  starts-on a.sections.now a.room (lent a.run a.keys.now a.changes.now a.heads.now a.slots.now a.cells.now),
+  starts_on a.sections.now a.room (lent a.run a.keys.now a.changes.now a.heads.now a.slots.now a.cells.now),
 )
 
 -- src/lib.rt:32:13
@@ -55,7 +55,7 @@ same-length-5 c = c.before.before.before.before.before.before.before.before.befo
 
 -- src/lib.rt:37:13
 returns : tie.Need-returns invariant-loop decreases-loop
-returns c = turn-stops c.before.before.before.before.before.before.before.before.before.before.before.before.take-one.ensures c.before.before.before.before.before.before.before.before.before.before.before.before.before.before.before.before.before.before.before.loop.invariant.2 c.if1.true
+returns c = turn_stops c.before.before.before.before.before.before.before.before.before.before.before.before.take-one.ensures c.before.before.before.before.before.before.before.before.before.before.before.before.before.before.before.before.before.before.before.loop.invariant.2 c.if1.true
 
 -- src/lib.rt:31:5
 loop-less : tie.Need-loop-smaller invariant-loop decreases-loop
@@ -103,7 +103,7 @@ same-length-10 c = search rules
 
 -- src/lib.rt:15:1
 returns-2 : tie.Need-returns-2 invariant-loop decreases-loop
-returns-2 c = measured-end c.loop-test.false c.before.loop.invariant.2
+returns-2 c = measured_end c.loop-test.false c.before.loop.invariant.2
 
 pub measure-spec : {M : Type 1} → statement M
 measure-spec =

@@ -1,4 +1,4 @@
-use Rattle.log_prepare.proofs.Laws.{is-long, is_cut, is_whole}
+use Rattle.log_prepare.proofs.Laws.{is_long_lem, is_cut, is_whole}
 use borrow.Author.Rules.{rules}
 use Rattle.log_prepare.proofs.prepare.Statement.{statement}
 use Rattle.log_prepare.proofs.prepare.Tie as tie
@@ -34,7 +34,7 @@ ready-requires c κs = search rules
 
 -- src/lib.rt:33:1
 returns : tie.Need-returns
-returns c = search is-long
+returns c = search is_long_lem
 
 -- src/lib.rt:33:1
 returns-2 : tie.Need-returns-2

@@ -1,5 +1,5 @@
 use borrow.Author.Rules.{rules}
-use Rattle.log_records.proofs.Laws.{bare-set-bytes}
+use Rattle.log_records.proofs.Laws.{bare_set_bytes}
 use Rattle.log_records.proofs.bare_set.Statement.{statement}
 use Rattle.log_records.proofs.bare_set.Tie as tie
 use Rattle.log_records.proofs.bare_set.Reads as reads
@@ -22,7 +22,7 @@ bit-requires c κs = search rules
 
 -- src/lib.rt:116:1
 returns : tie.Need-returns
-returns c = search bare-set-bytes
+returns c = search bare_set_bytes
 
 pub bare-set-spec : {M : Type 1} → statement M
 bare-set-spec = tie.close (tie.spec high-requires low-requires bit-requires returns)

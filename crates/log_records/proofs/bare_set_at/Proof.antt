@@ -1,4 +1,4 @@
-use Rattle.log_records.proofs.Reading.{bare-set-read}
+use Rattle.log_records.proofs.Reading.{bare_set_read}
 use borrow.Author.Rules.{rules}
 use Rattle.log_records.proofs.bare_set_at.Statement.{statement}
 use Rattle.log_records.proofs.bare_set_at.Tie as tie
@@ -60,7 +60,7 @@ shared-slice-read-t21 c = search rules
 
 -- src/lib.rt:235:1
 returns : tie.Need-returns
-returns c = search bare-set-read
+returns c = search bare_set_read
 
 pub bare-set-at-spec : {M : Type 1} → statement M
 bare-set-at-spec =

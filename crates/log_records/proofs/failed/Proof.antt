@@ -1,5 +1,5 @@
 use borrow.Author.Rules.{rules}
-use Rattle.log_records.proofs.Laws.{failed-bytes}
+use Rattle.log_records.proofs.Laws.{failed_bytes}
 use Rattle.log_records.proofs.failed.Statement.{statement}
 use Rattle.log_records.proofs.failed.Tie as tie
 use Rattle.log_records.proofs.failed.Reads as reads
@@ -25,7 +25,7 @@ low-requires-2 c κs = search rules
 
 -- src/lib.rt:85:1
 returns : tie.Need-returns
-returns c = search failed-bytes
+returns c = search failed_bytes
 
 pub failed-spec : {M : Type 1} → statement M
 failed-spec =

@@ -1,4 +1,4 @@
-use Rattle.log_records.proofs.Reading.{failed-read}
+use Rattle.log_records.proofs.Reading.{failed_read}
 use borrow.Author.Rules.{rules}
 use Rattle.log_records.proofs.failed_at.Statement.{statement}
 use Rattle.log_records.proofs.failed_at.Tie as tie
@@ -36,7 +36,7 @@ word-requires-2 c κs = search rules
 
 -- src/lib.rt:195:1
 returns : tie.Need-returns
-returns c = search failed-read
+returns c = search failed_read
 
 pub failed-at-spec : {M : Type 1} → statement M
 failed-at-spec =

@@ -1,4 +1,4 @@
-use Rattle.log_records.proofs.Reading.{last-room, of-10, of-13, of-6, of-8}
+use Rattle.log_records.proofs.Reading.{last_room, of_10, of_13, of_6, of_8}
 use borrow.Author.Rules.{rules}
 use Rattle.log_records.proofs.fields.Statement.{statement}
 use Rattle.log_records.proofs.fields.Tie as tie
@@ -15,7 +15,7 @@ seen-at-requires c κs = search rules
 
 -- src/lib.rt:261:9
 returns : tie.Need-returns
-returns c = search of-13
+returns c = search of_13
 
 -- src/lib.rt:264:9
 failed-at-requires : tie.Need-failed-at-requires
@@ -23,7 +23,7 @@ failed-at-requires c κs = search rules
 
 -- src/lib.rt:264:9
 returns-2 : tie.Need-returns-2
-returns-2 c = search of-6
+returns-2 c = search of_6
 
 -- src/lib.rt:267:9
 set-at-requires : tie.Need-set-at-requires
@@ -31,15 +31,15 @@ set-at-requires c κs = search rules
 
 -- src/lib.rt:267:9
 returns-3 : tie.Need-returns-3
-returns-3 c = search of-10
+returns-3 c = search of_10
 
 -- src/lib.rt:269:5
 bare-set-at-requires : tie.Need-bare-set-at-requires
-bare-set-at-requires c κs = search last-room
+bare-set-at-requires c κs = search last_room
 
 -- src/lib.rt:255:1
 returns-4 : tie.Need-returns-4
-returns-4 c = search of-8
+returns-4 c = search of_8
 
 pub fields-spec : {M : Type 1} → statement M
 fields-spec =

@@ -1,4 +1,4 @@
-use Rattle.log_records.proofs.Reading.{at-end, cut_off, found-there, no_kind}
+use Rattle.log_records.proofs.Reading.{at_end_lem, cut_off, found_there, no_kind}
 use borrow.Author.Rules.{rules}
 use Rattle.log_records.proofs.read_record.Statement.{statement}
 use Rattle.log_records.proofs.read_record.Tie as tie
@@ -9,7 +9,7 @@ use Rattle.log_records.proofs.record_size.Reads as record-size-reads
 
 -- src/lib.rt:277:9
 returns : tie.Need-returns
-returns c = search at-end
+returns c = search at_end_lem
 
 -- src/lib.rt:279:28
 shared-slice-read-record-size : tie.Need-shared-slice-read-record-size
@@ -37,7 +37,7 @@ fields-requires c κs = search rules
 
 -- src/lib.rt:273:1
 returns-4 : tie.Need-returns-4
-returns-4 c = search found-there
+returns-4 c = search found_there
 
 pub read-record-spec : {M : Type 1} → statement M
 read-record-spec =

@@ -1,5 +1,5 @@
 use borrow.Author.Rules.{rules}
-use Rattle.log_records.proofs.Laws.{set-bytes}
+use Rattle.log_records.proofs.Laws.{set_bytes_lem}
 use Rattle.log_records.proofs.set.Statement.{statement}
 use Rattle.log_records.proofs.set.Tie as tie
 use Rattle.log_records.proofs.set.Reads as reads
@@ -30,7 +30,7 @@ bit-requires c κs = search rules
 
 -- src/lib.rt:98:1
 returns : tie.Need-returns
-returns c = search set-bytes
+returns c = search set_bytes_lem
 
 pub set_spec : {M : Type 1} → statement M
 set_spec =

@@ -1,4 +1,4 @@
-use Rattle.log_records.proofs.Reading.{set-read}
+use Rattle.log_records.proofs.Reading.{set_read_lem}
 use borrow.Author.Rules.{rules}
 use Rattle.log_records.proofs.set_at.Statement.{statement}
 use Rattle.log_records.proofs.set_at.Tie as tie
@@ -68,7 +68,7 @@ shared-slice-read-t23 c = search rules
 
 -- src/lib.rt:215:1
 returns : tie.Need-returns
-returns c = search set-read
+returns c = search set_read_lem
 
 pub set-at-spec : {M : Type 1} → statement M
 set-at-spec =

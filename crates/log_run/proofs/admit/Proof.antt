@@ -1,5 +1,5 @@
 use Rattle.log_state.specs.State.{lent}
-use Rattle.log_run.proofs.Laws.{seen-left}
+use Rattle.log_run.proofs.Laws.{seen_left}
 use borrow.Author.Rules.{rules}
 use Rattle.log_run.proofs.admit.Statement.{statement}
 use Rattle.log_run.proofs.admit.Tie as tie
@@ -57,7 +57,7 @@ same-length-5 c = search rules
 
 -- src/lib.rt:21:1
 returns : tie.Need-returns
-returns c = let a = c.before.before.before.before.before.before.before.before.before.before.before.before.before.before.before.before.before.before.before.before.before.before.before.before.before.before.before.before.before.before.before.before.args in let w = c.before.before.before.before.before.before.before.before.before.before.before.before.before.before.before.before.before.before.before.before.before.before.is-with in let t = c.before.before.before.before.before.before.before.before.before.before.before.before.before.before.before.before.before.before.before.before.before.origin-for in let d = c.before.before.before.before.before.before.before.before.before.before.before.before.before.before.before.before.before.before.admit in let g = c.before.before.before.before.before.before.before.before.before.before.gather in let k = c.before.before.before.seen-kind in let n = c.before.before.note in seen-left (lent a.run a.keys.now a.changes.now a.heads.now a.slots.now a.cells.now) a.input a.pid a.section.now a.sight w.result t.result d.result d.new.1.0 d.new.1.1.0 g.result g.new.1.0 g.new.1.1.0 g.new.1.1.1.0 k.result n.result c.before.before.before.before.before.before.before.before.before.before.before.before.before.before.before.before.before.before.before.before.before.before.before.before.before.before.before.before.before.before.before.before.requires.is-input c.before.before.before.before.before.before.before.before.before.before.before.before.before.before.before.before.before.before.before.before.before.before.before.before.before.before.before.before.before.before.before.before.requires.is-pid w.ensures t.ensures d.ensures.0 d.ensures.1.0 d.ensures.1.1 g.ensures.0 g.ensures.1 k.ensures n.ensures
+returns c = let a = c.before.before.before.before.before.before.before.before.before.before.before.before.before.before.before.before.before.before.before.before.before.before.before.before.before.before.before.before.before.before.before.before.args in let w = c.before.before.before.before.before.before.before.before.before.before.before.before.before.before.before.before.before.before.before.before.before.before.is-with in let t = c.before.before.before.before.before.before.before.before.before.before.before.before.before.before.before.before.before.before.before.before.before.origin-for in let d = c.before.before.before.before.before.before.before.before.before.before.before.before.before.before.before.before.before.before.admit in let g = c.before.before.before.before.before.before.before.before.before.before.gather in let k = c.before.before.before.seen-kind in let n = c.before.before.note in seen_left (lent a.run a.keys.now a.changes.now a.heads.now a.slots.now a.cells.now) a.input a.pid a.section.now a.sight w.result t.result d.result d.new.1.0 d.new.1.1.0 g.result g.new.1.0 g.new.1.1.0 g.new.1.1.1.0 k.result n.result c.before.before.before.before.before.before.before.before.before.before.before.before.before.before.before.before.before.before.before.before.before.before.before.before.before.before.before.before.before.before.before.before.requires.is_input c.before.before.before.before.before.before.before.before.before.before.before.before.before.before.before.before.before.before.before.before.before.before.before.before.before.before.before.before.before.before.before.before.requires.is_pid w.ensures t.ensures d.ensures.0 d.ensures.1.0 d.ensures.1.1 g.ensures.0 g.ensures.1 k.ensures n.ensures
 
 pub admit-spec : {M : Type 1} → statement M
 admit-spec =

@@ -1,8 +1,8 @@
 use Rattle.store.specs.Store.{store}
 use lib.ListN.{length}
-use Rattle.log_run.specs.Store.{afterTake}
+use Rattle.log_run.specs.Store.{after_take}
 use Rattle.log_state.specs.State.{lent}
-use Rattle.log_run.proofs.Laws.{taken_refused, taken-failed, taken-arrived, failed-fits, arrives}
+use Rattle.log_run.proofs.Laws.{taken_refused, taken_failed, taken_arrived, failed_fits, arrives}
 use borrow.Author.Rules.{rules}
 use Rattle.log_run.proofs.take.Statement.{statement}
 use Rattle.log_run.proofs.take.Tie as tie
@@ -31,7 +31,7 @@ enum-known-short c = search rules
 
 -- src/lib.rt:92:20
 failed-entry-requires : tie.Need-failed-entry-requires
-failed-entry-requires c κs = let a = c.before.before.before.before.before.before.before.before.before.before.before.before.before.args in let j = c.before.before.before.judge in let x = c.before.short.given in failed-fits a.run (length a.keys.now) (length a.changes.now) (store a.run.sets a.heads.now a.slots.now a.cells.now) a.input a.pid a.section.now j.result j.ensures.1 x.0.0 x.1
+failed-entry-requires c κs = let a = c.before.before.before.before.before.before.before.before.before.before.before.before.before.args in let j = c.before.before.before.judge in let x = c.before.short.given in failed_fits a.run (length a.keys.now) (length a.changes.now) (store a.run.sets a.heads.now a.slots.now a.cells.now) a.input a.pid a.section.now j.result j.ensures.1 x.0.0 x.1
 
 -- src/lib.rt:95:25
 enum-known-sight : tie.Need-enum-known-sight
@@ -71,7 +71,7 @@ same-length-6 c = search rules
 
 -- src/lib.rt:61:1
 returns-2 : tie.Need-returns-2
-returns-2 c = let a = c.before.before.before.before.before.before.before.before.before.before.before.before.before.before.args in let j = c.before.before.before.before.judge in let x = c.before.before.short.given in taken-failed (lent a.run a.keys.now a.changes.now a.heads.now a.slots.now a.cells.now) a.input a.pid a.section.now j.result j.ensures.0 x.0.0 c.failed-entry.result x.1 c.failed-entry.ensures
+returns-2 c = let a = c.before.before.before.before.before.before.before.before.before.before.before.before.before.before.args in let j = c.before.before.before.before.judge in let x = c.before.before.short.given in taken_failed (lent a.run a.keys.now a.changes.now a.heads.now a.slots.now a.cells.now) a.input a.pid a.section.now j.result j.ensures.0 x.0.0 c.failed-entry.result x.1 c.failed-entry.ensures
 
 -- src/lib.rt:61:1
 same-length-7 : tie.Need-same-length-7
@@ -95,7 +95,7 @@ same-length-11 c = search rules
 
 -- src/lib.rt:61:1
 returns-3 : tie.Need-returns-3
-returns-3 c = let a = c.before.before.before.before.before.before.before.before.before.before.before.before.before.before.before.before.before.before.before.before.before.before.before.before.before.before.before.before.before.args in let j = c.before.before.before.before.before.before.before.before.before.before.before.before.before.before.before.before.before.before.before.judge in let x = c.before.before.before.before.before.before.before.before.before.before.before.before.before.before.before.before.before.sight.given in let d = c.before.before.before.before.before.before.before.before.before.before.admit in taken-arrived (lent a.run a.keys.now a.changes.now a.heads.now a.slots.now a.cells.now) a.input a.pid a.section.now j.result j.ensures.0 x.0.0 (afterTake d.result d.new.1.0 d.new.1.1.0 d.new.1.1.1.0 d.new.1.1.1.1.0 d.new.1.1.1.1.1.0) x.1 d.ensures
+returns-3 c = let a = c.before.before.before.before.before.before.before.before.before.before.before.before.before.before.before.before.before.before.before.before.before.before.before.before.before.before.before.before.before.args in let j = c.before.before.before.before.before.before.before.before.before.before.before.before.before.before.before.before.before.before.before.judge in let x = c.before.before.before.before.before.before.before.before.before.before.before.before.before.before.before.before.before.sight.given in let d = c.before.before.before.before.before.before.before.before.before.before.admit in taken_arrived (lent a.run a.keys.now a.changes.now a.heads.now a.slots.now a.cells.now) a.input a.pid a.section.now j.result j.ensures.0 x.0.0 (after_take d.result d.new.1.0 d.new.1.1.0 d.new.1.1.1.0 d.new.1.1.1.1.0 d.new.1.1.1.1.1.0) x.1 d.ensures
 
 pub take_spec : {M : Type 1} → statement M
 take_spec =

@@ -1,4 +1,4 @@
-use Rattle.log_sections.proofs.Laws.{is-taken}
+use Rattle.log_sections.proofs.Laws.{is_taken}
 use borrow.Author.Rules.{rules}
 use Rattle.log_sections.proofs.take_one.Statement.{statement}
 use Rattle.log_sections.proofs.take_one.Tie as tie
@@ -53,7 +53,7 @@ same-length-5 c = search rules
 
 -- src/lib.rt:18:1
 returns : tie.Need-returns
-returns c = search is-taken
+returns c = search is_taken
 
 pub take-one-spec : {M : Type 1} → statement M
 take-one-spec =

@@ -1,4 +1,4 @@
-use Rattle.log_state.proofs.Laws.{can-open}
+use Rattle.log_state.proofs.Laws.{can_open_lem}
 use borrow.Author.Rules.{rules}
 use Rattle.log_state.proofs.Pids.is_without.Reads as is-without-reads
 use Rattle.log_state.proofs.can_open.Statement.{statement}
@@ -26,7 +26,7 @@ is-without-requires c κs = search rules
 
 -- src/lib.rt:105:1
 returns : tie.Need-returns
-returns c = search can-open
+returns c = search can_open_lem
 
 pub can-open-spec : {M : Type 1} → statement M
 can-open-spec = tie.close (tie.spec room-requires is-known-requires settings-fit-requires is-without-requires returns)

@@ -1,4 +1,4 @@
-use Rattle.log_state.proofs.Laws.{ruled-long, ruled-gate, ruled-sets, ruled-full, ruled-read, ruled-ok}
+use Rattle.log_state.proofs.Laws.{ruled_long, ruled_gate, ruled_sets, ruled_full, ruled_read, ruled_ok}
 use borrow.Author.Rules.{rules}
 use Rattle.log_state.proofs.judge.Statement.{statement}
 use Rattle.log_state.proofs.judge.Tie as tie
@@ -10,7 +10,7 @@ use Rattle.store.proofs.is_whole.Reads as is-whole-reads
 
 -- src/lib.rt:203:9
 returns : tie.Need-returns
-returns c = (search ruled-long, tt)
+returns c = (search ruled_long, tt)
 
 -- src/lib.rt:206:8
 gate-whole-requires : tie.Need-gate-whole-requires
@@ -25,7 +25,7 @@ counters-full-requires c κs = search rules
 
 -- src/lib.rt:209:17
 returns-2 : tie.Need-returns-2
-returns-2 c = (search ruled-full, tt)
+returns-2 c = (search ruled_full, tt)
 
 -- src/lib.rt:211:13
 read-requires : tie.Need-read-requires
@@ -33,15 +33,15 @@ read-requires c κs = search rules
 
 -- src/lib.rt:211:13
 returns-3 : tie.Need-returns-3
-returns-3 c = (search ruled-read, search ruled-ok)
+returns-3 c = (search ruled_read, search ruled_ok)
 
 -- src/lib.rt:188:1
 returns-4 : tie.Need-returns-4
-returns-4 c = (search ruled-sets, tt)
+returns-4 c = (search ruled_sets, tt)
 
 -- src/lib.rt:188:1
 returns-5 : tie.Need-returns-5
-returns-5 c = (search ruled-gate, tt)
+returns-5 c = (search ruled_gate, tt)
 
 pub judge-spec : {M : Type 1} → statement M
 judge-spec =

@@ -1,4 +1,4 @@
-use Rattle.log_state.proofs.Laws.{opened-without, opened-done, opened-little}
+use Rattle.log_state.proofs.Laws.{opened_without, opened_done, opened_little}
 use borrow.Author.Rules.{rules}
 use Rattle.log_state.proofs.Pids.is_without.Reads as is-without-reads
 use Rattle.log_state.proofs.open.Statement.{statement}
@@ -16,7 +16,7 @@ is-without-requires : tie.Need-is-without-requires
 is-without-requires c κs = search rules
 
 returns : tie.Need-returns
-returns c = search opened-without
+returns c = search opened_without
 
 -- src/lib.rt:141:8
 can-open-requires : tie.Need-can-open-requires
@@ -24,11 +24,11 @@ can-open-requires c κs = search rules
 
 -- src/lib.rt:142:9
 returns-2 : tie.Need-returns-2
-returns-2 c = search opened-done
+returns-2 c = search opened_done
 
 -- src/lib.rt:130:1
 returns-3 : tie.Need-returns-3
-returns-3 c = search opened-little
+returns-3 c = search opened_little
 
 pub open_spec : {M : Type 1} → statement M
 open_spec = tie.close (tie.spec run-of-requires is-without-requires returns can-open-requires returns-2 returns-3)

@@ -1,4 +1,4 @@
-use Rattle.log_state.proofs.Laws.{read-section, read-from-ok, read-pid, read-nowhere}
+use Rattle.log_state.proofs.Laws.{read_section_lem, read_from_ok, read_pid, read_nowhere}
 use borrow.Author.Rules.{rules}
 use Rattle.log_state.proofs.read.Statement.{statement}
 use Rattle.log_state.proofs.read.Tie as tie
@@ -29,15 +29,15 @@ enum-told-2 c = search rules
 
 -- src/lib.rt:176:1
 returns : tie.Need-returns
-returns c = (search read-section, search read-from-ok)
+returns c = (search read_section_lem, search read_from_ok)
 
 -- src/lib.rt:176:1
 returns-2 : tie.Need-returns-2
-returns-2 c = (search read-pid, tt)
+returns-2 c = (search read_pid, tt)
 
 -- src/lib.rt:176:1
 returns-3 : tie.Need-returns-3
-returns-3 c = (search read-nowhere, tt)
+returns-3 c = (search read_nowhere, tt)
 
 pub read_spec : {M : Type 1} → statement M
 read_spec =

@@ -1,4 +1,4 @@
-use Rattle.log_state.proofs.Laws.{read_short, read-mismatch, read-sound}
+use Rattle.log_state.proofs.Laws.{read_short, read_mismatch, read_sound}
 use borrow.Author.Rules.{rules}
 use Rattle.log_state.proofs.read_from.Statement.{statement}
 use Rattle.log_state.proofs.read_from.Tie as tie
@@ -38,11 +38,11 @@ returns c = search read_short
 
 -- src/lib.rt:162:1
 returns-2 : tie.Need-returns-2
-returns-2 c = search read-mismatch
+returns-2 c = search read_mismatch
 
 -- src/lib.rt:162:1
 returns-3 : tie.Need-returns-3
-returns-3 c = search read-sound
+returns-3 c = search read_sound
 
 pub read-from-spec : {M : Type 1} → statement M
 read-from-spec =

@@ -1,4 +1,4 @@
-use Rattle.log_steps.proofs.Laws.{noted-seen}
+use Rattle.log_steps.proofs.Laws.{noted_seen}
 use borrow.Author.Rules.{rules}
 use Rattle.log_steps.proofs.note.Statement.{statement}
 use Rattle.log_steps.proofs.note.Tie as tie
@@ -17,7 +17,7 @@ seen-with-requires c κs = search rules
 
 -- src/lib.rt:78:1
 returns : tie.Need-returns
-returns c = search noted-seen
+returns c = search noted_seen
 
 pub note-spec : {M : Type 1} → statement M
 note-spec = tie.close (tie.spec set-noted-requires seen-with-requires returns)

@@ -1,4 +1,4 @@
-use Rattle.log_steps.proofs.Laws.{entry-with, entry-bare}
+use Rattle.log_steps.proofs.Laws.{entry_with_lem, entry_bare}
 use borrow.Author.Rules.{rules}
 use Rattle.log_steps.proofs.set_entry.Statement.{statement}
 use Rattle.log_steps.proofs.set_entry.Tie as tie
@@ -14,10 +14,10 @@ bare-set-record-requires : tie.Need-bare-set-record-requires
 bare-set-record-requires c κs = search rules
 
 returns : tie.Need-returns
-returns c = search entry-with
+returns c = search entry_with_lem
 
 returns-2 : tie.Need-returns-2
-returns-2 c = search entry-bare
+returns-2 c = search entry_bare
 
 pub set-entry-spec : {M : Type 1} → statement M
 set-entry-spec = tie.close (tie.spec set-record-requires bare-set-record-requires returns returns-2)

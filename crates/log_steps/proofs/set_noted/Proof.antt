@@ -1,4 +1,4 @@
-use Rattle.log_steps.proofs.Laws.{noted_nothing, noted-set, noted-refused, none-10, set-10}
+use Rattle.log_steps.proofs.Laws.{noted_nothing, noted_set, noted_refused, none_10, set_10}
 use borrow.Author.Rules.{rules}
 use Rattle.log_steps.proofs.set_noted.Statement.{statement}
 use Rattle.log_steps.proofs.set_noted.Tie as tie
@@ -33,15 +33,15 @@ none-requires-2 c κs = search rules
 
 -- src/lib.rt:66:1
 returns : tie.Need-returns
-returns c = (search noted_nothing, search none-10)
+returns c = (search noted_nothing, search none_10)
 
 -- src/lib.rt:66:1
 returns-2 : tie.Need-returns-2
-returns-2 c = (search noted-set, search set-10)
+returns-2 c = (search noted_set, search set_10)
 
 -- src/lib.rt:66:1
 returns-3 : tie.Need-returns-3
-returns-3 c = (search noted-refused, search none-10)
+returns-3 c = (search noted_refused, search none_10)
 
 pub set-noted-spec : {M : Type 1} → statement M
 set-noted-spec =

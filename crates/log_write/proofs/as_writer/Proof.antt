@@ -1,4 +1,4 @@
-use Rattle.log_write.proofs.Laws.{writer-with, writer-else}
+use Rattle.log_write.proofs.Laws.{writer_with, writer_else}
 use borrow.Author.Rules.{rules}
 use Rattle.log_write.proofs.as_writer.Statement.{statement}
 use Rattle.log_write.proofs.as_writer.Tie as tie
@@ -10,10 +10,10 @@ is-with-requires : tie.Need-is-with-requires
 is-with-requires c κs = search rules
 
 returns : tie.Need-returns
-returns c = search writer-with
+returns c = search writer_with
 
 returns-2 : tie.Need-returns-2
-returns-2 c = search writer-else
+returns-2 c = search writer_else
 
 pub as-writer-spec : {M : Type 1} → statement M
 as-writer-spec = tie.close (tie.spec is-with-requires returns returns-2)

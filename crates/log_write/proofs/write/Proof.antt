@@ -1,7 +1,7 @@
 use mathlib.Core.Path.{refl}
-use Rattle.log_write.proofs.Laws.{write-long, write-cut, write-without, write-little, write-whole, write-ran}
+use Rattle.log_write.proofs.Laws.{write_long, write_cut, write_without, write_little, write_whole, write_ran}
 use Rattle.log_sections.specs.Steps.{memory}
-use Rattle.log_write.specs.Write.{writeAs}
+use Rattle.log_write.specs.Write.{write_as}
 use borrow.Author.Rules.{rules}
 use Rattle.log_write.proofs.write.Statement.{statement}
 use Rattle.log_write.proofs.write.Tie as tie
@@ -56,7 +56,7 @@ enum-known-prepared c = search rules
 -- src/lib.rt:101:13
 write-open-requires : tie.Need-write-open-requires
 write-open-requires c κs = let a = c.before.before.before.before.before.before.before.before.before.before.before.before.before.before.before.before.before.before.before.before.before.before.before.args in
-    write-whole a.settings a.sections.now a.room.now (memory a.keys.now a.changes.now a.heads.now a.slots.now a.cells.now) c.before.before.before.before.before.before.before.before.before.before.before.before.before.before.before.as-writer.ensures c.before.before.before.before.before.before.before.before.before.prepare.ensures c.before.before.before.before.before.before.before.prepared.given.1
+    write_whole a.settings a.sections.now a.room.now (memory a.keys.now a.changes.now a.heads.now a.slots.now a.cells.now) c.before.before.before.before.before.before.before.before.before.before.before.before.before.before.before.as-writer.ensures c.before.before.before.before.before.before.before.before.before.prepare.ensures c.before.before.before.before.before.before.before.prepared.given.1
 
 -- src/lib.rt:83:1
 same_length : tie.Need-same-length
@@ -81,7 +81,7 @@ same-length-5 c = refl
 -- src/lib.rt:83:1
 returns : tie.Need-returns
 returns c = let a = c.before.before.before.before.before.before.before.before.before.before.before.before.before.before.before.before.before.args in
-    write-long a.settings a.sections.now a.room.now (memory a.keys.now a.changes.now a.heads.now a.slots.now a.cells.now) c.before.before.before.before.before.before.before.before.before.as-writer.ensures c.before.before.before.prepare.ensures c.before.enum_told.given.1 c.refused.ensures
+    write_long a.settings a.sections.now a.room.now (memory a.keys.now a.changes.now a.heads.now a.slots.now a.cells.now) c.before.before.before.before.before.before.before.before.before.as-writer.ensures c.before.before.before.prepare.ensures c.before.enum_told.given.1 c.refused.ensures
 
 -- src/lib.rt:83:1
 same-length-6 : tie.Need-same-length-6
@@ -106,7 +106,7 @@ same-length-10 c = refl
 -- src/lib.rt:83:1
 returns-2 : tie.Need-returns-2
 returns-2 c = let a = c.before.before.before.before.before.before.before.before.before.before.before.before.before.before.before.before.before.args in
-    write-cut a.settings a.sections.now a.room.now (memory a.keys.now a.changes.now a.heads.now a.slots.now a.cells.now) c.before.before.before.before.before.before.before.before.before.as-writer.ensures c.before.before.before.prepare.ensures c.before.enum-told2.given.1 c.refused2.ensures
+    write_cut a.settings a.sections.now a.room.now (memory a.keys.now a.changes.now a.heads.now a.slots.now a.cells.now) c.before.before.before.before.before.before.before.before.before.as-writer.ensures c.before.before.before.prepare.ensures c.before.enum-told2.given.1 c.refused2.ensures
 
 -- src/lib.rt:83:1
 same-length-11 : tie.Need-same-length-11
@@ -131,7 +131,7 @@ same-length-15 c = refl
 -- src/lib.rt:83:1
 returns-3 : tie.Need-returns-3
 returns-3 c = let a = c.before.before.before.before.before.before.before.before.before.before.before.before.before.before.before.before.before.args in
-    write-without a.settings a.sections.now a.room.now (memory a.keys.now a.changes.now a.heads.now a.slots.now a.cells.now) c.before.before.before.before.before.before.before.before.before.as-writer.ensures c.before.before.before.prepare.ensures c.before.enum-told3.given.1 c.refused3.ensures
+    write_without a.settings a.sections.now a.room.now (memory a.keys.now a.changes.now a.heads.now a.slots.now a.cells.now) c.before.before.before.before.before.before.before.before.before.as-writer.ensures c.before.before.before.prepare.ensures c.before.enum-told3.given.1 c.refused3.ensures
 
 same-length-16 : tie.Need-same-length-16
 same-length-16 c = refl
@@ -151,7 +151,7 @@ same-length-20 c = refl
 -- src/lib.rt:83:1
 returns-4 : tie.Need-returns-4
 returns-4 c = let a = c.before.before.before.before.before.before.before.before.before.before.before.before.before.before.before.before.before.args in
-    write-little a.settings a.sections.now a.room.now (memory a.keys.now a.changes.now a.heads.now a.slots.now a.cells.now) c.before.before.before.before.before.before.before.before.before.as-writer.ensures c.before.before.before.prepare.ensures c.before.enum-told4.given.1 c.refused4.ensures
+    write_little a.settings a.sections.now a.room.now (memory a.keys.now a.changes.now a.heads.now a.slots.now a.cells.now) c.before.before.before.before.before.before.before.before.before.as-writer.ensures c.before.before.before.prepare.ensures c.before.enum-told4.given.1 c.refused4.ensures
 
 -- src/lib.rt:83:1
 same-length-21 : tie.Need-same-length-21
@@ -182,8 +182,8 @@ returns-5 : tie.Need-returns-5
 returns-5 c = let a = c.before.before.before.before.before.before.before.before.before.before.before.before.before.before.before.before.before.before.before.before.before.before.before.before.before.before.before.before.before.before.before.before.before.before.before.before.args in
     let w = c.before.before.before.before.before.before.before.before.before.before.before.before.write-open in
     let x = w.new.1.1 in
-    write-ran a.settings a.sections.now a.room.now (memory a.keys.now a.changes.now a.heads.now a.slots.now a.cells.now) c.before.before.before.before.before.before.before.before.before.before.before.before.before.before.before.before.before.before.before.before.before.before.before.before.before.before.before.before.as-writer.ensures c.before.before.before.before.before.before.before.before.before.before.before.before.before.before.before.before.before.before.before.before.before.before.prepare.ensures c.before.before.before.before.before.before.before.before.before.before.before.before.before.before.before.before.before.before.before.before.prepared.given.1
-    (writeAs w.result x.0 (memory x.1.0 x.1.1.0 x.1.1.1.0 x.1.1.1.1.0 x.1.1.1.1.1.0)) w.ensures
+    write_ran a.settings a.sections.now a.room.now (memory a.keys.now a.changes.now a.heads.now a.slots.now a.cells.now) c.before.before.before.before.before.before.before.before.before.before.before.before.before.before.before.before.before.before.before.before.before.before.before.before.before.before.before.before.as-writer.ensures c.before.before.before.before.before.before.before.before.before.before.before.before.before.before.before.before.before.before.before.before.before.before.prepare.ensures c.before.before.before.before.before.before.before.before.before.before.before.before.before.before.before.before.before.before.before.before.prepared.given.1
+    (write_as w.result x.0 (memory x.1.0 x.1.1.0 x.1.1.1.0 x.1.1.1.1.0 x.1.1.1.1.1.0)) w.ensures
 
 pub write_spec : {M : Type 1} → statement M
 write_spec =

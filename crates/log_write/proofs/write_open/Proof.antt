@@ -1,5 +1,5 @@
 use mathlib.Core.Path.{◌∙◌}
-use Rattle.log_write.proofs.Laws.{no_room, is-written}
+use Rattle.log_write.proofs.Laws.{no_room, is_written}
 use Rattle.log_sections.specs.Steps.{memory}
 use borrow.Author.Rules.{rules}
 use Rattle.log_write.proofs.write_open.Statement.{statement}
@@ -74,7 +74,7 @@ same-length-11 c = c.before.before.before.before.before.before.before.before.bef
 -- src/lib.rt:48:1
 returns-2 : tie.Need-returns-2
 returns-2 c = let a = c.before.before.before.before.before.before.before.before.before.before.before.before.before.before.before.before.before.before.before.before.before.before.before.before.before.before.before.before.before.before.before.before.before.before.before.before.before.before.before.before.before.before.before.before.args in
-    is-written a.sections.now a.room.now a.run (memory a.keys.now a.changes.now a.heads.now a.slots.now a.cells.now) c.before.before.before.before.before.before.before.before.before.before.before.before.before.before.before.before.before.before.before.before.before.before.before.before.before.before.before.before.before.before.before.measure.ensures c.before.before.before.before.before.before.before.before.before.before.before.before.before.before.before.before.before.before.before.if1.false c.before.before.before.before.before.before.before.before.before.before.before.before.write-all.ensures
+    is_written a.sections.now a.room.now a.run (memory a.keys.now a.changes.now a.heads.now a.slots.now a.cells.now) c.before.before.before.before.before.before.before.before.before.before.before.before.before.before.before.before.before.before.before.before.before.before.before.before.before.before.before.before.before.before.before.measure.ensures c.before.before.before.before.before.before.before.before.before.before.before.before.before.before.before.before.before.before.before.if1.false c.before.before.before.before.before.before.before.before.before.before.before.before.write-all.ensures
 
 pub write-open-spec : {M : Type 1} → statement M
 write-open-spec =

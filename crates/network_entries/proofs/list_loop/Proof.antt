@@ -1,4 +1,4 @@
-use Rattle.network_entries.proofs.Ways.{loop-listed, loop-few}
+use Rattle.network_entries.proofs.Ways.{loop_listed, loop_few}
 use borrow.Author.Rules.{rules}
 use Rattle.network_entries.proofs.list_loop.Statement.{statement}
 use Rattle.network_entries.proofs.list_loop.Tie as tie
@@ -33,7 +33,7 @@ same_length c = search rules
 
 -- src/lib.rt:26:1
 returns : tie.Need-returns
-returns c = (search loop-listed, search loop-few)
+returns c = (search loop_listed, search loop_few)
 
 pub list-loop-spec : {M : Type 1} → statement M
 list-loop-spec =

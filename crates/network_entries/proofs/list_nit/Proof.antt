@@ -1,4 +1,4 @@
-use Rattle.network_entries.proofs.Ways.{count-there, count_small, nit-end, first-in, second-in, then-few, nit-listed, nit-few}
+use Rattle.network_entries.proofs.Ways.{count_there, count_small, nit_end, first_in_lem, second_in, then_few, nit_listed, nit_few}
 use borrow.Author.Rules.{rules}
 use Rattle.network_entries.proofs.list_nit.Statement.{statement}
 use Rattle.network_entries.proofs.list_nit.Tie as tie
@@ -17,7 +17,7 @@ add-count-at c = search rules
 
 -- src/lib.rt:63:9
 count-at-requires : tie.Need-count-at-requires
-count-at-requires c κs = (search count-there, search count_small)
+count-at-requires c κs = (search count_there, search count_small)
 
 -- src/lib.rt:64:18
 add-second : tie.Need-overflow-add-second
@@ -33,7 +33,7 @@ add-list-loop c = search rules
 
 -- src/lib.rt:65:9
 list-loop-requires : tie.Need-list-loop-requires
-list-loop-requires c κs = (search first-in, search rules)
+list-loop-requires c κs = (search first_in_lem, search rules)
 
 -- src/lib.rt:66:26
 add-list-loop-2 : tie.Need-overflow-add-list-loop-2
@@ -45,11 +45,11 @@ add-list-loop-3 c = search rules
 
 -- src/lib.rt:66:41
 sub-list-loop : tie.Need-overflow-sub-list-loop
-sub-list-loop c = search nit-end
+sub-list-loop c = search nit_end
 
 -- src/lib.rt:66:5
 list-loop-requires-2 : tie.Need-list-loop-requires-2
-list-loop-requires-2 c κs = (search second-in, search (rules, then-few))
+list-loop-requires-2 c κs = (search second_in, search (rules, then_few))
 
 -- src/lib.rt:44:1
 same_length : tie.Need-same-length
@@ -57,7 +57,7 @@ same_length c = search rules
 
 -- src/lib.rt:44:1
 returns : tie.Need-returns
-returns c = (search nit-listed, search nit-few)
+returns c = (search nit_listed, search nit_few)
 
 pub list-nit-spec : {M : Type 1} → statement M
 list-nit-spec =

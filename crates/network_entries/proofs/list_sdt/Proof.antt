@@ -1,4 +1,4 @@
-use Rattle.network_entries.proofs.Ways.{word_in, sdt-end, services-in, sdt-listed, sdt-few}
+use Rattle.network_entries.proofs.Ways.{word_in, sdt_end, services_in, sdt_listed, sdt_few}
 use borrow.Author.Rules.{rules}
 use Rattle.network_entries.proofs.list_sdt.Statement.{statement}
 use Rattle.network_entries.proofs.list_sdt.Tie as tie
@@ -33,11 +33,11 @@ add-list-loop-2 c = search rules
 
 -- src/lib.rt:89:41
 sub-list-loop : tie.Need-overflow-sub-list-loop
-sub-list-loop c = search sdt-end
+sub-list-loop c = search sdt_end
 
 -- src/lib.rt:89:5
 list-loop-requires : tie.Need-list-loop-requires
-list-loop-requires c κs = (search services-in, search rules)
+list-loop-requires c κs = (search services_in, search rules)
 
 -- src/lib.rt:70:1
 same_length : tie.Need-same-length
@@ -45,7 +45,7 @@ same_length c = search rules
 
 -- src/lib.rt:70:1
 returns : tie.Need-returns
-returns c = (search sdt-listed, search sdt-few)
+returns c = (search sdt_listed, search sdt_few)
 
 pub list-sdt-spec : {M : Type 1} → statement M
 list-sdt-spec =

@@ -1,4 +1,4 @@
-use Rattle.network_faults.proofs.Ways.{broken-nit, broken-bat, broken-sdt}
+use Rattle.network_faults.proofs.Ways.{broken_nit, broken_bat, broken_sdt}
 use borrow.Author.Rules.{rules}
 use Rattle.network_faults.proofs.broken.Statement.{statement}
 use Rattle.network_faults.proofs.broken.Tie as tie
@@ -37,15 +37,15 @@ enum-told-4 c = search rules
 
 -- src/lib.rt:129:1
 returns : tie.Need-returns
-returns c = search broken-nit
+returns c = search broken_nit
 
 -- src/lib.rt:129:1
 returns-2 : tie.Need-returns-2
-returns-2 c = search broken-bat
+returns-2 c = search broken_bat
 
 -- src/lib.rt:129:1
 returns-3 : tie.Need-returns-3
-returns-3 c = search broken-sdt
+returns-3 c = search broken_sdt
 
 -- src/lib.rt:129:1
 returns-4 : tie.Need-returns-4

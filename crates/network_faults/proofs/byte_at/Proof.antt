@@ -1,4 +1,4 @@
-use Rattle.network_faults.proofs.Ways.{byte-none}
+use Rattle.network_faults.proofs.Ways.{byte_none}
 use borrow.Author.Rules.{rules}
 use Rattle.network_faults.proofs.byte_at.Statement.{statement}
 use Rattle.network_faults.proofs.byte_at.Tie as tie
@@ -8,7 +8,7 @@ use Rattle.section.proofs.bytes.wide.Reads as wide-reads
 
 -- src/lib.rt:22:9
 returns : tie.Need-returns
-returns c = search byte-none
+returns c = search byte_none
 
 -- src/lib.rt:24:10
 shared-slice-read-wide : tie.Need-shared-slice-read-wide

@@ -1,4 +1,4 @@
-use Rattle.network_faults.proofs.Ways.{fault-own, fault-other}
+use Rattle.network_faults.proofs.Ways.{fault_own, fault_other}
 use borrow.Author.Rules.{rules}
 use Rattle.network_faults.proofs.fault.Statement.{statement}
 use Rattle.network_faults.proofs.fault.Tie as tie
@@ -22,11 +22,11 @@ broken-requires c κs = search rules
 
 -- src/lib.rt:145:9
 returns : tie.Need-returns
-returns c = search fault-own
+returns c = search fault_own
 
 -- src/lib.rt:141:1
 returns-2 : tie.Need-returns-2
-returns-2 c = search fault-other
+returns-2 c = search fault_other
 
 pub fault-spec : {M : Type 1} → statement M
 fault-spec = tie.close (tie.spec byte-at-requires is-of-requires broken-requires returns returns-2)

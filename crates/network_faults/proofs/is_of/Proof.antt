@@ -1,4 +1,4 @@
-use Rattle.network_faults.proofs.Ways.{is-nit, is-bat, is-sdt, is_none}
+use Rattle.network_faults.proofs.Ways.{is_nit, is_bat, is_sdt, is_none}
 use borrow.Author.Rules.{rules}
 use Rattle.network_faults.proofs.is_of.Statement.{statement}
 use Rattle.network_faults.proofs.is_of.Tie as tie
@@ -23,15 +23,15 @@ enum-told-4 c = search rules
 
 -- src/lib.rt:36:1
 returns : tie.Need-returns
-returns c = search is-nit
+returns c = search is_nit
 
 -- src/lib.rt:36:1
 returns-2 : tie.Need-returns-2
-returns-2 c = search is-bat
+returns-2 c = search is_bat
 
 -- src/lib.rt:36:1
 returns-3 : tie.Need-returns-3
-returns-3 c = search is-sdt
+returns-3 c = search is_sdt
 
 -- src/lib.rt:36:1
 returns-4 : tie.Need-returns-4

@@ -1,4 +1,4 @@
-use Rattle.network_faults.proofs.Ways.{loop-below, loop-told}
+use Rattle.network_faults.proofs.Ways.{loop_below, loop_told}
 use borrow.Author.Rules.{rules}
 use Rattle.network_faults.proofs.loop_fault.Statement.{statement}
 use Rattle.network_faults.proofs.loop_fault.Tie as tie
@@ -29,11 +29,11 @@ descriptors-requires c κs = search rules
 
 -- src/lib.rt:82:5
 past-place-requires : tie.Need-past-place-requires
-past-place-requires c κs = search loop-below
+past-place-requires c κs = search loop_below
 
 -- src/lib.rt:70:1
 returns : tie.Need-returns
-returns c = search loop-told
+returns c = search loop_told
 
 pub loop-fault-spec : {M : Type 1} → statement M
 loop-fault-spec =

@@ -1,4 +1,4 @@
-use Rattle.network_faults.proofs.Ways.{nit-length, nit-short, nit-no-second, nit-judged, small}
+use Rattle.network_faults.proofs.Ways.{nit_length, nit_short, nit_no_second, nit_judged, small}
 use borrow.Author.Rules.{rules}
 use Rattle.network_faults.proofs.nit_fault.Statement.{statement}
 use Rattle.network_faults.proofs.nit_fault.Tie as tie
@@ -14,11 +14,11 @@ length-wrong-requires c κs = search rules
 
 -- src/lib.rt:105:9
 returns : tie.Need-returns
-returns c = search nit-length
+returns c = search nit_length
 
 -- src/lib.rt:108:9
 returns-2 : tie.Need-returns-2
-returns-2 c = search nit-short
+returns-2 c = search nit_short
 
 -- src/lib.rt:110:9
 count-at-requires : tie.Need-count-at-requires
@@ -30,7 +30,7 @@ add-if3 c = search rules
 
 -- src/lib.rt:112:9
 returns-3 : tie.Need-returns-3
-returns-3 c = search nit-no-second
+returns-3 c = search nit_no_second
 
 -- src/lib.rt:114:5
 nit-loops-requires : tie.Need-nit-loops-requires
@@ -38,7 +38,7 @@ nit-loops-requires c κs = search (rules, small)
 
 -- src/lib.rt:101:1
 returns-4 : tie.Need-returns-4
-returns-4 c = search nit-judged
+returns-4 c = search nit_judged
 
 pub nit-fault-spec : {M : Type 1} → statement M
 nit-fault-spec =

@@ -1,4 +1,4 @@
-use Rattle.network_faults.proofs.Ways.{loops-first, loops-second, loops-streams}
+use Rattle.network_faults.proofs.Ways.{loops_first, loops_second, loops_streams}
 use borrow.Author.Rules.{rules}
 use Rattle.network_faults.proofs.nit_loops.Statement.{statement}
 use Rattle.network_faults.proofs.nit_loops.Tie as tie
@@ -17,7 +17,7 @@ loop-fault-requires c κs = search rules
 
 -- src/lib.rt:93:9
 returns : tie.Need-returns
-returns c = search loops-first
+returns c = search loops_first
 
 -- src/lib.rt:95:15
 sub-end : tie.Need-overflow-sub-end
@@ -41,7 +41,7 @@ add-result c = search rules
 
 -- src/lib.rt:97:9
 returns-2 : tie.Need-returns-2
-returns-2 c = search loops-second
+returns-2 c = search loops_second
 
 -- src/lib.rt:99:47
 add-loop-fault : tie.Need-overflow-add-loop-fault
@@ -53,7 +53,7 @@ loop-fault-requires-2 c κs = search rules
 
 -- src/lib.rt:86:1
 returns-3 : tie.Need-returns-3
-returns-3 c = search loops-streams
+returns-3 c = search loops_streams
 
 pub nit-loops-spec : {M : Type 1} → statement M
 nit-loops-spec =

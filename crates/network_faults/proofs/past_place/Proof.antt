@@ -1,7 +1,7 @@
 use mathlib.Core.Path.{subst}
 use native.Mathlib.Omega.{arith}
 use Rattle.listing.proofs.Bounds.{Below}
-use Rattle.network_faults.proofs.Ways.{place-past}
+use Rattle.network_faults.proofs.Ways.{place_past}
 use borrow.Author.Rules.{rules}
 use Rattle.network_faults.proofs.past_place.Statement.{statement}
 use Rattle.network_faults.proofs.past_place.Tie as tie
@@ -26,7 +26,7 @@ returns c = search rules
 
 -- src/lib.rt:58:1
 returns-2 : tie.Need-returns-2
-returns-2 c = search place-past
+returns-2 c = search place_past
 
 pub past-place-spec : {M : Type 1} → statement M
 past-place-spec = tie.close (tie.spec enum_told enum-known-walked add-result returns returns-2)

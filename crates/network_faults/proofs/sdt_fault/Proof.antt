@@ -1,4 +1,4 @@
-use Rattle.network_faults.proofs.Ways.{sdt-length, sdt-short, sdt-judged, end-small}
+use Rattle.network_faults.proofs.Ways.{sdt_length, sdt_short, sdt_judged, end_small}
 use borrow.Author.Rules.{rules}
 use Rattle.network_faults.proofs.sdt_fault.Statement.{statement}
 use Rattle.network_faults.proofs.sdt_fault.Tie as tie
@@ -13,11 +13,11 @@ length-wrong-requires c κs = search rules
 
 -- src/lib.rt:121:9
 returns : tie.Need-returns
-returns c = search sdt-length
+returns c = search sdt_length
 
 -- src/lib.rt:124:9
 returns-2 : tie.Need-returns-2
-returns-2 c = search sdt-short
+returns-2 c = search sdt_short
 
 -- src/lib.rt:126:55
 sub-loop-fault : tie.Need-overflow-sub-loop-fault
@@ -25,11 +25,11 @@ sub-loop-fault c = search rules
 
 -- src/lib.rt:126:5
 loop-fault-requires : tie.Need-loop-fault-requires
-loop-fault-requires c κs = search (rules, end-small)
+loop-fault-requires c κs = search (rules, end_small)
 
 -- src/lib.rt:117:1
 returns-3 : tie.Need-returns-3
-returns-3 c = search sdt-judged
+returns-3 c = search sdt_judged
 
 pub sdt-fault-spec : {M : Type 1} → statement M
 sdt-fault-spec =

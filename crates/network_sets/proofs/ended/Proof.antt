@@ -1,4 +1,4 @@
-use Rattle.network_sets.proofs.Ways.{ended_some, ended-none}
+use Rattle.network_sets.proofs.Ways.{ended_some, ended_none}
 use borrow.Author.Rules.{rules}
 use Rattle.network_sets.proofs.ended.Statement.{statement}
 use Rattle.network_sets.proofs.ended.Tie as tie
@@ -20,7 +20,7 @@ read-of-requires-2 c κs = search rules
 
 -- src/lib.rt:68:1
 returns-2 : tie.Need-returns-2
-returns-2 c = search ended-none
+returns-2 c = search ended_none
 
 pub ended-spec : {M : Type 1} → statement M
 ended-spec = tie.close (tie.spec read-of-requires returns read-of-requires-2 returns-2)

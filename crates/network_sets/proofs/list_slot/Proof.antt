@@ -1,4 +1,4 @@
-use Rattle.network_sets.proofs.Ways.{slot-section, slot-taken, slot-listed, entries-empty}
+use Rattle.network_sets.proofs.Ways.{slot_section, slot_taken, slot_listed, entries_empty}
 use borrow.Author.Rules.{rules}
 use Rattle.network_sets.proofs.list_slot.Statement.{statement}
 use Rattle.network_sets.proofs.list_slot.Tie as tie
@@ -23,7 +23,7 @@ kept-length-requires c κs = search rules
 
 -- src/lib.rt:148:9
 list-section-requires : tie.Need-list-section-requires
-list-section-requires c κs = (search slot-section, search slot-taken)
+list-section-requires c κs = (search slot_section, search slot_taken)
 
 -- src/lib.rt:148:9
 same_length : tie.Need-same-length
@@ -31,11 +31,11 @@ same_length c = search rules
 
 -- src/lib.rt:148:9
 returns : tie.Need-returns
-returns c = (search slot-listed, search rules)
+returns c = (search slot_listed, search rules)
 
 -- src/lib.rt:130:1
 returns-2 : tie.Need-returns-2
-returns-2 c = (search entries-empty, search rules)
+returns-2 c = (search entries_empty, search rules)
 
 pub list-slot-spec : {M : Type 1} → statement M
 list-slot-spec =

@@ -1,4 +1,4 @@
-use Rattle.network_sets.proofs.Ways.{said-refused, said-listed, none-refused}
+use Rattle.network_sets.proofs.Ways.{said_refused, said_listed, none_refused}
 use borrow.Author.Rules.{rules}
 use Rattle.network_sets.proofs.read_slots.Statement.{statement}
 use Rattle.network_sets.proofs.read_slots.Tie as tie
@@ -19,11 +19,11 @@ refused-requires c κs = search rules
 
 -- src/lib.rt:189:9
 returns : tie.Need-returns
-returns c = search said-refused
+returns c = search said_refused
 
 -- src/lib.rt:191:17
 list-slots-requires : tie.Need-list-slots-requires
-list-slots-requires c κs = (search rules, search none-refused)
+list-slots-requires c κs = (search rules, search none_refused)
 
 -- src/lib.rt:191:5
 ended-requires : tie.Need-ended-requires
@@ -35,7 +35,7 @@ same_length c = search rules
 
 -- src/lib.rt:176:1
 returns-2 : tie.Need-returns-2
-returns-2 c = search said-listed
+returns-2 c = search said_listed
 
 pub read-slots-spec : {M : Type 1} → statement M
 read-slots-spec =

@@ -1,4 +1,4 @@
-use Rattle.network_sets.proofs.Ways.{refused-table, refused-loop}
+use Rattle.network_sets.proofs.Ways.{refused_table, refused_loop}
 use borrow.Author.Rules.{rules}
 use Rattle.network_sets.proofs.refused.Statement.{statement}
 use Rattle.network_sets.proofs.refused.Tie as tie
@@ -12,7 +12,7 @@ read-of-requires c κs = search rules
 
 -- src/lib.rt:83:9
 returns : tie.Need-returns
-returns c = search refused-table
+returns c = search refused_table
 
 -- src/lib.rt:85:49
 sub-read-of : tie.Need-overflow-sub-read-of
@@ -24,7 +24,7 @@ read-of-requires-2 c κs = search rules
 
 -- src/lib.rt:78:1
 returns-2 : tie.Need-returns-2
-returns-2 c = search refused-loop
+returns-2 c = search refused_loop
 
 pub refused-spec : {M : Type 1} → statement M
 refused-spec =

@@ -1,4 +1,4 @@
-use Rattle.network_sets.proofs.Ways.{slot-end, fault-filled, fault-empty}
+use Rattle.network_sets.proofs.Ways.{slot_end, fault_filled, fault_empty}
 use borrow.Author.Rules.{rules}
 use Rattle.network_sets.proofs.slot_fault.Statement.{statement}
 use Rattle.network_sets.proofs.slot_fault.Tie as tie
@@ -22,8 +22,8 @@ kept-length-requires : tie.Need-kept-length-requires
 kept-length-requires c κs = search rules
 
 -- src/lib.rt:104:19
-add-end : tie.Need-overflow-add-end
-add-end c = search rules
+add_end : tie.Need-overflow-add-end
+add_end c = search rules
 
 -- src/lib.rt:105:45
 sub-fault : tie.Need-overflow-sub-fault
@@ -35,7 +35,7 @@ part-fault-start c = search rules
 
 -- src/lib.rt:105:45
 part-fault-end : tie.Need-slice-bounds-fault-end
-part-fault-end c = search slot-end
+part-fault-end c = search slot_end
 
 -- src/lib.rt:105:9
 fault-requires : tie.Need-fault-requires
@@ -43,11 +43,11 @@ fault-requires c κs = search rules
 
 -- src/lib.rt:105:9
 returns : tie.Need-returns
-returns c = search fault-filled
+returns c = search fault_filled
 
 -- src/lib.rt:98:1
 returns-2 : tie.Need-returns-2
-returns-2 c = search fault-empty
+returns-2 c = search fault_empty
 
 pub slot-fault-spec : {M : Type 1} → statement M
 slot-fault-spec =
@@ -56,7 +56,7 @@ slot-fault-spec =
     is-filled-requires
     start-of-requires
     kept-length-requires
-    add-end
+    add_end
     sub-fault
     part-fault-start
     part-fault-end

@@ -1,7 +1,7 @@
 use mathlib.Core.Path.{ap}
 use Prim.Native.Nat.{ℕ, ◌*◌}
 use native.Mathlib.Omega.{arith}
-use Rattle.readers.proofs.Ways.{product-fits}
+use Rattle.readers.proofs.Ways.{product_fits}
 use Rattle.network_sets.proofs.Ways.{start_small}
 use borrow.Author.Rules.{rules}
 use Rattle.network_sets.proofs.start_of.Statement.{statement}
@@ -16,7 +16,7 @@ cell-number-requires c κs = search rules
 
 -- src/lib.rt:94:5
 mul-result : tie.Need-overflow-mul-result
-mul-result c = product-fits _ _ (omega (arith, c.cell-number.ensures)) c.before.requires
+mul-result c = product_fits _ _ (omega (arith, c.cell-number.ensures)) c.before.requires
 
 -- src/lib.rt:90:1
 returns : tie.Need-returns

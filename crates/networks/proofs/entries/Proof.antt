@@ -1,4 +1,4 @@
-use Rattle.networks.proofs.Ways.{section-in, section-whole, section-refused, section-listed}
+use Rattle.networks.proofs.Ways.{section_in, section_whole, section_refused, section_listed_lem}
 use borrow.Author.Rules.{rules}
 use Rattle.networks.proofs.entries.Statement.{statement}
 use Rattle.networks.proofs.entries.Tie as tie
@@ -25,7 +25,7 @@ refused-requires c κs = search rules
 
 -- src/lib.rt:32:9
 returns : tie.Need-returns
-returns c = search section-refused
+returns c = search section_refused
 
 -- src/lib.rt:34:9
 own-length-requires : tie.Need-own-length-requires
@@ -33,7 +33,7 @@ own-length-requires c κs = search rules
 
 -- src/lib.rt:35:9
 list-section-requires : tie.Need-list-section-requires
-list-section-requires c κs = (search section-in, search section-whole)
+list-section-requires c κs = (search section_in, search section_whole)
 
 -- src/lib.rt:36:5
 ended-requires : tie.Need-ended-requires
@@ -45,7 +45,7 @@ same_length c = search rules
 
 -- src/lib.rt:26:1
 returns-2 : tie.Need-returns-2
-returns-2 c = search section-listed
+returns-2 c = search section_listed_lem
 
 pub entries-spec : {M : Type 1} → statement M
 entries-spec =

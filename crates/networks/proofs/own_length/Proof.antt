@@ -1,4 +1,4 @@
-use Rattle.networks.proofs.Ways.{three, length-is}
+use Rattle.networks.proofs.Ways.{three, length_is}
 use native.Mathlib.Omega.{arith}
 use borrow.Author.Rules.{rules}
 use Rattle.networks.proofs.own_length.Statement.{statement}
@@ -17,7 +17,7 @@ add-result c = search rules
 
 -- src/lib.rt:18:1
 returns : tie.Need-returns
-returns c = (search length-is, search rules)
+returns c = (search length_is, search rules)
 
 pub own-length-spec : {M : Type 1} → statement M
 own-length-spec = tie.close (tie.spec section-length-requires add-result returns)

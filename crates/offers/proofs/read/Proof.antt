@@ -1,4 +1,4 @@
-use Rattle.offers.proofs.Facts.{read-nowhere, read-pid, read-section, read_taken}
+use Rattle.offers.proofs.Facts.{read_nowhere, read_pid, read_section_lem, read_taken}
 use borrow.Author.Rules.{rules}
 use Rattle.offers.proofs.read.Statement.{statement}
 use Rattle.offers.proofs.read.Tie as tie
@@ -21,13 +21,13 @@ enum-told-2 c = search rules
 returns : tie.Need-returns
 returns c =
     let a = c.before.before.before.before.before.before.args in
-    (search read-section, read_taken a.section.now a.rule a.input a.pid c.read-from.result (search read-section))
+    (search read_section_lem, read_taken a.section.now a.rule a.input a.pid c.read-from.result (search read_section_lem))
 
 returns-2 : tie.Need-returns-2
-returns-2 c = (search read-pid, tt)
+returns-2 c = (search read_pid, tt)
 
 returns-3 : tie.Need-returns-3
-returns-3 c = (search read-nowhere, tt)
+returns-3 c = (search read_nowhere, tt)
 
 pub read_spec : {M : Type 1} → statement M
 read_spec =

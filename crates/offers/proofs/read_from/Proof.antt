@@ -1,4 +1,4 @@
-use Rattle.offers.proofs.Facts.{read_short, read-mismatch, read-sound}
+use Rattle.offers.proofs.Facts.{read_short, read_mismatch, read_sound}
 use borrow.Author.Rules.{rules}
 use Rattle.offers.proofs.read_from.Statement.{statement}
 use Rattle.offers.proofs.read_from.Tie as tie
@@ -25,10 +25,10 @@ returns : tie.Need-returns
 returns c = search read_short
 
 returns-2 : tie.Need-returns-2
-returns-2 c = search read-mismatch
+returns-2 c = search read_mismatch
 
 returns-3 : tie.Need-returns-3
-returns-3 c = search read-sound
+returns-3 c = search read_sound
 
 pub read-from-spec : {M : Type 1} → statement M
 read-from-spec =

@@ -1,4 +1,4 @@
-use Rattle.packet.proofs.Laws.{pid-made}
+use Rattle.packet.proofs.Laws.{pid_made_lem}
 use borrow.Author.Rules.{rules}
 use Rattle.packet.proofs.pid.Statement.{statement}
 use Rattle.packet.proofs.pid.Tie as tie
@@ -22,7 +22,7 @@ cast-t8 : tie.Need-overflow-cast-t8
 cast-t8 c = search rules
 
 returns : tie.Need-returns
-returns c = search pid-made
+returns c = search pid_made_lem
 
 pub pid-spec : {M : Type 1} → statement M
 pid-spec = tie.close (tie.spec wide-requires mul-t5 wide-requires-2 add-t7 cast-t8 returns)

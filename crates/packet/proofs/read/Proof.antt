@@ -1,4 +1,4 @@
-use Rattle.packet.proofs.Laws.{no_length, no-sync, no_room, a-load, no-use}
+use Rattle.packet.proofs.Laws.{no_length, no_sync, no_room, a_load, no_use}
 use borrow.Author.Rules.{rules}
 use Rattle.packet.proofs.read.Statement.{statement}
 use Rattle.packet.proofs.read.Tie as tie
@@ -15,7 +15,7 @@ shared-slice-read-if2 : tie.Need-shared-slice-read-if2
 shared-slice-read-if2 c = search rules
 
 returns-2 : tie.Need-returns-2
-returns-2 c = search no-sync
+returns-2 c = search no_sync
 
 shared-slice-read-flags : tie.Need-shared-slice-read-flags
 shared-slice-read-flags c = search rules
@@ -42,10 +42,10 @@ told-requires : tie.Need-told-requires
 told-requires c κs = search rules
 
 returns-4 : tie.Need-returns-4
-returns-4 c = search a-load
+returns-4 c = search a_load
 
 returns-5 : tie.Need-returns-5
-returns-5 c = search no-use
+returns-5 c = search no_use
 
 pub read_spec : {M : Type 1} → statement M
 read_spec =

@@ -1,6 +1,6 @@
 use mathlib.Core.Path.{sym, ◌∙◌}
 use Rattle.packet.proofs.Loads.{as_read}
-use Rattle.passing.proofs.Laws.{is-malformed, malformed-words, has-nothing, nothing-words, has-payload, payload-words}
+use Rattle.passing.proofs.Laws.{is_malformed_lem, malformed_words, has_nothing, nothing_words, has_payload, payload_words}
 use borrow.Author.Rules.{rules}
 use Rattle.passing.proofs.pass.Statement.{statement}
 use Rattle.passing.proofs.pass.Tie as tie
@@ -25,16 +25,16 @@ pass-pid-requires c κs =
     (search rules, (as_read a.packet.now x.0.0 (λ i. (c.before.before.before.before.before.shared-slice-known2.given i).fits) (sym r.ensures ∙ x.1)).pid)
 
 returns : tie.Need-returns
-returns c = (search is-malformed, search malformed-words)
+returns c = (search is_malformed_lem, search malformed_words)
 
 returns-2 : tie.Need-returns-2
-returns-2 c = (search has-nothing, search nothing-words)
+returns-2 c = (search has_nothing, search nothing_words)
 
 same_length : tie.Need-same-length
 same_length c = search rules
 
 returns-3 : tie.Need-returns-3
-returns-3 c = (search has-payload, search payload-words)
+returns-3 c = (search has_payload, search payload_words)
 
 pub pass_spec : {M : Type 1} → statement M
 pass_spec =

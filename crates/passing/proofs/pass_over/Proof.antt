@@ -3,13 +3,13 @@ use Prim.Native.Nat.{◌≤◌, ◌-◌, ◌*◌}
 use native.Mathlib.Omega.{arith}
 use lib.ListN.{length, drop}
 use borrow.Author.Rules.{rules}
-use Rattle.passing.specs.Passing.{moreBy, passedFrom}
-use Rattle.passing.proofs.Laws.{none_yet, at-end, stops, goes_on}
+use Rattle.passing.specs.Passing.{more_by, passed_from}
+use Rattle.passing.proofs.Laws.{none_yet, at_end_lem, stops, goes_on_lem}
 use Rattle.passing.proofs.pass_over.Statement.{statement}
 use Rattle.passing.proofs.pass_over.Tie as tie
 
 abbrev invariant-loop : tie.invariant-loop
-invariant-loop watched pids₀ packets most n₀ pids n = (n ≤ most) × (length pids ≡ length pids₀) × (moreBy n (passedFrom (most - n) watched (drop (n * 188) packets) pids) ≡ passedFrom most watched packets pids₀)
+invariant-loop watched pids₀ packets most n₀ pids n = (n ≤ most) × (length pids ≡ length pids₀) × (more_by n (passed_from (most - n) watched (drop (n * 188) packets) pids) ≡ passed_from most watched packets pids₀)
 
 abbrev decreases-loop : tie.decreases-loop
 decreases-loop watched pids₀ packets most n₀ pids n = most - n
@@ -48,13 +48,13 @@ loop-less : tie.Need-loop-smaller invariant-loop decreases-loop
 loop-less c = search rules
 
 loop-again : tie.Need-loop-preserved invariant-loop decreases-loop
-loop-again c = (search rules, search rules, search goes_on)
+loop-again c = (search rules, search rules, search goes_on_lem)
 
 same-length-2 : tie.Need-same-length-2 invariant-loop decreases-loop
 same-length-2 c = search rules
 
 returns-2 : tie.Need-returns-2 invariant-loop decreases-loop
-returns-2 c = search at-end
+returns-2 c = search at_end_lem
 
 pub pass-over-spec : {M : Type 1} → statement M
 pass-over-spec =

@@ -1,5 +1,5 @@
 -- `pat::add_group` meets its contract: program 0 adds nothing, any other its PID. Assumes nothing.
-use Rattle.pat.proofs.Laws.{group-zero, group-some}
+use Rattle.pat.proofs.Laws.{group_zero, group_some}
 use borrow.Author.Rules.{rules}
 use Rattle.pat.proofs.add_group.Statement.{statement}
 use Rattle.pat.proofs.add_group.Tie as tie
@@ -14,10 +14,10 @@ add-requires : tie.Need-add-requires
 add-requires c κs = search rules
 
 returns : tie.Need-returns
-returns c = search group-some
+returns c = search group_some
 
 returns-2 : tie.Need-returns-2
-returns-2 c = search group-zero
+returns-2 c = search group_zero
 
 pub add-group-spec : {M : Type 1} → statement M
 add-group-spec =

@@ -3,14 +3,14 @@ use mathlib.Core.Path.{◌≡◌, refl, sym, ◌∙◌}
 use Prim.Native.Nat.{◌≤◌, ◌-◌}
 use native.Mathlib.Omega.{arith}
 use lib.ListN.{length, drop}
-use Rattle.laws.specs.Bits.{addBits}
-use Rattle.pat.specs.Pat.{programPids}
-use Rattle.pat.proofs.Laws.{turn-group, turn_end}
+use Rattle.laws.specs.Bits.{add_bits}
+use Rattle.pat.specs.Pat.{program_pids}
+use Rattle.pat.proofs.Laws.{turn_group, turn_end}
 use Rattle.pat.proofs.add_groups.Statement.{statement}
 use Rattle.pat.proofs.add_groups.Tie as tie
 
 abbrev invariant-loop : tie.invariant-loop
-invariant-loop s n₀ i₀ n i = (i ≤ length s) × (addBits n (programPids (drop i s)) ≡ addBits n₀ (programPids s))
+invariant-loop s n₀ i₀ n i = (i ≤ length s) × (add_bits n (program_pids (drop i s)) ≡ add_bits n₀ (program_pids s))
 
 abbrev decreases-loop : tie.decreases-loop
 decreases-loop s n₀ i₀ n i = length s - i
@@ -33,7 +33,7 @@ loop-less c = omega arith
 loop-again : tie.Need-loop-preserved invariant-loop decreases-loop
 loop-again c = let l = c.before.before.before.loop in
     let s = c.before.before.before.before.before.args.s.now in
-    (omega arith, rw c.add-group.ensures (sym (turn-group s l.n l.i (omega arith)) ∙ l.invariant.1))
+    (omega arith, rw c.add-group.ensures (sym (turn_group s l.n l.i (omega arith)) ∙ l.invariant.1))
 
 returns : tie.Need-returns invariant-loop decreases-loop
 returns c = let l = c.before.loop in

@@ -5,13 +5,13 @@ use Prim.Native.Nat.{◌≤◌, ◌-◌}
 use native.Mathlib.Omega.{arith}
 use lib.ListN.{length, drop}
 use Rattle.cells.specs.Cells.{kept}
-use Rattle.pats.specs.Store.{withAll}
-use Rattle.pats.proofs.Ways.{slot_ok, row-turn, row-end}
+use Rattle.pats.specs.Store.{with_all}
+use Rattle.pats.proofs.Ways.{slot_ok, row_turn, row_end}
 use Rattle.pats.proofs.add_programs.Statement.{statement}
 use Rattle.pats.proofs.add_programs.Tie as tie
 
 abbrev invariant-loop : tie.invariant-loop
-invariant-loop n₀ row cells j₀ n j = (j ≤ length row) × (withAll (map (kept cells 1024) (drop j row)) n ≡ withAll (map (kept cells 1024) row) n₀)
+invariant-loop n₀ row cells j₀ n j = (j ≤ length row) × (with_all (map (kept cells 1024) (drop j row)) n ≡ with_all (map (kept cells 1024) row) n₀)
 
 abbrev decreases-loop : tie.decreases-loop
 decreases-loop n₀ row cells j₀ n j = length row - j
@@ -37,12 +37,12 @@ loop-less c = omega arith
 loop-again : tie.Need-loop-preserved invariant-loop decreases-loop
 loop-again c = let l = c.before.before.before.before.loop in
     let a = c.before.before.before.before.before.before.before.args in
-    (omega arith, rw c.add-section.ensures (sym (row-turn a.row.now a.cells.now l.j l.n (omega arith)) ∙ l.invariant.1))
+    (omega arith, rw c.add-section.ensures (sym (row_turn a.row.now a.cells.now l.j l.n (omega arith)) ∙ l.invariant.1))
 
 returns : tie.Need-returns invariant-loop decreases-loop
 returns c = let l = c.before.loop in
     let a = c.before.before.before.before.args in
-    sym (row-end a.row.now a.cells.now l.j l.n (omega arith)) ∙ l.invariant.1
+    sym (row_end a.row.now a.cells.now l.j l.n (omega arith)) ∙ l.invariant.1
 
 pub add-programs-spec : {M : Type 1} → statement M
 add-programs-spec =

@@ -1,4 +1,4 @@
-use Rattle.pats.proofs.Ways.{section-added}
+use Rattle.pats.proofs.Ways.{section_added}
 use borrow.Author.Rules.{rules}
 use Rattle.pats.proofs.add_section.Statement.{statement}
 use Rattle.pats.proofs.add_section.Tie as tie
@@ -19,7 +19,7 @@ programs-requires : tie.Need-programs-requires
 programs-requires c κs = search rules
 
 returns : tie.Need-returns
-returns c = search section-added
+returns c = search section_added
 
 pub add-section-spec : {M : Type 1} → statement M
 add-section-spec =

@@ -1,4 +1,4 @@
-use Rattle.pats.proofs.Ways.{enter-not, enter-refused, enter-arrives, enter-arrived}
+use Rattle.pats.proofs.Ways.{enter_not, enter_refused, enter_arrives, enter_arrived}
 use borrow.Author.Rules.{rules}
 use Rattle.pats.proofs.enter.Statement.{statement}
 use Rattle.pats.proofs.enter.Tie as tie
@@ -16,10 +16,10 @@ enum-known-e : tie.Need-enum-known-e
 enum-known-e c = search rules
 
 collect-requires : tie.Need-collect-requires
-collect-requires c κs = (c.before.before.before.before.before.before.before.before.before.before.before.before.before.requires, search enter-arrives)
+collect-requires c κs = (c.before.before.before.before.before.before.before.before.before.before.before.before.before.requires, search enter_arrives)
 
 returns : tie.Need-returns
-returns c = search enter-refused
+returns c = search enter_refused
 
 same_length : tie.Need-same-length
 same_length c = search rules
@@ -31,10 +31,10 @@ same-length-3 : tie.Need-same-length-3
 same-length-3 c = search rules
 
 returns-2 : tie.Need-returns-2
-returns-2 c = search enter-arrived
+returns-2 c = search enter_arrived
 
 returns-3 : tie.Need-returns-3
-returns-3 c = search enter-not
+returns-3 c = search enter_not
 
 pub enter_spec : {M : Type 1} → statement M
 enter_spec =

@@ -1,4 +1,4 @@
-use Rattle.pats.proofs.Ways.{told-row, told-set}
+use Rattle.pats.proofs.Ways.{told_row, told_set}
 use borrow.Author.Rules.{rules}
 use Rattle.pats.proofs.follow.Statement.{statement}
 use Rattle.pats.proofs.follow.Tie as tie
@@ -10,7 +10,7 @@ enum-told-2 : tie.Need-enum-told-2
 enum-told-2 c = search rules
 
 follow-row-requires : tie.Need-follow-row-requires
-follow-row-requires c κs = search told-row
+follow-row-requires c κs = search told_row
 
 enum-told-3 : tie.Need-enum-told-3
 enum-told-3 c = search rules
@@ -22,7 +22,7 @@ same_length : tie.Need-same-length
 same_length c = search rules
 
 returns-2 : tie.Need-returns-2
-returns-2 c = search told-set
+returns-2 c = search told_set
 
 returns-3 : tie.Need-returns-3
 returns-3 c = search rules

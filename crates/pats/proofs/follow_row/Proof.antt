@@ -1,4 +1,4 @@
-use Rattle.pats.proofs.Ways.{row_ok, row-followed}
+use Rattle.pats.proofs.Ways.{row_ok, row_followed}
 use borrow.Author.Rules.{rules}
 use Rattle.pats.proofs.follow_row.Statement.{statement}
 use Rattle.pats.proofs.follow_row.Tie as tie
@@ -25,7 +25,7 @@ same_length : tie.Need-same-length
 same_length c = search rules
 
 returns : tie.Need-returns
-returns c = search row-followed
+returns c = search row_followed
 
 pub follow-row-spec : {M : Type 1} → statement M
 follow-row-spec =

@@ -1,4 +1,4 @@
-use Rattle.pats.proofs.Ways.{sets-are}
+use Rattle.pats.proofs.Ways.{sets_are}
 use borrow.Author.Rules.{rules}
 use Rattle.pats.proofs.pat_sets.Statement.{statement}
 use Rattle.pats.proofs.pat_sets.Tie as tie
@@ -13,7 +13,7 @@ clock-of-requires : tie.Need-clock-of-requires
 clock-of-requires c κs = search rules
 
 returns : tie.Need-returns
-returns c = search sets-are
+returns c = search sets_are
 
 pub pat-sets-spec : {M : Type 1} → statement M
 pat-sets-spec =

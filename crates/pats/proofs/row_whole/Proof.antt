@@ -1,6 +1,6 @@
 -- `pats::row_whole` meets its contract. Assumes nothing.
 use borrow.Author.Rules.{rules}
-use Rattle.pats.proofs.Ways.{no_row, one-row, more_rows}
+use Rattle.pats.proofs.Ways.{no_row, one_row_lem, more_rows}
 use Rattle.pats.proofs.row_whole.Statement.{statement}
 use Rattle.pats.proofs.row_whole.Tie as tie
 
@@ -29,7 +29,7 @@ row-whole-requires : tie.Need-row-whole-requires
 row-whole-requires c κs = search rules
 
 returns-2 : tie.Need-returns-2
-returns-2 c = search one-row
+returns-2 c = search one_row_lem
 
 returns-3 : tie.Need-returns-3
 returns-3 c = search (more_rows, c.before.if1.false, c.if2.false)

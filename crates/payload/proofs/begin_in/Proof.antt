@@ -1,4 +1,4 @@
-use Rattle.payload.proofs.Laws.{Going, going-first, going-over, going-stuffing, going-cut, place-there, going-turn}
+use Rattle.payload.proofs.Laws.{Going, going_first, going_over, going_stuffing, going_cut, place_there, going_turn}
 use Prim.Native.Nat.{◌-◌}
 use lib.ListN.{length}
 use borrow.Author.Rules.{rules}
@@ -12,7 +12,7 @@ abbrev decreases-loop : tie.decreases-loop
 decreases-loop packet begin places₀ count at₀ k₀ places at k = length packet - at
 
 loop-holds : tie.Need-loop-init invariant-loop decreases-loop
-loop-holds c = search going-first
+loop-holds c = search going_first
 
 shared-slice-read-if1 : tie.Need-shared-slice-read-if1 invariant-loop decreases-loop
 shared-slice-read-if1 c = search rules
@@ -21,7 +21,7 @@ same_length : tie.Need-same-length invariant-loop decreases-loop
 same_length c = search rules
 
 returns : tie.Need-returns invariant-loop decreases-loop
-returns c = let a = c.before.before.before.before.before.before.args in let l = c.before.before.before.loop in going-stuffing a.packet.now a.begin a.places.now a.count l.places l.at l.k l.invariant c.before.before.loop-test.true c.if1.true
+returns c = let a = c.before.before.before.before.before.before.args in let l = c.before.before.before.loop in going_stuffing a.packet.now a.begin a.places.now a.count l.places l.at l.k l.invariant c.before.before.loop-test.true c.if1.true
 
 sub-whole-in : tie.Need-overflow-sub-whole-in invariant-loop decreases-loop
 sub-whole-in c = search rules
@@ -42,10 +42,10 @@ same-length-2 : tie.Need-same-length-2 invariant-loop decreases-loop
 same-length-2 c = search rules
 
 returns-2 : tie.Need-returns-2 invariant-loop decreases-loop
-returns-2 c = let a = c.before.before.before.before.before.before.before.before.before.args in let l = c.before.before.before.before.before.before.loop in going-cut a.packet.now a.begin a.places.now a.count l.places l.at l.k l.invariant c.before.before.before.before.before.loop-test.true c.before.before.before.if1.false c.before.whole_in.result c.before.whole_in.ensures.0 c.if2.true
+returns-2 c = let a = c.before.before.before.before.before.before.before.before.before.args in let l = c.before.before.before.before.before.before.loop in going_cut a.packet.now a.begin a.places.now a.count l.places l.at l.k l.invariant c.before.before.before.before.before.loop-test.true c.before.before.before.if1.false c.before.whole_in.result c.before.whole_in.ensures.0 c.if2.true
 
 place-requires : tie.Need-place-requires invariant-loop decreases-loop
-place-requires c κs = search place-there
+place-requires c κs = search place_there
 
 add_at : tie.Need-overflow-add-at invariant-loop decreases-loop
 add_at c = search rules
@@ -57,13 +57,13 @@ loop-less : tie.Need-loop-smaller invariant-loop decreases-loop
 loop-less c = search rules
 
 loop-again : tie.Need-loop-preserved invariant-loop decreases-loop
-loop-again c = search going-turn
+loop-again c = search going_turn
 
 same-length-3 : tie.Need-same-length-3 invariant-loop decreases-loop
 same-length-3 c = search rules
 
 returns-3 : tie.Need-returns-3 invariant-loop decreases-loop
-returns-3 c = let a = c.before.before.before.before.args in let l = c.before.loop in going-over a.packet.now a.begin a.places.now a.count l.places l.at l.k l.invariant c.loop-test.false
+returns-3 c = let a = c.before.before.before.before.args in let l = c.before.loop in going_over a.packet.now a.begin a.places.now a.count l.places l.at l.k l.invariant c.loop-test.false
 
 pub begin-in-spec : {M : Type 1} → statement M
 begin-in-spec =

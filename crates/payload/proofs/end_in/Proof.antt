@@ -1,4 +1,4 @@
-use Rattle.payload.proofs.Laws.{joined-short, joined-cut, joined-there}
+use Rattle.payload.proofs.Laws.{joined_short, joined_cut, joined_there}
 use borrow.Author.Rules.{rules}
 use Rattle.payload.proofs.end_in.Statement.{statement}
 use Rattle.payload.proofs.end_in.Tie as tie
@@ -7,7 +7,7 @@ add-there : tie.Need-overflow-add-there
 add-there c = search rules
 
 returns : tie.Need-returns
-returns c = (search joined-short, search rules)
+returns c = (search joined_short, search rules)
 
 byte-of-requires : tie.Need-byte-of-requires
 byte-of-requires c κs = search rules
@@ -19,10 +19,10 @@ total-requires : tie.Need-total-requires
 total-requires c κs = search rules
 
 returns-2 : tie.Need-returns-2
-returns-2 c = (search joined-cut, search rules)
+returns-2 c = (search joined_cut, search rules)
 
 returns-3 : tie.Need-returns-3
-returns-3 c = (search joined-there, search rules)
+returns-3 c = (search joined_there, search rules)
 
 pub end-in-spec : {M : Type 1} → statement M
 end-in-spec =

@@ -1,4 +1,4 @@
-use Rattle.payload.proofs.Laws.{no_pointer, pointer-past, pointer-there}
+use Rattle.payload.proofs.Laws.{no_pointer, pointer_past, pointer_there}
 use borrow.Author.Rules.{rules}
 use Rattle.payload.proofs.pointed.Statement.{statement}
 use Rattle.payload.proofs.pointed.Tie as tie
@@ -19,13 +19,13 @@ add-begin-2 : tie.Need-overflow-add-begin-2
 add-begin-2 c = search rules
 
 returns-2 : tie.Need-returns-2
-returns-2 c = search pointer-past
+returns-2 c = search pointer_past
 
 add-t6 : tie.Need-overflow-add-t6
 add-t6 c = search rules
 
 returns-3 : tie.Need-returns-3
-returns-3 c = search pointer-there
+returns-3 c = search pointer_there
 
 pub pointed-spec : {M : Type 1} → statement M
 pointed-spec =

@@ -1,4 +1,4 @@
-use Rattle.payload.proofs.Laws.{front-already, move-turn, move-end}
+use Rattle.payload.proofs.Laws.{front_already, move_turn, move_end}
 use mathlib.Core.Path.{◌≡◌, refl}
 use Prim.Native.Nat.{◌≤◌, ◌-◌}
 use native.Mathlib.Omega.{arith}
@@ -15,7 +15,7 @@ abbrev decreases-loop : tie.decreases-loop
 decreases-loop buffer₀ first size j₀ buffer j = size - j
 
 returns : tie.Need-returns invariant-loop decreases-loop
-returns c = search front-already
+returns c = search front_already
 
 loop-holds : tie.Need-loop-init invariant-loop decreases-loop
 loop-holds c = (omega arith, refl, refl)
@@ -36,13 +36,13 @@ loop-less : tie.Need-loop-smaller invariant-loop decreases-loop
 loop-less c = search rules
 
 loop-again : tie.Need-loop-preserved invariant-loop decreases-loop
-loop-again c = (search rules, search rules, search move-turn)
+loop-again c = (search rules, search rules, search move_turn)
 
 same_length : tie.Need-same-length invariant-loop decreases-loop
 same_length c = search rules
 
 returns-2 : tie.Need-returns-2 invariant-loop decreases-loop
-returns-2 c = search move-end
+returns-2 c = search move_end
 
 pub to-front-spec : {M : Type 1} → statement M
 to-front-spec =

@@ -1,4 +1,4 @@
-use Rattle.payload.proofs.Laws.{end_short, end-cut, end-there}
+use Rattle.payload.proofs.Laws.{end_short, end_cut, end_there}
 use borrow.Author.Rules.{rules}
 use Rattle.payload.proofs.whole_in.Statement.{statement}
 use Rattle.payload.proofs.whole_in.Tie as tie
@@ -16,10 +16,10 @@ total-requires : tie.Need-total-requires
 total-requires c κs = search rules
 
 returns-2 : tie.Need-returns-2
-returns-2 c = (search end-cut, search rules)
+returns-2 c = (search end_cut, search rules)
 
 returns-3 : tie.Need-returns-3
-returns-3 c = (search end-there, search rules)
+returns-3 c = (search end_there, search rules)
 
 pub whole-in-spec : {M : Type 1} → statement M
 whole-in-spec =

@@ -1,5 +1,5 @@
 use Rattle.placing.proofs.Fits.{known_slot}
-use Rattle.placing.proofs.Laws.{known_same, known-other}
+use Rattle.placing.proofs.Laws.{known_same, known_other}
 use borrow.Author.Rules.{rules}
 use Rattle.placing.proofs.place_known.Statement.{statement}
 use Rattle.placing.proofs.place_known.Tie as tie
@@ -23,7 +23,7 @@ returns : tie.Need-returns
 returns c = search known_same
 
 returns-2 : tie.Need-returns-2
-returns-2 c = search known-other
+returns-2 c = search known_other
 
 pub place-known-spec : {M : Type 1} → statement M
 place-known-spec =

@@ -1,4 +1,4 @@
-use Rattle.placing.proofs.Laws.{place-known, place-new}
+use Rattle.placing.proofs.Laws.{place_known_lem, place_new_lem}
 use borrow.Author.Rules.{rules}
 use Rattle.placing.proofs.place_section.Statement.{statement}
 use Rattle.placing.proofs.place_section.Tie as tie
@@ -13,10 +13,10 @@ room-new-requires : tie.Need-room-new-requires
 room-new-requires c κs = search rules
 
 returns : tie.Need-returns
-returns c = search place-known
+returns c = search place_known_lem
 
 returns-2 : tie.Need-returns-2
-returns-2 c = search place-new
+returns-2 c = search place_new_lem
 
 pub place-section-spec : {M : Type 1} → statement M
 place-section-spec =

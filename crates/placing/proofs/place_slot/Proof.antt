@@ -1,7 +1,7 @@
-use Rattle.placing.proofs.Fits.{place-fits, slot-fits}
+use Rattle.placing.proofs.Fits.{place_fits, slot_fits}
 use native.Mathlib.Omega.{arith}
-use Rattle.store.proofs.Whole.{product-fits}
-use Rattle.placing.proofs.Laws.{slot-empty, slot_same, slot-other}
+use Rattle.store.proofs.Whole.{product_fits}
+use Rattle.placing.proofs.Laws.{slot_empty, slot_same, slot_other}
 use borrow.Author.Rules.{rules}
 use Rattle.placing.proofs.place_slot.Statement.{statement}
 use Rattle.placing.proofs.place_slot.Tie as tie
@@ -13,16 +13,16 @@ cell-number-requires : tie.Need-cell-number-requires
 cell-number-requires c κs = search rules
 
 mul_at : tie.Need-overflow-mul-at
-mul_at c = product-fits _ _ (omega (arith, c.before.cell-number.ensures)) c.before.before.before.before.before.before.before.requires.0.size-high
+mul_at c = product_fits _ _ (omega (arith, c.before.cell-number.ensures)) c.before.before.before.before.before.before.before.requires.0.size_high
 
 room-in-requires : tie.Need-room-in-requires
 room-in-requires c κs = search rules
 
 returns : tie.Need-returns
-returns c = search slot-empty
+returns c = search slot_empty
 
 add-same-bytes : tie.Need-overflow-add-same-bytes
-add-same-bytes c = search place-fits
+add-same-bytes c = search place_fits
 
 sub-same-bytes : tie.Need-overflow-sub-same-bytes
 sub-same-bytes c = search rules
@@ -31,7 +31,7 @@ part-same-bytes-start : tie.Need-slice-bounds-same-bytes-start
 part-same-bytes-start c = search rules
 
 part-same-bytes-end : tie.Need-slice-bounds-same-bytes-end
-part-same-bytes-end c = search slot-fits
+part-same-bytes-end c = search slot_fits
 
 same-bytes-requires : tie.Need-same-bytes-requires
 same-bytes-requires c κs = search rules
@@ -40,7 +40,7 @@ returns-2 : tie.Need-returns-2
 returns-2 c = search slot_same
 
 returns-3 : tie.Need-returns-3
-returns-3 c = search slot-other
+returns-3 c = search slot_other
 
 pub place-slot-spec : {M : Type 1} → statement M
 place-slot-spec =

@@ -1,4 +1,4 @@
-use Rattle.reader_rows.proofs.Ways.{unit-there, unit-absent}
+use Rattle.reader_rows.proofs.Ways.{unit_there, unit_absent}
 use borrow.Author.Rules.{rules}
 use Rattle.reader_rows.proofs.unit_taken.Statement.{statement}
 use Rattle.reader_rows.proofs.unit_taken.Tie as tie
@@ -10,13 +10,13 @@ unit-slots-requires : tie.Need-unit-slots-requires
 unit-slots-requires c κs = search rules
 
 returns : tie.Need-returns
-returns c = search unit-there
+returns c = search unit_there
 
 none-of-requires : tie.Need-none-of-requires
 none-of-requires c κs = search rules
 
 returns-2 : tie.Need-returns-2
-returns-2 c = search unit-absent
+returns-2 c = search unit_absent
 
 pub unit-taken-spec : {M : Type 1} → statement M
 unit-taken-spec =

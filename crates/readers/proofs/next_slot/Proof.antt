@@ -1,4 +1,4 @@
-use Rattle.readers.proofs.Ways.{slot_next, slot-past}
+use Rattle.readers.proofs.Ways.{slot_next, slot_past}
 use borrow.Author.Rules.{rules}
 use Rattle.readers.proofs.next_slot.Statement.{statement}
 use Rattle.readers.proofs.next_slot.Tie as tie
@@ -16,7 +16,7 @@ no-section-requires : tie.Need-no-section-requires
 no-section-requires c κs = search rules
 
 returns-2 : tie.Need-returns-2
-returns-2 c = search slot-past
+returns-2 c = search slot_past
 
 pub next-slot-spec : {M : Type 1} → statement M
 next-slot-spec =

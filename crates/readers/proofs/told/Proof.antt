@@ -1,6 +1,6 @@
 use native.Mathlib.Omega.{arith}
-use Rattle.readers.proofs.Ways.{product-fits}
-use Rattle.readers.proofs.Ways.{told-yes, told-no}
+use Rattle.readers.proofs.Ways.{product_fits}
+use Rattle.readers.proofs.Ways.{told_yes, told_no_lem}
 use borrow.Author.Rules.{rules}
 use Rattle.readers.proofs.told.Statement.{statement}
 use Rattle.readers.proofs.told.Tie as tie
@@ -15,19 +15,19 @@ cell-number-requires : tie.Need-cell-number-requires
 cell-number-requires c κs = search rules
 
 mul-t11 : tie.Need-overflow-mul-t11
-mul-t11 c = product-fits _ _ (omega (arith, c.cell-number.ensures)) c.before.before.before.before.requires
+mul-t11 c = product_fits _ _ (omega (arith, c.cell-number.ensures)) c.before.before.before.before.requires
 
 kept-length-requires : tie.Need-kept-length-requires
 kept-length-requires c κs = search rules
 
 returns : tie.Need-returns
-returns c = search told-yes
+returns c = search told_yes
 
 no-section-requires : tie.Need-no-section-requires
 no-section-requires c κs = search rules
 
 returns-2 : tie.Need-returns-2
-returns-2 c = search told-no
+returns-2 c = search told_no_lem
 
 pub told-spec : {M : Type 1} → statement M
 told-spec =

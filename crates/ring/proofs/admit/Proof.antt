@@ -1,4 +1,4 @@
-use Rattle.ring.proofs.Laws.{seen-known, keys-known, changes-known, seen-new, keys-new, changes-new}
+use Rattle.ring.proofs.Laws.{seen_known, keys_known, changes_known, seen_new, keys_new, changes_new}
 use borrow.Author.Rules.{rules}
 use Rattle.ring.proofs.admit.Statement.{statement}
 use Rattle.ring.proofs.admit.Tie as tie
@@ -35,7 +35,7 @@ same-length-2 c = search rules
 
 -- src/lib.rt:42:1
 returns : tie.Need-returns
-returns c = (search seen-known, (search keys-known, search changes-known))
+returns c = (search seen_known, (search keys_known, search changes_known))
 
 -- src/lib.rt:42:1
 same-length-3 : tie.Need-same-length-3
@@ -47,7 +47,7 @@ same-length-4 c = search rules
 
 -- src/lib.rt:42:1
 returns-2 : tie.Need-returns-2
-returns-2 c = (search seen-new, (search keys-new, search changes-new))
+returns-2 c = (search seen_new, (search keys_new, search changes_new))
 
 pub admit-spec : {M : Type 1} → statement M
 admit-spec =

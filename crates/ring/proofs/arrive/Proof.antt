@@ -1,4 +1,4 @@
-use Rattle.ring.proofs.Laws.{arrived-free, arrived-full, free-next, free-first}
+use Rattle.ring.proofs.Laws.{arrived_free, arrived_full, free_next, free_first}
 use borrow.Author.Rules.{rules}
 use Rattle.ring.proofs.arrive.Statement.{statement}
 use Rattle.ring.proofs.arrive.Tie as tie
@@ -64,7 +64,7 @@ same-length-2 c = search rules
 
 -- src/lib.rt:103:1
 returns : tie.Need-returns
-returns c = (search arrived-free, (search free-next, search free-next))
+returns c = (search arrived_free, (search free_next, search free_next))
 
 -- src/lib.rt:103:1
 same-length-3 : tie.Need-same-length-3
@@ -76,7 +76,7 @@ same-length-4 c = search rules
 
 -- src/lib.rt:103:1
 returns-2 : tie.Need-returns-2
-returns-2 c = (search arrived-full, (search free-first, search free-first))
+returns-2 c = (search arrived_full, (search free_first, search free_first))
 
 pub arrive-spec : {M : Type 1} → statement M
 arrive-spec =

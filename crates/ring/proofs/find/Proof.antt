@@ -3,7 +3,7 @@ use mathlib.Core.Path.{◌≡◌}
 use lib.ListN.{take, drop}
 use borrow.Author.Rules.{rules}
 use Rattle.ring.specs.Store.{row_of}
-use Rattle.ring.proofs.Search.{first_found, second-found, third-found, fourth-found, four-more, left_over}
+use Rattle.ring.proofs.Search.{first_found, second_found, third_found, fourth_found, four_more, left_over}
 use Rattle.ring.proofs.find.Statement.{statement}
 use Rattle.ring.proofs.find.Tie as tie
 use Rattle.ring.proofs.find.Reads as reads
@@ -54,7 +54,7 @@ add-result c = search rules
 
 -- src/lib.rt:98:13
 returns-2 : tie.Need-returns-2 invariant-loop decreases-loop
-returns-2 c = search second-found
+returns-2 c = search second_found
 
 -- src/lib.rt:100:17
 add-if3 : tie.Need-overflow-add-if3 invariant-loop decreases-loop
@@ -74,7 +74,7 @@ add-result-2 c = search rules
 
 -- src/lib.rt:101:13
 returns-3 : tie.Need-returns-3 invariant-loop decreases-loop
-returns-3 c = search third-found
+returns-3 c = search third_found
 
 -- src/lib.rt:103:17
 add-if4 : tie.Need-overflow-add-if4 invariant-loop decreases-loop
@@ -94,7 +94,7 @@ add-result-3 c = search rules
 
 -- src/lib.rt:104:13
 returns-4 : tie.Need-returns-4 invariant-loop decreases-loop
-returns-4 c = search fourth-found
+returns-4 c = search fourth_found
 
 -- src/lib.rt:106:9
 add-i : tie.Need-overflow-add-i invariant-loop decreases-loop
@@ -106,7 +106,7 @@ loop-less c = search rules
 
 -- src/lib.rt:93:5
 loop-again : tie.Need-loop-preserved invariant-loop decreases-loop
-loop-again c = (search rules, search four-more)
+loop-again c = (search rules, search four_more)
 
 -- src/lib.rt:108:5
 find-from-requires : tie.Need-find-from-requires invariant-loop decreases-loop

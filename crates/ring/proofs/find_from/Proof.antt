@@ -3,7 +3,7 @@ use mathlib.Core.Path.{◌≡◌}
 use lib.ListN.{take, drop}
 use borrow.Author.Rules.{rules}
 use Rattle.ring.specs.Store.{row_of}
-use Rattle.ring.proofs.Search.{row-found, row_more, row-none}
+use Rattle.ring.proofs.Search.{row_found, row_more, row_none}
 use Rattle.ring.proofs.find_from.Statement.{statement}
 use Rattle.ring.proofs.find_from.Tie as tie
 use Rattle.ring.proofs.find_from.Reads as reads
@@ -29,7 +29,7 @@ shared-slice-read-if1 c = search rules
 
 -- src/lib.rt:80:13
 returns : tie.Need-returns invariant-loop decreases-loop
-returns c = search row-found
+returns c = search row_found
 
 -- src/lib.rt:82:9
 add-i : tie.Need-overflow-add-i invariant-loop decreases-loop
@@ -45,7 +45,7 @@ loop-again c = (search rules, search row_more)
 
 -- src/lib.rt:73:1
 returns-2 : tie.Need-returns-2 invariant-loop decreases-loop
-returns-2 c = search row-none
+returns-2 c = search row_none
 
 pub find-from-spec : {M : Type 1} → statement M
 find-from-spec =

@@ -1,4 +1,4 @@
-use Rattle.ring_index.proofs.Laws.{seen-found, keys_found, changes-found, index-found, seen-arrived, keys-arrived, changes-arrived, index-arrived}
+use Rattle.ring_index.proofs.Laws.{seen_found, keys_found, changes_found, index_found, seen_arrived, keys_arrived, changes_arrived, index_arrived}
 use borrow.Author.Rules.{rules}
 use Rattle.ring_index.proofs.admit.Statement.{statement}
 use Rattle.ring_index.proofs.admit.Tie as tie
@@ -54,7 +54,7 @@ same-length-3 c = search rules
 
 -- src/lib.rt:137:9
 returns : tie.Need-returns
-returns c = (search seen-found, (search keys_found, (search changes-found, search index-found)))
+returns c = (search seen_found, (search keys_found, (search changes_found, search index_found)))
 
 -- src/lib.rt:139:5
 enter-requires : tie.Need-enter-requires
@@ -82,7 +82,7 @@ same-length-7 c = search rules
 
 -- src/lib.rt:113:1
 returns-2 : tie.Need-returns-2
-returns-2 c = (search seen-arrived, (search keys-arrived, (search changes-arrived, search index-arrived)))
+returns-2 c = (search seen_arrived, (search keys_arrived, (search changes_arrived, search index_arrived)))
 
 pub admit-spec : {M : Type 1} → statement M
 admit-spec =

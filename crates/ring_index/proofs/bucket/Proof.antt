@@ -1,7 +1,7 @@
 use mathlib.Core.Path.{refl}
 use native.Mathlib.Nat.{mod-lt}
 use native.Mathlib.Omega.{arith}
-use Rattle.ring_index.specs.Store.{bucketOf}
+use Rattle.ring_index.specs.Store.{bucket_of}
 use borrow.Author.Rules.{rules}
 use Rattle.ring_index.proofs.bucket.Statement.{statement}
 use Rattle.ring_index.proofs.bucket.Tie as tie
@@ -26,7 +26,7 @@ rem-result c = search rules
 
 -- src/lib.rt:15:1
 returns : tie.Need-returns
-unfolding bucketOf
+unfolding bucket_of
 returns c = (refl, mod-lt _ (omega arith))
 
 pub bucket-spec : {M : Type 1} → statement M

@@ -3,15 +3,15 @@ use mathlib.Core.Path.{◌≡◌, refl}
 use lib.ListN.{length}
 use native.Mathlib.Omega.{arith}
 use borrow.Author.Rules.{rules}
-use Rattle.ring_index.specs.Store.{clearedBy}
-use Rattle.ring_index.proofs.Laws.{clear-turn, clear-end}
+use Rattle.ring_index.specs.Store.{cleared_by}
+use Rattle.ring_index.proofs.Laws.{clear_turn, clear_end}
 use Rattle.ring_index.proofs.clear.Statement.{statement}
 use Rattle.ring_index.proofs.clear.Tie as tie
 use Rattle.ring_index.proofs.clear.Reads as reads
 use Rattle.ring_index.proofs.clear.Lts as lts
 
 abbrev invariant-loop : tie.invariant-loop
-invariant-loop buckets₀ room n₀ buckets n = (n ≤ room) × ((length buckets ≡ length buckets₀) × (clearedBy room buckets₀ ≡ clearedBy n buckets))
+invariant-loop buckets₀ room n₀ buckets n = (n ≤ room) × ((length buckets ≡ length buckets₀) × (cleared_by room buckets₀ ≡ cleared_by n buckets))
 
 abbrev decreases-loop : tie.decreases-loop
 decreases-loop buckets₀ room n₀ buckets n = n
@@ -38,7 +38,7 @@ loop-less c = search rules
 
 -- src/lib.rt:31:5
 loop-again : tie.Need-loop-preserved invariant-loop decreases-loop
-loop-again c = (omega arith, (search rules, search clear-turn))
+loop-again c = (omega arith, (search rules, search clear_turn))
 
 -- src/lib.rt:26:1
 same_length : tie.Need-same-length invariant-loop decreases-loop
@@ -46,7 +46,7 @@ same_length c = search rules
 
 -- src/lib.rt:26:1
 returns : tie.Need-returns invariant-loop decreases-loop
-returns c = search clear-end
+returns c = search clear_end
 
 pub clear_spec : {M : Type 1} → statement M
 clear_spec =

@@ -1,4 +1,4 @@
-use Rattle.ring_index.proofs.Laws.{enter-free, enter-full}
+use Rattle.ring_index.proofs.Laws.{enter_free, enter_full}
 use borrow.Author.Rules.{rules}
 use Rattle.ring_index.proofs.enter.Statement.{statement}
 use Rattle.ring_index.proofs.enter.Tie as tie
@@ -27,7 +27,7 @@ same-length-2 c = search rules
 
 -- src/lib.rt:105:9
 returns : tie.Need-returns
-returns c = search enter-free
+returns c = search enter_free
 
 -- src/lib.rt:107:22
 mul-bucket : tie.Need-overflow-mul-bucket
@@ -59,7 +59,7 @@ same-length-4 c = search rules
 
 -- src/lib.rt:92:1
 returns-2 : tie.Need-returns-2
-returns-2 c = search enter-full
+returns-2 c = search enter_full
 
 pub enter_spec : {M : Type 1} → statement M
 enter_spec =

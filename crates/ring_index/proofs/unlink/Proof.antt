@@ -1,4 +1,4 @@
-use Rattle.ring_index.proofs.Laws.{unlink-head, unlink-next, unlink-none}
+use Rattle.ring_index.proofs.Laws.{unlink_head, unlink_next, unlink_none}
 use borrow.Author.Rules.{rules}
 use Rattle.ring_index.proofs.unlink.Statement.{statement}
 use Rattle.ring_index.proofs.unlink.Tie as tie
@@ -40,7 +40,7 @@ same_length c = search rules
 
 -- src/lib.rt:82:9
 returns : tie.Need-returns
-returns c = search unlink-head
+returns c = search unlink_head
 
 -- src/lib.rt:84:9
 walk-requires : tie.Need-walk-requires
@@ -60,7 +60,7 @@ same-length-2 c = search rules
 
 -- src/lib.rt:71:1
 returns-2 : tie.Need-returns-2
-returns-2 c = search unlink-next
+returns-2 c = search unlink_next
 
 -- src/lib.rt:71:1
 same-length-3 : tie.Need-same-length-3
@@ -68,7 +68,7 @@ same-length-3 c = search rules
 
 -- src/lib.rt:71:1
 returns-3 : tie.Need-returns-3
-returns-3 c = unlink-none c.before.before.before.before.before.before.before.before.args.buckets.now c.before.before.before.before.before.before.before.before.args.links.now c.before.before.before.before.before.before.before.before.args.used c.before.before.before.before.before.before.before.before.args.room c.before.before.before.before.before.before.before.before.args.home c.before.before.before.before.before.before.before.before.args.row c.before.before.before.if1.false _ c.before.walk.ensures c.if2.false
+returns-3 c = unlink_none c.before.before.before.before.before.before.before.before.args.buckets.now c.before.before.before.before.before.before.before.before.args.links.now c.before.before.before.before.before.before.before.before.args.used c.before.before.before.before.before.before.before.before.args.room c.before.before.before.before.before.before.before.before.args.home c.before.before.before.before.before.before.before.before.args.row c.before.before.before.if1.false _ c.before.walk.ensures c.if2.false
 
 pub unlink-spec : {M : Type 1} → statement M
 unlink-spec =

@@ -2,7 +2,7 @@ use mathlib.Core.Path.{◌≡◌, refl}
 use native.Mathlib.Omega.{arith}
 use borrow.Author.Rules.{rules}
 use Rattle.ring_index.specs.Store.{walk_of}
-use Rattle.ring_index.proofs.Laws.{names, walk_end, walk-found, walk_more, walk_none}
+use Rattle.ring_index.proofs.Laws.{names, walk_end, walk_found, walk_more, walk_none}
 use Rattle.ring_index.proofs.walk.Statement.{statement}
 use Rattle.ring_index.proofs.walk.Tie as tie
 use Rattle.ring_index.proofs.walk.Reads as reads
@@ -36,7 +36,7 @@ shared-slice-read-if2 c = let h = names c.before.before.before.before.args.used 
 
 -- src/lib.rt:52:13
 returns-2 : tie.Need-returns-2 invariant-loop decreases-loop
-returns-2 c = search walk-found
+returns-2 c = search walk_found
 
 -- src/lib.rt:54:14
 mul_at : tie.Need-overflow-mul-at invariant-loop decreases-loop

@@ -1,4 +1,4 @@
-use Rattle.schedules.proofs.Laws.{known_same, known-other}
+use Rattle.schedules.proofs.Laws.{known_same, known_other}
 use borrow.Author.Rules.{rules}
 use Rattle.schedules.proofs.known_room.Statement.{statement}
 use Rattle.schedules.proofs.known_room.Tie as tie
@@ -16,7 +16,7 @@ returns : tie.Need-returns
 returns c = search known_same
 
 returns-2 : tie.Need-returns-2
-returns-2 c = search known-other
+returns-2 c = search known_other
 
 pub known-room-spec : {M : Type 1} → statement M
 known-room-spec =

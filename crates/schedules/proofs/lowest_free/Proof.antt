@@ -1,4 +1,4 @@
-use Rattle.schedules.proofs.Taken.{lowest-anywhere}
+use Rattle.schedules.proofs.Taken.{lowest_anywhere}
 use borrow.Author.Rules.{rules}
 use Rattle.schedules.proofs.lowest_free.Statement.{statement}
 use Rattle.schedules.proofs.lowest_free.Tie as tie
@@ -13,7 +13,7 @@ lowest-clear-requires : tie.Need-lowest-clear-requires
 lowest-clear-requires c κs = search rules
 
 returns : tie.Need-returns
-returns c = search lowest-anywhere
+returns c = search lowest_anywhere
 
 pub lowest-free-spec : {M : Type 1} → statement M
 lowest-free-spec = tie.close (tie.spec mark-rows-requires mark-schedules-requires lowest-clear-requires returns)

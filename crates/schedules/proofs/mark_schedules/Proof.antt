@@ -1,14 +1,14 @@
 use native.Mathlib.Omega.{arith}
 use mathlib.Core.Path.{◌≡◌, refl}
 use Prim.Native.Nat.{◌≤◌}
-use Rattle.schedules.specs.Schedules.{markedSchedules}
-use Rattle.schedules.proofs.Laws.{all-marks-turn, all-marks-end}
+use Rattle.schedules.specs.Schedules.{marked_schedules}
+use Rattle.schedules.proofs.Laws.{all_marks_turn, all_marks_end}
 use borrow.Author.Rules.{rules}
 use Rattle.schedules.proofs.mark_schedules.Statement.{statement}
 use Rattle.schedules.proofs.mark_schedules.Tie as tie
 
 abbrev invariant-loop : tie.invariant-loop
-invariant-loop map₀ schedule-heads units n k₀ map k = (k ≤ n) × (markedSchedules schedule-heads units n map₀ ≡ markedSchedules schedule-heads units k map)
+invariant-loop map₀ schedule-heads units n k₀ map k = (k ≤ n) × (marked_schedules schedule-heads units n map₀ ≡ marked_schedules schedule-heads units k map)
 
 abbrev decreases-loop : tie.decreases-loop
 decreases-loop map₀ schedule-heads units n k₀ map k = k
@@ -32,10 +32,10 @@ loop-less : tie.Need-loop-smaller invariant-loop decreases-loop
 loop-less c = search rules
 
 loop-again : tie.Need-loop-preserved invariant-loop decreases-loop
-loop-again c = (search rules, search all-marks-turn)
+loop-again c = (search rules, search all_marks_turn)
 
 returns : tie.Need-returns invariant-loop decreases-loop
-returns c = search all-marks-end
+returns c = search all_marks_end
 
 pub mark-schedules-spec : {M : Type 1} → statement M
 mark-schedules-spec =

@@ -1,4 +1,4 @@
-use Rattle.schedules.proofs.Laws.{units-put}
+use Rattle.schedules.proofs.Laws.{units_put}
 use borrow.Author.Rules.{rules}
 use Rattle.schedules.proofs.put_units.Statement.{statement}
 use Rattle.schedules.proofs.put_units.Tie as tie
@@ -19,7 +19,7 @@ same_length : tie.Need-same-length
 same_length c = search rules
 
 returns : tie.Need-returns
-returns c = search units-put
+returns c = search units_put
 
 pub put-units-spec : {M : Type 1} → statement M
 put-units-spec =

@@ -1,4 +1,4 @@
-use Rattle.schedules.proofs.Laws.{ready-kept, ready-new, ready-refilled}
+use Rattle.schedules.proofs.Laws.{ready_kept, ready_new, ready_refilled}
 use borrow.Author.Rules.{rules}
 use Rattle.schedules.proofs.ready_units.Statement.{statement}
 use Rattle.schedules.proofs.ready_units.Tie as tie
@@ -30,7 +30,7 @@ same_length c = search rules
 
 -- src/lib.rt:154:1
 returns : tie.Need-returns
-returns c = search ready-refilled
+returns c = search ready_refilled
 
 -- src/lib.rt:154:1
 same-length-2 : tie.Need-same-length-2
@@ -38,11 +38,11 @@ same-length-2 c = search rules
 
 -- src/lib.rt:154:1
 returns-2 : tie.Need-returns-2
-returns-2 c = search ready-new
+returns-2 c = search ready_new
 
 -- src/lib.rt:154:1
 returns-3 : tie.Need-returns-3
-returns-3 c = search ready-kept
+returns-3 c = search ready_kept
 
 pub ready-units-spec : {M : Type 1} → statement M
 ready-units-spec =

@@ -1,4 +1,4 @@
-use Rattle.schedules.proofs.Laws.{schedule-single, schedule-each}
+use Rattle.schedules.proofs.Laws.{schedule_single, schedule_each}
 use borrow.Author.Rules.{rules}
 use Rattle.schedules.proofs.schedule_whole.Statement.{statement}
 use Rattle.schedules.proofs.schedule_whole.Tie as tie
@@ -19,7 +19,7 @@ single-whole-requires : tie.Need-single-whole-requires
 single-whole-requires c κs = search rules
 
 returns : tie.Need-returns
-returns c = search schedule-single
+returns c = search schedule_single
 
 mul-units-whole : tie.Need-overflow-mul-units-whole
 mul-units-whole c = search rules
@@ -31,7 +31,7 @@ units-whole-requires : tie.Need-units-whole-requires
 units-whole-requires c κs = search rules
 
 returns-2 : tie.Need-returns-2
-returns-2 c = search schedule-each
+returns-2 c = search schedule_each
 
 pub schedule-whole-spec : {M : Type 1} → statement M
 schedule-whole-spec =

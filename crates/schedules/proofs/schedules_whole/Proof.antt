@@ -2,14 +2,14 @@ use native.Mathlib.Omega.{arith}
 use mathlib.Core.Path.{◌≡◌, refl}
 use mathlib.Core.Bool.{◌&&◌}
 use Prim.Native.Nat.{◌≤◌}
-use Rattle.schedules.specs.Schedules.{schedulesWhole}
-use Rattle.schedules.proofs.Laws.{schedules-turn, schedules-end}
+use Rattle.schedules.specs.Schedules.{schedules_whole}
+use Rattle.schedules.proofs.Laws.{schedules_turn, schedules_end}
 use borrow.Author.Rules.{rules}
 use Rattle.schedules.proofs.schedules_whole.Statement.{statement}
 use Rattle.schedules.proofs.schedules_whole.Tie as tie
 
 abbrev invariant-loop : tie.invariant-loop
-invariant-loop schedule-heads units count size n ok₀ k₀ ok k = (k ≤ n) × (schedulesWhole schedule-heads units count size n ≡ (ok && schedulesWhole schedule-heads units count size k))
+invariant-loop schedule-heads units count size n ok₀ k₀ ok k = (k ≤ n) × (schedules_whole schedule-heads units count size n ≡ (ok && schedules_whole schedule-heads units count size k))
 
 abbrev decreases-loop : tie.decreases-loop
 decreases-loop schedule-heads units count size n ok₀ k₀ ok k = k
@@ -27,10 +27,10 @@ loop-less : tie.Need-loop-smaller invariant-loop decreases-loop
 loop-less c = search rules
 
 loop-again : tie.Need-loop-preserved invariant-loop decreases-loop
-loop-again c = (search rules, search schedules-turn)
+loop-again c = (search rules, search schedules_turn)
 
 returns : tie.Need-returns invariant-loop decreases-loop
-returns c = search schedules-end
+returns c = search schedules_end
 
 pub schedules-whole-spec : {M : Type 1} → statement M
 schedules-whole-spec =

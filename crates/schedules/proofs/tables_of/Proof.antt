@@ -1,4 +1,4 @@
-use Rattle.schedules.proofs.Laws.{tables-counted}
+use Rattle.schedules.proofs.Laws.{tables_counted}
 use borrow.Author.Rules.{rules}
 use Rattle.schedules.proofs.tables_of.Statement.{statement}
 use Rattle.schedules.proofs.tables_of.Tie as tie
@@ -15,7 +15,7 @@ table-count-requires c κs = search rules
 returns : tie.Need-returns
 returns c =
     let a = c.before.before.before.before.args in
-    tables-counted a.heads.now a.k _ _ _ c.before.before.kind_at.ensures c.before.last.ensures c.table-count.ensures
+    tables_counted a.heads.now a.k _ _ _ c.before.before.kind_at.ensures c.before.last.ensures c.table-count.ensures
 
 pub tables-of-spec : {M : Type 1} → statement M
 tables-of-spec = tie.close (tie.spec kind-at-requires last-requires table-count-requires returns)

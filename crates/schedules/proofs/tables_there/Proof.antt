@@ -1,4 +1,4 @@
-use Rattle.schedules.proofs.Laws.{there-all, there-past}
+use Rattle.schedules.proofs.Laws.{there_all, there_past}
 use borrow.Author.Rules.{rules}
 use Rattle.schedules.proofs.tables_there.Statement.{statement}
 use Rattle.schedules.proofs.tables_there.Tie as tie
@@ -30,11 +30,11 @@ all-present-requires c κs = search rules
 
 -- src/lib.rt:205:9
 returns : tie.Need-returns
-returns c = search there-all
+returns c = search there_all
 
 -- src/lib.rt:199:1
 returns-2 : tie.Need-returns-2
-returns-2 c = search there-past
+returns-2 c = search there_past
 
 pub tables-there-spec : {M : Type 1} → statement M
 tables-there-spec =

@@ -1,4 +1,4 @@
-use Rattle.segments.proofs.Laws.{filled-part}
+use Rattle.segments.proofs.Laws.{filled_part}
 use borrow.Author.Rules.{rules}
 use Rattle.segments.proofs.filled_to.Statement.{statement}
 use Rattle.segments.proofs.filled_to.Tie as tie
@@ -37,7 +37,7 @@ all-filled-requires : tie.Need-all-filled-requires
 all-filled-requires c κs = search rules
 
 returns : tie.Need-returns
-returns c = search filled-part
+returns c = search filled_part
 
 pub filled-to-spec : {M : Type 1} → statement M
 filled-to-spec =

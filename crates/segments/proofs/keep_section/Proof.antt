@@ -1,4 +1,4 @@
-use Rattle.segments.proofs.Laws.{section-kept}
+use Rattle.segments.proofs.Laws.{section_kept}
 use borrow.Author.Rules.{rules}
 use Rattle.segments.proofs.keep_section.Statement.{statement}
 use Rattle.segments.proofs.keep_section.Tie as tie
@@ -19,7 +19,7 @@ same_length : tie.Need-same-length
 same_length c = search rules
 
 returns : tie.Need-returns
-returns c = search section-kept
+returns c = search section_kept
 
 pub keep-section-spec : {M : Type 1} → statement M
 keep-section-spec =

@@ -1,4 +1,4 @@
-use Rattle.segments.proofs.Laws.{segment-none, segment-some, segment-start}
+use Rattle.segments.proofs.Laws.{segment_none, segment_some, segment_start}
 use borrow.Author.Rules.{rules}
 use Rattle.segments.proofs.segment_complete.Statement.{statement}
 use Rattle.segments.proofs.segment_complete.Tie as tie
@@ -7,7 +7,7 @@ word-requires : tie.Need-word-requires
 word-requires c κs = search rules
 
 returns : tie.Need-returns
-returns c = search segment-none
+returns c = search segment_none
 
 mul-start : tie.Need-overflow-mul-start
 mul-start c = search rules
@@ -28,10 +28,10 @@ wide-requires : tie.Need-wide-requires
 wide-requires c κs = search rules
 
 filled-to-requires : tie.Need-filled-to-requires
-filled-to-requires c κs = (search rules, search segment-start, search rules)
+filled-to-requires c κs = (search rules, search segment_start, search rules)
 
 returns-2 : tie.Need-returns-2
-returns-2 c = search segment-some
+returns-2 c = search segment_some
 
 pub segment-complete-spec : {M : Type 1} → statement M
 segment-complete-spec =

@@ -1,4 +1,4 @@
-use Rattle.segments.proofs.Laws.{set-segments}
+use Rattle.segments.proofs.Laws.{set_segments}
 use borrow.Author.Rules.{rules}
 use Rattle.segments.proofs.set_complete.Statement.{statement}
 use Rattle.segments.proofs.set_complete.Tie as tie
@@ -19,7 +19,7 @@ segments-complete-requires : tie.Need-segments-complete-requires
 segments-complete-requires c κs = search rules
 
 returns : tie.Need-returns
-returns c = search set-segments
+returns c = search set_segments
 
 pub set-complete-spec : {M : Type 1} → statement M
 set-complete-spec =

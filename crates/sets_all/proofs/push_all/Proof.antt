@@ -1,6 +1,6 @@
 use Rattle.store.specs.Store.{store}
-use Rattle.sets_all.specs.All.{afterAll}
-use Rattle.sets_all.proofs.Ways.{all-pushed, all-cut, all-long, all_whole}
+use Rattle.sets_all.specs.All.{after_all}
+use Rattle.sets_all.proofs.Ways.{all_pushed, all_cut, all_long, all_whole_lem}
 use borrow.Author.Rules.{rules}
 use Rattle.sets_all.proofs.push_all.Statement.{statement}
 use Rattle.sets_all.proofs.push_all.Tie as tie
@@ -20,7 +20,7 @@ enum_told c = search rules
 
 -- src/lib.rt:178:26
 push-listed-requires : tie.Need-push-listed-requires
-push-listed-requires c κs = let a = c.before.before.before.before.before.before.before.before.before.before.args in all_whole (store a.sets a.heads.now a.slots.now a.cells.now) a.list.now c.before.before.before.before.before.judge.result c.before.before.before.before.before.judge.ensures c.before.before.before.enum_told.given.1
+push-listed-requires c κs = let a = c.before.before.before.before.before.before.before.before.before.before.args in all_whole_lem (store a.sets a.heads.now a.slots.now a.cells.now) a.list.now c.before.before.before.before.before.judge.result c.before.before.before.before.before.judge.ensures c.before.before.before.enum_told.given.1
 
 -- src/lib.rt:180:51
 enum-told-2 : tie.Need-enum-told-2
@@ -52,15 +52,15 @@ same-length-3 c = search rules
 
 -- src/lib.rt:168:1
 returns : tie.Need-returns
-returns c = let a = c.before.before.before.before.before.before.before.before.before.before.before.before.before.before.before.before.before.args in let k = c.before.before.before.before.before.before.push-listed in all-pushed (store a.sets a.heads.now a.slots.now a.cells.now) a.list.now c.before.before.before.before.before.before.before.before.before.before.before.before.judge.result c.before.before.before.before.before.before.before.before.before.before.before.before.judge.ensures (afterAll k.result k.new.1.0 k.new.1.1.0 k.new.1.1.1.0) c.before.before.before.before.before.before.before.before.before.before.enum_told.given.1 k.ensures
+returns c = let a = c.before.before.before.before.before.before.before.before.before.before.before.before.before.before.before.before.before.args in let k = c.before.before.before.before.before.before.push-listed in all_pushed (store a.sets a.heads.now a.slots.now a.cells.now) a.list.now c.before.before.before.before.before.before.before.before.before.before.before.before.judge.result c.before.before.before.before.before.before.before.before.before.before.before.before.judge.ensures (after_all k.result k.new.1.0 k.new.1.1.0 k.new.1.1.1.0) c.before.before.before.before.before.before.before.before.before.before.enum_told.given.1 k.ensures
 
 -- src/lib.rt:168:1
 returns-2 : tie.Need-returns-2
-returns-2 c = let a = c.before.before.before.before.before.before.before.before.args in all-cut (store a.sets a.heads.now a.slots.now a.cells.now) a.list.now c.before.before.before.judge.result c.before.before.before.judge.ensures c.refuse.result c.before.enum-told2.given.1 c.refuse.ensures
+returns-2 c = let a = c.before.before.before.before.before.before.before.before.args in all_cut (store a.sets a.heads.now a.slots.now a.cells.now) a.list.now c.before.before.before.judge.result c.before.before.before.judge.ensures c.refuse.result c.before.enum-told2.given.1 c.refuse.ensures
 
 -- src/lib.rt:168:1
 returns-3 : tie.Need-returns-3
-returns-3 c = let a = c.before.before.before.before.before.before.before.before.args in all-long (store a.sets a.heads.now a.slots.now a.cells.now) a.list.now c.before.before.before.judge.result c.before.before.before.judge.ensures c.refuse2.result c.before.enum-told3.given.1 c.refuse2.ensures
+returns-3 c = let a = c.before.before.before.before.before.before.before.before.args in all_long (store a.sets a.heads.now a.slots.now a.cells.now) a.list.now c.before.before.before.judge.result c.before.before.before.judge.ensures c.refuse2.result c.before.enum-told3.given.1 c.refuse2.ensures
 
 pub push-all-spec : {M : Type 1} → statement M
 push-all-spec =

@@ -7,8 +7,8 @@ use Rattle.sets_all.proofs.push_at.Lts as lts
 use Rattle.sets_all.proofs.push_ready.Reads as push-ready-reads
 
 -- src/lib.rt:91:15
-add-end : tie.Need-overflow-add-end
-add-end c = search rules
+add_end : tie.Need-overflow-add-end
+add_end c = search rules
 
 -- src/lib.rt:99:9
 sub-push-ready : tie.Need-overflow-sub-push-ready
@@ -46,7 +46,7 @@ pub push-at-spec : {M : Type 1} → statement M
 push-at-spec =
     tie.close
     (tie.spec
-    add-end
+    add_end
     sub-push-ready
     part-push-ready-start
     part-push-ready-end

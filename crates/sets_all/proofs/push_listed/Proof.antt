@@ -1,6 +1,6 @@
-use Rattle.log_list.specs.List.{givensFrom}
-use Rattle.sets_all.specs.All.{afterAll}
-use Rattle.sets_all.proofs.Ways.{listed-broken, listed-full, listed-without, listed-each, looked}
+use Rattle.log_list.specs.List.{givens_from}
+use Rattle.sets_all.specs.All.{after_all}
+use Rattle.sets_all.proofs.Ways.{listed_broken, listed_full, listed_without, listed_each, looked}
 use borrow.Author.Rules.{rules}
 use Rattle.sets_all.proofs.push_listed.Statement.{statement}
 use Rattle.sets_all.proofs.push_listed.Tie as tie
@@ -35,7 +35,7 @@ same-length-3 c = search rules
 
 -- src/lib.rt:163:13
 returns : tie.Need-returns
-returns c = let a = c.before.before.before.before.before.before.before.before.before.before.before.before.args in let s = c.before.before.before.before.look in let f = c.before.before.counters-full in listed-full a.sets a.heads.now a.slots.now a.cells.now (givensFrom a.list.now 0) s.result.whole s.ensures.0 f.result f.ensures c.before.before.before.if1.true c.refuse.result c.before.if2.true c.refuse.ensures
+returns c = let a = c.before.before.before.before.before.before.before.before.before.before.before.before.args in let s = c.before.before.before.before.look in let f = c.before.before.counters-full in listed_full a.sets a.heads.now a.slots.now a.cells.now (givens_from a.list.now 0) s.result.whole s.ensures.0 f.result f.ensures c.before.before.before.if1.true c.refuse.result c.before.if2.true c.refuse.ensures
 
 -- src/lib.rt:169:13
 refuse-requires-2 : tie.Need-refuse-requires-2
@@ -55,7 +55,7 @@ same-length-6 c = search rules
 
 -- src/lib.rt:169:13
 returns-2 : tie.Need-returns-2
-returns-2 c = let a = c.before.before.before.before.before.before.before.before.before.before.before.before.before.args in let s = c.before.before.before.before.before.look in let f = c.before.before.before.counters-full in listed-without a.sets a.heads.now a.slots.now a.cells.now (givensFrom a.list.now 0) s.result.whole s.ensures.0 f.result f.ensures c.before.before.before.before.if1.true s.result.without c.refuse2.result c.before.before.if2.false (s.ensures.1 c.before.before.before.before.if1.true) c.before.if3.true c.refuse2.ensures
+returns-2 c = let a = c.before.before.before.before.before.before.before.before.before.before.before.before.before.args in let s = c.before.before.before.before.before.look in let f = c.before.before.before.counters-full in listed_without a.sets a.heads.now a.slots.now a.cells.now (givens_from a.list.now 0) s.result.whole s.ensures.0 f.result f.ensures c.before.before.before.before.if1.true s.result.without c.refuse2.result c.before.before.if2.false (s.ensures.1 c.before.before.before.before.if1.true) c.before.if3.true c.refuse2.ensures
 
 -- src/lib.rt:171:9
 push-each-requires : tie.Need-push-each-requires
@@ -75,7 +75,7 @@ same-length-9 c = search rules
 
 -- src/lib.rt:171:9
 returns-3 : tie.Need-returns-3
-returns-3 c = let a = c.before.before.before.before.before.before.before.before.before.before.before.before.before.before.before.before.before.before.before.before.before.before.args in let s = c.before.before.before.before.before.before.before.before.before.before.before.before.before.before.look in let f = c.before.before.before.before.before.before.before.before.before.before.before.before.counters-full in let k = c.before.before.before.before.before.before.push-each in listed-each a.sets a.heads.now a.slots.now a.cells.now (givensFrom a.list.now 0) s.result.whole s.ensures.0 f.result f.ensures c.before.before.before.before.before.before.before.before.before.before.before.before.before.if1.true s.result.without (afterAll k.result k.new.1.0 k.new.1.1.0 k.new.1.1.1.0) c.before.before.before.before.before.before.before.before.before.before.before.if2.false (s.ensures.1 c.before.before.before.before.before.before.before.before.before.before.before.before.before.if1.true) c.before.before.before.before.before.before.before.before.before.before.if3.false k.ensures
+returns-3 c = let a = c.before.before.before.before.before.before.before.before.before.before.before.before.before.before.before.before.before.before.before.before.before.before.args in let s = c.before.before.before.before.before.before.before.before.before.before.before.before.before.before.look in let f = c.before.before.before.before.before.before.before.before.before.before.before.before.counters-full in let k = c.before.before.before.before.before.before.push-each in listed_each a.sets a.heads.now a.slots.now a.cells.now (givens_from a.list.now 0) s.result.whole s.ensures.0 f.result f.ensures c.before.before.before.before.before.before.before.before.before.before.before.before.before.if1.true s.result.without (after_all k.result k.new.1.0 k.new.1.1.0 k.new.1.1.1.0) c.before.before.before.before.before.before.before.before.before.before.before.if2.false (s.ensures.1 c.before.before.before.before.before.before.before.before.before.before.before.before.before.if1.true) c.before.before.before.before.before.before.before.before.before.before.if3.false k.ensures
 
 -- src/lib.rt:173:5
 refuse-requires-3 : tie.Need-refuse-requires-3
@@ -95,7 +95,7 @@ same-length-12 c = search rules
 
 -- src/lib.rt:150:1
 returns-4 : tie.Need-returns-4
-returns-4 c = let a = c.before.before.before.before.before.before.before.before.before.before.args in let s = c.before.before.look in listed-broken a.sets a.heads.now a.slots.now a.cells.now (givensFrom a.list.now 0) s.result.whole s.ensures.0 c.refuse3.result c.before.if1.false c.refuse3.ensures
+returns-4 c = let a = c.before.before.before.before.before.before.before.before.before.before.args in let s = c.before.before.look in listed_broken a.sets a.heads.now a.slots.now a.cells.now (givens_from a.list.now 0) s.result.whole s.ensures.0 c.refuse3.result c.before.if1.false c.refuse3.ensures
 
 pub push-listed-spec : {M : Type 1} → statement M
 push-listed-spec =

@@ -1,6 +1,6 @@
 use native.Mathlib.Omega.{arith}
-use Rattle.sets_settle.specs.Settle.{afterPush}
-use Rattle.sets_all.proofs.Ways.{ready-stays, ready-full, ready_refused, ready-arrived, ready-may}
+use Rattle.sets_settle.specs.Settle.{after_push}
+use Rattle.sets_all.proofs.Ways.{ready_stays, ready_full, ready_refused, ready_arrived, ready_may}
 use borrow.Author.Rules.{rules}
 use Rattle.sets_all.proofs.push_ready.Statement.{statement}
 use Rattle.sets_all.proofs.push_ready.Tie as tie
@@ -14,7 +14,7 @@ counters-full-requires c κs = search rules
 
 -- src/lib.rt:60:9
 returns : tie.Need-returns
-returns c = (search ready-full, c.before.before.before.before.before.before.requires)
+returns c = (search ready_full, c.before.before.before.before.before.before.requires)
 
 -- src/lib.rt:65:11
 set-arrival-requires : tie.Need-set-arrival-requires
@@ -30,7 +30,7 @@ enum-known-entry c = search rules
 
 -- src/lib.rt:71:13
 push-whole-requires : tie.Need-push-whole-requires
-push-whole-requires c κs = let a = c.before.before.before.before.before.before.before.before.before.before.before.before.before.args in ready-may a.sets a.heads.now a.slots.now a.cells.now c.before.before.before.before.before.before.before.before.before.before.before.before.before.requires a.input a.pid a.bytes.now c.before.before.before.before.before.before.before.before.counters-full.result c.before.before.before.before.before.before.before.before.counters-full.ensures c.before.before.before.before.before.before.set-arrival.result c.before.before.before.before.before.before.before.if1.false c.before.before.before.before.before.before.set-arrival.ensures.1 c.before.before.before.before.entry.given.0.0 c.before.before.before.before.entry.given.1
+push-whole-requires c κs = let a = c.before.before.before.before.before.before.before.before.before.before.before.before.before.args in ready_may a.sets a.heads.now a.slots.now a.cells.now c.before.before.before.before.before.before.before.before.before.before.before.before.before.requires a.input a.pid a.bytes.now c.before.before.before.before.before.before.before.before.counters-full.result c.before.before.before.before.before.before.before.before.counters-full.ensures c.before.before.before.before.before.before.set-arrival.result c.before.before.before.before.before.before.before.if1.false c.before.before.before.before.before.before.set-arrival.ensures.1 c.before.before.before.before.entry.given.0.0 c.before.before.before.before.entry.given.1
 
 -- src/lib.rt:46:1
 returns-2 : tie.Need-returns-2
@@ -50,7 +50,7 @@ same-length-3 c = search rules
 
 -- src/lib.rt:46:1
 returns-3 : tie.Need-returns-3
-returns-3 c = let a = c.before.before.before.before.before.before.before.before.before.before.before.before.before.before.before.before.before.before.before.before.args in let k = c.before.before.before.before.before.before.push-whole in let l = afterPush k.result k.new.1.0 k.new.1.1.0 k.new.1.1.1.0 in let e = ready-arrived a.sets a.heads.now a.slots.now a.cells.now c.before.before.before.before.before.before.before.before.before.before.before.before.before.before.before.before.before.before.before.before.requires a.input a.pid a.bytes.now c.before.before.before.before.before.before.before.before.before.before.before.before.before.before.before.counters-full.result c.before.before.before.before.before.before.before.before.before.before.before.before.before.before.before.counters-full.ensures c.before.before.before.before.before.before.before.before.before.before.before.before.before.set-arrival.result c.before.before.before.before.before.before.before.before.before.before.before.before.before.before.if1.false c.before.before.before.before.before.before.before.before.before.before.before.before.before.set-arrival.ensures.0 c.before.before.before.before.before.before.before.before.before.before.before.entry.given.0.0 c.before.before.before.before.before.before.before.before.before.before.before.entry.given.1 l k.ensures in (e, ready-stays a.sets a.heads.now a.slots.now a.cells.now c.before.before.before.before.before.before.before.before.before.before.before.before.before.before.before.before.before.before.before.before.requires a.input a.pid a.bytes.now (omega (arith, c.before.before.before.before.before.before.before.before.before.before.before.before.before.before.before.before.shared-slice-known.given 7)) l e)
+returns-3 c = let a = c.before.before.before.before.before.before.before.before.before.before.before.before.before.before.before.before.before.before.before.before.args in let k = c.before.before.before.before.before.before.push-whole in let l = after_push k.result k.new.1.0 k.new.1.1.0 k.new.1.1.1.0 in let e = ready_arrived a.sets a.heads.now a.slots.now a.cells.now c.before.before.before.before.before.before.before.before.before.before.before.before.before.before.before.before.before.before.before.before.requires a.input a.pid a.bytes.now c.before.before.before.before.before.before.before.before.before.before.before.before.before.before.before.counters-full.result c.before.before.before.before.before.before.before.before.before.before.before.before.before.before.before.counters-full.ensures c.before.before.before.before.before.before.before.before.before.before.before.before.before.set-arrival.result c.before.before.before.before.before.before.before.before.before.before.before.before.before.before.if1.false c.before.before.before.before.before.before.before.before.before.before.before.before.before.set-arrival.ensures.0 c.before.before.before.before.before.before.before.before.before.before.before.entry.given.0.0 c.before.before.before.before.before.before.before.before.before.before.before.entry.given.1 l k.ensures in (e, ready_stays a.sets a.heads.now a.slots.now a.cells.now c.before.before.before.before.before.before.before.before.before.before.before.before.before.before.before.before.before.before.before.before.requires a.input a.pid a.bytes.now (omega (arith, c.before.before.before.before.before.before.before.before.before.before.before.before.before.before.before.before.shared-slice-known.given 7)) l e)
 
 pub push-ready-spec : {M : Type 1} → statement M
 push-ready-spec =

@@ -1,4 +1,4 @@
-use Rattle.sets_plan.proofs.Ways.{placed-conflict, placed-repeat, placed-keep}
+use Rattle.sets_plan.proofs.Ways.{placed_conflict, placed_repeat, placed_keep}
 use borrow.Author.Rules.{rules}
 use Rattle.sets_plan.proofs.plan_placed.Statement.{statement}
 use Rattle.sets_plan.proofs.plan_placed.Tie as tie
@@ -16,13 +16,13 @@ plan-keep-requires : tie.Need-plan-keep-requires
 plan-keep-requires c κs = search rules
 
 returns : tie.Need-returns
-returns c = search placed-conflict
+returns c = search placed_conflict
 
 returns-2 : tie.Need-returns-2
-returns-2 c = search placed-repeat
+returns-2 c = search placed_repeat
 
 returns-3 : tie.Need-returns-3
-returns-3 c = search placed-keep
+returns-3 c = search placed_keep
 
 pub plan-placed-spec : {M : Type 1} → statement M
 plan-placed-spec =

@@ -6,7 +6,7 @@ use lib.ListN.{length}
 use Rattle.store.specs.Store.{store}
 use Rattle.log_list.specs.List.{WholeFrom}
 use Rattle.sets_repeats.specs.Repeats.{Searchable, Passed, start}
-use Rattle.sets_repeats.proofs.Ways.{repeat-turn}
+use Rattle.sets_repeats.proofs.Ways.{repeat_turn}
 use Rattle.sets_repeats.proofs.push_repeats.Statement.{statement}
 use Rattle.sets_repeats.proofs.push_repeats.Tie as tie
 
@@ -35,7 +35,7 @@ add-touch : tie.Need-overflow-add-touch invariant-loop decreases-loop
 add-touch c = let r = (c.before.before.before.before.row_at.ensures.quiet (omega arith)).runs in omega (arith, r)
 
 touch-requires : tie.Need-touch-requires invariant-loop decreases-loop
-touch-requires c κs = let w = c.before.before.before.before.before.before.before.before.loop.invariant.1.whole in omega (arith, w.used, w.heads-long, c.before.before.if1.false)
+touch-requires c κs = let w = c.before.before.before.before.before.before.before.before.loop.invariant.1.whole in omega (arith, w.used, w.heads_long, c.before.before.if1.false)
 
 risen-requires : tie.Need-risen-requires invariant-loop decreases-loop
 risen-requires c κs = (c.before.before.before.before.before.before.before.row_at.ensures.quiet (omega arith)).runs
@@ -47,7 +47,7 @@ loop-less : tie.Need-loop-smaller invariant-loop decreases-loop
 loop-less c = let w = c.before.before.before.before.before.before.before.before.before.before.before.section-at.ensures in omega (arith, w.later, w.behind.within, c.before.before.before.before.before.before.before.before.before.before.before.before.loop-test.true)
 
 loop-again : tie.Need-loop-preserved invariant-loop decreases-loop
-loop-again c = let a = c.before.before.before.before.before.before.before.before.before.before.before.before.before.before.before.before.before.before.before.args in let i = c.before.before.before.before.before.before.before.before.before.before.before.before.before.loop in let w = c.before.before.before.before.before.before.before.before.before.before.before.section-at.ensures in let t = repeat-turn a.list.now (store a.sets a.heads.now a.slots.now a.cells.now) i.held i.heads a.slots.now a.cells.now a.tags.now i.at c.before.before.before.before.before.before.before.before.before.before.before.section-at.result c.before.before.before.before.before.before.before.before.before.row_at.result c.before.risen.result c.before.before.before.before.touch.new.0 i.invariant.1 (c.before.before.before.before.before.before.before.before.before.row_at.ensures.quiet (omega arith)) w i.invariant.3 c.before.before.before.before.touch.ensures c.before.risen.ensures in (search rules, t.0, w.behind, t.1)
+loop-again c = let a = c.before.before.before.before.before.before.before.before.before.before.before.before.before.before.before.before.before.before.before.args in let i = c.before.before.before.before.before.before.before.before.before.before.before.before.before.loop in let w = c.before.before.before.before.before.before.before.before.before.before.before.section-at.ensures in let t = repeat_turn a.list.now (store a.sets a.heads.now a.slots.now a.cells.now) i.held i.heads a.slots.now a.cells.now a.tags.now i.at c.before.before.before.before.before.before.before.before.before.before.before.section-at.result c.before.before.before.before.before.before.before.before.before.row_at.result c.before.risen.result c.before.before.before.before.touch.new.0 i.invariant.1 (c.before.before.before.before.before.before.before.before.before.row_at.ensures.quiet (omega arith)) w i.invariant.3 c.before.before.before.before.touch.ensures c.before.risen.ensures in (search rules, t.0, w.behind, t.1)
 
 same-length-2 : tie.Need-same-length-2 invariant-loop decreases-loop
 same-length-2 c = search rules

@@ -1,10 +1,10 @@
-use Rattle.sets_repeats.proofs.Ways.{repeat-at}
+use Rattle.sets_repeats.proofs.Ways.{repeat_at}
 use borrow.Author.Rules.{rules}
 use Rattle.sets_repeats.proofs.row_at.Statement.{statement}
 use Rattle.sets_repeats.proofs.row_at.Tie as tie
 
-add-end : tie.Need-overflow-add-end
-add-end c = search rules
+add_end : tie.Need-overflow-add-end
+add_end c = search rules
 
 sub-row-repeated : tie.Need-overflow-sub-row-repeated
 sub-row-repeated c = search rules
@@ -19,13 +19,13 @@ row-repeated-requires : tie.Need-row-repeated-requires
 row-repeated-requires c κs = search rules
 
 returns : tie.Need-returns
-returns c = search repeat-at
+returns c = search repeat_at
 
 pub row-at-spec : {M : Type 1} → statement M
 row-at-spec =
     tie.close
     (tie.spec
-    add-end
+    add_end
     sub-row-repeated
     part-row-repeated-start
     part-row-repeated-end

@@ -1,4 +1,4 @@
-use Rattle.showing.proofs.Ways.{section-refused, section-told, section-kept}
+use Rattle.showing.proofs.Ways.{section_refused, section_told, section_kept}
 use borrow.Author.Rules.{rules}
 use Rattle.showing.proofs.events.Statement.{statement}
 use Rattle.showing.proofs.events.Tie as tie
@@ -20,7 +20,7 @@ nothing-requires c κs = search rules
 
 -- src/lib.rt:44:9
 returns : tie.Need-returns
-returns c = search section-refused
+returns c = search section_refused
 
 -- src/lib.rt:46:9
 section-number-requires : tie.Need-section-number-requires
@@ -28,7 +28,7 @@ section-number-requires c κs = search rules
 
 -- src/lib.rt:47:9
 show-section-requires : tie.Need-show-section-requires
-show-section-requires c κs = search section-kept
+show-section-requires c κs = search section_kept
 
 -- src/lib.rt:48:5
 told-requires : tie.Need-told-requires
@@ -40,7 +40,7 @@ same_length c = search rules
 
 -- src/lib.rt:40:1
 returns-2 : tie.Need-returns-2
-returns-2 c = search section-told
+returns-2 c = search section_told
 
 pub events-spec : {M : Type 1} → statement M
 events-spec =

@@ -1,6 +1,6 @@
-use Rattle.showing.proofs.Ways.{set-refused, set-without, set-none, set-listed}
-use Rattle.eit_pids.proofs.Heads.{heads-fit}
-use Rattle.showing.proofs.Held.{heads-there, set-row, set-held, size_small, length-row}
+use Rattle.showing.proofs.Ways.{set_refused, set_without, set_none, set_listed_lem}
+use Rattle.eit_pids.proofs.Heads.{heads_fit}
+use Rattle.showing.proofs.Held.{heads_there, set_row, set_held, size_small, length_row}
 use borrow.Author.Rules.{rules}
 use Rattle.showing.proofs.events_of_set.Statement.{statement}
 use Rattle.showing.proofs.events_of_set.Tie as tie
@@ -18,43 +18,43 @@ is-whole-requires : tie.Need-is-whole-requires
 is-whole-requires c κs = search rules
 
 any-row-without-pid-requires : tie.Need-any-row-without-pid-requires
-any-row-without-pid-requires c κs = search heads-fit
+any-row-without-pid-requires c κs = search heads_fit
 
 nothing-requires : tie.Need-nothing-requires
 nothing-requires c κs = search rules
 
 returns : tie.Need-returns
-returns c = search set-without
+returns c = search set_without
 
 is-set-out-requires : tie.Need-is-set-out-requires
-is-set-out-requires c κs = search heads-there
+is-set-out-requires c κs = search heads_there
 
 -- src/lib.rt:79:17
 row-slots-requires : tie.Need-row-slots-requires
-row-slots-requires c κs = let a = c.before.before.before.before.before.before.before.before.before.before.before.before.before.args in set-row a.eit a.heads.now a.slots.now a.cells.now a.schedule-heads.now a.units.now _ c.before.before.before.before.before.is_whole.ensures c.before.before.before.before.if1.true a.row _ c.before.is-set-out.ensures c.if3.true
+row-slots-requires c κs = let a = c.before.before.before.before.before.before.before.before.before.before.before.before.before.args in set_row a.eit a.heads.now a.slots.now a.cells.now a.schedule_heads.now a.units.now _ c.before.before.before.before.before.is_whole.ensures c.before.before.before.before.if1.true a.row _ c.before.is-set-out.ensures c.if3.true
 
 -- src/lib.rt:80:13
 show-slots-requires : tie.Need-show-slots-requires
-show-slots-requires c κs = (search set-held, (search length-row, search size_small))
+show-slots-requires c κs = (search set_held, (search length_row, search size_small))
 
 -- src/lib.rt:80:13
 same_length : tie.Need-same-length
 same_length c = search rules
 
 returns-2 : tie.Need-returns-2
-returns-2 c = search set-listed
+returns-2 c = search set_listed_lem
 
 nothing-requires-2 : tie.Need-nothing-requires-2
 nothing-requires-2 c κs = search rules
 
 returns-3 : tie.Need-returns-3
-returns-3 c = search set-none
+returns-3 c = search set_none
 
 nothing-requires-3 : tie.Need-nothing-requires-3
 nothing-requires-3 c κs = search rules
 
 returns-4 : tie.Need-returns-4
-returns-4 c = search set-refused
+returns-4 c = search set_refused
 
 pub events-of-set-spec : {M : Type 1} → statement M
 events-of-set-spec =

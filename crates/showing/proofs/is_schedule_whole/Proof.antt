@@ -1,4 +1,4 @@
-use Rattle.showing.proofs.Ways.{schedule-whole}
+use Rattle.showing.proofs.Ways.{schedule_whole_lem}
 use borrow.Author.Rules.{rules}
 use Rattle.showing.proofs.is_schedule_whole.Statement.{statement}
 use Rattle.showing.proofs.is_schedule_whole.Tie as tie
@@ -22,7 +22,7 @@ tables-there-requires c κs = search rules
 
 -- src/lib.rt:88:1
 returns : tie.Need-returns
-returns c = search schedule-whole
+returns c = search schedule_whole_lem
 
 pub is-schedule-whole-spec : {M : Type 1} → statement M
 is-schedule-whole-spec =

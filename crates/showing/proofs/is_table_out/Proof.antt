@@ -1,4 +1,4 @@
-use Rattle.showing.proofs.Ways.{table-no-row, table-past, table-in}
+use Rattle.showing.proofs.Ways.{table_no_row, table_past, table_in_lem}
 use borrow.Author.Rules.{rules}
 use Rattle.showing.proofs.is_table_out.Statement.{statement}
 use Rattle.showing.proofs.is_table_out.Tie as tie
@@ -9,7 +9,7 @@ use Rattle.showing.proofs.is_schedule_whole.Reads as is-schedule-whole-reads
 
 -- src/lib.rt:113:9
 returns : tie.Need-returns
-returns c = search table-no-row
+returns c = search table_no_row
 
 -- src/lib.rt:115:8
 tables-of-requires : tie.Need-tables-of-requires
@@ -17,7 +17,7 @@ tables-of-requires c κs = search rules
 
 -- src/lib.rt:116:9
 returns-2 : tie.Need-returns-2
-returns-2 c = search table-past
+returns-2 c = search table_past
 
 -- src/lib.rt:118:5
 is-schedule-whole-requires : tie.Need-is-schedule-whole-requires
@@ -25,7 +25,7 @@ is-schedule-whole-requires c κs = search rules
 
 -- src/lib.rt:102:1
 returns-3 : tie.Need-returns-3
-returns-3 c = search table-in
+returns-3 c = search table_in_lem
 
 pub is-table-out-spec : {M : Type 1} → statement M
 is-table-out-spec =

@@ -1,4 +1,4 @@
-use Rattle.showing.proofs.Ways.{number-none}
+use Rattle.showing.proofs.Ways.{number_none}
 use borrow.Author.Rules.{rules}
 use Rattle.showing.proofs.section_number.Statement.{statement}
 use Rattle.showing.proofs.section_number.Tie as tie
@@ -20,7 +20,7 @@ returns c = search rules
 
 -- src/lib.rt:30:1
 returns-2 : tie.Need-returns-2
-returns-2 c = search number-none
+returns-2 c = search number_none
 
 pub section-number-spec : {M : Type 1} → statement M
 section-number-spec = tie.close (tie.spec shared-slice-read-wide wide-requires returns returns-2)

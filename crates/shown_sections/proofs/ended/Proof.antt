@@ -1,4 +1,4 @@
-use Rattle.shown_sections.proofs.Ways.{ended_some, ended-none}
+use Rattle.shown_sections.proofs.Ways.{ended_some, ended_none}
 use borrow.Author.Rules.{rules}
 use Rattle.shown_sections.proofs.ended.Statement.{statement}
 use Rattle.shown_sections.proofs.ended.Tie as tie
@@ -20,7 +20,7 @@ shown-as-requires-2 c κs = search rules
 
 -- src/lib.rt:79:1
 returns-2 : tie.Need-returns-2
-returns-2 c = search ended-none
+returns-2 c = search ended_none
 
 pub ended-spec : {M : Type 1} → statement M
 ended-spec = tie.close (tie.spec shown-as-requires returns shown-as-requires-2 returns-2)

@@ -1,6 +1,6 @@
 use mathlib.Core.Path.{subst}
 use Rattle.shown_sections.specs.Shown.{From}
-use Rattle.shown_sections.proofs.Ways.{reached-done, reached-past}
+use Rattle.shown_sections.proofs.Ways.{reached_done, reached_past}
 use borrow.Author.Rules.{rules}
 use Rattle.shown_sections.proofs.reached.Statement.{statement}
 use Rattle.shown_sections.proofs.reached.Tie as tie
@@ -30,11 +30,11 @@ shown-as-requires-2 c κs = search rules
 
 -- src/lib.rt:99:1
 returns : tie.Need-returns
-returns c = search reached-done
+returns c = search reached_done
 
 -- src/lib.rt:99:1
 returns-2 : tie.Need-returns-2
-returns-2 c = search reached-past
+returns-2 c = search reached_past
 
 pub reached-spec : {M : Type 1} → statement M
 reached-spec =

@@ -1,4 +1,4 @@
-use Rattle.shown_sections.proofs.Ways.{events-from, events-shown}
+use Rattle.shown_sections.proofs.Ways.{events_from, events_shown}
 use borrow.Author.Rules.{rules}
 use Rattle.shown_sections.proofs.show_events.Statement.{statement}
 use Rattle.shown_sections.proofs.show_events.Tie as tie
@@ -12,8 +12,8 @@ cast-t11 : tie.Need-overflow-cast-t11
 cast-t11 c = search rules
 
 -- src/lib.rt:128:15
-add-end : tie.Need-overflow-add-end
-add-end c = search rules
+add_end : tie.Need-overflow-add-end
+add_end c = search rules
 
 -- src/lib.rt:128:15
 sub-end : tie.Need-overflow-sub-end
@@ -41,7 +41,7 @@ entries-requires c κs = search rules
 
 -- src/lib.rt:130:5
 reached-requires : tie.Need-reached-requires
-reached-requires c κs = let a = c.before.before.before.before.before.before.before.args in events-from a.bytes.now a.start a.size a.number a.skip a.k a.list.now _ _ c.before.before.entries.ensures
+reached-requires c κs = let a = c.before.before.before.before.before.before.before.args in events_from a.bytes.now a.start a.size a.number a.skip a.k a.list.now _ _ c.before.before.entries.ensures
 
 -- src/lib.rt:110:1
 same_length : tie.Need-same-length
@@ -49,14 +49,14 @@ same_length c = search rules
 
 -- src/lib.rt:110:1
 returns : tie.Need-returns
-returns c = search events-shown
+returns c = search events_shown
 
 pub show-events-spec : {M : Type 1} → statement M
 show-events-spec =
     tie.close
     (tie.spec
     cast-t11
-    add-end
+    add_end
     sub-end
     sub-entries
     part-entries-start

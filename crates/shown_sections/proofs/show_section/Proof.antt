@@ -1,4 +1,4 @@
-use Rattle.shown_sections.proofs.Ways.{section-none, section-broken, section-good, section-long}
+use Rattle.shown_sections.proofs.Ways.{section_none, section_broken, section_good, section_long}
 use borrow.Author.Rules.{rules}
 use Rattle.shown_sections.proofs.show_section.Statement.{statement}
 use Rattle.shown_sections.proofs.show_section.Tie as tie
@@ -50,15 +50,15 @@ enum-told-3 c = search rules
 
 -- src/lib.rt:149:29
 show-events-requires : tie.Need-show-events-requires
-show-events-requires c κs = search (rules, section-long)
+show-events-requires c κs = search (rules, section_long)
 
 -- src/lib.rt:134:1
 returns : tie.Need-returns
-returns c = search section-none
+returns c = search section_none
 
 -- src/lib.rt:134:1
 returns-2 : tie.Need-returns-2
-returns-2 c = search section-broken
+returns-2 c = search section_broken
 
 -- src/lib.rt:134:1
 same_length : tie.Need-same-length
@@ -66,7 +66,7 @@ same_length c = search rules
 
 -- src/lib.rt:134:1
 returns-3 : tie.Need-returns-3
-returns-3 c = search section-good
+returns-3 c = search section_good
 
 pub show-section-spec : {M : Type 1} → statement M
 show-section-spec =

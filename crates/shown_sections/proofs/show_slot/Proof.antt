@@ -1,6 +1,6 @@
 use native.Mathlib.Omega.{arith}
-use Rattle.readers.proofs.Ways.{product-fits}
-use Rattle.shown_sections.proofs.Ways.{slot-empty, slot-filled, slot-few, none-few, slot_kept}
+use Rattle.readers.proofs.Ways.{product_fits}
+use Rattle.shown_sections.proofs.Ways.{slot_empty, slot_filled, slot_few, none_few, slot_kept}
 use borrow.Author.Rules.{rules}
 use Rattle.shown_sections.proofs.show_slot.Statement.{statement}
 use Rattle.shown_sections.proofs.show_slot.Tie as tie
@@ -22,7 +22,7 @@ cell-number-requires c κs = search rules
 
 -- src/lib.rt:168:21
 mul-start : tie.Need-overflow-mul-start
-mul-start c = product-fits _ _ (omega (arith, c.cell-number.ensures)) c.before.before.before.before.before.requires.1.1
+mul-start c = product_fits _ _ (omega (arith, c.cell-number.ensures)) c.before.before.before.before.before.requires.1.1
 
 -- src/lib.rt:169:43
 kept-length-requires : tie.Need-kept-length-requires
@@ -38,7 +38,7 @@ same_length c = search rules
 
 -- src/lib.rt:169:9
 returns : tie.Need-returns
-returns c = (search slot-filled, search slot-few)
+returns c = (search slot_filled, search slot_few)
 
 -- src/lib.rt:171:5
 shown-as-requires : tie.Need-shown-as-requires
@@ -46,7 +46,7 @@ shown-as-requires c κs = search rules
 
 -- src/lib.rt:154:1
 returns-2 : tie.Need-returns-2
-returns-2 c = (search slot-empty, search none-few)
+returns-2 c = (search slot_empty, search none_few)
 
 pub show-slot-spec : {M : Type 1} → statement M
 show-slot-spec =

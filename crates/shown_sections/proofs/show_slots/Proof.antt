@@ -4,8 +4,8 @@ use native.Mathlib.Omega.{arith}
 use mathlib.Core.Path.{◌≡◌, refl, sym, ◌∙◌}
 use Prim.Native.Nat.{◌+◌, ◌-◌, ◌*◌, ◌≤◌}
 use lib.ListN.{length, drop}
-use Rattle.shown_sections.specs.Shown.{slotsShow, laid}
-use Rattle.shown_sections.proofs.Ways.{laidFrom, slots-on, slots-stop, slots_end, slots-begin}
+use Rattle.shown_sections.specs.Shown.{slots_show, laid}
+use Rattle.shown_sections.proofs.Ways.{laid_from, slots_on, slots_stop, slots_end, slots_begin}
 use Rattle.shown_sections.proofs.show_slots.Statement.{statement}
 use Rattle.shown_sections.proofs.show_slots.Tie as tie
 use Rattle.shown_sections.proofs.show_slots.Reads as reads
@@ -16,14 +16,14 @@ use Rattle.shown_sections.proofs.show_slot.Reads as show-slot-reads
 
 abbrev invariant-loop : tie.invariant-loop
 invariant-loop slots size cells skip list₀ k₀ j₀ list k j =
-    (j ≤ length slots) × (k ≤ j * 65536) × (length list ≡ length list₀) × (laidFrom skip k (slotsShow cells size (drop j slots) j) list ≡ laid skip (slotsShow cells size slots 0) list₀)
+    (j ≤ length slots) × (k ≤ j * 65536) × (length list ≡ length list₀) × (laid_from skip k (slots_show cells size (drop j slots) j) list ≡ laid skip (slots_show cells size slots 0) list₀)
 
 abbrev decreases-loop : tie.decreases-loop
 decreases-loop slots size cells skip list₀ k₀ j₀ list k j = length slots - j
 
 -- src/lib.rt:183:5
 loop-holds : tie.Need-loop-init invariant-loop decreases-loop
-loop-holds c = let a = c.before.before.before.args in (omega arith, omega arith, refl, slots-begin a.skip a.cells.now a.size a.slots.now a.list.now)
+loop-holds c = let a = c.before.before.before.args in (omega arith, omega arith, refl, slots_begin a.skip a.cells.now a.size a.slots.now a.list.now)
 
 -- src/lib.rt:184:30
 mul-show-slot : tie.Need-overflow-mul-show-slot invariant-loop decreases-loop
@@ -48,7 +48,7 @@ same_length c = search rules
 -- src/lib.rt:187:13
 returns : tie.Need-returns invariant-loop decreases-loop
 returns c = let a = c.before.before.before.before.before.before.before.before.before.before.before.before.args in let l = c.before.before.before.before.before.before.before.before.loop in
-    sym (slots-stop a.skip a.cells.now a.size a.slots.now l.j l.k l.list _ _ _ c.before.before.before.before.before.before.before.loop-test.true c.before.before.before.before.show-slot.ensures.0 c.before.goes_on.ensures (not-true _ c.if1.true))
+    sym (slots_stop a.skip a.cells.now a.size a.slots.now l.j l.k l.list _ _ _ c.before.before.before.before.before.before.before.loop-test.true c.before.before.before.before.show-slot.ensures.0 c.before.goes_on.ensures (not-true _ c.if1.true))
     ∙ l.invariant.3
 
 -- src/lib.rt:190:9
@@ -65,7 +65,7 @@ loop-again c = let a = c.before.before.before.before.before.before.before.before
   omega (arith, c.before.before.before.before.before.before.before.loop-test.true),
   omega (arith, c.before.before.before.before.show-slot.ensures.1, l.invariant.1),
   search rules,
-  sym (slots-on a.skip a.cells.now a.size a.slots.now l.j l.k l.list _ _ _ c.before.before.before.before.before.before.before.loop-test.true c.before.before.before.before.show-slot.ensures.0 c.before.goes_on.ensures (not-false _ c.if1.false))
+  sym (slots_on a.skip a.cells.now a.size a.slots.now l.j l.k l.list _ _ _ c.before.before.before.before.before.before.before.loop-test.true c.before.before.before.before.show-slot.ensures.0 c.before.goes_on.ensures (not-false _ c.if1.false))
       ∙ l.invariant.3,
 )
 

@@ -1,4 +1,4 @@
-use Rattle.shown_sections.proofs.Ways.{told-on}
+use Rattle.shown_sections.proofs.Ways.{told_on}
 use borrow.Author.Rules.{rules}
 use Rattle.shown_sections.proofs.told.Statement.{statement}
 use Rattle.shown_sections.proofs.told.Tie as tie
@@ -17,7 +17,7 @@ ended-requires c κs = search rules
 
 -- src/lib.rt:94:9
 returns : tie.Need-returns
-returns c = search told-on
+returns c = search told_on
 
 -- src/lib.rt:89:1
 returns-2 : tie.Need-returns-2

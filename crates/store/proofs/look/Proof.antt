@@ -1,5 +1,5 @@
 use lib.ListN.{length}
-use Rattle.store.proofs.Whole.{count_fits, size_fits, rows_long, look-rows, look-used, look-not}
+use Rattle.store.proofs.Whole.{count_fits, size_fits, rows_long, look_rows, look_used, look_not}
 use borrow.Author.Rules.{rules}
 use Rattle.store.proofs.look.Statement.{statement}
 use Rattle.store.proofs.look.Tie as tie
@@ -26,15 +26,15 @@ look-requires c κs = rows_long c.before.before.before.before.before.before.befo
 
 -- src/lib.rt:43:13
 returns : tie.Need-returns
-returns c = let a = c.before.before.before.before.before.before.before.before.before.before.args in look-rows a.sets a.heads.now a.slots.now a.cells.now c.before.before.before.before.before.before.settings-fit.result c.before.before.before.before.before.before.settings-fit.ensures c.look.result c.before.before.before.before.before.if1.true c.before.before.before.if2.true c.look.ensures
+returns c = let a = c.before.before.before.before.before.before.before.before.before.before.args in look_rows a.sets a.heads.now a.slots.now a.cells.now c.before.before.before.before.before.before.settings-fit.result c.before.before.before.before.before.before.settings-fit.ensures c.look.result c.before.before.before.before.before.if1.true c.before.before.before.if2.true c.look.ensures
 
 -- src/lib.rt:37:1
 returns-2 : tie.Need-returns-2
-returns-2 c = let a = c.before.before.before.before.before.before.before.args in look-used a.sets a.heads.now a.slots.now a.cells.now c.before.before.before.settings-fit.result c.before.before.before.settings-fit.ensures c.before.before.if1.true c.if2.false
+returns-2 c = let a = c.before.before.before.before.before.before.before.args in look_used a.sets a.heads.now a.slots.now a.cells.now c.before.before.before.settings-fit.result c.before.before.before.settings-fit.ensures c.before.before.if1.true c.if2.false
 
 -- src/lib.rt:37:1
 returns-3 : tie.Need-returns-3
-returns-3 c = let a = c.before.before.before.before.before.args in look-not a.sets a.heads.now a.slots.now a.cells.now c.before.settings-fit.result c.before.settings-fit.ensures c.if1.false
+returns-3 c = let a = c.before.before.before.before.before.args in look_not a.sets a.heads.now a.slots.now a.cells.now c.before.settings-fit.result c.before.settings-fit.ensures c.if1.false
 
 pub look_spec : {M : Type 1} → statement M
 look_spec =

@@ -1,4 +1,4 @@
-use Rattle.stream_cursor.proofs.Laws.{more-few}
+use Rattle.stream_cursor.proofs.Laws.{more_few}
 use borrow.Author.Rules.{rules}
 use Rattle.stream_cursor.proofs.go_on.Statement.{statement}
 use Rattle.stream_cursor.proofs.go_on.Tie as tie
@@ -41,7 +41,7 @@ enum-told-4 c = search rules
 refill-requires : tie.Need-refill-requires
 refill-requires c κs =
     let p = c.before.before.before.before.before.before.requires in
-    (p.0, p.1, p.2, p.3.used, more-few c.before.before.before.before.before.before.args.c c.before.before.before.before.before.before.args.step p.3 c.before.before.enum-told4.given.1)
+    (p.0, p.1, p.2, p.3.used, more_few c.before.before.before.before.before.before.args.c c.before.before.before.before.before.before.args.step p.3 c.before.before.enum-told4.given.1)
 
 -- src/lib.rt:208:33
 enum-told-5 : tie.Need-enum-told-5

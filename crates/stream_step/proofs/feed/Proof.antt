@@ -1,4 +1,4 @@
-use Rattle.stream_cursor.proofs.Laws.{packet-long}
+use Rattle.stream_cursor.proofs.Laws.{packet_long}
 use native.Mathlib.Omega.{arith}
 use borrow.Author.Rules.{rules}
 use Rattle.stream_step.proofs.feed.Statement.{statement}
@@ -32,7 +32,7 @@ feed-requires c κs = search rules
 
 -- src/lib.rt:312:9
 tell-requires : tie.Need-tell-requires
-tell-requires c κs = (omega arith, c.before.before.before.before.before.before.before.before.before.before.before.before.before.before.before.before.before.before.requires.1, omega arith, packet-long c.before.before.before.before.before.before.before.before.before.before.before.before.before.before.before.before.before.before.args.c c.before.before.before.before.before.before.before.before.before.before.before.before.before.before.before.before.before.before.args.block.now c.before.before.before.before.before.before.before.before.before.before.before.before.before.before.before.before.before.before.requires.0 c.before.before.before.before.before.before.before.before.before.before.before.before.before.before.before.before.before.before.requires.1 c.before.before.before.before.before.before.before.before.before.before.before.before.before.before.before.before.before.before.requires.2)
+tell-requires c κs = (omega arith, c.before.before.before.before.before.before.before.before.before.before.before.before.before.before.before.before.before.before.requires.1, omega arith, packet_long c.before.before.before.before.before.before.before.before.before.before.before.before.before.before.before.before.before.before.args.c c.before.before.before.before.before.before.before.before.before.before.before.before.before.before.before.before.before.before.args.block.now c.before.before.before.before.before.before.before.before.before.before.before.before.before.before.before.before.before.before.requires.0 c.before.before.before.before.before.before.before.before.before.before.before.before.before.before.before.before.before.before.requires.1 c.before.before.before.before.before.before.before.before.before.before.before.before.before.before.before.before.before.before.requires.2)
 
 -- src/lib.rt:322:24
 behind-requires : tie.Need-behind-requires

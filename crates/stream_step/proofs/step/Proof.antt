@@ -1,4 +1,4 @@
-use Rattle.stream_cursor.proofs.Laws.{packet-there}
+use Rattle.stream_cursor.proofs.Laws.{packet_there}
 use native.Mathlib.Omega.{arith}
 use borrow.Author.Rules.{rules}
 use Rattle.stream_step.proofs.step.Statement.{statement}
@@ -21,7 +21,7 @@ is-packet-requires c κs = search rules
 -- src/lib.rt:352:9
 feed-requires : tie.Need-feed-requires
 feed-requires c κs =
-    (omega arith, c.before.before.before.before.before.before.before.before.before.before.before.before.before.before.before.before.before.before.requires, packet-there c.before.before.before.before.before.before.before.before.before.before.before.before.before.before.before.before.before.before.args.c c.before.before.before.before.before.before.before.before.before.before.before.before.before.before.before.look.result c.before.before.before.before.before.before.before.before.before.before.before.before.before.before.is-packet.result c.before.before.before.before.before.before.before.before.before.before.before.before.before.before.before.look.ensures c.before.before.before.before.before.before.before.before.before.before.before.before.before.before.is-packet.ensures c.before.before.before.before.before.before.before.before.before.before.before.before.before.if1.true)
+    (omega arith, c.before.before.before.before.before.before.before.before.before.before.before.before.before.before.before.before.before.before.requires, packet_there c.before.before.before.before.before.before.before.before.before.before.before.before.before.before.before.before.before.before.args.c c.before.before.before.before.before.before.before.before.before.before.before.before.before.before.before.look.result c.before.before.before.before.before.before.before.before.before.before.before.before.before.before.is-packet.result c.before.before.before.before.before.before.before.before.before.before.before.before.before.before.before.look.ensures c.before.before.before.before.before.before.before.before.before.before.before.before.before.before.is-packet.ensures c.before.before.before.before.before.before.before.before.before.before.before.before.before.if1.true)
 
 -- src/lib.rt:352:9
 returns : tie.Need-returns

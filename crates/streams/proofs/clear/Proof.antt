@@ -1,4 +1,4 @@
-use Rattle.streams.proofs.Laws.{clear-turn, clear-end}
+use Rattle.streams.proofs.Laws.{clear_turn, clear_end}
 use mathlib.Core.Path.{◌≡◌, refl}
 use Prim.Native.Nat.{◌≤◌, ◌-◌}
 use native.Mathlib.Omega.{arith}
@@ -30,13 +30,13 @@ loop-less : tie.Need-loop-smaller invariant-loop decreases-loop
 loop-less c = search rules
 
 loop-again : tie.Need-loop-preserved invariant-loop decreases-loop
-loop-again c = (search rules, search rules, search clear-turn)
+loop-again c = (search rules, search rules, search clear_turn)
 
 same_length : tie.Need-same-length invariant-loop decreases-loop
 same_length c = search rules
 
 returns : tie.Need-returns invariant-loop decreases-loop
-returns c = search clear-end
+returns c = search clear_end
 
 pub clear_spec : {M : Type 1} → statement M
 clear_spec =

@@ -1,6 +1,6 @@
 use native.Mathlib.Omega.{arith}
 use lib.ListN.{length}
-use Rattle.streams.proofs.Laws.{has_words, is-opened, not_opened}
+use Rattle.streams.proofs.Laws.{has_words, is_opened, not_opened}
 use borrow.Author.Rules.{rules}
 use Rattle.streams.proofs.open.Statement.{statement}
 use Rattle.streams.proofs.open.Tie as tie
@@ -15,7 +15,7 @@ same_length : tie.Need-same-length
 same_length c = search rules
 
 returns : tie.Need-returns
-returns c = search is-opened
+returns c = search is_opened
 
 returns-2 : tie.Need-returns-2
 returns-2 c = search not_opened

@@ -1,4 +1,4 @@
-use Rattle.tallies.proofs.Ways.{counted-in, counted-out}
+use Rattle.tallies.proofs.Ways.{counted_in_lem, counted_out}
 use borrow.Author.Rules.{rules}
 use Rattle.tallies.proofs.count.Statement.{statement}
 use Rattle.tallies.proofs.count.Tie as tie
@@ -7,8 +7,8 @@ use Rattle.tallies.proofs.count.Lts as lts
 use Rattle.tallies.proofs.more.Reads as more-reads
 
 -- src/lib.rt:27:30
-mul-more : tie.Need-overflow-mul-more
-mul-more c = search rules
+mul_more : tie.Need-overflow-mul-more
+mul_more c = search rules
 
 -- src/lib.rt:27:30
 element-copy-out-more : tie.Need-element-copy-out-more
@@ -28,17 +28,17 @@ element-write-tally c = search rules
 
 -- src/lib.rt:23:1
 returns : tie.Need-returns
-returns c = search counted-in
+returns c = search counted_in_lem
 
 -- src/lib.rt:23:1
 returns-2 : tie.Need-returns-2
-returns-2 c = search counted-out
+returns-2 c = search counted_out
 
 pub count_spec : {M : Type 1} → statement M
 count_spec =
     tie.close
     (tie.spec
-    mul-more
+    mul_more
     element-copy-out-more
     more-requires
     mul-tally

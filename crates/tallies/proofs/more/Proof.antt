@@ -1,4 +1,4 @@
-use Rattle.tallies.proofs.Ways.{more_room, more-none}
+use Rattle.tallies.proofs.Ways.{more_room, more_none}
 use borrow.Author.Rules.{rules}
 use Rattle.tallies.proofs.more.Statement.{statement}
 use Rattle.tallies.proofs.more.Tie as tie
@@ -15,7 +15,7 @@ returns c = search more_room
 
 -- src/lib.rt:16:1
 returns-2 : tie.Need-returns-2
-returns-2 c = search more-none
+returns-2 c = search more_none
 
 pub more-spec : {M : Type 1} → statement M
 more-spec = tie.close (tie.spec add-result returns returns-2)

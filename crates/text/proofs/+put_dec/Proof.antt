@@ -7,12 +7,12 @@ use lib.ListN.{length, length-set, length-append}
 use borrow.Author.Rules.{rules}
 use borrow.Fn.Kinds.{In}
 use borrow.Fn.PlainCycle.{Measures, is, falls, and}
-use Rattle.laws.proofs.Writes.{sets-append}
+use Rattle.laws.proofs.Writes.{sets_append}
 use Rattle.text.specs.Text.{decimal}
-use Rattle.text.proofs.Laws.{dec-digit, dec-more, length_more}
+use Rattle.text.proofs.Laws.{dec_digit, dec_more, length_more}
 use Rattle.text.proofs.put_dec.Reads as put-dec
-use Rattle.text.proofs.put_dec.Kinds as put-dec-kinds
-use Rattle.text.proofs.+put_dec.Lts-put_dec as put-dec-lts
+use Rattle.text.proofs.put_dec.Kinds as put_dec_kinds
+use Rattle.text.proofs.+put_dec.Lts-put_dec as put_dec_lts
 use Rattle.text.proofs.+put_dec.{statement}
 use Rattle.text.proofs.+put_dec.Tie.{close}
 
@@ -26,10 +26,10 @@ abbrev put-dec-below : ℕ → In 1 put-dec-kinds.ps
 put-dec-below t = and 1 put-dec-kinds.ps (falls 1 put-dec-kinds.ps ◌<◌ μ-put-dec t) put-dec.Pre
 
 slice-write-out : (t : ℕ) → put-dec-lts.Need-slice-write-out (put-dec-below t, put-dec.Post) (put-dec-at t) put-dec.Post
-slice-write-out t c = omega (arith, ap length (dec-digit c.before.before.args.v (omega arith)))
+slice-write-out t c = omega (arith, ap length (dec_digit c.before.before.args.v (omega arith)))
 
 returns : (t : ℕ) → put-dec-lts.Need-returns (put-dec-below t, put-dec.Post) (put-dec-at t) put-dec.Post
-returns t c = rw (dec-digit c.before.before.args.v (omega arith)) record { next = refl; bytes = refl }
+returns t c = rw (dec_digit c.before.before.args.v (omega arith)) record { next = refl; bytes = refl }
 
 put-dec-requires : (t : ℕ) → put-dec-lts.Need-put-dec-requires (put-dec-below t, put-dec.Post) (put-dec-at t) put-dec.Post
 put-dec-requires t c κs = (omega arith, omega (arith, length_more c.before.before.before.args.v (omega arith)))
@@ -50,9 +50,9 @@ returns-2 : (t : ℕ) → put-dec-lts.Need-returns-2 (put-dec-below t, put-dec.P
 returns-2 t c =
     let a = c.before.before.before.before.before.before.args in
     let e = c.before.before.put-dec.ensures in
-    rw (dec-more a.v (omega arith)) record {
+    rw (dec_more a.v (omega arith)) record {
       next = simp (length-append, e.next) (omega arith);
-      bytes = rw (e.bytes, e.next) (sym (sets-append (decimal (a.v / 10)) ((48 + a.v % 10) ∷ []) a.out.now a.at));
+      bytes = rw (e.bytes, e.next) (sym (sets_append (decimal (a.v / 10)) ((48 + a.v % 10) ∷ []) a.out.now a.at));
     }
 
 pub +put-dec-spec : {M : Type 1} → statement M

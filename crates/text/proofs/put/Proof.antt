@@ -6,7 +6,7 @@ use native.Mathlib.Omega.{arith}
 use lib.ListN.{length, length-set, drop}
 use lib.Seq.{sets}
 use borrow.Author.Rules.{rules}
-use Rattle.laws.proofs.Writes.{sets-turn, sets_end}
+use Rattle.laws.proofs.Writes.{sets_turn, sets_end}
 use Rattle.text.proofs.put.Statement.{statement}
 use Rattle.text.proofs.put.Tie as tie
 
@@ -38,7 +38,7 @@ loop-again : tie.Need-loop-preserved invariant-loop decreases-loop
 loop-again c =
     let l = c.before.before.loop in
     let a = c.before.before.before.args in
-    (omega arith, simp length-set l.invariant.1, sym (sets-turn l.out a.s.now a.at l.i 0 c.before.loop-test.true) ∙ l.invariant.2)
+    (omega arith, simp length-set l.invariant.1, sym (sets_turn l.out a.s.now a.at l.i 0 c.before.loop-test.true) ∙ l.invariant.2)
 
 add-result : tie.Need-overflow-add-result invariant-loop decreases-loop
 add-result c = omega arith

@@ -1,4 +1,4 @@
-use Rattle.times.proofs.Laws.{date-before, date-on}
+use Rattle.times.proofs.Laws.{date_before, date_on}
 use borrow.Author.Rules.{rules}
 use Rattle.times.proofs.date_of.Statement.{statement}
 use Rattle.times.proofs.date_of.Tie as tie
@@ -12,7 +12,7 @@ cast-mjd c = search rules
 
 -- src/lib.rt:75:9
 returns : tie.Need-returns
-returns c = date-before _ c.if1.true
+returns c = date_before _ c.if1.true
 
 -- src/lib.rt:77:14
 mul-y : tie.Need-overflow-mul-y
@@ -96,7 +96,7 @@ cast-t16 c = search rules
 
 -- src/lib.rt:70:1
 returns-2 : tie.Need-returns-2
-returns-2 c = date-on _ _ c.before.if1.false c.carry.ensures.0
+returns-2 c = date_on _ _ c.before.if1.false c.carry.ensures.0
 
 pub date-of-spec : {M : Type 1} → statement M
 date-of-spec =

@@ -1,4 +1,4 @@
-use Rattle.times.proofs.Laws.{time-at, time-none}
+use Rattle.times.proofs.Laws.{time_at, time_none}
 use borrow.Author.Rules.{rules}
 use Rattle.times.proofs.time_of.Statement.{statement}
 use Rattle.times.proofs.time_of.Tie as tie
@@ -49,11 +49,11 @@ add-t16 c = search rules
 
 -- src/lib.rt:44:1
 returns : tie.Need-returns
-returns c = search time-at
+returns c = search time_at
 
 -- src/lib.rt:44:1
 returns-2 : tie.Need-returns-2
-returns-2 c = search time-none
+returns-2 c = search time_none
 
 pub time-of-spec : {M : Type 1} → statement M
 time-of-spec =

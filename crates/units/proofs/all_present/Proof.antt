@@ -2,14 +2,14 @@ use native.Mathlib.Omega.{arith}
 use mathlib.Core.Path.{◌≡◌, refl}
 use mathlib.Core.Bool.{◌&&◌}
 use Prim.Native.Nat.{◌≤◌}
-use Rattle.units.specs.Units.{allPresent}
-use Rattle.units.proofs.Laws.{present-turn, present-end}
+use Rattle.units.specs.Units.{all_present}
+use Rattle.units.proofs.Laws.{present_turn, present_end}
 use borrow.Author.Rules.{rules}
 use Rattle.units.proofs.all_present.Statement.{statement}
 use Rattle.units.proofs.all_present.Tie as tie
 
 abbrev invariant-loop : tie.invariant-loop
-invariant-loop units base n ok₀ j₀ ok j = (j ≤ n) × (allPresent units base n ≡ (ok && allPresent units base j))
+invariant-loop units base n ok₀ j₀ ok j = (j ≤ n) × (all_present units base n ≡ (ok && all_present units base j))
 
 abbrev decreases-loop : tie.decreases-loop
 decreases-loop units base n ok₀ j₀ ok j = j
@@ -30,10 +30,10 @@ loop-less : tie.Need-loop-smaller invariant-loop decreases-loop
 loop-less c = search rules
 
 loop-again : tie.Need-loop-preserved invariant-loop decreases-loop
-loop-again c = (search rules, search present-turn)
+loop-again c = (search rules, search present_turn)
 
 returns : tie.Need-returns invariant-loop decreases-loop
-returns c = search present-end
+returns c = search present_end
 
 pub all-present-spec : {M : Type 1} → statement M
 all-present-spec =

@@ -2,14 +2,14 @@ use native.Mathlib.Omega.{arith}
 use mathlib.Core.Path.{◌≡◌, refl}
 use Prim.Native.Nat.{◌≤◌}
 use lib.ListN.{length}
-use Rattle.units.specs.Units.{withoutUnits}
-use Rattle.units.proofs.Laws.{without-turn, without_end}
+use Rattle.units.specs.Units.{without_units}
+use Rattle.units.proofs.Laws.{without_turn, without_end}
 use borrow.Author.Rules.{rules}
 use Rattle.units.proofs.empty_units.Statement.{statement}
 use Rattle.units.proofs.empty_units.Tie as tie
 
 abbrev invariant-loop : tie.invariant-loop
-invariant-loop units₀ base n j₀ units j = (j ≤ n) × (length units ≡ length units₀) × (withoutUnits base n units₀ ≡ withoutUnits base j units)
+invariant-loop units₀ base n j₀ units j = (j ≤ n) × (length units ≡ length units₀) × (without_units base n units₀ ≡ without_units base j units)
 
 abbrev decreases-loop : tie.decreases-loop
 decreases-loop units₀ base n j₀ units j = j
@@ -30,7 +30,7 @@ loop-less : tie.Need-loop-smaller invariant-loop decreases-loop
 loop-less c = search rules
 
 loop-again : tie.Need-loop-preserved invariant-loop decreases-loop
-loop-again c = (search rules, search rules, search without-turn)
+loop-again c = (search rules, search rules, search without_turn)
 
 same_length : tie.Need-same-length invariant-loop decreases-loop
 same_length c = search rules

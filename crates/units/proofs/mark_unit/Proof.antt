@@ -1,4 +1,4 @@
-use Rattle.units.proofs.Laws.{unit-marked, unit-passed}
+use Rattle.units.proofs.Laws.{unit_marked, unit_passed}
 use borrow.Author.Rules.{rules}
 use Rattle.units.proofs.mark_unit.Statement.{statement}
 use Rattle.units.proofs.mark_unit.Tie as tie
@@ -13,10 +13,10 @@ mark-all-requires : tie.Need-mark-all-requires
 mark-all-requires c κs = search rules
 
 returns : tie.Need-returns
-returns c = search unit-marked
+returns c = search unit_marked
 
 returns-2 : tie.Need-returns-2
-returns-2 c = search unit-passed
+returns-2 c = search unit_passed
 
 pub mark-unit-spec : {M : Type 1} → statement M
 mark-unit-spec =

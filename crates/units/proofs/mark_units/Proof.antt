@@ -1,14 +1,14 @@
 use native.Mathlib.Omega.{arith}
 use mathlib.Core.Path.{◌≡◌, refl}
 use Prim.Native.Nat.{◌≤◌}
-use Rattle.units.specs.Units.{markedUnits}
-use Rattle.units.proofs.Laws.{marks-turn, marks-end}
+use Rattle.units.specs.Units.{marked_units}
+use Rattle.units.proofs.Laws.{marks_turn, marks_end}
 use borrow.Author.Rules.{rules}
 use Rattle.units.proofs.mark_units.Statement.{statement}
 use Rattle.units.proofs.mark_units.Tie as tie
 
 abbrev invariant-loop : tie.invariant-loop
-invariant-loop map₀ units base n j₀ map j = (j ≤ n) × (markedUnits units base n map₀ ≡ markedUnits units base j map)
+invariant-loop map₀ units base n j₀ map j = (j ≤ n) × (marked_units units base n map₀ ≡ marked_units units base j map)
 
 abbrev decreases-loop : tie.decreases-loop
 decreases-loop map₀ units base n j₀ map j = j
@@ -29,10 +29,10 @@ loop-less : tie.Need-loop-smaller invariant-loop decreases-loop
 loop-less c = search rules
 
 loop-again : tie.Need-loop-preserved invariant-loop decreases-loop
-loop-again c = (search rules, search marks-turn)
+loop-again c = (search rules, search marks_turn)
 
 returns : tie.Need-returns invariant-loop decreases-loop
-returns c = search marks-end
+returns c = search marks_end
 
 pub mark-units-spec : {M : Type 1} → statement M
 mark-units-spec =

@@ -1,4 +1,4 @@
-use Rattle.units.proofs.Laws.{set-put, some-slots, few-slots, room-for-slots}
+use Rattle.units.proofs.Laws.{set_put, some_slots, few_slots, room_for_slots}
 use borrow.Author.Rules.{rules}
 use Rattle.units.proofs.put_set.Statement.{statement}
 use Rattle.units.proofs.put_set.Tie as tie
@@ -19,13 +19,13 @@ add-put-slots : tie.Need-overflow-add-put-slots
 add-put-slots c = search rules
 
 put-slots-requires : tie.Need-put-slots-requires
-put-slots-requires c κs = search room-for-slots
+put-slots-requires c κs = search room_for_slots
 
 sub-put-unit-words : tie.Need-overflow-sub-put-unit-words
-sub-put-unit-words c = search some-slots
+sub-put-unit-words c = search some_slots
 
 cast-put-unit-words : tie.Need-overflow-cast-put-unit-words
-cast-put-unit-words c = search few-slots
+cast-put-unit-words c = search few_slots
 
 put-unit-words-requires : tie.Need-put-unit-words-requires
 put-unit-words-requires c κs = search rules
@@ -34,7 +34,7 @@ same_length : tie.Need-same-length
 same_length c = search rules
 
 returns : tie.Need-returns
-returns c = search set-put
+returns c = search set_put
 
 pub put-set-spec : {M : Type 1} → statement M
 put-set-spec =

@@ -3,7 +3,7 @@ use Prim.Native.Nat.{◌≤◌, ◌-◌}
 use native.Mathlib.Omega.{arith}
 use lib.ListN.{length}
 use lib.Seq.{paste, paste-zero}
-use Rattle.laws.proofs.Lists.{paste-turn}
+use Rattle.laws.proofs.Lists.{paste_turn}
 use Rattle.units.proofs.Laws.{slots_end}
 use borrow.Author.Rules.{rules}
 use Rattle.units.proofs.put_slots.Statement.{statement}
@@ -40,7 +40,7 @@ loop-less : tie.Need-loop-smaller invariant-loop decreases-loop
 loop-less c = search rules
 
 loop-again : tie.Need-loop-preserved invariant-loop decreases-loop
-loop-again c = (search rules, search rules, search paste-turn)
+loop-again c = (search rules, search rules, search paste_turn)
 
 same_length : tie.Need-same-length invariant-loop decreases-loop
 same_length c = search rules

@@ -1,4 +1,4 @@
-use Rattle.units.proofs.Laws.{table-own, table-other}
+use Rattle.units.proofs.Laws.{table_own, table_other}
 use borrow.Author.Rules.{rules}
 use Rattle.units.proofs.put_table.Statement.{statement}
 use Rattle.units.proofs.put_table.Tie as tie
@@ -7,7 +7,7 @@ table-of-kind-requires : tie.Need-table-of-kind-requires
 table-of-kind-requires c κs = search rules
 
 returns : tie.Need-returns
-returns c = search table-own
+returns c = search table_own
 
 with-table-requires : tie.Need-with-table-requires
 with-table-requires c κs = search rules
@@ -25,7 +25,7 @@ same_length : tie.Need-same-length
 same_length c = search rules
 
 returns-2 : tie.Need-returns-2
-returns-2 c = search table-other
+returns-2 c = search table_other
 
 pub put-table-spec : {M : Type 1} → statement M
 put-table-spec =

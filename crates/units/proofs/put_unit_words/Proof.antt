@@ -1,4 +1,4 @@
-use Rattle.units.proofs.Laws.{words-put}
+use Rattle.units.proofs.Laws.{words_put}
 use borrow.Author.Rules.{rules}
 use Rattle.units.proofs.put_unit_words.Statement.{statement}
 use Rattle.units.proofs.put_unit_words.Tie as tie
@@ -16,7 +16,7 @@ same_length : tie.Need-same-length
 same_length c = search rules
 
 returns : tie.Need-returns
-returns c = search words-put
+returns c = search words_put
 
 pub put-unit-words-spec : {M : Type 1} → statement M
 put-unit-words-spec =

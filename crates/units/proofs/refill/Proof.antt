@@ -3,7 +3,7 @@ use mathlib.Core.Path.{◌≡◌, refl}
 use Prim.Native.Nat.{◌≤◌}
 use lib.ListN.{length}
 use Rattle.units.specs.Units.{refilled}
-use Rattle.units.proofs.Laws.{refill-turn, refill-end}
+use Rattle.units.proofs.Laws.{refill_turn, refill_end}
 use borrow.Author.Rules.{rules}
 use Rattle.units.proofs.refill.Statement.{statement}
 use Rattle.units.proofs.refill.Tie as tie
@@ -27,13 +27,13 @@ loop-less : tie.Need-loop-smaller invariant-loop decreases-loop
 loop-less c = search rules
 
 loop-again : tie.Need-loop-preserved invariant-loop decreases-loop
-loop-again c = (search rules, search rules, search refill-turn)
+loop-again c = (search rules, search rules, search refill_turn)
 
 same_length : tie.Need-same-length invariant-loop decreases-loop
 same_length c = search rules
 
 returns : tie.Need-returns invariant-loop decreases-loop
-returns c = search refill-end
+returns c = search refill_end
 
 pub refill-spec : {M : Type 1} → statement M
 refill-spec =

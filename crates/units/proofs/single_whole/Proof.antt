@@ -1,4 +1,4 @@
-use Rattle.units.proofs.Laws.{single-whole}
+use Rattle.units.proofs.Laws.{single_whole}
 use borrow.Author.Rules.{rules}
 use Rattle.units.proofs.single_whole.Statement.{statement}
 use Rattle.units.proofs.single_whole.Tie as tie
@@ -13,7 +13,7 @@ filled-whole-requires : tie.Need-filled-whole-requires
 filled-whole-requires c κs = search rules
 
 returns : tie.Need-returns
-returns c = search single-whole
+returns c = search single_whole
 
 pub single-whole-spec : {M : Type 1} → statement M
 single-whole-spec =

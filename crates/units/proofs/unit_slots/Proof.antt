@@ -1,4 +1,4 @@
-use Rattle.units.proofs.Laws.{unit-part}
+use Rattle.units.proofs.Laws.{unit_part}
 use borrow.Author.Rules.{rules}
 use Rattle.units.proofs.unit_slots.Statement.{statement}
 use Rattle.units.proofs.unit_slots.Tie as tie
@@ -34,7 +34,7 @@ part-result-end : tie.Need-slice-bounds-result-end
 part-result-end c = search rules
 
 returns : tie.Need-returns
-returns c = search unit-part
+returns c = search unit_part
 
 pub unit-slots-spec : {M : Type 1} → statement M
 unit-slots-spec =

@@ -1,4 +1,4 @@
-use Rattle.units.proofs.Laws.{unit-single, unit-whole-there, unit-whole-not}
+use Rattle.units.proofs.Laws.{unit_single, unit_whole_there, unit_whole_not}
 use borrow.Author.Rules.{rules}
 use Rattle.units.proofs.unit_whole.Statement.{statement}
 use Rattle.units.proofs.unit_whole.Tie as tie
@@ -7,7 +7,7 @@ single-whole-requires : tie.Need-single-whole-requires
 single-whole-requires c κs = search rules
 
 returns : tie.Need-returns
-returns c = search unit-single
+returns c = search unit_single
 
 is-present-requires : tie.Need-is-present-requires
 is-present-requires c κs = search rules
@@ -19,10 +19,10 @@ all-whole-requires : tie.Need-all-whole-requires
 all-whole-requires c κs = search rules
 
 returns-2 : tie.Need-returns-2
-returns-2 c = search unit-whole-there
+returns-2 c = search unit_whole_there
 
 returns-3 : tie.Need-returns-3
-returns-3 c = search unit-whole-not
+returns-3 c = search unit_whole_not
 
 pub unit-whole-spec : {M : Type 1} → statement M
 unit-whole-spec =

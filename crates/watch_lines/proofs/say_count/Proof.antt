@@ -1,5 +1,5 @@
 use native.Mathlib.Omega.{arith}
-use Rattle.text.proofs.Laws.{length-u64}
+use Rattle.text.proofs.Laws.{length_u64}
 use borrow.Author.Rules.{rules}
 use Rattle.watch_lines.proofs.say_count.Statement.{statement}
 use Rattle.watch_lines.proofs.say_count.Tie as tie
@@ -23,7 +23,7 @@ slice-aggregate-put-dec c = search rules
 
 -- src/main.rt:87:9
 put-dec-requires : tie.Need-put-dec-requires
-put-dec-requires c κs = omega (arith, length-u64 c.before.before.before.before.before.args.count c.before.before.before.before.before.ranges.count.fits)
+put-dec-requires c κs = omega (arith, length_u64 c.before.before.before.before.before.args.count c.before.before.before.before.before.ranges.count.fits)
 
 -- src/main.rt:88:34
 sub-write-all : tie.Need-overflow-sub-write-all
@@ -35,7 +35,7 @@ part-write-all-start c = search rules
 
 -- src/main.rt:88:34
 part-write-all-end : tie.Need-slice-bounds-write-all-end
-part-write-all-end c = omega (arith, length-u64 c.before.before.before.before.before.before.before.before.args.count c.before.before.before.before.before.before.before.before.ranges.count.fits)
+part-write-all-end c = omega (arith, length_u64 c.before.before.before.before.before.before.before.before.args.count c.before.before.before.before.before.before.before.before.ranges.count.fits)
 
 -- src/main.rt:88:5
 write-all-requires : tie.Need-write-all-requires

@@ -1,6 +1,6 @@
 use native.Mathlib.Omega.{arith}
 use lib.ListN.{length}
-use Rattle.text.proofs.Laws.{length-dec}
+use Rattle.text.proofs.Laws.{length_dec}
 use borrow.Author.Rules.{rules}
 use Rattle.watch_lines.proofs.say_section.Statement.{statement}
 use Rattle.watch_lines.proofs.say_section.Tie as tie
@@ -70,7 +70,7 @@ slice-aggregate-put-dec c = search rules
 
 -- src/main.rt:76:9
 put-dec-requires : tie.Need-put-dec-requires
-put-dec-requires c κs = omega (arith, c.before.before.before.before.before.before.before.before.before.before.before.before.before.before.before.before.before.before.before.before.before.requires, c.before.before.before.before.before.before.before.before.before.before.before.before.before.before.put-place, c.before.before.before.before.before.before.before.before.before.before.before.before.before.before.before.before.before.put, length-dec 3 (length c.before.before.before.before.before.before.before.before.before.before.before.before.before.before.before.before.before.before.before.before.before.args.section.now) (omega (arith, c.before.before.before.before.before.before.before.before.before.before.before.before.before.before.before.before.before.before.before.before.before.requires)))
+put-dec-requires c κs = omega (arith, c.before.before.before.before.before.before.before.before.before.before.before.before.before.before.before.before.before.before.before.before.before.requires, c.before.before.before.before.before.before.before.before.before.before.before.before.before.before.put-place, c.before.before.before.before.before.before.before.before.before.before.before.before.before.before.before.before.before.put, length_dec 3 (length c.before.before.before.before.before.before.before.before.before.before.before.before.before.before.before.before.before.before.before.before.before.args.section.now) (omega (arith, c.before.before.before.before.before.before.before.before.before.before.before.before.before.before.before.before.before.before.before.before.before.requires)))
 
 -- src/main.rt:77:23
 slice-aggregate-put-6 : tie.Need-slice-aggregate-put-6
@@ -82,7 +82,7 @@ slice-aggregate-put-7 c = search rules
 
 -- src/main.rt:77:9
 put-requires-4 : tie.Need-put-requires-4
-put-requires-4 c κs = omega (arith, c.before.before.before.before.before.before.before.before.before.before.before.before.before.before.before.before.before.before.before.before.before.before.before.before.before.requires, c.before.before.before.before.before.before.before.before.before.before.before.before.before.before.before.before.before.before.put-place, c.before.before.before.before.before.before.before.before.before.before.before.before.before.before.before.before.before.before.before.before.before.put, length-dec 3 (length c.before.before.before.before.before.before.before.before.before.before.before.before.before.before.before.before.before.before.before.before.before.before.before.before.before.args.section.now) (omega (arith, c.before.before.before.before.before.before.before.before.before.before.before.before.before.before.before.before.before.before.before.before.before.before.before.before.before.requires)))
+put-requires-4 c κs = omega (arith, c.before.before.before.before.before.before.before.before.before.before.before.before.before.before.before.before.before.before.before.before.before.before.before.before.before.requires, c.before.before.before.before.before.before.before.before.before.before.before.before.before.before.before.before.before.before.put-place, c.before.before.before.before.before.before.before.before.before.before.before.before.before.before.before.before.before.before.before.before.before.put, length_dec 3 (length c.before.before.before.before.before.before.before.before.before.before.before.before.before.before.before.before.before.before.before.before.before.before.before.before.before.args.section.now) (omega (arith, c.before.before.before.before.before.before.before.before.before.before.before.before.before.before.before.before.before.before.before.before.before.before.before.before.before.requires)))
 
 -- src/main.rt:78:34
 sub-write-all : tie.Need-overflow-sub-write-all
@@ -94,7 +94,7 @@ part-write-all-start c = search rules
 
 -- src/main.rt:78:34
 part-write-all-end : tie.Need-slice-bounds-write-all-end
-part-write-all-end c = omega (arith, c.before.before.before.before.before.before.before.before.before.before.before.before.before.before.before.before.before.before.before.before.before.before.before.before.before.before.before.before.requires, c.before.before.before.before.before.before.before.before.before.before.before.before.before.before.before.before.before.before.before.before.before.put-place, c.before.before.before.before.before.before.before.before.before.before.before.before.before.before.before.before.before.before.before.before.before.before.before.before.put, length-dec 3 (length c.before.before.before.before.before.before.before.before.before.before.before.before.before.before.before.before.before.before.before.before.before.before.before.before.before.before.before.before.args.section.now) (omega (arith, c.before.before.before.before.before.before.before.before.before.before.before.before.before.before.before.before.before.before.before.before.before.before.before.before.before.before.before.before.requires)))
+part-write-all-end c = omega (arith, c.before.before.before.before.before.before.before.before.before.before.before.before.before.before.before.before.before.before.before.before.before.before.before.before.before.before.before.before.requires, c.before.before.before.before.before.before.before.before.before.before.before.before.before.before.before.before.before.before.before.before.before.put-place, c.before.before.before.before.before.before.before.before.before.before.before.before.before.before.before.before.before.before.before.before.before.before.before.before.put, length_dec 3 (length c.before.before.before.before.before.before.before.before.before.before.before.before.before.before.before.before.before.before.before.before.before.before.before.before.before.before.before.before.args.section.now) (omega (arith, c.before.before.before.before.before.before.before.before.before.before.before.before.before.before.before.before.before.before.before.before.before.before.before.before.before.before.before.before.requires)))
 
 -- src/main.rt:78:5
 write-all-requires : tie.Need-write-all-requires

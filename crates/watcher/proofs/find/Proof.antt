@@ -1,7 +1,7 @@
 use native.Mathlib.Omega.{arith}
 use mathlib.Core.Path.{ap}
 use Rattle.section.specs.declared.ids.Origin.{Origin}
-use Rattle.section.proofs.Facts.{origin-one}
+use Rattle.section.proofs.Facts.{origin_one}
 use borrow.Author.Rules.{rules}
 use Rattle.watcher.proofs.find.Statement.{statement}
 use Rattle.watcher.proofs.find.Tie as tie
@@ -33,7 +33,7 @@ enum-told-2 c = search rules
 -- src/lib.rt:88:1
 returns : tie.Need-returns
 returns c =
-    let h = origin-one c.before.before.before.before.before.args.place.input c.before.before.before.before.before.args.place.pid _ c.before.before.before.before.make.ensures _ c.before.before.from.given.1 in
+    let h = origin_one c.before.before.before.before.before.args.place.input c.before.before.before.before.before.args.place.pid _ c.before.before.before.before.make.ensures _ c.before.before.from.given.1 in
     let i = ap (λ (o : Origin). o.input.0) h.0 in
     omega (arith, i, h.2, c.wide.ensures)
 

@@ -2,15 +2,15 @@ use mathlib.Core.Path.{◌≡◌, sym}
 use Prim.Native.Nat.{◌-◌, ◌≤◌}
 use native.Mathlib.Omega.{arith}
 use borrow.Author.Rules.{rules}
-use Rattle.without_pid.specs.Pids.{withoutPid}
-use Rattle.without_pid.proofs.Rows.{none_yet, next_row, at-end}
+use Rattle.without_pid.specs.Pids.{without_pid}
+use Rattle.without_pid.proofs.Rows.{none_yet, next_row, at_end_lem}
 use Rattle.without_pid.proofs.any_without_pid.Statement.{statement}
 use Rattle.without_pid.proofs.any_without_pid.Tie as tie
 use Rattle.without_pid.proofs.any_without_pid.Reads as reads
 use Rattle.without_pid.proofs.any_without_pid.Lts as lts
 
 abbrev invariant-loop : tie.invariant-loop
-invariant-loop heads used found₀ i₀ found i = (i ≤ used) × (found ≡ withoutPid heads i)
+invariant-loop heads used found₀ i₀ found i = (i ≤ used) × (found ≡ without_pid heads i)
 
 abbrev decreases-loop : tie.decreases-loop
 decreases-loop heads used found₀ i₀ found i = used - i
@@ -45,7 +45,7 @@ loop-again c = let i = c.before.before.loop in (omega (arith, c.before.loop-test
 
 -- src/lib.rt:9:1
 returns : tie.Need-returns invariant-loop decreases-loop
-returns c = let i = c.before.loop in at-end c.before.before.args.heads.now i.i c.before.before.args.used i.found i.invariant.1 i.invariant.0 c.loop-test.false
+returns c = let i = c.before.loop in at_end_lem c.before.before.args.heads.now i.i c.before.before.args.used i.found i.invariant.1 i.invariant.0 c.loop-test.false
 
 pub any-without-pid-spec : {M : Type 1} → statement M
 any-without-pid-spec =

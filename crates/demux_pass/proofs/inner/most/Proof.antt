@@ -1,4 +1,4 @@
-use Rattle.demux_pass.proofs.Passing.{all_there, till-end}
+use Rattle.demux_pass.proofs.Passing.{all_there, till_end}
 use borrow.Author.Rules.{rules}
 use Rattle.demux_pass.proofs.inner.most.Statement.{statement}
 use Rattle.demux_pass.proofs.inner.most.Tie as tie
@@ -10,7 +10,7 @@ returns : tie.Need-returns
 returns c = search all_there
 
 returns-2 : tie.Need-returns-2
-returns-2 c = search till-end
+returns-2 c = search till_end
 
 pub most-spec : {M : Type 1} → statement M
 most-spec = tie.close (tie.spec sub-room returns returns-2)

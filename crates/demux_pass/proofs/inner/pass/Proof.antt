@@ -1,4 +1,4 @@
-use Rattle.demux_pass.proofs.Laws.{in-packets, can-count, went}
+use Rattle.demux_pass.proofs.Laws.{in_packets, can_count, went}
 use borrow.Author.Rules.{rules}
 use Rattle.demux_pass.proofs.inner.pass.Statement.{statement}
 use Rattle.demux_pass.proofs.inner.pass.Tie as tie
@@ -7,10 +7,10 @@ most-requires : tie.Need-most-requires
 most-requires c κs = search rules
 
 pass-over-requires : tie.Need-pass-over-requires
-pass-over-requires c κs = (search rules, search in-packets)
+pass-over-requires c κs = (search rules, search in_packets)
 
 add-t12 : tie.Need-overflow-add-t12
-add-t12 c = search can-count
+add-t12 c = search can_count
 
 same_length : tie.Need-same-length
 same_length c = search rules

@@ -44,7 +44,7 @@ use denote.Triple.Table.{entered, cited}
 use denote.Triple.Walked.{says, Stays, stay_none, stay_none_slice, walk_of, Goes-none, Goes-none_slice, Walks, ends_at, walked, walk_Meets}
 use denote.Exit.{yes}
 use denote.Triple.Clauses.{ensured, lasts}
-use Rattle.readers.specs.Reader.{held, movedOn}
+use Rattle.readers.specs.Reader.{held, moved_on}
 use Rattle.readers.specs.declared.SetReader.{SetReader}
 use Rattle.readers.specs.contracts.SetReader as T
 use Rattle.readers.proofs.SetReader.TheLaws as T'
@@ -112,7 +112,7 @@ module _ {M : Type 1} {𝓤 : Ura M} (𝓛 : Logic 𝓤) (mem : Memory → SProp
   OwnRow = R.own w (slice w ∷ [])
 
   abbrev Moved : SetReader → Type 0
-  Moved x = held x ≡ movedOn n w.now (held d)
+  Moved x = held x ≡ moved_on n w.now (held d)
 
   -- the call of `next_part`
   abbrev to-next : (Next 𝓛 mem run).Ghost

@@ -1,4 +1,4 @@
-use Rattle.gate.proofs.Laws.{admitted-told}
+use Rattle.gate.proofs.Laws.{admitted_told}
 use borrow.Author.Rules.{rules}
 use Rattle.gate.proofs.inner.admit.Statement.{statement}
 use Rattle.gate.proofs.inner.admit.Tie as tie
@@ -26,7 +26,7 @@ returns c =
     let a = c.before.before.before.before.before.before.before.before.before.before.before.before.before.before.before.before.before.args in
     let d = c.before.before.before.before.before.before.before.before.before.admit in
     let w = c.before.before.before.follow in
-    admitted-told a.gate a.counters a.keys.now a.changes.now a.words.now a.section.now a.arrival
+    admitted_told a.gate a.counters a.keys.now a.changes.now a.words.now a.section.now a.arrival
     d.result d.new.1.0 d.new.1.1.0 w.new.1.1.1.0 c.tell.result
     d.ensures.0 d.ensures.1.0 d.ensures.1.1 w.ensures c.tell.ensures
 

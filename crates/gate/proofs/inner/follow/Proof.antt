@@ -1,5 +1,5 @@
 -- `gate::inner::follow` meets its contract: one law for each way out. Assumes nothing.
-use Rattle.gate.proofs.Laws.{follow-yes, follow-no}
+use Rattle.gate.proofs.Laws.{follow_yes, follow_no}
 use borrow.Author.Rules.{rules}
 use Rattle.gate.proofs.inner.follow.Statement.{statement}
 use Rattle.gate.proofs.inner.follow.Tie as tie
@@ -20,11 +20,11 @@ same_length c = search rules
 
 -- src/inner.rt:124:1
 returns : tie.Need-returns
-returns c = search follow-yes
+returns c = search follow_yes
 
 -- src/inner.rt:124:1
 returns-2 : tie.Need-returns-2
-returns-2 c = search follow-no
+returns-2 c = search follow_no
 
 pub follow-spec : {M : Type 1} → statement M
 follow-spec = tie.close (tie.spec by-sections-requires follow-pat-requires same_length returns returns-2)

@@ -1,4 +1,4 @@
-use Rattle.gate.proofs.Laws.{pat-followed, pat-unread}
+use Rattle.gate.proofs.Laws.{pat_followed, pat_unread}
 use borrow.Author.Rules.{rules}
 use Rattle.gate.proofs.inner.follow_pat.Statement.{statement}
 use Rattle.gate.proofs.inner.follow_pat.Tie as tie
@@ -28,11 +28,11 @@ same_length c = search rules
 
 -- src/inner.rt:120:1
 returns : tie.Need-returns
-returns c = search pat-followed
+returns c = search pat_followed
 
 -- src/inner.rt:120:1
 returns-2 : tie.Need-returns-2
-returns-2 c = search pat-unread
+returns-2 c = search pat_unread
 
 pub follow-pat-spec : {M : Type 1} → statement M
 follow-pat-spec =

@@ -1,6 +1,6 @@
 -- `gate_indexed::inner::admit` meets its contract. Assumes nothing.
 use Rattle.ring_index.specs.Store.{index_of}
-use Rattle.gate_indexed.proofs.Laws.{admitted-told}
+use Rattle.gate_indexed.proofs.Laws.{admitted_told}
 use borrow.Author.Rules.{rules}
 use Rattle.gate_indexed.proofs.inner.admit.Statement.{statement}
 use Rattle.gate_indexed.proofs.inner.admit.Tie as tie
@@ -34,7 +34,7 @@ returns c =
     let a = c.before.before.before.before.before.before.before.before.before.before.before.before.before.before.before.before.before.before.before.before.before.before.before.before.before.args in
     let d = c.before.before.before.before.before.before.before.before.before.before.before.before.before.admit in
     let w = c.before.before.before.follow in
-    admitted-told a.gate a.counters a.keys.now a.changes.now (index_of a.buckets.now a.links.now) a.words.now a.section.now a.arrival
+    admitted_told a.gate a.counters a.keys.now a.changes.now (index_of a.buckets.now a.links.now) a.words.now a.section.now a.arrival
     d.result d.new.1.0 d.new.1.1.0 (index_of d.new.1.1.1.0 d.new.1.1.1.1.0) w.new.1.1.1.0 c.tell.result
     d.ensures.0 d.ensures.1.0 d.ensures.1.1.0 d.ensures.1.1.1 w.ensures c.tell.ensures
 

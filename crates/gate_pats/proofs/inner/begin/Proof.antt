@@ -1,4 +1,4 @@
-use Rattle.gate_pats.proofs.Laws.{begin-room, begun-yes, begun-no}
+use Rattle.gate_pats.proofs.Laws.{begin_room, begun_yes, begun_no}
 use borrow.Author.Rules.{rules}
 use Rattle.gate_pats.proofs.inner.begin.Statement.{statement}
 use Rattle.gate_pats.proofs.inner.begin.Tie as tie
@@ -18,7 +18,7 @@ number-requires c κs = search rules
 
 -- src/inner.rt:49:9
 begin-requires : tie.Need-begin-requires
-begin-requires c κs = search begin-room
+begin-requires c κs = search begin_room
 
 -- src/inner.rt:44:1
 same_length : tie.Need-same-length
@@ -26,11 +26,11 @@ same_length c = search rules
 
 -- src/inner.rt:44:1
 returns : tie.Need-returns
-returns c = search begun-yes
+returns c = search begun_yes
 
 -- src/inner.rt:44:1
 returns-2 : tie.Need-returns-2
-returns-2 c = search begun-no
+returns-2 c = search begun_no
 
 pub begin-spec : {M : Type 1} → statement M
 begin-spec =

@@ -1,4 +1,4 @@
-use Rattle.gate_pats.proofs.Laws.{enter-ready, entered-yes, entered-no}
+use Rattle.gate_pats.proofs.Laws.{enter_ready, entered_yes, entered_no}
 use borrow.Author.Rules.{rules}
 use Rattle.gate_pats.proofs.inner.enter.Statement.{statement}
 use Rattle.gate_pats.proofs.inner.enter.Tie as tie
@@ -18,7 +18,7 @@ is-sound-requires c κs = search rules
 
 -- src/inner.rt:95:9
 enter-requires : tie.Need-enter-requires
-enter-requires c κs = search enter-ready
+enter-requires c κs = search enter_ready
 
 -- src/inner.rt:81:1
 same_length : tie.Need-same-length
@@ -34,11 +34,11 @@ same-length-3 c = search rules
 
 -- src/inner.rt:81:1
 returns : tie.Need-returns
-returns c = search entered-yes
+returns c = search entered_yes
 
 -- src/inner.rt:81:1
 returns-2 : tie.Need-returns-2
-returns-2 c = search entered-no
+returns-2 c = search entered_no
 
 pub enter_spec : {M : Type 1} → statement M
 enter_spec =

@@ -1,4 +1,4 @@
-use Rattle.gate_pats.proofs.Laws.{room-tables, room-else}
+use Rattle.gate_pats.proofs.Laws.{room_tables, room_else}
 use borrow.Author.Rules.{rules}
 use Rattle.gate_pats.proofs.inner.has_room.Statement.{statement}
 use Rattle.gate_pats.proofs.inner.has_room.Tie as tie
@@ -17,11 +17,11 @@ has-room-requires c κs = search rules
 
 -- src/inner.rt:28:9
 returns : tie.Need-returns
-returns c = search room-tables
+returns c = search room_tables
 
 -- src/inner.rt:24:1
 returns-2 : tie.Need-returns-2
-returns-2 c = search room-else
+returns-2 c = search room_else
 
 pub has-room-spec : {M : Type 1} → statement M
 has-room-spec = tie.close (tie.spec by-tables-requires has-room-requires returns returns-2)

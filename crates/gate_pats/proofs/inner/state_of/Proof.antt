@@ -1,4 +1,4 @@
-use Rattle.gate_pats.proofs.Laws.{whole_room, is-full, is-ready, used-ready, broken, unused, unused-ready}
+use Rattle.gate_pats.proofs.Laws.{whole_room, is_full_lem, is_ready, used_ready, broken, unused, unused_ready}
 use borrow.Author.Rules.{rules}
 use Rattle.gate_pats.proofs.inner.state_of.Statement.{statement}
 use Rattle.gate_pats.proofs.inner.state_of.Tie as tie
@@ -22,11 +22,11 @@ is-full-requires c κs = search whole_room
 
 -- src/inner.rt:61:17
 returns : tie.Need-returns
-returns c = (search is-full, tt)
+returns c = (search is_full_lem, tt)
 
 -- src/inner.rt:63:13
 returns-2 : tie.Need-returns-2
-returns-2 c = (search is-ready, search used-ready)
+returns-2 c = (search is_ready, search used_ready)
 
 -- src/inner.rt:65:9
 returns-3 : tie.Need-returns-3
@@ -34,7 +34,7 @@ returns-3 c = (search broken, tt)
 
 -- src/inner.rt:54:1
 returns-4 : tie.Need-returns-4
-returns-4 c = (search unused, search unused-ready)
+returns-4 c = (search unused, search unused_ready)
 
 pub state-of-spec : {M : Type 1} → statement M
 state-of-spec =

@@ -1,4 +1,4 @@
-use Rattle.gate_pats.proofs.Laws.{ready-after, taken-told}
+use Rattle.gate_pats.proofs.Laws.{ready_after, taken_told}
 use borrow.Author.Rules.{rules}
 use Rattle.gate_pats.proofs.inner.take.Statement.{statement}
 use Rattle.gate_pats.proofs.inner.take.Tie as tie
@@ -13,7 +13,7 @@ offer-requires c κs = search rules
 
 -- src/inner.rt:118:5
 enter-requires : tie.Need-enter-requires
-enter-requires c κs = search ready-after
+enter-requires c κs = search ready_after
 
 -- src/inner.rt:100:1
 same_length : tie.Need-same-length
@@ -37,7 +37,7 @@ same-length-5 c = search rules
 
 -- src/inner.rt:100:1
 returns : tie.Need-returns
-returns c = search taken-told
+returns c = search taken_told
 
 pub take_spec : {M : Type 1} → statement M
 take_spec =

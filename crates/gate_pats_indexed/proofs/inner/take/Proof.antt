@@ -1,5 +1,5 @@
 use Rattle.ring_index.specs.Store.{index_of}
-use Rattle.gate_pats_indexed.proofs.Laws.{ready-after, taken-told}
+use Rattle.gate_pats_indexed.proofs.Laws.{ready_after, taken_told}
 use borrow.Author.Rules.{rules}
 use Rattle.gate_pats_indexed.proofs.inner.take.Statement.{statement}
 use Rattle.gate_pats_indexed.proofs.inner.take.Tie as tie
@@ -17,7 +17,7 @@ enter-requires : tie.Need-enter-requires
 enter-requires c κs =
     let a = c.before.before.before.before.before.before.before.before.before.before.before.before.before.before.before.before.before.before.before.before.before.before.before.before.before.before.before.args in
     let o = c.before.before.before.before.before.before.before.before.before.before.before.before.before.offer in
-    ready-after a.gate a.counters a.keys.now a.changes.now (index_of a.buckets.now a.links.now) a.words.now a.pat-slots.now a.pat-cells.now a.input a.pid a.section.now
+    ready_after a.gate a.counters a.keys.now a.changes.now (index_of a.buckets.now a.links.now) a.words.now a.pat-slots.now a.pat-cells.now a.input a.pid a.section.now
     o.result o.new.1.1.0 o.new.1.1.1.0 (index_of o.new.1.1.1.1.0 o.new.1.1.1.1.1.0) o.new.1.1.1.1.1.1.0 c.before.before.before.before.before.before.before.before.before.before.before.before.before.before.before.before.before.before.before.before.before.before.before.before.before.before.before.requires o.ensures
 
 -- src/inner.rt:12:1
@@ -50,7 +50,7 @@ same-length-7 c = search rules
 
 -- src/inner.rt:12:1
 returns : tie.Need-returns
-returns c = search taken-told
+returns c = search taken_told
 
 pub take_spec : {M : Type 1} → statement M
 take_spec =

@@ -4,7 +4,7 @@ use Prim.Native.Nat.{ℕ, ◌≤◌, ◌-◌, ◌/◌, ◌%◌}
 use lib.ListN.{drop, get_or, length}
 use lib.Dec.{eqb}
 use Rattle.laws.specs.Lists.{every}
-use Rattle.laws.proofs.Search.{every-turn, every-end}
+use Rattle.laws.proofs.Search.{every_turn, every_end}
 use borrow.Author.Rules.{rules}
 use Rattle.guides.proofs.inner.agree.Statement.{statement}
 use Rattle.guides.proofs.inner.agree.Tie as tie
@@ -34,10 +34,10 @@ loop-less : tie.Need-loop-smaller invariant-loop decreases-loop
 loop-less c = search rules
 
 loop-again : tie.Need-loop-preserved invariant-loop decreases-loop
-loop-again c = (search rules, every-turn (λ (w : ℕ). eqb (w / c.before.before.before.args.weight % 2) 0) c.before.before.before.args.words.now 0 c.before.before.loop.t c.before.before.loop.ok (eqb (get_or c.before.before.before.args.words.now c.before.before.loop.t 0 / c.before.before.before.args.weight % 2) 0) c.before.loop-test.true refl c.before.before.loop.invariant.1)
+loop-again c = (search rules, every_turn (λ (w : ℕ). eqb (w / c.before.before.before.args.weight % 2) 0) c.before.before.before.args.words.now 0 c.before.before.loop.t c.before.before.loop.ok (eqb (get_or c.before.before.before.args.words.now c.before.before.loop.t 0 / c.before.before.before.args.weight % 2) 0) c.before.loop-test.true refl c.before.before.loop.invariant.1)
 
 returns : tie.Need-returns invariant-loop decreases-loop
-returns c = every-end (λ (w : ℕ). eqb (w / c.before.before.args.weight % 2) 0) c.before.before.args.words.now c.before.loop.t c.before.loop.ok c.loop-test.false c.before.loop.invariant.1
+returns c = every_end (λ (w : ℕ). eqb (w / c.before.before.args.weight % 2) 0) c.before.before.args.words.now c.before.loop.t c.before.loop.ok c.loop-test.false c.before.loop.invariant.1
 
 pub agree-spec : {M : Type 1} → statement M
 agree-spec =

@@ -1,4 +1,4 @@
-use Rattle.guides.proofs.Ways.{held-where}
+use Rattle.guides.proofs.Ways.{held_where}
 use borrow.Author.Rules.{rules}
 use Rattle.guides.proofs.inner.held_by.Statement.{statement}
 use Rattle.guides.proofs.inner.held_by.Tie as tie
@@ -25,7 +25,7 @@ told-held-requires : tie.Need-told-held-requires
 told-held-requires c κs = search rules
 
 returns : tie.Need-returns
-returns c = search held-where
+returns c = search held_where
 
 pub held-by-spec : {M : Type 1} → statement M
 held-by-spec =

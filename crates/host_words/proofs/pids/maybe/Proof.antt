@@ -1,4 +1,4 @@
-use Rattle.host_words.proofs.Laws.{pid-none, pid-some}
+use Rattle.host_words.proofs.Laws.{pid_none, pid_some}
 use borrow.Author.Rules.{rules}
 use Rattle.host_words.proofs.pids.maybe.Statement.{statement}
 use Rattle.host_words.proofs.pids.maybe.Tie as tie
@@ -12,11 +12,11 @@ number-requires c κs = search rules
 
 -- src/pids.rt:14:1
 returns : tie.Need-returns
-returns c = search pid-none
+returns c = search pid_none
 
 -- src/pids.rt:14:1
 returns-2 : tie.Need-returns-2
-returns-2 c = search pid-some
+returns-2 c = search pid_some
 
 pub maybe-spec : {M : Type 1} → statement M
 maybe-spec = tie.close (tie.spec number-requires returns returns-2)

@@ -1,4 +1,4 @@
-use Rattle.host_words.proofs.Laws.{section-written}
+use Rattle.host_words.proofs.Laws.{section_written}
 use borrow.Author.Rules.{rules}
 use Rattle.host_words.proofs.sections.write.Statement.{statement}
 use Rattle.host_words.proofs.sections.write.Tie as tie
@@ -13,7 +13,7 @@ enum-told-3 : tie.Need-enum-told-3
 enum-told-3 c = search rules
 
 returns : tie.Need-returns
-returns c = search section-written
+returns c = search section_written
 
 returns-2 : tie.Need-returns-2
 returns-2 c = search rules

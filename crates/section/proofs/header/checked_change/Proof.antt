@@ -1,4 +1,4 @@
-use Rattle.section.proofs.Laws.{checked-all, checked-stored}
+use Rattle.section.proofs.Laws.{checked_all, checked_stored}
 use borrow.Author.Rules.{rules}
 use Rattle.section.proofs.header.checked_change.Statement.{statement}
 use Rattle.section.proofs.header.checked_change.Tie as tie
@@ -25,11 +25,11 @@ stored-crc-requires c κs = search rules
 
 -- src/header.rt:188:1
 returns : tie.Need-returns
-returns c = search checked-all
+returns c = search checked_all
 
 -- src/header.rt:188:1
 returns-2 : tie.Need-returns-2
-returns-2 c = search checked-stored
+returns-2 c = search checked_stored
 
 pub checked-change-spec : {M : Type 1} → statement M
 checked-change-spec =

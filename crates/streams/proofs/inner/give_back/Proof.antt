@@ -1,15 +1,15 @@
-use Rattle.streams.proofs.Laws.{back-turn-of, back_end}
+use Rattle.streams.proofs.Laws.{back_turn_of, back_end}
 use mathlib.Core.Path.{◌≡◌, refl}
 use Prim.Native.Nat.{◌≤◌, ◌-◌, ◌*◌}
 use native.Mathlib.Omega.{arith}
 use lib.ListN.{length}
-use Rattle.streams.specs.Store.{givenBack, left_of}
+use Rattle.streams.specs.Store.{given_back, left_of}
 use borrow.Author.Rules.{rules}
 use Rattle.streams.proofs.inner.give_back.Statement.{statement}
 use Rattle.streams.proofs.inner.give_back.Tie as tie
 
 abbrev invariant-loop : tie.invariant-loop
-invariant-loop pids₀ before after k₀ pids k = (k ≤ 128) × (length pids ≡ length pids₀) × (givenBack (left_of before after) (k * 64) pids ≡ givenBack (left_of before after) 8192 pids₀)
+invariant-loop pids₀ before after k₀ pids k = (k ≤ 128) × (length pids ≡ length pids₀) × (given_back (left_of before after) (k * 64) pids ≡ given_back (left_of before after) 8192 pids₀)
 
 abbrev decreases-loop : tie.decreases-loop
 decreases-loop pids₀ before after k₀ pids k = k
@@ -42,7 +42,7 @@ loop-less : tie.Need-loop-smaller invariant-loop decreases-loop
 loop-less c = search rules
 
 loop-again : tie.Need-loop-preserved invariant-loop decreases-loop
-loop-again c = (search rules, search rules, search back-turn-of)
+loop-again c = (search rules, search rules, search back_turn_of)
 
 same_length : tie.Need-same-length invariant-loop decreases-loop
 same_length c = search rules

@@ -1,4 +1,4 @@
-use Rattle.streams.proofs.Laws.{second_word, third-word, fourth-word, pid-gone, pid-stays}
+use Rattle.streams.proofs.Laws.{second_word, third_word, fourth_word, pid_gone, pid_stays}
 use borrow.Author.Rules.{rules}
 use Rattle.streams.proofs.inner.give_pid.Statement.{statement}
 use Rattle.streams.proofs.inner.give_pid.Tie as tie
@@ -28,7 +28,7 @@ mul-pids-3 : tie.Need-overflow-mul-pids-3
 mul-pids-3 c = search rules
 
 slice-write-pids-3 : tie.Need-slice-write-pids-3
-slice-write-pids-3 c = search third-word
+slice-write-pids-3 c = search third_word
 
 add-pids-3 : tie.Need-overflow-add-pids-3
 add-pids-3 c = search rules
@@ -37,16 +37,16 @@ mul-pids-4 : tie.Need-overflow-mul-pids-4
 mul-pids-4 c = search rules
 
 slice-write-pids-4 : tie.Need-slice-write-pids-4
-slice-write-pids-4 c = search fourth-word
+slice-write-pids-4 c = search fourth_word
 
 same_length : tie.Need-same-length
 same_length c = search rules
 
 returns : tie.Need-returns
-returns c = search pid-gone
+returns c = search pid_gone
 
 returns-2 : tie.Need-returns-2
-returns-2 c = search pid-stays
+returns-2 c = search pid_stays
 
 pub give-pid-spec : {M : Type 1} → statement M
 give-pid-spec =

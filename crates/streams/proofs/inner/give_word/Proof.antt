@@ -1,4 +1,4 @@
-use Rattle.streams.proofs.Laws.{word_none, word-turn, word_end}
+use Rattle.streams.proofs.Laws.{word_none, word_turn, word_end}
 use mathlib.Core.Path.{◌≡◌, refl}
 use Prim.Native.Nat.{◌≤◌, ◌-◌}
 use native.Mathlib.Omega.{arith}
@@ -39,7 +39,7 @@ loop-less : tie.Need-loop-smaller invariant-loop decreases-loop
 loop-less c = search rules
 
 loop-again : tie.Need-loop-preserved invariant-loop decreases-loop
-loop-again c = (search rules, search rules, search word-turn)
+loop-again c = (search rules, search rules, search word_turn)
 
 same_length : tie.Need-same-length invariant-loop decreases-loop
 same_length c = search rules

@@ -1,4 +1,4 @@
-use Rattle.streams.proofs.Laws.{mark-some, mark-none}
+use Rattle.streams.proofs.Laws.{mark_some, mark_none}
 use borrow.Author.Rules.{rules}
 use Rattle.streams.proofs.inner.mark.Statement.{statement}
 use Rattle.streams.proofs.inner.mark.Tie as tie
@@ -22,10 +22,10 @@ element-write-map : tie.Need-element-write-map
 element-write-map c = search rules
 
 returns : tie.Need-returns
-returns c = search mark-some
+returns c = search mark_some
 
 returns-2 : tie.Need-returns-2
-returns-2 c = search mark-none
+returns-2 c = search mark_none
 
 pub mark_spec : {M : Type 1} → statement M
 mark_spec =

@@ -1,14 +1,14 @@
-use Rattle.streams.proofs.Laws.{mark-turn, mark-end}
+use Rattle.streams.proofs.Laws.{mark_turn, mark_end}
 use mathlib.Core.Path.{◌≡◌, refl}
 use Prim.Native.Nat.{◌≤◌, ◌-◌}
 use native.Mathlib.Omega.{arith}
 use borrow.Author.Rules.{rules}
-use Rattle.streams.specs.Store.{markedTo}
+use Rattle.streams.specs.Store.{marked_to}
 use Rattle.streams.proofs.inner.mark_to.Statement.{statement}
 use Rattle.streams.proofs.inner.mark_to.Tie as tie
 
 abbrev invariant-loop : tie.invariant-loop
-invariant-loop map₀ pids to count n₀ map n = (n ≤ to) × (markedTo pids count n map ≡ markedTo pids count to map₀)
+invariant-loop map₀ pids to count n₀ map n = (n ≤ to) × (marked_to pids count n map ≡ marked_to pids count to map₀)
 
 abbrev decreases-loop : tie.decreases-loop
 decreases-loop map₀ pids to count n₀ map n = n
@@ -35,10 +35,10 @@ loop-less : tie.Need-loop-smaller invariant-loop decreases-loop
 loop-less c = search rules
 
 loop-again : tie.Need-loop-preserved invariant-loop decreases-loop
-loop-again c = (search rules, search mark-turn)
+loop-again c = (search rules, search mark_turn)
 
 returns : tie.Need-returns invariant-loop decreases-loop
-returns c = search mark-end
+returns c = search mark_end
 
 pub mark-to-spec : {M : Type 1} → statement M
 mark-to-spec =

@@ -1,4 +1,4 @@
-use Rattle.streams.proofs.Laws.{second_word, third-word, fourth-word}
+use Rattle.streams.proofs.Laws.{second_word, third_word, fourth_word}
 use borrow.Author.Rules.{rules}
 use Rattle.streams.proofs.inner.put.Statement.{statement}
 use Rattle.streams.proofs.inner.put.Tie as tie
@@ -31,7 +31,7 @@ mul-pids-3 : tie.Need-overflow-mul-pids-3
 mul-pids-3 c = search rules
 
 slice-write-pids-3 : tie.Need-slice-write-pids-3
-slice-write-pids-3 c = search third-word
+slice-write-pids-3 c = search third_word
 
 add-pids-3 : tie.Need-overflow-add-pids-3
 add-pids-3 c = search rules
@@ -40,7 +40,7 @@ mul-pids-4 : tie.Need-overflow-mul-pids-4
 mul-pids-4 c = search rules
 
 slice-write-pids-4 : tie.Need-slice-write-pids-4
-slice-write-pids-4 c = search fourth-word
+slice-write-pids-4 c = search fourth_word
 
 same_length : tie.Need-same-length
 same_length c = search rules

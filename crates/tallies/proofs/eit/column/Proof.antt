@@ -1,4 +1,4 @@
-use Rattle.tallies.proofs.Ways.{eit-refused}
+use Rattle.tallies.proofs.Ways.{eit_refused}
 use borrow.Author.Rules.{rules}
 use Rattle.tallies.proofs.eit.column.Statement.{statement}
 use Rattle.tallies.proofs.eit.column.Tie as tie
@@ -40,7 +40,7 @@ returns-3 c = search rules
 
 -- src/eit.rt:29:1
 returns-4 : tie.Need-returns-4
-returns-4 c = search eit-refused
+returns-4 c = search eit_refused
 
 pub column-spec : {M : Type 1} → statement M
 column-spec =

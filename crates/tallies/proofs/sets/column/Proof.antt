@@ -1,4 +1,4 @@
-use Rattle.tallies.proofs.Ways.{set-refused}
+use Rattle.tallies.proofs.Ways.{set_refused}
 use borrow.Author.Rules.{rules}
 use Rattle.tallies.proofs.sets.column.Statement.{statement}
 use Rattle.tallies.proofs.sets.column.Tie as tie
@@ -32,7 +32,7 @@ returns-2 c = search rules
 
 -- src/sets.rt:24:1
 returns-3 : tie.Need-returns-3
-returns-3 c = search set-refused
+returns-3 c = search set_refused
 
 pub column-spec : {M : Type 1} → statement M
 column-spec =

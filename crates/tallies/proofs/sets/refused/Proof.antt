@@ -1,4 +1,4 @@
-use Rattle.tallies.proofs.Ways.{set-conflict, set-no-cell, set_other}
+use Rattle.tallies.proofs.Ways.{set_conflict, set_no_cell, set_other}
 use borrow.Author.Rules.{rules}
 use Rattle.tallies.proofs.sets.refused.Statement.{statement}
 use Rattle.tallies.proofs.sets.refused.Tie as tie
@@ -12,11 +12,11 @@ number-requires c κs = search rules
 
 -- src/sets.rt:16:9
 returns : tie.Need-returns
-returns c = search set-conflict
+returns c = search set_conflict
 
 -- src/sets.rt:19:9
 returns-2 : tie.Need-returns-2
-returns-2 c = search set-no-cell
+returns-2 c = search set_no_cell
 
 -- src/sets.rt:11:1
 returns-3 : tie.Need-returns-3

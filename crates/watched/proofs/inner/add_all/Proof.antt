@@ -4,13 +4,13 @@ use mathlib.Core.Path.{◌≡◌, refl, sym, ◌∙◌}
 use Prim.Native.Nat.{◌≤◌, ◌-◌}
 use native.Mathlib.Omega.{arith}
 use lib.ListN.{length, drop}
-use Rattle.laws.specs.Bits.{addBits}
-use Rattle.watched.proofs.Laws.{add_turn, add-end, pid-at}
+use Rattle.laws.specs.Bits.{add_bits}
+use Rattle.watched.proofs.Laws.{add_turn, add_end, pid_at}
 use Rattle.watched.proofs.inner.add_all.Statement.{statement}
 use Rattle.watched.proofs.inner.add_all.Tie as tie
 
 abbrev invariant-loop : tie.invariant-loop
-invariant-loop set₀ pids i₀ set i = (i ≤ length pids) × (addBits set (drop i pids) ≡ addBits set₀ pids)
+invariant-loop set₀ pids i₀ set i = (i ≤ length pids) × (add_bits set (drop i pids) ≡ add_bits set₀ pids)
 
 abbrev decreases-loop : tie.decreases-loop
 decreases-loop set₀ pids i₀ set i = length pids - i
@@ -25,7 +25,7 @@ shared-slice-read-t9 : tie.Need-shared-slice-read-t9 invariant-loop decreases-lo
 shared-slice-read-t9 c = search rules
 
 add-requires : tie.Need-add-requires invariant-loop decreases-loop
-add-requires c κs = pid-at c.before.before.before.before.before.args.pids.now c.before.before.before.loop.i c.before.before.before.before.before.requires c.before.before.loop-test.true
+add-requires c κs = pid_at c.before.before.before.before.before.args.pids.now c.before.before.before.loop.i c.before.before.before.before.before.requires c.before.before.loop-test.true
 
 add-i : tie.Need-overflow-add-i invariant-loop decreases-loop
 add-i c = search rules
@@ -40,7 +40,7 @@ loop-again c = let l = c.before.before.before.before.loop in
 
 returns : tie.Need-returns invariant-loop decreases-loop
 returns c = let l = c.before.loop in
-    sym (add-end c.before.before.before.args.pids.now l.i l.set (omega arith)) ∙ l.invariant.1
+    sym (add_end c.before.before.before.args.pids.now l.i l.set (omega arith)) ∙ l.invariant.1
 
 pub add-all-spec : {M : Type 1} → statement M
 add-all-spec =

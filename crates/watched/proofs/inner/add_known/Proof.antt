@@ -1,5 +1,5 @@
 -- `watched::inner::add_known` meets its contract: the eight are PIDs. Assumes nothing.
-use Rattle.watched.proofs.Laws.{known-good}
+use Rattle.watched.proofs.Laws.{known_good}
 use borrow.Author.Rules.{rules}
 use Rattle.watched.proofs.inner.add_known.Statement.{statement}
 use Rattle.watched.proofs.inner.add_known.Tie as tie
@@ -11,7 +11,7 @@ slice-aggregate-add-all : tie.Need-slice-aggregate-add-all
 slice-aggregate-add-all c = search rules
 
 add-all-requires : tie.Need-add-all-requires
-add-all-requires c κs = rw c.before.before.well-known.ensures known-good
+add-all-requires c κs = rw c.before.before.well-known.ensures known_good
 
 returns : tie.Need-returns
 returns c = rw (c.before.before.before.before.if1.true, ← c.before.before.before.well-known.ensures) c.add-all.ensures

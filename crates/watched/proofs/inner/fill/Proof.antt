@@ -1,6 +1,6 @@
 -- `watched::inner::fill` meets its contract: the three sets written are the words. Assumes nothing.
 use mathlib.Core.Path.{◌∙◌}
-use Rattle.watched.proofs.Laws.{fill-opened}
+use Rattle.watched.proofs.Laws.{fill_opened}
 use borrow.Author.Rules.{rules}
 use Rattle.watched.proofs.inner.fill.Statement.{statement}
 use Rattle.watched.proofs.inner.fill.Tie as tie
@@ -33,7 +33,7 @@ same_length : tie.Need-same-length
 same_length c = search rules
 
 returns : tie.Need-returns
-returns c = c.before.before.put3.ensures ∙ rw (c.before.before.before.before.before.before.before.put2.ensures, c.before.before.before.before.before.before.before.before.before.before.before.before.put.ensures) (fill-opened c.before.before.before.before.before.before.before.before.before.before.before.before.before.before.before.before.before.before.before.args.words.now c.before.before.before.before.before.before.before.before.before.before.before.before.before.before.before.before.before.before.before.args.well-known c.before.before.before.before.before.before.before.before.before.before.before.before.before.before.before.before.before.before.before.args.extra.now c.before.before.before.before.before.before.before.before.before.before.before.before.before.before.before.before.protected-set.result c.before.before.before.before.before.before.before.before.before.before.before.before.before.before.before.no-pids.result c.before.before.before.before.before.before.before.before.before.before.before.before.before.before.before.before.before.before.before.requires.0 c.before.before.before.before.before.before.before.before.before.before.before.before.before.before.before.before.protected-set.ensures c.before.before.before.before.before.before.before.before.before.before.before.before.before.before.before.no-pids.ensures)
+returns c = c.before.before.put3.ensures ∙ rw (c.before.before.before.before.before.before.before.put2.ensures, c.before.before.before.before.before.before.before.before.before.before.before.before.put.ensures) (fill_opened c.before.before.before.before.before.before.before.before.before.before.before.before.before.before.before.before.before.before.before.args.words.now c.before.before.before.before.before.before.before.before.before.before.before.before.before.before.before.before.before.before.before.args.well-known c.before.before.before.before.before.before.before.before.before.before.before.before.before.before.before.before.before.before.before.args.extra.now c.before.before.before.before.before.before.before.before.before.before.before.before.before.before.before.before.protected-set.result c.before.before.before.before.before.before.before.before.before.before.before.before.before.before.before.no-pids.result c.before.before.before.before.before.before.before.before.before.before.before.before.before.before.before.before.before.before.before.requires.0 c.before.before.before.before.before.before.before.before.before.before.before.before.before.before.before.before.protected-set.ensures c.before.before.before.before.before.before.before.before.before.before.before.before.before.before.before.no-pids.ensures)
 
 pub fill_spec : {M : Type 1} → statement M
 fill_spec =

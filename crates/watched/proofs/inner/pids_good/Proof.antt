@@ -5,13 +5,13 @@ use mathlib.Core.Bool.{◌&&◌}
 use Prim.Native.Nat.{◌≤◌, ◌-◌}
 use native.Mathlib.Omega.{arith}
 use lib.ListN.{length, drop}
-use Rattle.watched.specs.Store.{allPids}
-use Rattle.watched.proofs.Laws.{judge-turn, judge-end}
+use Rattle.watched.specs.Store.{all_pids}
+use Rattle.watched.proofs.Laws.{judge_turn, judge_end}
 use Rattle.watched.proofs.inner.pids_good.Statement.{statement}
 use Rattle.watched.proofs.inner.pids_good.Tie as tie
 
 abbrev invariant-loop : tie.invariant-loop
-invariant-loop extra good₀ i₀ good i = (i ≤ length extra) × ((good && allPids (drop i extra)) ≡ allPids extra)
+invariant-loop extra good₀ i₀ good i = (i ≤ length extra) × ((good && all_pids (drop i extra)) ≡ all_pids extra)
 
 abbrev decreases-loop : tie.decreases-loop
 decreases-loop extra good₀ i₀ good i = length extra - i
@@ -34,11 +34,11 @@ loop-less c = search rules
 loop-again : tie.Need-loop-preserved invariant-loop decreases-loop
 loop-again c = let l = c.before.before.loop in
     let xs = c.before.before.before.args.extra.now in
-    (omega arith, sym (judge-turn xs l.i l.good c.before.loop-test.true) ∙ l.invariant.1)
+    (omega arith, sym (judge_turn xs l.i l.good c.before.loop-test.true) ∙ l.invariant.1)
 
 returns : tie.Need-returns invariant-loop decreases-loop
 returns c = let l = c.before.loop in
-    sym (judge-end c.before.before.args.extra.now l.i l.good (omega arith)) ∙ l.invariant.1
+    sym (judge_end c.before.before.args.extra.now l.i l.good (omega arith)) ∙ l.invariant.1
 
 pub pids-good-spec : {M : Type 1} → statement M
 pids-good-spec =

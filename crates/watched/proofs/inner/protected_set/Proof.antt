@@ -1,7 +1,7 @@
 -- `watched::inner::protected_set` meets its contract: the well-known PIDs and then the extra ones. Assumes nothing.
-use Rattle.watched.specs.Store.{noPids}
+use Rattle.watched.specs.Store.{no_pids}
 use mathlib.Core.Path.{◌∙◌}
-use Rattle.watched.proofs.Laws.{protect-all}
+use Rattle.watched.proofs.Laws.{protect_all}
 use borrow.Author.Rules.{rules}
 use Rattle.watched.proofs.inner.protected_set.Statement.{statement}
 use Rattle.watched.proofs.inner.protected_set.Tie as tie
@@ -16,7 +16,7 @@ add-all-requires : tie.Need-add-all-requires
 add-all-requires c κs = search rules
 
 returns : tie.Need-returns
-returns c = c.add-all.ensures ∙ rw (c.before.before.add-known.ensures, c.before.before.before.before.no-pids.ensures) (protect-all noPids c.before.before.before.before.before.before.args.well-known c.before.before.before.before.before.before.args.extra.now)
+returns c = c.add-all.ensures ∙ rw (c.before.before.add-known.ensures, c.before.before.before.before.no-pids.ensures) (protect_all no_pids c.before.before.before.before.before.before.args.well-known c.before.before.before.before.before.before.args.extra.now)
 
 pub protected-set-spec : {M : Type 1} → statement M
 protected-set-spec =

@@ -5,9 +5,9 @@ use Prim.Native.Nat.{◌≤◌, ◌-◌}
 use native.Mathlib.Omega.{arith}
 use lib.ListN.{length, length-set}
 use lib.Seq.{paste, paste-zero}
-use Rattle.laws.proofs.Lists.{paste-end}
+use Rattle.laws.proofs.Lists.{paste_end}
 use Rattle.watched.specs.Store.{renewed}
-use Rattle.watched.proofs.Laws.{renew-turn}
+use Rattle.watched.proofs.Laws.{renew_turn}
 use Rattle.watched.proofs.inner.renew.Statement.{statement}
 use Rattle.watched.proofs.inner.renew.Tie as tie
 
@@ -67,7 +67,7 @@ loop-less c = search rules
 
 loop-again : tie.Need-loop-preserved invariant-loop decreases-loop
 loop-again c = let l = c.before.before.before.before.before.before.loop in
-    (omega arith, simp length-set l.invariant.1, rw c.renewed-word.ensures (renew-turn c.before.before.before.before.before.before.before.before.before.args.words.now c.before.before.before.before.before.before.before.before.before.args.n.now c.before.before.before.before.before.before.before.before.before.requires.0 c.before.before.before.before.before.before.before.before.before.requires.1 l.words l.i l.invariant.2 c.before.before.before.before.before.loop-test.true))
+    (omega arith, simp length-set l.invariant.1, rw c.renewed-word.ensures (renew_turn c.before.before.before.before.before.before.before.before.before.args.words.now c.before.before.before.before.before.before.before.before.before.args.n.now c.before.before.before.before.before.before.before.before.before.requires.0 c.before.before.before.before.before.before.before.before.before.requires.1 l.words l.i l.invariant.2 c.before.before.before.before.before.loop-test.true))
 
 same_length : tie.Need-same-length invariant-loop decreases-loop
 same_length c = search rules
@@ -75,7 +75,7 @@ same_length c = search rules
 returns : tie.Need-returns invariant-loop decreases-loop
 returns c = let l = c.before.loop in
     let w = c.before.before.before.before.args.words.now in
-    paste-end w l.words 0 (renewed w c.before.before.before.before.args.n.now) l.i 128 l.invariant.2 (omega arith)
+    paste_end w l.words 0 (renewed w c.before.before.before.before.args.n.now) l.i 128 l.invariant.2 (omega arith)
 
 pub renew-spec : {M : Type 1} → statement M
 renew-spec =

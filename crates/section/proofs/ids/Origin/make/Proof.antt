@@ -1,5 +1,5 @@
 -- `section::ids::Origin::make` meets its contract: one law for each way out. Assumes nothing.
-use Rattle.section.proofs.Facts.{origin-made, origin-nowhere, origin-refused}
+use Rattle.section.proofs.Facts.{origin_made_lem, origin_nowhere, origin_refused}
 use borrow.Author.Rules.{rules}
 use Rattle.section.proofs.ids.Origin.make.Statement.{statement}
 use Rattle.section.proofs.ids.Origin.make.Tie as tie
@@ -34,15 +34,15 @@ enum-told-2 c = search rules
 
 -- src/ids.rt:95:5
 returns : tie.Need-returns
-returns c = search origin-made
+returns c = search origin_made_lem
 
 -- src/ids.rt:95:5
 returns-2 : tie.Need-returns-2
-returns-2 c = search origin-nowhere
+returns-2 c = search origin_nowhere
 
 -- src/ids.rt:95:5
 returns-3 : tie.Need-returns-3
-returns-3 c = search origin-refused
+returns-3 c = search origin_refused
 
 pub make_spec : {M : Type 1} → statement M
 make_spec =
