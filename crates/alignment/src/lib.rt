@@ -10,7 +10,7 @@ use packet::PACKET_BYTES;
 const SYNC_BYTE: u8 = 0x47;
 
 // What stands at the front of the window.
-#[derive(Drop)]
+#[derive(Clone, Copy)]
 pub enum Next {
     // 188 bytes that begin with the sync byte: a packet.
     Packet,
@@ -27,7 +27,7 @@ pub enum Next {
 }
 
 // What stands there, and how many bytes of the window are used up by it.
-#[derive(Drop)]
+#[derive(Clone, Copy)]
 pub struct Step {
     pub next: Next,
     pub used: usize,

@@ -4,7 +4,7 @@ ghost use Rattle.std.specs.Prelude.{◌≡◌};
 ghost use Rattle.answers.specs.Answers.{refusal_no, outcome_no, reply_no};
 
 // Why a call did not do what it was asked for.
-#[derive(Drop)]
+#[derive(Clone, Copy)]
 pub enum Refusal {
     NotWhole,
     CounterFull,
@@ -25,14 +25,14 @@ pub enum Refusal {
 }
 
 // What opening, clearing or dropping answers.
-#[derive(Drop)]
+#[derive(Clone, Copy)]
 pub enum Outcome {
     Done,
     Refused(Refusal),
 }
 
 // What a question answers.
-#[derive(Drop)]
+#[derive(Clone, Copy)]
 pub enum Reply {
     Yes,
     No,

@@ -13,21 +13,21 @@ use section::header::{Collected, Header};
 use section::ids::{MaybePid, OriginMade};
 
 // The words of a key that say where a section came from, or why there is no such place.
-#[derive(Drop)]
+#[derive(Clone, Copy)]
 pub enum OriginWords {
     Are(Origin),
     Refused(Refusal),
 }
 
 // What a section says to the set collector.
-#[derive(Drop)]
+#[derive(Clone, Copy)]
 pub enum SetArrival {
     Refused(Refusal),
     Arrived(Entry),
 }
 
 // What an EIT section says: its row and slot; its kind, by number; the word of its segment, segment_last_section_number and 1; last_table_id.
-#[derive(Drop)]
+#[derive(Clone, Copy)]
 pub struct Arrival {
     pub entry: Entry,
     pub kind: u64,
@@ -36,7 +36,7 @@ pub struct Arrival {
 }
 
 // What a section says to the EIT collector.
-#[derive(Drop)]
+#[derive(Clone, Copy)]
 pub enum EitArrival {
     Refused(Refusal),
     Arrived(Arrival),

@@ -11,7 +11,7 @@ use payload::Span;
 
 // The words of a PID: the number of its buffer and 1 (0: none); the counter of its last packet with a payload, and 16 where that was repeated; where in
 // the buffer the bytes under way begin, and how many they are. Every content is whole.
-#[derive(Drop)]
+#[derive(Clone, Copy)]
 pub struct Words {
     pub number: u64,
     pub counter: u64,
@@ -20,14 +20,14 @@ pub struct Words {
 }
 
 // How long the section is that was under way and was finished (0: none was), how many bytes are under way then, how many sections were finished.
-#[derive(Drop)]
+#[derive(Clone, Copy)]
 pub struct Taken {
     pub ended: usize,
     pub under: usize,
     pub count: usize,
 }
 
-#[derive(Drop)]
+#[derive(Clone, Copy)]
 pub struct Stepped {
     pub words: Words,
     pub count: usize,
@@ -85,7 +85,7 @@ fn span_in(buffer: &[u8], words: Words) -> Span
     }
     let first = words.first as usize;
     let end = first + size;
-    if payload::whole_in_lem(&buffer[first..end]) != 0 {
+    if payload::whole_in(&buffer[first..end]) != 0 {
         return Span { first: 0, size: 0 };
     }
     Span { first, size }

@@ -6,7 +6,7 @@ ghost use Rattle.blocks.specs.Blocks.{Kept, Refilled};
 use libc::STDIN_FILENO;
 
 // The bytes from..to of the block were read and are not used up. `last`: the input has ended behind them.
-#[derive(Drop)]
+#[derive(Clone, Copy)]
 pub struct Window {
     pub from: usize,
     pub to: usize,

@@ -8,14 +8,14 @@ use log_reader::{CUT, END, LONGEST, UNKNOWN};
 use log_state::{Run, Settings};
 
 // Whether the log was right so far, and the place of its next record.
-#[derive(Drop)]
+#[derive(Clone, Copy)]
 struct Beside {
     good: bool,
     place: u64,
 }
 
 // The run between two sections, and whether there may be another.
-#[derive(Drop)]
+#[derive(Clone, Copy)]
 struct Between {
     more: bool,
     place: u64,
@@ -49,7 +49,7 @@ fn expect(expected: &[u8], place: u64, buf: &mut [u8; 13]) -> Beside {
 fn same(expected: &[u8], place: u64, buf: &[u8], n: usize) -> Beside
     requires { (n ≤ 13) × (13 ≡ length buf.now) }
 {
-    if cells::same_bytes_lem(&buf[0..n], expected) {
+    if cells::same_bytes(&buf[0..n], expected) {
         return Beside {
             good: true,
             place: std::num::wrapping_add_u64(place, n as u64),

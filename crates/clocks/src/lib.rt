@@ -5,7 +5,7 @@ ghost use Rattle.clocks.specs.Clocks.{is_clock, stamped_of, clock_of};
 use times::{Date, Day, Time};
 
 // A day and the six BCD digits of a time of that day, each digit 0 to 9, on or after the first day that has a date.
-#[derive(Drop)]
+#[derive(Clone, Copy)]
 pub struct Stamp {
     pub day: u16,
     pub hours: u8,
@@ -13,7 +13,7 @@ pub struct Stamp {
     pub seconds: u8,
 }
 
-#[derive(Drop)]
+#[derive(Clone, Copy)]
 pub enum Clock {
     None,
     At(Stamp),

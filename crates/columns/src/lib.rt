@@ -78,7 +78,7 @@ fn row_is(tags: &[u16], heads: &[u64], key: Key, t: u16, i: usize) -> bool
     if tags[i] != t {
         return false;
     }
-    rows::same_key_lem(rows::key_at(heads, i), key)
+    rows::same_key(rows::key_at(heads, i), key)
 }
 
 // Of the rows from a to before e the first that has the key, or e.

@@ -13,21 +13,21 @@ const MOST_ENTRIES: usize = 4096;
 // A buffer has room for the PID, 2,097,152 bytes of sections, and one byte too many.
 const BUFFER: usize = 2097155;
 
-#[derive(Drop)]
+#[derive(Clone, Copy)]
 enum Mode {
     Set,
     Schedule,
     Neither,
 }
 
-#[derive(Drop)]
+#[derive(Clone, Copy)]
 enum Room {
     Entries(usize),
     Bad,
 }
 
 // What a file holds: so many bytes, its PID among them; or that it cannot be read, or has too many.
-#[derive(Drop)]
+#[derive(Clone, Copy)]
 enum File {
     Bytes(usize),
     Unreadable,
@@ -37,10 +37,10 @@ enum File {
 // ---- the arguments
 
 fn mode_of(text: &[u8]) -> Mode {
-    if cells::same_bytes_lem(text, b"set") {
+    if cells::same_bytes(text, b"set") {
         return Mode::Set;
     }
-    if cells::same_bytes_lem(text, b"schedule") {
+    if cells::same_bytes(text, b"schedule") {
         return Mode::Schedule;
     }
     Mode::Neither

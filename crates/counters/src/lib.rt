@@ -5,7 +5,7 @@ ghost use Rattle.counters.specs.Counters.{zeroes, any_full, CanCount, plus_of, c
 
 const LAST: u64 = 18446744073709551615;
 
-#[derive(Drop)]
+#[derive(Clone, Copy)]
 pub struct Counters {
     pub completed: u64,
     pub emitted: u64,

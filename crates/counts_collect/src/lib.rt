@@ -9,7 +9,7 @@ use section::ids::MaybePid;
 use store::Sets;
 
 // Settings and counts of both, by value.
-#[derive(Drop)]
+#[derive(Clone, Copy)]
 pub struct Collectors {
     pub sets: Sets,
     pub eit: Eit,

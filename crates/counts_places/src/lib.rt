@@ -36,7 +36,7 @@ fn collect_at<'a>(
     ensures { held (sets-memory.store result.sets heads.new slots.new cells.new) (eit-memory.store result.eit eit_heads.new eit_slots.new eit_cells.new schedule_heads.new units.new) tally.new ≡ collected_at places.now packet.now buffers.now pid k (held (sets-memory.store c.sets heads.old slots.old cells.old) (eit-memory.store c.eit eit_heads.old eit_slots.old eit_cells.old schedule_heads.old units.old) tally.old) }
 {
     if is_sound(places[k * 6]) {
-        let place = demux_places::place_at_lem(places, k);
+        let place = demux_places::place_at(places, k);
         return counts_collect::collect(
             c,
             heads,

@@ -14,7 +14,7 @@ use stream_cursor::Cursor;
 use streams::Streams;
 
 // Gate, streams and collectors between two packets, and when the last line was written.
-#[derive(Drop)]
+#[derive(Clone, Copy)]
 pub struct Held {
     pub gate: Gate,
     pub counters: Counters,
@@ -24,7 +24,7 @@ pub struct Held {
 }
 
 // What a turn leaves.
-#[derive(Drop)]
+#[derive(Clone, Copy)]
 pub struct Turn {
     pub held: Held,
     pub cursor: Cursor,

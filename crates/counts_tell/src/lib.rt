@@ -72,7 +72,7 @@ fn tell_at<'a>(
     requires { k * 6 + 5 < length places.now }
 {
     if places[k * 6] == EMITTED {
-        let place = demux_places::place_at_lem(places, k);
+        let place = demux_places::place_at(places, k);
         return tell_section(
             last,
             interval,

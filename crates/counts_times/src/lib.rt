@@ -7,7 +7,7 @@ use clocks::Stamp;
 use times::{Seconds, Time};
 
 // The second of the last line that a time had, where there was one.
-#[derive(Drop)]
+#[derive(Clone, Copy)]
 pub struct Last {
     pub any: bool,
     pub at: u64,

@@ -12,7 +12,7 @@ pub const MOST_KEYS: u64 = 128;
 pub const MOST_CELLS: u64 = 256;
 
 // The settings, and whether the words are such.
-#[derive(Drop)]
+#[derive(Clone, Copy)]
 pub struct Words {
     pub good: bool,
     pub capacity: u64,

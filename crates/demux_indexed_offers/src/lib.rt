@@ -28,7 +28,7 @@ fn turn<'a>(
     requires { TurnOk held.gate (record_of words.old pat_slots.old pat_cells.old) pids.old places.old k }
     ensures { held_by result keys.new changes.new (index_of buckets.new links.new) (record_of words.new pat_slots.new pat_cells.new) pids.new places.new ≡ turned packet.now buffers.now input pid k (held_by held keys.old changes.old (index_of buckets.old links.old) (record_of words.old pat_slots.old pat_cells.old) pids.old places.old) }
 {
-    let place = demux_places::place_at_lem(places, k);
+    let place = demux_places::place_at(places, k);
     let offered = demux_indexed_section::offer(
         held.gate,
         held.counters,

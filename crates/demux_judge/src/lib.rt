@@ -10,7 +10,7 @@ use gate_state::{Follow, Gate};
 use streams::Streams;
 
 // A refusal that changes nothing, or a packet that is counted.
-#[derive(Drop)]
+#[derive(Clone, Copy)]
 pub enum Verdict {
     Refused(Refusal),
     Goes(Plan),

@@ -8,7 +8,7 @@ use packet::{Load, Packet};
 use section::ids::Pid;
 
 // A payload that is read: into which buffer, and whether its PID takes that buffer with this packet.
-#[derive(Drop)]
+#[derive(Clone, Copy)]
 pub struct Reading {
     pub load: Load,
     pub number: usize,
@@ -16,7 +16,7 @@ pub struct Reading {
 }
 
 // What a packet comes to.
-#[derive(Drop)]
+#[derive(Clone, Copy)]
 pub enum Plan {
     // 30
     Malformed,

@@ -14,7 +14,7 @@ use streams::Streams;
 pub mod inner;
 
 // How many packets were passed over, and the streams then.
-#[derive(Drop)]
+#[derive(Clone, Copy)]
 pub struct Passed {
     pub number: usize,
     pub streams: Streams,

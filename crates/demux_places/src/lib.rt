@@ -8,7 +8,7 @@ use gate_state::Answer;
 use offers::Failure;
 
 // Where the bytes of a section are: in the packet (0) or in the buffers, the first there, and how many.
-#[derive(Drop)]
+#[derive(Clone, Copy)]
 pub struct Place {
     pub whence: u64,
     pub first: u64,
@@ -16,7 +16,7 @@ pub struct Place {
 }
 
 // An answer as a place tells it: its number, and with 3 the CRC stored and the one worked out.
-#[derive(Drop)]
+#[derive(Clone, Copy)]
 pub struct Outcome {
     pub answer: u64,
     pub stored: u64,
@@ -29,7 +29,7 @@ const IN_PACKET: u64 = 0;
 
 // ---- where a section is
 
-pub fn place_at_lem(places: &[u64], k: usize) -> Place
+pub fn place_at(places: &[u64], k: usize) -> Place
     requires { k * 6 + 5 < length places.now }
     ensures { result ≡ place_at places.now k }
 {

@@ -10,7 +10,7 @@ use streams::Streams;
 
 // What a packet answers: it was taken, and finished so many sections (29); it is malformed (30); its PID needs a section buffer and none is free (43); or a
 // refusal that counts nothing.
-#[derive(Drop)]
+#[derive(Clone, Copy)]
 pub enum Answer {
     Taken(usize),
     Malformed,
@@ -43,7 +43,7 @@ impl Answer {
     }
 }
 
-#[derive(Drop)]
+#[derive(Clone, Copy)]
 pub struct Fed {
     pub answer: Answer,
     pub gate: Gate,

@@ -4,7 +4,7 @@ use counters::Counters;
 use gate_state::Gate;
 
 // The gate by value, between two sections of a packet.
-#[derive(Drop)]
+#[derive(Clone, Copy)]
 pub struct Held {
     pub gate: Gate,
     pub counters: Counters,

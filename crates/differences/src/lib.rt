@@ -8,7 +8,7 @@ ghost use Rattle.differences.specs.Rules.{first_place, table_word, table_words};
 ghost use Rattle.differences.specs.Walk.{SameTo, only_of, difference_of, entry_words, Ranked, all_differences, all_words, Tabled};
 
 // How two sections of one table and number differ: the kind of the entry (0: they do not), and the first differing place.
-#[derive(Drop)]
+#[derive(Clone, Copy)]
 pub struct Difference {
     pub kind: u32,
     pub place: u32,
@@ -41,7 +41,7 @@ fn same_blocks(x: &[u8], y: &[u8]) -> usize
     let n = shorter(x.len(), y.len());
     let mut i = 0;
     while BLOCK <= n - i {
-        if !cells::same_bytes_lem(&x[i..i + BLOCK], &y[i..i + BLOCK]) {
+        if !cells::same_bytes(&x[i..i + BLOCK], &y[i..i + BLOCK]) {
             return i;
         }
         i += BLOCK;

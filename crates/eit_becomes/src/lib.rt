@@ -5,7 +5,7 @@ ghost use Rattle.eit_becomes.specs.Becoming.{own_table, becomes_of, is_marked};
 use arrivals::Arrival;
 
 // What becomes of a set whose row was touched: it stays as it is, it goes out, its table_id is out of range, or it enters its schedule.
-#[derive(Drop)]
+#[derive(Clone, Copy)]
 pub enum Becomes {
     Stays,
     GoesOut,

@@ -9,7 +9,7 @@ use filter::{Fields, Of, Wanted, WantedOrigin};
 use section::ids::{Input, Made, Pid};
 
 // The PID that a filter wants: free, exactly none, which is refused, or exactly a number.
-#[derive(Drop)]
+#[derive(Clone, Copy)]
 pub enum WantedPid {
     Any,
     Without,
@@ -18,7 +18,7 @@ pub enum WantedPid {
 
 // Which sets and schedules a drop takes: each field is free or exact. Kinds are 0 and 1 for present/following actual and other, 2 and 3 for
 // schedule actual and other; current_next is 0 or 1.
-#[derive(Drop)]
+#[derive(Clone, Copy)]
 pub struct Filter {
     pub pid: WantedPid,
     pub kind: Wanted,
@@ -30,14 +30,14 @@ pub struct Filter {
 }
 
 // What a filter wants of where sections came from, in the words of a head, or why none comes from there.
-#[derive(Drop)]
+#[derive(Clone, Copy)]
 pub enum OriginWanted {
     Is(WantedOrigin),
     Refused(Refusal),
 }
 
 // What a drop does: it is refused, or all that matches leaves.
-#[derive(Drop)]
+#[derive(Clone, Copy)]
 pub enum Drop {
     Refuse(Refusal),
     Matching(Fields),

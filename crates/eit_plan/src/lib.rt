@@ -11,14 +11,14 @@ use placing::Place;
 use rows::Room;
 
 // A section that is there already, in a row.
-#[derive(Drop)]
+#[derive(Clone, Copy)]
 pub struct Seen {
     pub arrival: Arrival,
     pub row: usize,
 }
 
 // A section that is kept: what it says, where its row is, and in which cell its bytes go.
-#[derive(Drop)]
+#[derive(Clone, Copy)]
 pub struct Keeping {
     pub arrival: Arrival,
     pub room: Room,
@@ -26,7 +26,7 @@ pub struct Keeping {
 }
 
 // Nothing is written and this is the answer; the section conflicts with what is in its slot, in that row; it is there already; it is kept.
-#[derive(Drop)]
+#[derive(Clone, Copy)]
 pub enum Plan {
     Leave(PushAnswer),
     Conflict(usize),

@@ -15,7 +15,7 @@ use section::ids::MaybePid;
 use store::Sets;
 
 // The sections before `at` are pushed.
-#[derive(Drop)]
+#[derive(Clone, Copy)]
 pub struct Repeats {
     pub eit: Eit,
     pub at: usize,

@@ -9,7 +9,7 @@ use section::bytes::{wide, word};
 use section::ids::ServiceId;
 
 // The four kinds of an EIT (EN 300 468, table 2).
-#[derive(Drop)]
+#[derive(Clone, Copy)]
 pub enum Kind {
     PresentFollowingActual,
     PresentFollowingOther,
@@ -18,7 +18,7 @@ pub enum Kind {
 }
 
 // What a table_id says of an EIT: its kind, or that the section is none.
-#[derive(Drop)]
+#[derive(Clone, Copy)]
 pub enum MaybeKind {
     Some(Kind),
     None,
@@ -40,7 +40,7 @@ impl Kind {
 }
 
 // What an EIT section says before its events.
-#[derive(Drop)]
+#[derive(Clone, Copy)]
 pub struct Eit {
     pub kind: Kind,
     pub service_id: ServiceId,
@@ -51,7 +51,7 @@ pub struct Eit {
 }
 
 // What reading a section as an EIT gives: 18, the table_id is no EIT's; 19, the layout is broken; or the fields.
-#[derive(Drop)]
+#[derive(Clone, Copy)]
 pub enum Reading {
     NotEit,
     Broken,
@@ -64,12 +64,12 @@ pub fn read(s: &[u8]) -> Reading
 {
     match Kind::from_table_id(table_id(s)) {
         MaybeKind::None => Reading::NotEit,
-        MaybeKind::Some(kind) => read_as_lem(s, kind),
+        MaybeKind::Some(kind) => read_as(s, kind),
     }
 }
 
 // The same of a section whose table_id is one of this kind.
-fn read_as_lem(s: &[u8], kind: Kind) -> Reading
+fn read_as(s: &[u8], kind: Kind) -> Reading
     ensures { result ≡ eit_as s.now kind }
 {
     if !is_laid_out(s) {

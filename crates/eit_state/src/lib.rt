@@ -23,7 +23,7 @@ impl Eit {
 }
 
 // What a section leads to. A set or a schedule that goes out is in the row told, until the next call that is no question.
-#[derive(Drop)]
+#[derive(Clone, Copy)]
 pub enum PushAnswer {
     Nothing,
     Set(usize),
@@ -44,14 +44,14 @@ impl PushAnswer {
     }
 }
 
-#[derive(Drop)]
+#[derive(Clone, Copy)]
 pub struct Pushed {
     pub answer: PushAnswer,
     pub eit: Eit,
 }
 
 // What opening, clearing and dropping hand back.
-#[derive(Drop)]
+#[derive(Clone, Copy)]
 pub struct Turned {
     pub answer: Outcome,
     pub eit: Eit,

@@ -5,7 +5,7 @@ use crate::{say, say_hex2, say_hex4, say_number};
 use rows::Key;
 
 // What a run read and printed.
-#[derive(Drop)]
+#[derive(Clone, Copy)]
 pub struct Totals {
     pub sections: u64,
     pub sets: u64,

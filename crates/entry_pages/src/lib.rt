@@ -26,13 +26,13 @@ pub fn no_totals() -> Totals {
 }
 
 // One more; a count at its end stays.
-pub fn one_more_lem(n: u64) -> u64 {
+pub fn one_more(n: u64) -> u64 {
     if n < u64::MAX { n + 1 } else { n }
 }
 
 pub fn one_section(totals: Totals) -> Totals {
     let mut t = totals;
-    t.sections = one_more_lem(t.sections);
+    t.sections = one_more(t.sections);
     t
 }
 
@@ -67,19 +67,19 @@ fn say_entry(words: &[u32], cells: &[u8], totals: Totals) -> Totals
     match words[0] {
         1 => {
             say_event(words, cells);
-            t.events = one_more_lem(t.events);
+            t.events = one_more(t.events);
         }
         3 => {
             entry_lines::say_stream(words);
-            t.streams = one_more_lem(t.streams);
+            t.streams = one_more(t.streams);
         }
         4 => {
             entry_lines::say_service(words);
-            t.services = one_more_lem(t.services);
+            t.services = one_more(t.services);
         }
         _ => {
             say_descriptor(words, cells);
-            t.descriptors = one_more_lem(t.descriptors);
+            t.descriptors = one_more(t.descriptors);
         }
     }
     t
@@ -121,13 +121,13 @@ pub fn say_end(number: u8, section: usize, place: usize) {
 
 fn refuse(totals: Totals) -> Totals {
     let mut t = totals;
-    t.refused = one_more_lem(t.refused);
+    t.refused = one_more(t.refused);
     t
 }
 
 fn pass(totals: Totals) -> Totals {
     let mut t = totals;
-    t.other = one_more_lem(t.other);
+    t.other = one_more(t.other);
     t
 }
 

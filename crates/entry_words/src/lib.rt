@@ -22,7 +22,7 @@ pub const SERVICE_HEADER: usize = 5;
 pub const UNDEFINED: u32 = 4294967295;
 
 // An event as it is read. `descriptors` counts the bytes of its descriptors.
-#[derive(Drop)]
+#[derive(Clone, Copy)]
 pub struct Event {
     pub event_id: u16,
     pub day: Day,

@@ -156,7 +156,7 @@ pub fn tell_set(
         list,
         totals,
     );
-    t.sets = entry_pages::one_more_lem(t.sets);
+    t.sets = entry_pages::one_more(t.sets);
     t
 }
 
@@ -176,7 +176,7 @@ pub fn tell_schedule(
 {
     let tables = say_schedule(schedule_heads, row);
     let mut t = totals;
-    t.schedules = entry_pages::one_more_lem(t.schedules);
+    t.schedules = entry_pages::one_more(t.schedules);
     let mut table = 0;
     while table < tables {
         say_table(schedule_heads, units, row, table);

@@ -9,7 +9,7 @@ use records::Next;
 use section::ids::MaybePid;
 
 // The collector and the totals between two records, and whether there may be another.
-#[derive(Drop)]
+#[derive(Clone, Copy)]
 struct Between {
     more: bool,
     eit: Eit,

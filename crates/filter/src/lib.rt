@@ -9,21 +9,21 @@ use eit_section::{Kind, MaybeKind};
 use rows::{Key, Origin};
 
 // A field of a filter: free, or exactly a word.
-#[derive(Drop)]
+#[derive(Clone, Copy)]
 pub enum Wanted {
     Any,
     Exactly(u64),
 }
 
 // What a filter wants of where a row's sections came from, in the words of a head.
-#[derive(Drop)]
+#[derive(Clone, Copy)]
 pub struct WantedOrigin {
     pub input: Wanted,
     pub pid: Wanted,
 }
 
 // What a filter wants of each field, in the words of a head: the kinds are 0 to 3 as in a schedule's head.
-#[derive(Drop)]
+#[derive(Clone, Copy)]
 pub struct Fields {
     pub from: WantedOrigin,
     pub kind: Wanted,
@@ -34,7 +34,7 @@ pub struct Fields {
 }
 
 // Whose rows: a set's row has 288 words and the table_id in its head, a schedule's 16 units of 288 words and the kind in the table_id's place.
-#[derive(Drop)]
+#[derive(Clone, Copy)]
 pub enum Of {
     Sets,
     Schedules,

@@ -8,7 +8,7 @@ use counters::Counters;
 use gate_state::{Answer, Gate};
 
 // What an offer answers, and the gate after it.
-#[derive(Drop)]
+#[derive(Clone, Copy)]
 pub struct Told {
     pub answer: Answer,
     pub gate: Gate,

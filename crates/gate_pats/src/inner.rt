@@ -10,7 +10,7 @@ use counters::Counters;
 use gate_state::{Answer, Follow, Gate, Offered};
 
 // Whether a call can use the record: a PAT store that is not whole, or one that cannot count, is told only where complete PATs are followed.
-#[derive(Drop)]
+#[derive(Clone, Copy)]
 pub enum State {
     NotWhole,
     Full,

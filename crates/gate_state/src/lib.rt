@@ -43,7 +43,7 @@ impl Follow {
 }
 
 // What a gate is opened with.
-#[derive(Drop)]
+#[derive(Clone, Copy)]
 pub struct Settings {
     // How many keys are kept; 0 acts as 1.
     pub capacity: u64,
@@ -90,7 +90,7 @@ pub struct Gate {
 }
 
 // What an offer answers: 1, 2, 31 or 3 with what tells it, or a refusal.
-#[derive(Drop)]
+#[derive(Clone, Copy)]
 pub enum Answer {
     Emitted,
     Suppressed,
@@ -132,14 +132,14 @@ fn failure_number(failure: Failure) -> u8
     }
 }
 
-#[derive(Drop)]
+#[derive(Clone, Copy)]
 pub struct Offered {
     pub answer: Answer,
     pub gate: Gate,
     pub counters: Counters,
 }
 
-#[derive(Drop)]
+#[derive(Clone, Copy)]
 pub struct Opened {
     pub answer: Outcome,
     pub gate: Gate,

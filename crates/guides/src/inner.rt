@@ -113,10 +113,10 @@ fn told_held(p: usize, n: usize, q: usize, m: usize) -> Holder
         if m == 0 {
             return held_not(HeldAnswer::NotOne);
         }
-        return held_one_lem(2, q, m);
+        return held_one(2, q, m);
     }
     if m == 0 {
-        return held_one_lem(1, p, n);
+        return held_one(1, p, n);
     }
     held_not(HeldAnswer::NotOne)
 }
@@ -132,7 +132,7 @@ pub fn held_not(answer: HeldAnswer) -> Holder
     }
 }
 
-fn held_one_lem(side: u32, start: usize, length: usize) -> Holder
+fn held_one(side: u32, start: usize, length: usize) -> Holder
     ensures { result ≡ held_one side start length }
 {
     Holder {

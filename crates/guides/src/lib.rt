@@ -15,7 +15,7 @@ ghost use Rattle.guides.specs.Store.{compared, listed, compared_schedules, liste
 pub const ENTRY_WORDS: usize = 4;
 
 // What a comparison answers: 8 they differ, 9 they do not; 10, 41, 12, 33 and 34.
-#[derive(Drop)]
+#[derive(Clone, Copy)]
 pub enum CompareAnswer {
     Differ,
     Same,
@@ -27,7 +27,7 @@ pub enum CompareAnswer {
 }
 
 // The answer, how many entries there are, and whether versions and last numbers agree. A refusal tells none of it but 34, which is a matter of room.
-#[derive(Drop)]
+#[derive(Clone, Copy)]
 pub struct Compared {
     pub answer: CompareAnswer,
     pub count: usize,
@@ -36,7 +36,7 @@ pub struct Compared {
 }
 
 // What a question for one section answers: 8 exactly one side holds it, 9 both or none, 10.
-#[derive(Drop)]
+#[derive(Clone, Copy)]
 pub enum HeldAnswer {
     One,
     NotOne,
@@ -44,7 +44,7 @@ pub enum HeldAnswer {
 }
 
 // With 8: the side, 1 or 2, and where the section stands in its bytes.
-#[derive(Drop)]
+#[derive(Clone, Copy)]
 pub struct Holder {
     pub answer: HeldAnswer,
     pub side: u32,
@@ -53,7 +53,7 @@ pub struct Holder {
 }
 
 // What is asked of two sides before their sections are looked at: 10, 41, 12, 33, or nothing is amiss.
-#[derive(Drop)]
+#[derive(Clone, Copy)]
 pub enum Sides {
     NotSets,
     NoPid,
@@ -224,7 +224,7 @@ fn beside_bad(second: PidWord) -> Sides
 fn keyed(first: Key, second: Key) -> Sides
     ensures { result ≡ same_sides first second }
 {
-    if rows::same_key_lem(first, second) {
+    if rows::same_key(first, second) {
         Sides::Alike
     } else {
         Sides::OtherKey

@@ -12,7 +12,7 @@ use offers::Failure;
 use ring::Ring;
 
 // What the words hold.
-#[derive(Drop)]
+#[derive(Clone, Copy)]
 pub struct Held {
     pub gate: Gate,
     pub counters: Counters,

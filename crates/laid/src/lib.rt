@@ -16,7 +16,7 @@ pub const NO_RANK: usize = 65536;
 // ---- keys
 
 // The PID word of a side's key, or why there is none: the side has no PID (41), or the number is no PID (12).
-#[derive(Drop)]
+#[derive(Clone, Copy)]
 pub enum PidWord {
     Is(u64),
     NoPid,
@@ -123,14 +123,14 @@ fn in_set(x: &[u8], y: &[u8]) -> bool
     requires { (12 ≤ length x.now) × (12 ≤ length y.now) }
     ensures { result ≡ in_set x.now y.now }
 {
-    rows::same_key_lem(key_in(0, x), key_in(0, y)) & in_table(x, y)
+    rows::same_key(key_in(0, x), key_in(0, y)) & in_table(x, y)
 }
 
 fn in_schedule(x: &[u8], y: &[u8]) -> bool
     requires { (12 ≤ length x.now) × (12 ≤ length y.now) }
     ensures { result ≡ in_schedule x.now y.now }
 {
-    let one = rows::same_key_lem(schedule_key_in(0, x), schedule_key_in(0, y));
+    let one = rows::same_key(schedule_key_in(0, x), schedule_key_in(0, y));
     one & ((x[0] < y[0]) | ((x[0] == y[0]) & in_table(x, y)))
 }
 

@@ -10,7 +10,7 @@ use section::bytes::wide;
 
 // What stays while a section is walked: the bytes of an entry's header, the original_network_id that services share (0 of other entries), the section's number, and how
 // many entries the list passes over.
-#[derive(Drop)]
+#[derive(Clone, Copy)]
 pub struct Loop {
     pub header: usize,
     pub network: u32,
@@ -19,7 +19,7 @@ pub struct Loop {
 }
 
 // How many entries there are; or where the one starts that runs past its loop, and how many stand before it.
-#[derive(Drop)]
+#[derive(Clone, Copy)]
 pub enum Walked {
     Done(usize),
     Past(usize, usize),

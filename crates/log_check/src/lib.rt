@@ -14,7 +14,7 @@ use log_state::{Run, Settings};
 
 // Yes (8); a record of no kind (38), cut off (39), missing, too many or another one (40); the list has too long a section (42), is cut (10), sets would be
 // taken without PIDs (41), or the memory lent is too little for the settings (13).
-#[derive(Drop)]
+#[derive(Clone, Copy)]
 pub enum CheckAnswer {
     Yes,
     Unknown,
@@ -29,7 +29,7 @@ pub enum CheckAnswer {
 }
 
 // The place, in bytes from 0, is told with 38, 39 and 40; else it is 0.
-#[derive(Drop)]
+#[derive(Clone, Copy)]
 pub struct Checked {
     pub answer: CheckAnswer,
     pub place: usize,

@@ -6,7 +6,7 @@ ghost use Rattle.log_compare.specs.Compare.{seen, is_none, met_of, passed_one, p
 use log_records::record_size;
 
 // What is wrong with a record: nothing, no such kind (38), cut off (39); missing, too many or another one (40).
-#[derive(Drop)]
+#[derive(Clone, Copy)]
 pub enum Fault {
     None,
     Unknown,
@@ -17,7 +17,7 @@ pub enum Fault {
 }
 
 // Where it stands, or where the next begins if nothing is wrong.
-#[derive(Drop)]
+#[derive(Clone, Copy)]
 pub struct Seen {
     pub fault: Fault,
     pub place: usize,
@@ -73,7 +73,7 @@ fn compare_one(log: &[u8], place: usize, expected: &[u8]) -> Seen
         return seen;
     }
     let end = seen.place;
-    if !cells::same_bytes_lem(&log[place..end], expected) {
+    if !cells::same_bytes(&log[place..end], expected) {
         return told(Fault::Differs, place);
     }
     seen

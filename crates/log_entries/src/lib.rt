@@ -6,7 +6,7 @@ ghost use Rattle.log_entries.specs.Entries.{entry_with, joined_of, failed_kind};
 use section::header::Parts;
 
 // The records that one section gives, one after another: the first `length` bytes. The others are 0.
-#[derive(Drop)]
+#[derive(Clone, Copy)]
 pub struct Entry {
     pub bytes: [u8; 23],
     pub length: usize,

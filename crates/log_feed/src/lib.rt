@@ -101,5 +101,5 @@ pub fn say_too_little() {
 
 // Sets without PIDs are given up.
 pub fn say_no_pid() {
-    entry_lines::say(b"41 no_pid_lem\n");
+    entry_lines::say(b"41 no-pid\n");
 }

@@ -13,7 +13,7 @@ pub const LONGEST: usize = 4098;
 pub const HEAD: usize = 5;
 
 // One section of a list: its bytes are `length` from `start` on, and the next begins where they end.
-#[derive(Drop)]
+#[derive(Clone, Copy)]
 pub struct Place {
     pub input: u8,
     pub pid: u16,
@@ -22,7 +22,7 @@ pub struct Place {
 }
 
 // The list ends here, is cut (10), tells of too long a section (42), or has a section.
-#[derive(Drop)]
+#[derive(Clone, Copy)]
 pub enum Next {
     End,
     Cut,
@@ -31,7 +31,7 @@ pub enum Next {
 }
 
 // A list as a whole: cut (10), with too long a section (42), or neither.
-#[derive(Drop)]
+#[derive(Clone, Copy)]
 pub enum Judged {
     Whole,
     Cut,
@@ -39,7 +39,7 @@ pub enum Judged {
 }
 
 // What the five bytes at this place say.
-fn place_at_lem(list: &[u8], place: usize) -> Place
+fn place_at(list: &[u8], place: usize) -> Place
     requires { place + 5 ≤ length list.now }
     ensures { result ≡ place_at list.now place }
 {
@@ -61,7 +61,7 @@ pub fn read_next(list: &[u8], place: usize) -> Next
     if list.len() - place < HEAD {
         return Next::Cut;
     }
-    let p = place_at_lem(list, place);
+    let p = place_at(list, place);
     if LONGEST < p.length {
         return Next::TooLong;
     }
@@ -77,7 +77,7 @@ pub fn section_at(list: &[u8], place: usize) -> Place
     requires place_in_bounds { place < length list.now }
     ensures { PlacedAt list.now place result }
 {
-    place_at_lem(list, place)
+    place_at(list, place)
 }
 
 // The whole list, from its start: the first bad section decides.

@@ -13,7 +13,7 @@ use section::header::{ChangeRule, Header, Parts};
 use section::ids::MaybePid;
 
 // Noted (7), or a section of more than 4,098 bytes (42).
-#[derive(Drop)]
+#[derive(Clone, Copy)]
 pub enum Noting {
     Done,
     TooLong,
@@ -30,14 +30,14 @@ impl Noting {
     }
 }
 
-#[derive(Drop)]
+#[derive(Clone, Copy)]
 pub struct Noted {
     pub answer: Noting,
     pub entry: Entry,
 }
 
 // The parts of a section that is long enough for what its form announces.
-#[derive(Drop)]
+#[derive(Clone, Copy)]
 pub enum Found {
     Are(Parts),
     Nothing,

@@ -7,7 +7,7 @@ ghost use Rattle.log_measure.specs.Measure.{MeasuredBy};
 use log_state::Run;
 
 // Whether the log fits, and then its length; else 0.
-#[derive(Drop)]
+#[derive(Clone, Copy)]
 pub struct Measured {
     pub fits: bool,
     pub length: usize,

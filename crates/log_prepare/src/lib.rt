@@ -9,7 +9,7 @@ use log_list::Judged;
 use log_state::{Opened, Pids, Run, Settings};
 
 // A section of the list is too long (42), the list is cut (10), sets would be taken without PIDs (41), the memory is too little (13), or the run is open.
-#[derive(Drop)]
+#[derive(Clone, Copy)]
 pub enum Prepared {
     TooLong,
     Cut,

@@ -132,7 +132,7 @@ pub fn bare_set(input: u8, h: Header) -> [u8; 8]
 }
 
 // The fields of a record; those that its kind has not are 0, and the PID of a set without one is 8192.
-#[derive(Drop)]
+#[derive(Clone, Copy)]
 pub struct Record {
     pub kind: u8,
     pub input: u8,
@@ -148,7 +148,7 @@ pub struct Record {
 }
 
 // A record (8), the end of the log (9), no such kind (38), or a record that is cut off (39).
-#[derive(Drop)]
+#[derive(Clone, Copy)]
 pub enum Read {
     Found(Record),
     End,

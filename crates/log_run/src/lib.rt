@@ -8,7 +8,7 @@ ghost use Rattle.log_run.specs.Store.{after_take, shown, seen_in, taken_of};
 use log_entries::Entry;
 use log_state::{Ruling, Run, Sight, TakeAnswer};
 
-#[derive(Drop)]
+#[derive(Clone, Copy)]
 pub struct Taken {
     pub answer: TakeAnswer,
     pub entry: Entry,

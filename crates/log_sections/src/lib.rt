@@ -8,7 +8,7 @@ use log_entries::Entry;
 use log_state::Run;
 
 // The run that a section left, the records that it gave, and the place of the next section in the list.
-#[derive(Drop)]
+#[derive(Clone, Copy)]
 pub struct Step {
     pub run: Run,
     pub entry: Entry,

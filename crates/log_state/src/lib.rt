@@ -13,7 +13,7 @@ use section::ids::{Origin, OriginMade};
 use store::Sets;
 
 // How sets are taken: with their PIDs; without, which is given up (41); or as before it was given up, by the older definition, which knows no PIDs.
-#[derive(Drop)]
+#[derive(Clone, Copy)]
 pub enum Pids {
     With,
     Without,
@@ -21,7 +21,7 @@ pub enum Pids {
 }
 
 // What a log is made with.
-#[derive(Drop)]
+#[derive(Clone, Copy)]
 pub struct Settings {
     // How many keys the gate keeps; 0 acts as 1.
     pub capacity: u64,
@@ -39,7 +39,7 @@ pub struct Settings {
     pub pids: Pids,
 }
 
-#[derive(Drop)]
+#[derive(Clone, Copy)]
 pub struct Run {
     pub ring: Ring,
     pub repeats: bool,
@@ -48,14 +48,14 @@ pub struct Run {
     pub pids: Pids,
 }
 
-#[derive(Drop)]
+#[derive(Clone, Copy)]
 pub struct Opened {
     pub answer: Outcome,
     pub run: Run,
 }
 
 // What a section comes to: done (7), more than 4,098 bytes (42), or a refusal (10, 11, 12, 37).
-#[derive(Drop)]
+#[derive(Clone, Copy)]
 pub enum TakeAnswer {
     Done,
     TooLong,
@@ -63,14 +63,14 @@ pub enum TakeAnswer {
 }
 
 // The key of a section that the gate takes, and its parts.
-#[derive(Drop)]
+#[derive(Clone, Copy)]
 pub struct Sight {
     pub key: u64,
     pub parts: Parts,
 }
 
 // No record; a record of a failure, short or not; or a section that is to be looked up and collected.
-#[derive(Drop)]
+#[derive(Clone, Copy)]
 pub enum Ruling {
     Refused(TakeAnswer),
     Failed(bool),

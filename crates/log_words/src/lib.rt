@@ -4,14 +4,14 @@ ghost use Rattle.std.specs.Prelude.{◌≤◌, length};
 use log_state::{Pids, Settings};
 
 // A number, and whether the word is one.
-#[derive(Drop)]
+#[derive(Clone, Copy)]
 pub struct Number {
     pub good: bool,
     pub value: u64,
 }
 
 // The settings, and whether the words are such.
-#[derive(Drop)]
+#[derive(Clone, Copy)]
 pub struct Words {
     pub good: bool,
     pub settings: Settings,
@@ -67,7 +67,7 @@ pub fn number_at(i: usize) -> Number {
 pub fn is_word(i: usize, word: &[u8]) -> bool {
     let mut text = [0u8; 64];
     let n = os::arg(i, &mut text);
-    cells::same_bytes_lem(&text[0..n], word)
+    cells::same_bytes(&text[0..n], word)
 }
 
 // How sets are taken: with PIDs but where the word says otherwise.

@@ -10,7 +10,7 @@ use log_state::{Pids, Run, Settings};
 
 // Written (7); the log is longer than the room (44); the list has too long a section (42), is cut (10), sets would not be taken with PIDs (41), or the memory
 // lent is too little for the settings (13).
-#[derive(Drop)]
+#[derive(Clone, Copy)]
 pub enum WriteAnswer {
     Done,
     NoRoom,
@@ -21,7 +21,7 @@ pub enum WriteAnswer {
 }
 
 // The log's length is told with 7; else it is 0.
-#[derive(Drop)]
+#[derive(Clone, Copy)]
 pub struct Written {
     pub answer: WriteAnswer,
     pub length: usize,

@@ -10,7 +10,7 @@ use rules_networks::Table;
 
 // What a question for entries answers: there are some from the one asked for on, or none; a refusal; a table_id that is none of the reader's (35); a loop that does not end
 // where its length says (36).
-#[derive(Drop)]
+#[derive(Clone, Copy)]
 pub enum ReadAnswer {
     Yes,
     No,
@@ -34,7 +34,7 @@ impl ReadAnswer {
 }
 
 // How many entries there are; with 35 and 36 the section's number, and the place in it.
-#[derive(Drop)]
+#[derive(Clone, Copy)]
 pub struct Read {
     pub answer: ReadAnswer,
     pub count: usize,
@@ -43,7 +43,7 @@ pub struct Read {
 }
 
 // Why a section is refused, by its number: `fault` is the place, and 1; 0 where none is.
-#[derive(Drop)]
+#[derive(Clone, Copy)]
 pub struct Fault {
     pub section: usize,
     pub fault: usize,

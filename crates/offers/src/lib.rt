@@ -10,7 +10,7 @@ use section::header::{ChangeRule, Judged, Parts};
 use section::ids::{Origin, OriginMade};
 
 // What tells one section from another at the gate: its key, the version and the change number that it came with. And its table_id.
-#[derive(Drop)]
+#[derive(Clone, Copy)]
 pub struct Arrival {
     pub key: u64,
     pub version: u8,
@@ -19,7 +19,7 @@ pub struct Arrival {
 }
 
 // What a section failed by: too short to hold its CRC, with its length (31), or the CRC stored and the one worked out, which differ (3).
-#[derive(Drop)]
+#[derive(Clone, Copy)]
 pub enum Failure {
     TooShort(usize),
     Mismatch(u32, u32),
@@ -37,7 +37,7 @@ impl Failure {
 }
 
 // A refusal, a failure, or a section that is to be looked up.
-#[derive(Drop)]
+#[derive(Clone, Copy)]
 pub enum Verdict {
     Refused(Refusal),
     Failed(Failure),

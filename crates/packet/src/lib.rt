@@ -15,7 +15,7 @@ pub struct Load {
     pub from: usize,
 }
 
-#[derive(Drop)]
+#[derive(Clone, Copy)]
 pub enum Packet {
     // Not 188 bytes, no sync byte, or an adaptation field past the end.
     Malformed,

@@ -8,7 +8,7 @@ use section::bytes::{section_length, wide, word};
 use section::ids::{Pid, ProgramNumber};
 
 // Whether a section can be read as a PAT.
-#[derive(Drop)]
+#[derive(Clone, Copy)]
 pub enum Pat {
     Readable,
     Unreadable,

@@ -8,14 +8,14 @@ ghost use Rattle.payload.specs.Payload.{Lies, Joins, HasPlaces};
 use section::bytes::wide;
 
 // Bytes of a buffer: the first, and how many.
-#[derive(Drop)]
+#[derive(Clone, Copy)]
 pub struct Span {
     pub first: usize,
     pub size: usize,
 }
 
 // The parts of a packet: the bytes from..to belong to the section under way, from `begin` on sections begin.
-#[derive(Drop)]
+#[derive(Clone, Copy)]
 pub struct Parts {
     pub from: usize,
     pub to: usize,
@@ -23,14 +23,14 @@ pub struct Parts {
 }
 
 // How long the section is that was under way and was finished, and how many bytes of it are under way still; 0 where there is none.
-#[derive(Drop)]
+#[derive(Clone, Copy)]
 pub struct Gone {
     pub ended: usize,
     pub under: usize,
 }
 
 // How many places are used, and how many bytes at the packet's end are of a section that is under way then.
-#[derive(Drop)]
+#[derive(Clone, Copy)]
 pub struct Begun {
     pub count: usize,
     pub under: usize,
@@ -55,7 +55,7 @@ fn total(high: u8, low: u8) -> usize
 }
 
 // How long the section is that stands whole at the front of the bytes, 0 where none does.
-pub fn whole_in_lem(bytes: &[u8]) -> usize
+pub fn whole_in(bytes: &[u8]) -> usize
     ensures { (result ≡ end_of bytes.now) × (result < 4099) }
 {
     if bytes.len() < HEADER_BYTES {
@@ -79,7 +79,7 @@ fn byte_of(buffer: &[u8], first: usize, size: usize, part: &[u8], i: usize) -> u
     part[i - size]
 }
 
-// The same as `whole_in_lem`, of such a section.
+// The same as `whole_in`, of such a section.
 fn end_in(buffer: &[u8], first: usize, size: usize, part: &[u8]) -> usize
     requires { first + size ≤ length buffer.now }
     ensures { (result ≡ end_of (take size (drop first buffer.now) ++ part.now)) × (result < 4099) }
@@ -222,7 +222,7 @@ pub fn begin_in(packet: &[u8], begin: usize, places: &mut [u64], count: usize) -
         if packet[at] == STUFFING {
             return Begun { count: k, under: 0 };
         }
-        let size = whole_in_lem(&packet[at..]);
+        let size = whole_in(&packet[at..]);
         if size == 0 {
             return Begun {
                 count: k,

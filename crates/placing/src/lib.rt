@@ -10,7 +10,7 @@ ghost use Rattle.placing.specs.Places.{place_slot, place_known, place_of};
 use rows::{Entry, Room};
 use store::Sets;
 
-#[derive(Drop)]
+#[derive(Clone, Copy)]
 pub enum Place {
     Conflict(usize),
     Repeat(usize),
@@ -60,7 +60,7 @@ fn place_slot(
     if n == 0 {
         return Place::Goes(room_in(sets.used, sets.evictions, i));
     }
-    if cells::same_bytes_lem(&cells[at..at + n], bytes) {
+    if cells::same_bytes(&cells[at..at + n], bytes) {
         Place::Repeat(i)
     } else {
         Place::Conflict(i)

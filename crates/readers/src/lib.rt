@@ -8,7 +8,7 @@ ghost use Rattle.readers.specs.Reader.{no_step, step_of, held, begun, moved_on};
 use answers::Reply;
 
 // A section: its number, and where its bytes are in the lent cells. All 0 where there is none.
-#[derive(Drop)]
+#[derive(Clone, Copy)]
 pub struct Next {
     pub answer: Reply,
     pub number: usize,
@@ -63,14 +63,14 @@ pub fn section_part<'a>(cells: &'a [u8], start: usize, length: usize) -> &'a [u8
 }
 
 // Where a reader finds the next section, and the slot behind it. Where there is none: no bytes, and the slot at which it stood.
-#[derive(Drop)]
+#[derive(Clone, Copy)]
 pub struct Step {
     pub start: usize,
     pub length: usize,
     pub next: usize,
 }
 
-fn no_step_lem(from: usize) -> Step
+fn no_step(from: usize) -> Step
     ensures { result ≡ no_step from }
 {
     Step {
@@ -85,7 +85,7 @@ pub fn step_from(row: &[u32], size: usize, from: usize) -> Step
     ensures { result ≡ step_of size row.now from }
 {
     if 4096 < size {
-        return no_step_lem(from);
+        return no_step(from);
     }
     let found = next_slot(row, size, from);
     let answer = found.answer;
@@ -97,7 +97,7 @@ pub fn step_from(row: &[u32], size: usize, from: usize) -> Step
             next,
         };
     }
-    no_step_lem(from)
+    no_step(from)
 }
 
 // A reader over a complete set: the lent cells, the slot to look at next, and the section that it handed out last, which is a part of the cells and

@@ -9,7 +9,7 @@ use section::bytes::wide;
 pub const LONGEST: usize = 4100;
 
 // What reading a record found: its length, the end of the input, or an end inside a record.
-#[derive(Drop)]
+#[derive(Clone, Copy)]
 pub enum Next {
     Record(usize),
     End,
@@ -37,7 +37,7 @@ pub fn read_record(buf: &mut [u8]) -> Next
 }
 
 // What reading an input found: the number that stands there, or the end of standard input.
-#[derive(Drop)]
+#[derive(Clone, Copy)]
 pub enum InputRead {
     One(u8),
     End,

@@ -4,7 +4,7 @@
 ghost use Rattle.std.specs.Prelude.{◌≡◌, Bool, ◌+◌, ◌<◌, ◌≤◌, length, take, drop, set};
 ghost use Rattle.ring.specs.Store.{room_of, whole_of, Whole, stamp_of, row_of, free_row, renewed, arrived, seen_of, keys_after, changes_after};
 
-#[derive(Drop)]
+#[derive(Clone, Copy)]
 pub struct Ring {
     // How many keys are kept; 0 acts as 1.
     pub capacity: u64,
@@ -15,7 +15,7 @@ pub struct Ring {
 }
 
 // What offering a key with its numbers tells: whether they are new, and whether another key left for it.
-#[derive(Drop)]
+#[derive(Clone, Copy)]
 pub struct Seen {
     pub ring: Ring,
     pub changed: bool,

@@ -8,7 +8,7 @@ ghost use Rattle.rows.specs.Rows.{room_new, gone_row, kept_heads, slots_at, slot
 ghost use Rattle.rows.specs.Rows.{word, put, origin_at, same_origin, key_at, same_key, row_of, earlier_of, oldest_of, touched, fresh_head};
 
 // Where a row's sections came from, in the words of a head.
-#[derive(Drop)]
+#[derive(Clone, Copy)]
 pub struct Origin {
     pub input: u64,
     pub pid: u64,
@@ -31,7 +31,7 @@ pub struct Key {
 }
 
 // What a section says of the row that it goes into, and of its slot there.
-#[derive(Drop)]
+#[derive(Clone, Copy)]
 pub struct Entry {
     pub key: Key,
     pub version: u64,
@@ -40,7 +40,7 @@ pub struct Entry {
 }
 
 // Where a section that is kept goes: its row; whether that row begins anew; and the rows in use and the evictions from then on.
-#[derive(Drop)]
+#[derive(Clone, Copy)]
 pub struct Room {
     pub row: usize,
     pub fresh: bool,
@@ -148,7 +148,7 @@ fn same_origin(a: Origin, b: Origin) -> bool
     (a.input == b.input) & (a.pid == b.pid)
 }
 
-pub fn same_key_lem(a: Key, b: Key) -> bool
+pub fn same_key(a: Key, b: Key) -> bool
     ensures { result ≡ same_key a b }
 {
     same_origin(a.from, b.from)
@@ -167,7 +167,7 @@ fn key_is(heads: &[u64], i: usize, key: Key) -> bool
     if get(heads, i, EXTENSION) != key.extension {
         return false;
     }
-    same_key_lem(key_at(heads, i), key)
+    same_key(key_at(heads, i), key)
 }
 
 // The first row in use that has the key, or used where none has it.
@@ -376,7 +376,7 @@ pub fn row_whole(heads: &[u64], slots: &[u32], count: u16, size: u16, i: usize) 
             return true;
         }
     }
-    cells::all_whole_lem(row_slots(heads, slots, i), count, size)
+    cells::all_whole(row_slots(heads, slots, i), count, size)
 }
 
 // ---- all rows in use

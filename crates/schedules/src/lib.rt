@@ -15,7 +15,7 @@ pub const TABLES: usize = 16;
 pub const SCHEDULE_WORDS: usize = 4608;
 
 // Where a set goes among the schedules, and whether that schedule is refilled because its last_table_id changed.
-#[derive(Drop)]
+#[derive(Clone, Copy)]
 pub struct ScheduleRoom {
     pub room: Room,
     pub refill: bool,

@@ -13,13 +13,13 @@ use section::ids::MaybePid;
 use sets_settle::{PushAnswer, Pushed};
 use store::Sets;
 
-#[derive(Drop)]
+#[derive(Clone, Copy)]
 pub struct Opened {
     pub answer: Outcome,
     pub sets: Sets,
 }
 
-#[derive(Drop)]
+#[derive(Clone, Copy)]
 pub struct Cleared {
     pub answer: Outcome,
     pub sets: Sets,

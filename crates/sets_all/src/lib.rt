@@ -16,7 +16,7 @@ use sets_settle::{PushAnswer, Pushed};
 use store::Sets;
 
 // What the section answered that was pushed last: 4 where all of them did, and where there is none. Or a section of more than 4,098 bytes (42).
-#[derive(Drop)]
+#[derive(Clone, Copy)]
 pub enum AllAnswer {
     Pushed(PushAnswer),
     TooLong,
@@ -34,7 +34,7 @@ impl AllAnswer {
 }
 
 // `taken` bytes of the list were taken: all through the section that answered.
-#[derive(Drop)]
+#[derive(Clone, Copy)]
 pub struct AllPushed {
     pub answer: AllAnswer,
     pub sets: Sets,

@@ -13,7 +13,7 @@ use rows::{Entry, Room};
 use store::Sets;
 
 // A section that is kept: what it says, where its row is, and in which cell its bytes go.
-#[derive(Drop)]
+#[derive(Clone, Copy)]
 pub struct Keeping {
     pub entry: Entry,
     pub room: Room,
@@ -21,7 +21,7 @@ pub struct Keeping {
 }
 
 // `Silent` is limit 0: there is nothing to hand out and nothing changes.
-#[derive(Drop)]
+#[derive(Clone, Copy)]
 pub enum Plan {
     Refuse(Refusal),
     Silent,

@@ -16,7 +16,7 @@ use section::ids::MaybePid;
 use store::Sets;
 
 // The settings and counts after them, and the place of the list where the next section begins.
-#[derive(Drop)]
+#[derive(Clone, Copy)]
 pub struct Repeats {
     pub sets: Sets,
     pub at: usize,

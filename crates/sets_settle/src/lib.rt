@@ -10,14 +10,14 @@ use sets_plan::{Keeping, Plan};
 use store::Sets;
 
 // What a section leads to. A set that goes out is in the row told, until the next call that is no question.
-#[derive(Drop)]
+#[derive(Clone, Copy)]
 pub enum PushAnswer {
     Nothing,
     Set(usize),
     Refused(Refusal),
 }
 
-#[derive(Drop)]
+#[derive(Clone, Copy)]
 pub struct Pushed {
     pub answer: PushAnswer,
     pub sets: Sets,

@@ -3,7 +3,7 @@ use log_reader::{CUT, END, UNKNOWN};
 use log_records::Read;
 
 // The place of the next record, how many there were, and whether there may be another.
-#[derive(Drop)]
+#[derive(Clone, Copy)]
 struct Between {
     more: bool,
     place: u64,

@@ -10,7 +10,7 @@ use eit_section::Reading;
 use listing::{Loop, Walked};
 
 // What a question for entries answers: there are some from the one asked for on, or none; a refusal; or a descriptor runs past its loop (32).
-#[derive(Drop)]
+#[derive(Clone, Copy)]
 pub enum ShowAnswer {
     Yes,
     No,
@@ -32,7 +32,7 @@ impl ShowAnswer {
 }
 
 // How many entries there are; where the listing ended early (18, 19, 32), the section's number and the place in it.
-#[derive(Drop)]
+#[derive(Clone, Copy)]
 pub struct Shown {
     pub answer: ShowAnswer,
     pub count: usize,
@@ -64,7 +64,7 @@ fn shown_as(answer: ShowAnswer, count: usize, section: usize, place: usize) -> S
 }
 
 // Whether all was listed so far, so that the next section follows.
-fn goes_on_lem(answer: ShowAnswer) -> bool
+fn goes_on(answer: ShowAnswer) -> bool
     ensures { result ≡ goes_on answer }
 {
     match answer {
@@ -90,7 +90,7 @@ pub fn told(skip: usize, last: Shown) -> Shown
     ensures { result ≡ told_by skip last }
 {
     let answer = last.answer;
-    if goes_on_lem(answer) {
+    if goes_on(answer) {
         return ended(skip, last.count);
     }
     last
@@ -184,7 +184,7 @@ pub fn show_slots(slots: &[u32], size: usize, cells: &[u8], skip: usize, list: &
     while j < slots.len() {
         let last = show_slot(slots[j], j, size, cells, skip, list, k);
         let answer = last.answer;
-        if !goes_on_lem(answer) {
+        if !goes_on(answer) {
             return last;
         }
         k = last.count;

@@ -6,7 +6,7 @@ ghost use Rattle.store.specs.Store.{store, settings_fit, whole_of, counters_full
 use without_pid::Looked;
 
 // Settings and counts. `limit` keys at most; `count` cells of `size` bytes; rows 0 to used - 1 are in use. `clock` rises with each touch.
-#[derive(Drop)]
+#[derive(Clone, Copy)]
 pub struct Sets {
     pub limit: usize,
     pub size: usize,

@@ -11,7 +11,7 @@ use streams::Streams;
 
 // The bytes from..to of the block are not used up, and the input has ended behind them where `last`; the first of them is byte `at` of the input. `passing`: bytes are
 // passed over, so many so far. `filled` bytes wait to be written. `more`: there may be another packet.
-#[derive(Drop)]
+#[derive(Clone, Copy)]
 pub struct Cursor {
     pub from: usize,
     pub to: usize,

@@ -138,7 +138,7 @@ fn put_place<'a>(
     requires { (length out.old ≡ 65536) × (n ≤ 65536) × (length places.now ≡ 384) × (k < 64) }
     ensures { result ≤ 65536 }
 {
-    let place = demux_places::place_at_lem(places, k);
+    let place = demux_places::place_at(places, k);
     put_one(
         lines,
         out,

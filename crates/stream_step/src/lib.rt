@@ -9,7 +9,7 @@ use stream_cursor::Cursor;
 use streams::Streams;
 
 // The gate and the streams between two packets.
-#[derive(Drop)]
+#[derive(Clone, Copy)]
 pub struct Held {
     pub gate: Gate,
     pub counters: Counters,
@@ -17,7 +17,7 @@ pub struct Held {
 }
 
 // What a turn leaves.
-#[derive(Drop)]
+#[derive(Clone, Copy)]
 pub struct Turn {
     pub held: Held,
     pub cursor: Cursor,

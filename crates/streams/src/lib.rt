@@ -16,7 +16,7 @@ pub struct Streams {
     pub malformed: u64,
 }
 
-#[derive(Drop)]
+#[derive(Clone, Copy)]
 pub struct Opened {
     pub answer: Outcome,
     pub streams: Streams,

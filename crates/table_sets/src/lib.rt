@@ -8,7 +8,7 @@ use sets_settle::PushAnswer;
 use store::Sets;
 
 // Which reader a run asks for: the one that a table_id has, or always this one.
-#[derive(Drop)]
+#[derive(Clone, Copy)]
 pub enum Asked {
     ByTable,
     Always(Table),
@@ -114,7 +114,7 @@ fn tell_set(
     requires { length list.old ≡ 24576 }
 {
     let mut t = totals;
-    t.sets = entry_pages::one_more_lem(t.sets);
+    t.sets = entry_pages::one_more(t.sets);
     match asked_reader(asked, heads, row) {
         Asked::Always(table) => say_set(table, sets, heads, slots, cells, row, list, t),
         Asked::ByTable => t,

@@ -12,7 +12,7 @@ use store::Sets;
 use table_sets::Asked;
 
 // The collector and the totals between two records, and whether there may be another.
-#[derive(Drop)]
+#[derive(Clone, Copy)]
 struct Between {
     more: bool,
     sets: Sets,
@@ -169,20 +169,20 @@ fn read_all(asked: Asked) {
 }
 
 // What the arguments ask for: the name of a reader, none, or something else.
-#[derive(Drop)]
+#[derive(Clone, Copy)]
 enum Wanted {
     Reads(Asked),
     Usage,
 }
 
 fn reader_named(text: &[u8]) -> Wanted {
-    if cells::same_bytes_lem(text, b"nit") {
+    if cells::same_bytes(text, b"nit") {
         return Wanted::Reads(Asked::Always(Table::Nit));
     }
-    if cells::same_bytes_lem(text, b"bat") {
+    if cells::same_bytes(text, b"bat") {
         return Wanted::Reads(Asked::Always(Table::Bat));
     }
-    if cells::same_bytes_lem(text, b"sdt") {
+    if cells::same_bytes(text, b"sdt") {
         return Wanted::Reads(Asked::Always(Table::Sdt));
     }
     Wanted::Usage

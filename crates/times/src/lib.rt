@@ -3,21 +3,21 @@ ghost use Rattle.std.specs.Prelude.{◌≡◌, ◌*◌, ◌≤◌};
 ghost use Rattle.times.specs.Times.{is_bcd, bcd_of, time_of, day_of, carry_for, date_of};
 
 // A modified Julian day.
-#[derive(Drop)]
+#[derive(Clone, Copy)]
 pub struct Day(pub u16);
 
 // A count of seconds: since midnight, or of a duration.
-#[derive(Drop)]
+#[derive(Clone, Copy)]
 pub struct Seconds(pub u32);
 
 // What six BCD digits say; one digit above 9 and they say nothing.
-#[derive(Drop)]
+#[derive(Clone, Copy)]
 pub enum Time {
     At(Seconds),
     Undefined,
 }
 
-#[derive(Drop)]
+#[derive(Clone, Copy)]
 pub struct Calendar {
     pub year: u16,
     pub month: u8,
@@ -25,7 +25,7 @@ pub struct Calendar {
 }
 
 // The date of a day; a day before 1900-03-01, the first of Annex C's formulas, has none.
-#[derive(Drop)]
+#[derive(Clone, Copy)]
 pub enum Date {
     On(Calendar),
     Before,

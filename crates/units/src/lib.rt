@@ -60,7 +60,7 @@ fn unit_whole(units: &[u32], count: u16, size: u16, u: usize) -> bool
         return true;
     }
     if is_present(units, u) {
-        return cells::all_whole_lem(unit_slots(units, u), count, size);
+        return cells::all_whole(unit_slots(units, u), count, size);
     }
     true
 }

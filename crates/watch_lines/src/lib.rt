@@ -8,7 +8,7 @@ use libc::STDOUT_FILENO;
 use offers::Failure;
 
 // Where a record says that its section came from, neither number judged yet, and whether its line names the input.
-#[derive(Drop)]
+#[derive(Clone, Copy)]
 pub struct Place {
     pub named: bool,
     pub input: u8,

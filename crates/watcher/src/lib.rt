@@ -15,7 +15,7 @@ use section::ids::{Origin, OriginMade};
 use watch_lines::Place;
 
 // The gate and its counters between two records, and whether there may be another.
-#[derive(Drop)]
+#[derive(Clone, Copy)]
 struct Between {
     more: bool,
     gate: Gate,
@@ -23,7 +23,7 @@ struct Between {
 }
 
 // What reading found: a record's input and the length of the rest, the end of standard input, or an end inside a record.
-#[derive(Drop)]
+#[derive(Clone, Copy)]
 enum Came {
     Record(u8, usize),
     End,
@@ -31,14 +31,14 @@ enum Came {
 }
 
 // Which of the sixteen watch records is that of a place, or what is wrong with the place.
-#[derive(Drop)]
+#[derive(Clone, Copy)]
 enum Found {
     At(usize),
     Refused(Refusal),
 }
 
 // What the watch says of a place: its PID is watched, by which of the sixteen records; it is not; or the place is none.
-#[derive(Drop)]
+#[derive(Clone, Copy)]
 enum Asked {
     Watched(usize),
     Unwatched,

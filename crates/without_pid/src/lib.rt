@@ -7,7 +7,7 @@ ghost use Rattle.without_pid.specs.Pids.{without_pid};
 use rows::Origin;
 
 // What one pass over the rows in use tells: whether each slot of each row is whole, and whether a row has no PID.
-#[derive(Drop)]
+#[derive(Clone, Copy)]
 pub struct Looked {
     pub whole: bool,
     pub without: bool,

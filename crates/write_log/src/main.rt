@@ -9,14 +9,14 @@ use log_reader::{END, LONGEST};
 use log_state::{Run, Settings};
 
 // What a run over the list is for: to measure the log, or to write it.
-#[derive(Drop)]
+#[derive(Clone, Copy)]
 struct Purpose {
     writes: bool,
     room: u64,
 }
 
 // The run between two sections, and how many bytes there is room for yet.
-#[derive(Drop)]
+#[derive(Clone, Copy)]
 struct Between {
     more: bool,
     room: u64,
@@ -24,7 +24,7 @@ struct Between {
 }
 
 // What a run over the whole list came to.
-#[derive(Drop)]
+#[derive(Clone, Copy)]
 enum Ended {
     Whole,
     NoRoom,
