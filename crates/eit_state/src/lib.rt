@@ -10,7 +10,7 @@ use without_pid::Looked;
 
 // Settings and counts. `sets` has the settings and the counts of the sets, and its limit is that of the schedules too; schedules 0 to
 // schedules - 1 are in use.
-#[derive(Drop)]
+#[derive(Clone, Copy)]
 pub struct Eit {
     pub sets: Sets,
     pub schedules: usize,

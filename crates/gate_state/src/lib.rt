@@ -11,7 +11,7 @@ use ring::{Ring, Seen};
 use section::header::ChangeRule;
 
 // How PATs change the watch: not at all; by each changed PAT section, as dvb-si 12.0.1 does; by complete PATs alone.
-#[derive(Drop)]
+#[derive(Clone, Copy)]
 pub enum Follow {
     Off,
     Sections,
@@ -81,7 +81,7 @@ impl Settings {
     }
 }
 
-#[derive(Drop)]
+#[derive(Clone, Copy)]
 pub struct Gate {
     pub ring: Ring,
     pub repeats: bool,

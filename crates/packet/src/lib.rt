@@ -7,7 +7,7 @@ use section::ids::Pid;
 
 // A packet with a payload: its PID, payload_unit_start_indicator, continuity_counter, and the place of the payload's first byte. The payload goes to
 // the packet's end, and has 0 to 184 bytes.
-#[derive(Drop)]
+#[derive(Clone, Copy)]
 pub struct Load {
     pub pid: Pid,
     pub start: bool,

@@ -20,7 +20,7 @@ impl Origin {
 }
 
 // What tells one row from another. The set collector has 0 as transport_stream_id and original_network_id.
-#[derive(Drop)]
+#[derive(Clone, Copy)]
 pub struct Key {
     pub from: Origin,
     pub table_id: u64,

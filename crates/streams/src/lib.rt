@@ -9,7 +9,7 @@ use answers::{Outcome, Refusal};
 pub mod inner;
 
 // What is known of a stream beside its words: how many buffers are lent, how many packets came, how many of them were malformed.
-#[derive(Drop)]
+#[derive(Clone, Copy)]
 pub struct Streams {
     pub count: usize,
     pub packets: u64,
