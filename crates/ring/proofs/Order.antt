@@ -108,7 +108,7 @@ module _ (m : Memory) (n : Row) (r : Reached m) (small : n.change < 2 ^ 32) wher
         tells = l.tells ∙ ap not (sym (has_turned n m.ring.first (laid_in m).rows (once_rows n.key)));
         leaves =
             l.leaves
-            ∙ rw (holds_turned n.key m.ring.first (laid_in m).rows, at_capacity m.ring.capacity n (laid_in m) ordered);
+            ∙ rw (holds_turned n.key m.ring.first (laid_in m).rows, at_capacity_lem m.ring.capacity n (laid_in m) ordered);
         order = order;
         reached = record { whole = l.whole; young = stays_young; once = λ k. rw order (stays_once m.ring.capacity n (laid_in m) ordered k) };
         capacity = l.capacity;
