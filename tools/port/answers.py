@@ -71,23 +71,27 @@ class Steps:
 
     def path(self, place, fields):
         """c.before..before.step.rest at a place, as today's c.step.rest; None: the place above all."""
-        rest = list(fields)
+        rest, start, depth = list(fields), place, 0
         while rest and rest[0] == "before":
-            rest = rest[1:]
+            rest, depth = rest[1:], depth + 1
             if place is not None:
                 place = self.parent.get(place)
         if not rest:
             return place, []
-        if place is not None and place in self.field:
-            old, new = self.field[place]
+        chain = []
+        while start is not None:
+            chain.append(start)
+            start = self.parent.get(start)
+        # The place that the path counts to, or else the nearest that has a step of this name.
+        for at in sorted(range(len(chain)), key=lambda i: abs(i - depth)):
+            old, new = self.field[chain[at]]
             if old and alike(old) == alike(rest[0]):
-                arm = self.arm.get(place)
-                if arm:
-                    for it in arm[2]:
-                        to, was, more = it[0], it[1], it[2] if len(it) > 2 else []
-                        if alike(was) == alike(rest[0]) and [alike(x) for x in more] == [alike(x) for x in rest[1:1 + len(more)]]:
-                            return place, [new, to] + rest[1 + len(more):]
-                return place, [new] + rest[1:]
+                arm = self.arm.get(chain[at])
+                for it in arm[2] if arm else []:
+                    to, was, more = it[0], it[1], it[2] if len(it) > 2 else []
+                    if alike(was) == alike(rest[0]) and [alike(x) for x in more] == [alike(x) for x in rest[1:1 + len(more)]]:
+                        return chain[at], [new, to] + rest[1 + len(more):]
+                return chain[at], [new] + rest[1:]
         return place, rest
 
 
