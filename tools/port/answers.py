@@ -113,7 +113,13 @@ def turn_body(text, var, place, steps, words):
             if let:
                 places[let[1]] = p
             return var
-        return ".".join([var if head in places else head, *f]) if fields else m[0]
+        if not fields:
+            return m[0]
+        said = ".".join([var, *f])
+        # Where the code tests `!x`, today's fact is of x itself.
+        if len(f) == 2 and f[0].startswith("if-not-") and f[1] in ("true", "false"):
+            return f"(ap not {said})"
+        return said
 
     # names that a let gives a place are contexts too: go left to right
     out = pat.sub(one, text)
@@ -278,6 +284,9 @@ def turn(text, got, crate, part):
             kept.insert(0, h)
             need_text += h
     hs = "\n\n".join(kept)
+    if "(ap not c.if-not-" in need_text:
+        named = {n.strip() for u in uses for n in re.findall(r"\{(.*)\}", u)[:1] for n in n.split(",")}
+        uses += [u for n, u in (("ap", "use mathlib.Core.Path.{ap}"), ("not", "use mathlib.Core.Bool.{not}")) if n not in named]
     path = part.replace("/", ".")
     out_a = out_i = None
     use_of = lambda body: [u for u in uses if keeps(u, body)]
