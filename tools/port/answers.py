@@ -22,7 +22,7 @@ def blocks(text):
     """The file's top-level items: lists of lines, each beginning with its comments."""
     out, cur = [], []
     for line in text.split("\n"):
-        top = line and not line[0].isspace()
+        top = line and not line[0].isspace() and line[0] not in ")}]"
         if top and cur and not all(l.startswith("--") or l.startswith("unfolding") or l == "" for l in cur):
             # A further line of the same item: its unfolding line, or an equation of its name.
             head = next((l for l in cur if l and not l.startswith("--") and not l.startswith("unfolding")), "")
@@ -90,7 +90,7 @@ class Steps:
                 for it in arm[2] if arm else []:
                     to, was, more = it[0], it[1], it[2] if len(it) > 2 else []
                     if alike(was) == alike(rest[0]) and [alike(x) for x in more] == [alike(x) for x in rest[1:1 + len(more)]]:
-                        return chain[at], [new, to] + rest[1 + len(more):]
+                        return chain[at], [arm[0], to] + rest[1 + len(more):]
                 return chain[at], [new] + rest[1:]
         return place, rest
 
@@ -217,6 +217,13 @@ def turn(text, got, crate, part):
         raise ValueError("a let around tie.spec")
     decls = [d for d in decls if d is not spec]
     by_name = {}
+    for i, (comments, code) in enumerate(decls):
+        # A type over several lines stands on one.
+        mm = re.match(rf"(?:(?:abbrev|pub|unfoldable) +)*({W})", code[0])
+        if mm:
+            k = next((j for j, l in enumerate(code) if j and (l.startswith("unfolding") or re.match(rf"{re.escape(mm[1])}(?:\s|$)", l))), None)
+            if k and k > 1:
+                decls[i] = (comments, [" ".join(l.strip() for l in code[:k]), *code[k:]])
     for d in decls:
         sig = d[1][0]
         mm = re.match(rf"(?:(?:abbrev|pub|unfoldable) +)*({W})(?: \{{[^{{}}]*\}})*\s+:\s*(.*)", sig)
@@ -270,6 +277,8 @@ def turn(text, got, crate, part):
     helpers, ihelpers = [], []
     for comments, code in decls:
         mm = re.match(rf"(?:(?:abbrev|pub|unfoldable) +)*({W})", code[0])
+        if mm is None:
+            raise ValueError("the item " + code[0])
         if mm[1] in used:
             continue
         h = "\n".join([*comments, *code])
@@ -304,8 +313,8 @@ def keeps(use, body):
     m = re.match(r"(?:pub |unfoldable )*use [^\s{]+\.\{(.*)\}\s*$", use)
     names = [it.strip().split(" as ")[-1] for it in m[1].split(",")] if m else [use.split()[-1].split(".")[-1]]
     words = set(re.findall(W, body))
-    # an operator may stand in parts
-    return any(n in words or "◌" in n for n in names)
+    # an operator may stand in parts, and [] is no word
+    return any(n in words or "◌" in n or not re.fullmatch(W, n) for n in names)
 
 
 def turn_loop(d, name, got):

@@ -141,6 +141,32 @@ def named(said):
         open(path, "w", encoding="utf-8").write("\n".join(lines))
 
 
+MISSING = re.compile(r"(?m)^(?:so far: )?(\S+\.antt):(\d+):(\d+): error: `([^`]*)`: the field `\w+` of [^\n]*\n\s*is missing\n\s*its fields are ([^\n]*)")
+
+
+def missing(said):
+    """An answer of several facts at once: each into its field."""
+    text = open(said, encoding="utf-8").read()
+    for m in MISSING.finditer(text):
+        path, name, fields = m[1], m[4], re.findall(r"`(\w+)`", m[5])
+        t = open(path, encoding="utf-8").read()
+        eq = re.search(rf"(?m)^{re.escape(name)}((?:[ ]+[^\s=]+)*) = record \{{ {re.escape(fields[0])} = ", t)
+        if not eq:
+            continue
+        end = re.search(r"\n(?=\S)|\Z", t[eq.end():]).start() + eq.end()
+        body = t[eq.end():end].rstrip()
+        if not body.endswith(" }"):
+            continue
+        inner = body[:-2]
+        said_so = [f"r.{'1.' * i}0" if i < len(fields) - 1 else "r" + ".1" * i for i in range(len(fields))]
+        new = f"let r = {inner} in record {{ " + "; ".join(f"{f} = {s}" for f, s in zip(fields, said_so)) + " }"
+        start = t.rindex("record {", 0, eq.end())
+        t = t[:start] + new + t[eq.end() + len(body):]
+        open(path, "w", encoding="utf-8").write(t)
+        print(path)
+
+
 main(sys.argv[1])
+missing(sys.argv[1])
 wrapped(sys.argv[1])
 named(sys.argv[1])

@@ -11,4 +11,4 @@ pub returns-then-last : goal.returns-then-last
 returns-then-last c = search is_last
 
 pub returns : goal.returns
-returns c = search rules-more
+returns c = search needs_more

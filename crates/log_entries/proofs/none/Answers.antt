@@ -1,3 +1,4 @@
+use mathlib.Core.List.{[]}
 use Rattle.log_entries.proofs.Entries.{laid_0}
 use Rattle.log_entries.proofs.none.Goals as goal
 

@@ -17,16 +17,16 @@ pub returns-in-TooLong : goal.returns-in-TooLong
 returns-in-TooLong c = search judged_long
 
 pub overflow_add-at : goal.overflow_add-at
-overflow_add-at c = let s = stands c.args.list.now c.loop-at.at c.read_next-found.ensures c.found-1.is in
+overflow_add-at c = let s = stands c.args.list.now c.loop-at.at c.read_next-found.ensures c.in-Section.is in
     omega (arith, s.within)
 
 pub loop-at-smaller : goal.loop-at-smaller
-loop-at-smaller c = let s = stands c.args.list.now c.loop-at.at c.read_next-found.ensures c.found-1.is in
+loop-at-smaller c = let s = stands c.args.list.now c.loop-at.at c.read_next-found.ensures c.in-Section.is in
     omega (arith, s.within, s.start, s.head)
 
 pub loop-at-preserved : goal.loop-at-preserved
-loop-at-preserved c = let s = stands c.args.list.now c.loop-at.at c.read_next-found.ensures c.found-1.is in
-    (s.within, judged_on c.args.list.now c.loop-at.at c.read_next-found.ensures c.found-1.is c.loop-at.invariant.1)
+loop-at-preserved c = let s = stands c.args.list.now c.loop-at.at c.read_next-found.ensures c.in-Section.is in
+    (s.within, judged_on c.args.list.now c.loop-at.at c.read_next-found.ensures c.in-Section.is c.loop-at.invariant.1)
 
 pub returns : goal.returns
 returns c = search judged_none
