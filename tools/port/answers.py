@@ -61,10 +61,11 @@ def split_args(text):
 
 class Steps:
     def __init__(self, said):
-        self.parent, self.field = {}, {}
-        for place, parent, (old, new), _fn, _x in said["places"]:
+        self.parent, self.field, self.call = {}, {}, {}
+        for place, parent, (old, new), fn, _x in said["places"]:
             self.parent[place] = parent
             self.field[place] = (old, new)
+            self.call[place] = said["params"].get(fn) if fn else None
         self.arm = {}
         for (place, *_), arm in zip(said["places"], said["arms"]):
             self.arm[place] = arm
@@ -91,8 +92,27 @@ class Steps:
                     to, was, more = it[0], it[1], it[2] if len(it) > 2 else []
                     if alike(was) == alike(rest[0]) and [alike(x) for x in more] == [alike(x) for x in rest[1:1 + len(more)]]:
                         return chain[at], [arm[0], to] + rest[1 + len(more):]
-                return chain[at], [new] + rest[1:]
+                return chain[at], [new] + self.lent(chain[at], rest[1:])
         return place, rest
+
+    def lent(self, place, rest):
+        """What a call left in a parameter: by the parameter's name and not its number."""
+        names = self.call.get(place)
+        if not names or not rest or rest[0] != "new":
+            return rest
+        digits = 0
+        while 1 + digits < len(rest) and rest[1 + digits] in ("0", "1"):
+            digits += 1
+        i, seq = 0, rest[1:1 + digits]
+        if not seq:
+            return rest
+        while seq and seq[0] == "1" and i < len(names) - 1:
+            i, seq = i + 1, seq[1:]
+        if i < len(names) - 1:
+            if not seq or seq[0] != "0":
+                return rest
+            seq = seq[1:]
+        return ["new", names[i], *seq, *rest[1 + digits:]]
 
 
 def turn_body(text, var, place, steps, words):

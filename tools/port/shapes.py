@@ -86,6 +86,8 @@ def main(said):
 ONE = re.compile(r"(?m)^(?:so far: )?(\S+\.antt):(\d+):(\d+): error: `([^`]*)`: computed as far as they go, the two types are `record \{(\w+) : ")
 FIELD = re.compile(r"(?m)^(?:so far: )?(\S+\.antt):(\d+):(\d+): error: `[^`]*`: record `[^`]*` has no field `([01])`[^\n]*?(?:—|\n) *the fields that can be named here are ([^\n]*)")
 
+FIELD2 = re.compile(r"(?m)^(?:so far: )?(\S+\.antt):(\d+):(\d+): error: `[^`]*`: `[^\n]*\n\s*has no field `([01])`\n\s*its fields are ([^\n]*)")
+
 
 def wrapped(said):
     """An answer whose goal is a record of one fact: the fact goes into the record."""
@@ -109,7 +111,7 @@ def named(said):
     """A number of a place, where the record has named fields."""
     text = open(said, encoding="utf-8").read()
     todo = {}
-    for m in FIELD.finditer(text):
+    for m in [*FIELD.finditer(text), *FIELD2.finditer(text)]:
         fields = [f for f in re.findall(r"`([^`]+)`", m[5]) if f not in ("before",)]
         todo.setdefault(m[1], []).append((int(m[2]), int(m[3]), fields))
     for path, places in todo.items():

@@ -24,7 +24,7 @@ pub overflow_add-gone : goal.overflow_add-gone
 overflow_add-gone c = let a = c.args in
     let s = c.split-parts in
     let g = c.go_on-gone in
-    omega (arith, can_add a.buffer.now a.number a.under a.load a.packet.now a.places.now c.requires s.result s.ensures g.result g.ensures.0)
+    omega (arith, can_add a.buffer.now a.number a.under a.load a.packet.now a.places.now c.requires s.result s.ensures g.result g.ensures.value)
 
 pub keep-requires : goal.keep-requires
 keep-requires c = let a = c.args in
@@ -34,8 +34,8 @@ keep-requires c = let a = c.args in
     let b = c.begin_in-begun in
     omega (
       arith,
-      can_keep a.buffer.now a.number a.under a.load a.packet.now a.places.now c.requires s.result s.ensures g.result g.ensures.0
-          t.new.0 t.result t.ensures.0 t.ensures.1 b.result b.ensures.0 g.new.0 g.auto.0,
+      can_keep a.buffer.now a.number a.under a.load a.packet.now a.places.now c.requires s.result s.ensures g.result g.ensures.value
+          t.new.places t.result t.ensures.value t.ensures.places_after b.result b.ensures.value g.new.buffer g.auto.buffer,
     )
 
 pub overflow_add-result : goal.overflow_add-result
@@ -46,15 +46,15 @@ overflow_add-result c = let a = c.args in
     let b = c.begin_in-begun in
     omega (
       arith,
-      can_add_under a.buffer.now a.number a.under a.load a.packet.now a.places.now c.requires s.result s.ensures g.result g.ensures.0
-          t.new.0 t.result t.ensures.0 t.ensures.1 b.result b.ensures.0,
+      can_add_under a.buffer.now a.number a.under a.load a.packet.now a.places.now c.requires s.result s.ensures g.result g.ensures.value
+          t.new.places t.result t.ensures.value t.ensures.places_after b.result b.ensures.value,
     )
 
 pub returns : goal.returns
-returns c = let a = c.args in
+returns c = let r = let a = c.args in
     let s = c.split-parts in
     let g = c.go_on-gone in
     let t = c.tell_ended-count in
     let b = c.begin_in-begun in
-    all_left_lem a.buffer.now a.number a.under a.load a.packet.now a.places.now c.requires s.result s.ensures g.result g.ensures.0
-    t.new.0 t.result t.ensures.0 t.ensures.1 b.result b.ensures.0 g.new.0 c.keep.new.0 b.new.1.1.0 g.ensures.1 c.keep.ensures b.ensures.1
+    all_left_lem a.buffer.now a.number a.under a.load a.packet.now a.places.now c.requires s.result s.ensures g.result g.ensures.value
+    t.new.places t.result t.ensures.value t.ensures.places_after b.result b.ensures.value g.new.buffer c.keep.new.cells b.new.places g.ensures.buffer_after c.keep.ensures b.ensures.places_after in record { value = r.0; buffer_after = r.1.0; places_after = r.1.1 }

@@ -12,7 +12,7 @@ pub loop-a-init : goal.loop-a-init
 loop-a-init c = (omega arith, rw sub-zero)
 
 pub find_block-i-requires : goal.find_block-i-requires
-find_block-i-requires c = (search rules, tells_fewer c.args.tags.now c.args.heads.now c.args.used c.block_end-e.result (omega arith) c.requires.1)
+find_block-i-requires c = record { a_le_e = search rules; tells = tells_fewer c.args.tags.now c.args.heads.now c.args.used c.block_end-e.result (omega arith) c.requires.tells }
 
 pub returns-then-i-e : goal.returns-then-i-e
 returns-then-i-e c = let a = c.args in block_hit (λ (k : ℕ). same_key (key_at a.heads.now k) a.key) (row_of a.heads.now a.key a.used) a.used c.loop-a.a c.block_end-e.result c.find_block-i.result (omega arith) (omega arith) c.find_block-i.ensures c.if-i-e.true c.loop-a.invariant.1

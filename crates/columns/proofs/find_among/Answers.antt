@@ -10,7 +10,7 @@ pub loop-i-init : goal.loop-i-init
 loop-i-init c = (omega arith, refl)
 
 pub row_is-requires : goal.row_is-requires
-row_is-requires c = (search rules, tells_fewer c.args.tags.now c.args.heads.now c.args.e (c.loop-i.i + 1) (omega arith) c.requires.1)
+row_is-requires c = record { i_in_bounds = search rules; tells = tells_fewer c.args.tags.now c.args.heads.now c.args.e (c.loop-i.i + 1) (omega arith) c.requires.tells }
 
 pub returns-then-row_is : goal.returns-then-row_is
 returns-then-row_is c = search first_hit
