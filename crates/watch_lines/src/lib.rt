@@ -49,12 +49,7 @@ pub fn say_place(stdout: &mut impl Write, word: &[u8], place: Place) -> io::Resu
 }
 
 // A line of a section that was offered.
-fn say_section(
-    stdout: &mut impl Write,
-    word: &[u8],
-    place: Place,
-    section: &[u8],
-) -> io::Result<()>
+fn say_section(stdout: &mut impl Write, word: &[u8], place: Place, section: &[u8]) -> io::Result<()>
     requires { (length word.now ≤ 12) × (3 ≤ length section.now) × (length section.now ≤ 4098) }
 {
     let mut line = [0u8; 48];
