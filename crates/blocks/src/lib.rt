@@ -1,5 +1,7 @@
 // Standard input of any length, in blocks: one read call takes up to 64 KiB of what is there. What was read and not used up is kept, at most as many bytes as
 // `alignment` leaves over, and the next block is put behind it.
+#![tactic(auto)]
+
 ghost use Rattle.std.specs.Prelude.{◌≡◌, ◌-◌, ◌≤◌, IfOk, length, take, drop};
 ghost use Rattle.blocks.specs.Blocks.{Kept, Refilled};
 

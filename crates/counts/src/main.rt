@@ -1,6 +1,8 @@
 // `counts CAPACITY LIMIT CELLS [INTERVAL] < stream.ts`: what a monitor with such a store counts of a transport stream, a line for each time that the stream tells.
 // CAPACITY keys of the gate; LIMIT keys and CELLS cells of 4,096 bytes for each collector; lines at least INTERVAL seconds of the stream apart. 256 section buffers,
 // the other settings as they are by default, all on input 0.
+#![tactic(auto)]
+
 ghost use Rattle.stream_cursor.specs.Cursor.{Inside};
 
 use counts_collect::Collectors;

@@ -1,5 +1,7 @@
 // One step of `counts`: the packet at the front of the block is fed to the gate with an index, the sections that it finished go to the collectors, and a line is
 // written where the stream tells a time; or what is no packet is passed over, or more is read.
+#![tactic(auto)]
+
 ghost use Rattle.std.specs.Prelude.{◌≡◌, ◌+◌, ◌*◌, ◌-◌, ◌≤◌, IfOk, length};
 ghost use Rattle.stream_cursor.specs.Cursor.{Inside};
 ghost use Rattle.counts_step.specs.Step.{no_buffer_counted};

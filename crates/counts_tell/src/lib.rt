@@ -1,4 +1,6 @@
 // What `counts` writes: the names of the columns, a line when the stream tells a time at which one is due, and `end`. Each line is written out at once.
+#![tactic(auto)]
+
 ghost use Rattle.std.specs.Prelude.{◌≡◌, ◌+◌, ◌*◌, ◌≤◌, ◌<◌, IfOk, length};
 ghost use Rattle.counts_tell.specs.Told.{last_told, last_read};
 

@@ -1,4 +1,6 @@
 // The words of `counts`: CAPACITY LIMIT CELLS [INTERVAL]. A program has a stack and no heap: what it can lend bounds the words.
+#![tactic(auto)]
+
 ghost use Rattle.std.specs.Prelude.{◌≡◌};
 ghost use Rattle.counts_words.specs.Words.{words_of};
 

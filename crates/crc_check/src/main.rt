@@ -1,4 +1,6 @@
 // The published check of this CRC: of the nine ASCII digits 1 to 9 it is 0376E6E7. Both forms are held to it, by proof and by running.
+#![tactic(auto)]
+
 use std::io;
 
 const PUBLISHED: u32 = 0x0376_E6E7;

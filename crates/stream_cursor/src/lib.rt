@@ -1,5 +1,7 @@
 // Reading a transport stream from standard input in blocks (docs/RULES.md, "Packets"): where in the block it stands, what of it is a packet, and what `watch_ts` and
 // `sections` write. No gate here.
+#![tactic(auto)]
+
 ghost use Rattle.std.specs.Prelude.{◌≡◌, ◌+◌, ◌-◌, ◌≤◌, IfOk, length};
 ghost use Rattle.stream_cursor.specs.Cursor.{Inside, StepOk, is_packet};
 

@@ -1,4 +1,6 @@
 // What `watch_ts` and `sections` write: the lines or the records of the sections that packets finished, gathered in a buffer and written out together.
+#![tactic(auto)]
+
 ghost use Rattle.std.specs.Prelude.{◌≡◌, ◌+◌, ◌≤◌, ◌<◌, IfOk, length};
 
 use counters::Counters;

@@ -1,6 +1,8 @@
 // What `watch_ts` and `sections` do: they read a transport stream from standard input, of any length, in blocks, feed each packet to the gate with an index, and
 // write a line for each section that a packet finished, or its record. Default settings, 256 section buffers, all on input 0. What a block gave is written out
 // before the next is read.
+#![tactic(auto)]
+
 use gate_state::Settings;
 use std::io;
 use std::io::{Read, Write};

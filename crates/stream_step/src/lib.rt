@@ -1,4 +1,6 @@
 // One step of reading a transport stream: the packet at the front of the block is fed to the gate with an index, or what is no packet is passed over, or more is read.
+#![tactic(auto)]
+
 ghost use Rattle.std.specs.Prelude.{◌≡◌, ◌-◌, ◌≤◌, IfOk, length};
 ghost use Rattle.stream_cursor.specs.Cursor.{Inside};
 

@@ -1,4 +1,6 @@
 // The lines that `watch` and `watch_inputs` print (docs/RULES.md, "Answers" has the numbers that they stand for). Each is an error where it could not be written.
+#![tactic(auto)]
+
 ghost use Rattle.std.specs.Prelude.{◌+◌, ◌≤◌, length};
 
 use answers::Refusal;

@@ -1,6 +1,8 @@
 // What `watch` and `watch_inputs` do: they read records from standard input, a PID (two bytes, high byte first) and a section, or an input (one byte) before
 // these, and say of each record what the gate makes of it, a line for each, and the totals last. Default settings, so complete PATs are followed, but a gate of
 // 512 keys; sixteen watch records opened alike, of which `watch` uses the first. One record is held at a time, so standard input may be of any length.
+#![tactic(auto)]
+
 ghost use Rattle.std.specs.Prelude.{◌≡◌, ◌≤◌, ◌<◌, IfOk, length};
 ghost use Rattle.records.specs.Next as records;
 ghost use Rattle.watcher.specs.Read.{Within, IsInput, InWatches};
