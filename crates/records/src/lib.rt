@@ -1,9 +1,10 @@
 // The records that programs read from standard input: a PID (two bytes, high byte first) and a section, with or without an input (one byte) before them. One is held at a time, so an input may be of any length.
-ghost use Rattle.std.specs.Prelude.{◌≡◌, length};
+ghost use Rattle.std.specs.Prelude.{◌≡◌, ◌≤◌, IfOk, length};
 ghost use Rattle.records.specs.Next.{Within};
 
-use libc::STDIN_FILENO;
 use section::bytes::wide;
+use std::io;
+use std::io::{ErrorKind, Read};
 
 // The bytes of the longest record: a PID, and a section of 3 + 4,095 bytes.
 pub const LONGEST: usize = 4100;
@@ -16,24 +17,47 @@ pub enum Next {
     Cut,
 }
 
-// Reads one record to the start of buf: the PID, the three bytes that end in section_length, and as many more as that says.
-pub fn read_record(buf: &mut [u8]) -> Next
-    requires { 4100 ≡ length buf.old }
-    ensures { Within result }
+// Reads until buf is full or the input ends, and answers how many bytes came. A proved loop has to end, and nothing says that the input does: the turns are
+// counted, up to a number that no run uses up.
+fn read_full(stdin: &mut impl Read, buf: &mut [u8]) -> io::Result<usize>
+    ensures { IfOk result (λ n. n ≤ length buf.old) }
 {
-    let got = io::read_full(STDIN_FILENO, &mut buf[0..5]);
+    let mut done = 0;
+    for _ in 0..u64::MAX {
+        if done >= buf.len() {
+            break;
+        }
+        match stdin.read(&mut buf[done..]) {
+            Ok(0) => break,
+            Ok(n) => done += n,
+            Err(e) => {
+                if e.kind() != ErrorKind::Interrupted {
+                    return Err(e);
+                }
+            }
+        }
+    }
+    Ok(done)
+}
+
+// Reads one record to the start of buf: the PID, the three bytes that end in section_length, and as many more as that says.
+pub fn read_record(stdin: &mut impl Read, buf: &mut [u8]) -> io::Result<Next>
+    requires { 4100 ≡ length buf.old }
+    ensures { IfOk result Within }
+{
+    let got = read_full(stdin, &mut buf[0..5])?;
     if got == 0 {
-        return Next::End;
+        return Ok(Next::End);
     }
     if got < 5 {
-        return Next::Cut;
+        return Ok(Next::Cut);
     }
     let n = wide(buf[3]) % 16 * 256 + wide(buf[4]);
-    let more = io::read_full(STDIN_FILENO, &mut buf[5..5 + n]);
+    let more = read_full(stdin, &mut buf[5..5 + n])?;
     if more < n {
-        return Next::Cut;
+        return Ok(Next::Cut);
     }
-    Next::Record(5 + n)
+    Ok(Next::Record(5 + n))
 }
 
 // What reading an input found: the number that stands there, or the end of standard input.
@@ -44,10 +68,10 @@ pub enum InputRead {
 }
 
 // Reads the byte that records with an input begin with.
-pub fn read_input() -> InputRead {
+pub fn read_input(stdin: &mut impl Read) -> io::Result<InputRead> {
     let mut byte = [0u8; 1];
-    if io::read_full(STDIN_FILENO, &mut byte) == 0 {
-        return InputRead::End;
+    if read_full(stdin, &mut byte)? == 0 {
+        return Ok(InputRead::End);
     }
-    InputRead::One(byte[0])
+    Ok(InputRead::One(byte[0]))
 }
