@@ -1,4 +1,6 @@
 // The records that programs read from standard input: a PID (two bytes, high byte first) and a section, with or without an input (one byte) before them. One is held at a time, so an input may be of any length.
+#![tactic(auto)]
+
 ghost use Rattle.std.specs.Prelude.{◌≡◌, ◌≤◌, IfOk, length};
 ghost use Rattle.records.specs.Next.{Within};
 
