@@ -1,4 +1,6 @@
 // The clock that a stream carries (EN 300 468, 5.2.5 and 5.2.6): the time of a TDT or TOT section, as a monitor prints it and as a number of seconds.
+#![tactic(auto)]
+
 ghost use Rattle.std.specs.Prelude.{◌≡◌, true, ◌≤◌, length};
 ghost use Rattle.clocks.specs.Clocks.{is_clock, stamped_of, clock_of};
 

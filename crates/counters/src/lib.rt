@@ -1,5 +1,7 @@
 // The gate's counters (docs/RULES.md, "Gate"): one record that each offer which is judged counts up. Its fields have no end of their own: a call
 // refuses a section while one of them is at its largest number.
+#![tactic(auto)]
+
 ghost use Rattle.std.specs.Prelude.{◌≡◌, Bool, false, ◌+◌, ◌<◌, ◌^◌};
 ghost use Rattle.counters.specs.Counters.{zeroes, any_full, CanCount, plus_of, counted_of, failed_of};
 

@@ -1,4 +1,2 @@
 pub mod Sums
-pub mod Looks
-pub mod Tables
 pub mod Words

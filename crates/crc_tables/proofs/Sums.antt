@@ -6,6 +6,7 @@ use native.Mathlib.Nat.{mod-lt, zero-lt-suc, zero-mul, one-mul, pow-suc, lt_of_l
 use native.Mathlib.Omega.{arith}
 use lib.Arith.{lt-one}
 use lib.Pow.{pow_mono, shl_lt}
+use lib.ListN.{get_or}
 use lib.Bits.{bit_xor, xor_comm, xor_lt}
 use Rattle.crc_zeros.specs.Zeros.{zeros}
 use Rattle.crc_tables.specs.Entries.{entry}
@@ -60,3 +61,21 @@ entry_lt n k room b h = zeros_lt n (bit_xor b 128 * 2 ^ k) (lt_of_lt_of_le (shl_
 
 pub made_lt : (n k : ℕ) → 8 + k ≤ 32 → (b : ℕ) → b < 256 → made n k b < 2 ^ 32
 made_lt n k room b h = subst (λ (x : ℕ). x < 2 ^ 32) (sym (made_entry n k room b h)) (entry_lt n k room b h)
+
+-- ---- a table as a list
+
+-- the m entries of f from i on
+unfoldable pub entries : (ℕ → ℕ) → ℕ → ℕ → List ℕ
+entries f i zero = []
+entries f i (suc m) = f i ∷ entries f (suc i) m
+
+entries_at : (f : ℕ → ℕ) (i m b : ℕ) → b < m → get_or (entries f i m) b 0 ≡ f (i + b)
+unfolding entries
+entries_at f i zero b h = absurd (omega arith)
+entries_at f i (suc m) zero h = ap f (omega arith)
+entries_at f i (suc m) (suc b) h = entries_at f (suc i) m b (omega arith) ∙ ap f (omega arith)
+
+-- what a table of 256 such entries has at a byte
+pub entry_in : (n k : ℕ) → 8 + k ≤ 32 → (xs : List ℕ) → xs ≡ entries (made n k) 0 256 → (b : ℕ) → b < 256 → get_or xs b 0 ≡ entry n k b
+entry_in n k room xs e b h =
+    ap (λ (l : List ℕ). get_or l b 0) e ∙ entries_at (made n k) 0 256 b h ∙ ap (made n k) (omega arith) ∙ made_entry n k room b h

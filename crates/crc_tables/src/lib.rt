@@ -1,8 +1,9 @@
 // What the register of the CRC becomes when 32, 64, 96 or 128 zeros go into it, by which crate crc takes sixteen bytes at once.
 //
 // It is linear: each byte of the register makes a number by itself, which a table has, and the register makes the exclusive or of the
-// four. The compiler makes constant data of a `match` whose arms are constants where it can put it into its caller, so each table is
-// called from one place; an array would be written to the stack at every call.
+// four.
+#![tactic(auto)]
+
 ghost use Rattle.std.specs.Prelude.{◌≡◌, ◌%◌};
 ghost use Rattle.std.specs.Int.Bits.{bit_xor};
 ghost use Rattle.crc_zeros.specs.Zeros.{zeros};

@@ -34,13 +34,13 @@ record Ordered (capacity : ℕ) (l : Laid) : Type 0 where
   once : (k : ℕ) → count_key k l.rows ≤ 1
 
 module _ (capacity : ℕ) (n : Row) (l : Laid) (o : Ordered capacity l) where
-  at_capacity : at_capacity capacity (arrivals l) ≡ at_capacity capacity l.rows
-  at_capacity = ap (λ (x : ℕ). leb capacity x && ltb 0 x) (length_turned l.next l.rows)
+  at_capacity_lem : at_capacity capacity (arrivals l) ≡ at_capacity capacity l.rows
+  at_capacity_lem = ap (λ (x : ℕ). leb capacity x && ltb 0 x) (length_turned l.next l.rows)
 
   -- the rule by place is the rule by arrival
   arrives : arrivals (laid_after capacity n l) ≡ offered_to capacity n (arrivals l)
   unfolding laid_after offered_to
-  arrives = rw (holds_turned n.key l.next l.rows, at_capacity) (go (holds n.key l.rows) (at_capacity capacity l.rows) refl)
+  arrives = rw (holds_turned n.key l.next l.rows, at_capacity_lem) (go (holds n.key l.rows) (at_capacity capacity l.rows) refl)
     where
       go : (h c : Bool) → at_capacity capacity l.rows ≡ c →
           arrivals (cond h (record { rows = updated n l.rows; next = l.next }) (cond c (record { rows = set l.rows l.next n; next = (l.next + 1) % length l.rows }) (record { rows = l.rows ++ (n ∷ []); next = l.next })))
@@ -108,7 +108,7 @@ module _ (m : Memory) (n : Row) (r : Reached m) (small : n.change < 2 ^ 32) wher
         tells = l.tells ∙ ap not (sym (has_turned n m.ring.first (laid_in m).rows (once_rows n.key)));
         leaves =
             l.leaves
-            ∙ rw (holds_turned n.key m.ring.first (laid_in m).rows, at_capacity m.ring.capacity n (laid_in m) ordered);
+            ∙ rw (holds_turned n.key m.ring.first (laid_in m).rows, at_capacity_lem m.ring.capacity n (laid_in m) ordered);
         order = order;
         reached = record { whole = l.whole; young = stays_young; once = λ k. rw order (stays_once m.ring.capacity n (laid_in m) ordered k) };
         capacity = l.capacity;

@@ -1,6 +1,8 @@
 // What the gate remembers: for each key its last version and change number, the keys in order of first arrival, over two lent slices with a row
 // at each index. While rows are free a new key takes the next one; after that it replaces the key that came first, so that the rows are a ring.
 // A known key keeps its place.
+#![tactic(auto)]
+
 ghost use Rattle.std.specs.Prelude.{◌≡◌, Bool, ◌+◌, ◌<◌, ◌≤◌, length, take, drop, set};
 ghost use Rattle.ring.specs.Store.{room_of, whole_of, Whole, stamp_of, row_of, free_row, renewed, arrived, seen_of, keys_after, changes_after};
 

@@ -177,9 +177,9 @@ pub later : {n : ℕ} {rest : Bytes} {secs : List Bytes} {ps : List Sending} {l 
 later {n = n} {rest = rest} {secs = secs} {ps = ps} {l = l} {g = g} [] q e h t arr =
     record { n = n; rest = rest; secs' = secs; ps = ps; small = h; sent = t; arrives = weaken (subst (λ (x : List Packet). Arrives g ps x) e arr); within = λ xs a. a }
 later (x ∷ a) q e h t leaves = absurd (no_packet x (a ++ q) e)
-later (x ∷ a) q e h (sends {n = n} times car z t) (comes {qs = qs} arr) = let t' : qs ≡ a ++ q = ap behind e in more (λ xs. among_carries car) (later a q t' (next_small n) t arr)
-later (x ∷ a) q e h (sends {n = n} times car z t) (both {p = p} {qs = qs} arr) = let t' : p ∷ qs ≡ a ++ q = ap behind e in later a q t' h (sends once car z t) (comes {g = none} arr)
-later (x ∷ a) q e h (sends {n = n} times car z t) (lost f arr) = more (λ xs. among_carries car) (later (x ∷ a) q e (next_small n) t arr)
+later (x ∷ a) q e h (sends {n = n} times car z t) (comes {qs = qs} arr) = let t' : qs ≡ a ++ q = ap behind e in more (λ xs. among_carries car) (later {n = next n} a q t' (next_small n) t arr)
+later (x ∷ a) q e h (sends {n = n} times car z t) (both {p = p} {qs = qs} arr) = let t' : p ∷ qs ≡ a ++ q = ap behind e in later {n = n} a q t' h (sends once car z t) (comes {g = none} arr)
+later (x ∷ a) q e h (sends {n = n} times car z t) (lost f arr) = more (λ xs. among_carries car) (later {n = next n} (x ∷ a) q e (next_small n) t arr)
 
 pub part_exact : {n : ℕ} {rest : Bytes} {secs : List Bytes} {ps : List Sending} {l : List Packet} (a b c : List Packet) → l ≡ a ++ (b ++ c) → n < 16 → Sent n rest secs ps → Arrives none ps l → Among (run opened b) secs
 part_exact a b c e h t arr =

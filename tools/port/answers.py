@@ -1,0 +1,325 @@
+#!/usr/bin/env python3
+"""Turns the Proof.antt of an older Rattle, in a crate's proofs/, into Invariants.antt and Answers.antt.
+
+usage: answers.py CRATE NAMES      CRATE: the crate's folder; NAMES: the names.json of `rt check --generated DIR --old-names` in that folder
+
+A goal that the old file answered by `search rules` alone is left to the check. Each other answer keeps its term, with the steps of the
+function under today's names. A file that it cannot read stays, with a line 'left: ..'.
+"""
+import json
+import os
+import re
+import sys
+
+W = r'[^\s(){}.;,@"«»\[\]]+'
+
+
+def alike(name):
+    return re.sub(r"[-_]", "", name).lower()
+
+
+def blocks(text):
+    """The file's top-level items: lists of lines, each beginning with its comments."""
+    out, cur = [], []
+    for line in text.split("\n"):
+        top = line and not line[0].isspace()
+        if top and cur and not all(l.startswith("--") or l.startswith("unfolding") or l == "" for l in cur):
+            # A further line of the same item: its unfolding line, or an equation of its name.
+            head = next((l for l in cur if l and not l.startswith("--") and not l.startswith("unfolding")), "")
+            name = re.match(rf"(?:(?:abbrev|pub|unfoldable) +)*({W})", head)
+            if name and name[1] == "use":
+                name = None
+            again = name and (re.match(rf"{re.escape(name[1])}(?:\s|$)", line) or line.startswith("unfolding "))
+            if not (again and " : " in head + " : "):
+                out.append(cur)
+                cur = []
+            elif not again:
+                out.append(cur)
+                cur = []
+        cur.append(line)
+    if cur:
+        out.append(cur)
+    return out
+
+
+def split_args(text):
+    """The arguments of an application, each a word or in brackets."""
+    out, depth, cur = [], 0, ""
+    for ch in text:
+        if ch.isspace() and depth == 0:
+            if cur:
+                out.append(cur)
+            cur = ""
+            continue
+        depth += ch in "([{"
+        depth -= ch in ")]}"
+        cur += ch
+    if cur:
+        out.append(cur)
+    return out
+
+
+class Steps:
+    def __init__(self, said):
+        self.parent, self.field = {}, {}
+        for place, parent, (old, new), _fn, _x in said["places"]:
+            self.parent[place] = parent
+            self.field[place] = (old, new)
+        self.arm = {}
+        for (place, *_), arm in zip(said["places"], said["arms"]):
+            self.arm[place] = arm
+
+    def path(self, place, fields):
+        """c.before..before.step.rest at a place, as today's c.step.rest; None: the place above all."""
+        rest = list(fields)
+        while rest and rest[0] == "before":
+            rest = rest[1:]
+            if place is not None:
+                place = self.parent.get(place)
+        if not rest:
+            return place, []
+        if place is not None and place in self.field:
+            old, new = self.field[place]
+            if old and alike(old) == alike(rest[0]):
+                arm = self.arm.get(place)
+                if arm:
+                    for it in arm[2]:
+                        to, was, more = it[0], it[1], it[2] if len(it) > 2 else []
+                        if alike(was) == alike(rest[0]) and [alike(x) for x in more] == [alike(x) for x in rest[1:1 + len(more)]]:
+                            return place, [new, to] + rest[1 + len(more):]
+                return place, [new] + rest[1:]
+        return place, rest
+
+
+def turn_body(text, var, place, steps, words):
+    """Rewrites the paths of the context variable in a term."""
+    places = {var: place}
+    pat = re.compile(rf'(?<![^\s(){{}},;\[\]])({W})((?:\.{W})+)?')
+
+    # let x = c.before.. in: another name of a place
+    def one(m):
+        head, tail = m[1], m[2]
+        if head not in places:
+            return m[0]
+        fields = tail[1:].split(".") if tail else []
+        p, f = steps.path(places[head], fields)
+        if fields and not f:
+            before = text[:m.start()]
+            let = re.search(rf"let ({W}) = $", before)
+            if let:
+                places[let[1]] = p
+            return var
+        return ".".join([var if head in places else head, *f]) if fields else m[0]
+
+    # names that a let gives a place are contexts too: go left to right
+    out = pat.sub(one, text)
+    for v in list(places):
+        if v != var:
+            out = re.sub(rf'(?<![^\s(){{}},;\[\]]){re.escape(v)}(?=\.)', var, out)
+            out = re.sub(rf"let {re.escape(v)} = {re.escape(var)} in\s*", "", out)
+    return out
+
+
+FIELDS = {"ranges": "ranges"}
+
+
+def main(crate, names):
+    with open(names, encoding="utf-8") as f:
+        said = json.load(f)
+    name = os.path.basename(os.path.abspath(crate))
+    done = left = 0
+    for folder, below, files in os.walk(os.path.join(crate, "proofs")):
+        below[:] = [b for b in below if b != "out"]
+        if "Proof.antt" not in files:
+            continue
+        at = os.path.join(folder, "Proof.antt")
+        part = os.path.relpath(folder, os.path.join(crate, "proofs"))
+        stem = f"Rattle-{name}-proofs." + part.replace("/", ".")
+        got = said.get(stem + ".Lts")
+        more = [k for k in said if k.startswith(stem + ".Lts")]
+        with open(at, encoding="utf-8") as f:
+            text = f.read()
+        if got is None:
+            print(f"left: {at}: names.json has no {stem}.Lts, but {more}")
+            left += 1
+            continue
+        if not re.search(r"tie\.spec", text):
+            print(f"left: {at}: walks the code by hand")
+            left += 1
+            continue
+        try:
+            invariants, answers = turn(text, got, name, part)
+        except ValueError as e:
+            print(f"left: {at}: {e}")
+            left += 1
+            continue
+        os.remove(at)
+        for file, what in (("Invariants.antt", invariants), ("Answers.antt", answers)):
+            if what:
+                with open(os.path.join(folder, file), "w", encoding="utf-8") as f:
+                    f.write(what)
+        if not os.listdir(folder):
+            try:
+                os.removedirs(folder)
+            except OSError:
+                pass
+        done += 1
+    print(f"answers: {name}: {done} turned, {left} left")
+
+
+def has_word(text, word):
+    return re.search(r'(?<![^\s(){}.,;\[\]])' + re.escape(word) + r'(?![^\s(){}.,;\[\]])', text) is not None
+
+
+def name_of(item):
+    return re.match(rf"(?:--[^\n]*\n)*(?:(?:abbrev|pub|unfoldable) +)*({W})", item)[1]
+
+
+def turn(text, got, crate, part):
+    steps = Steps(got)
+    items = blocks(text)
+    uses, decls, head = [], [], []
+    for it in items:
+        code = [l for l in it if not l.startswith("--") and l.strip()]
+        if not code:
+            head += [l for l in it if l.startswith("--")]
+            continue
+        comments = [l for l in it[: it.index(code[0])] if l.startswith("--")]
+        if re.match(r"(pub |unfoldable )*use ", code[0]):
+            if not uses and not decls:
+                head += comments
+            uses.append(code[0])
+            continue
+        decls.append((comments, code))
+    uses = [u for u in uses if not re.search(r"\.(Statement\.\{statement\}|Tie as tie|Lts as lts|Reads as \S+)$", u) or not u.startswith("use Rattle.")]
+    # The last item: the proof itself.
+    spec = next((d for d in decls if re.search(r"tie\.spec", "\n".join(d[1]))), None)
+    if spec is None:
+        raise ValueError("no tie.spec")
+    body = "\n".join(spec[1])
+    unfold_spec = [l for l in spec[1] if l.startswith("unfolding")]
+    m = re.search(r"tie\.spec\b(.*)\)\s*$", body, re.S)
+    if not m:
+        m = re.search(r"tie\.spec\b(.*)$", body, re.S)
+    args = split_args(m[1]) if m else []
+    # with a context of lets or lambdas around: give up
+    if re.search(r"\blet\b", body.split("tie.spec")[0]):
+        raise ValueError("a let around tie.spec")
+    decls = [d for d in decls if d is not spec]
+    by_name = {}
+    for d in decls:
+        sig = d[1][0]
+        mm = re.match(rf"(?:(?:abbrev|pub|unfoldable) +)*({W})(?: \{{[^{{}}]*\}})*\s+:\s*(.*)", sig)
+        if mm:
+            by_name[mm[1]] = d
+    needs, asked = got["needs"], got["asked_at"]
+    loops = [a for a in args if a in by_name and re.search(r": tie\.(invariant|decreases|Inv|Measure)", by_name[a][1][0])]
+    rest = [a for a in args if a not in loops]
+    if len(rest) != len(needs):
+        raise ValueError(f"{len(rest)} answers, {len(needs)} goals now: {[n[0] for n in needs]}")
+    answers, inv, used = [], [], set()
+    turned = {}
+    for a in loops:
+        d = by_name[a]
+        used.add(a)
+        inv.append(turn_loop(d, a, got))
+    names_out = []
+    for a, (old, new), (place, _np) in zip(rest, needs, asked):
+        if a.startswith("("):
+            lam = re.match(rf"\(λ ({W})((?: {W})*)\. (.*)\)$", a, re.S)
+            if not lam:
+                raise ValueError(f"the argument {a[:60]}")
+            var, term = lam[1], lam[3]
+            if re.fullmatch(r"tt|search rules", term.strip()) and not unfold_spec:
+                continue
+            term = turn_body(term, var, place, steps, None)
+            lines = [f"pub {new} : goal.{new}"] + unfold_spec + [f"{new} {var} = {term}"]
+            answers.append("\n".join(lines))
+            continue
+        if a in ("tt",):
+            continue
+        if a not in by_name:
+            raise ValueError(f"the argument {a}")
+        comments, code = by_name[a]
+        used.add(a)
+        mid = [l for l in code[1:] if l.startswith("unfolding")]
+        eqs = [l for l in code[1:] if not l.startswith("unfolding")]
+        eq = "\n".join(eqs)
+        mm = re.match(rf"{re.escape(a)}((?:\s+(?!=\s){W})*)\s*=\s*(.*)$", eq, re.S)
+        if not mm:
+            raise ValueError(f"the equation of {a}")
+        params = mm[1].split()
+        term = mm[2]
+        if re.fullmatch(r"\s*(search rules|tt)\s*", term) and not mid:
+            continue
+        var = params[0] if params else "c"
+        term = turn_body(term, var, place, steps, None)
+        sep = "\n    " if "\n" in term and not term.startswith("\n") and False else ""
+        answers.append("\n".join([*[c for c in comments if not re.match(r"-- src/", c)], f"pub {new} : goal.{new}", *mid, f"{new} {var} = {sep}{term}".rstrip()]))
+    # Helpers of the file's own.
+    helpers, ihelpers = [], []
+    for comments, code in decls:
+        mm = re.match(rf"(?:(?:abbrev|pub|unfoldable) +)*({W})", code[0])
+        if mm[1] in used:
+            continue
+        h = "\n".join([*comments, *code])
+        helpers.append(h)
+    all_inv = "\n\n".join(inv)
+    all_ans = "\n\n".join(answers)
+    hs = ""
+    kept = []
+    need_text = all_ans + all_inv
+    for h in reversed(helpers):
+        if has_word(need_text, name_of(h)):
+            kept.insert(0, h)
+            need_text += h
+    hs = "\n\n".join(kept)
+    path = part.replace("/", ".")
+    out_a = out_i = None
+    use_of = lambda body: [u for u in uses if keeps(u, body)]
+    if inv:
+        ih = "\n\n".join(h for h in kept if any(has_word(i, name_of(h)) for i in inv))
+        b = (ih + "\n\n" if ih else "") + all_inv
+        out_i = "\n".join([*head, *use_of(b), f"use Rattle.{crate}.proofs.{path}.Given as goal", "", b, ""])
+    if answers:
+        b = (hs + "\n\n" if hs else "") + all_ans
+        out_a = "\n".join([*(head if not inv else []), *use_of(b), f"use Rattle.{crate}.proofs.{path}.Goals as goal", "", b, ""])
+    return out_i, out_a
+
+
+def keeps(use, body):
+    m = re.match(r"(?:pub |unfoldable )*use [^\s{]+\.\{(.*)\}\s*$", use)
+    names = [it.strip().split(" as ")[-1] for it in m[1].split(",")] if m else [use.split()[-1].split(".")[-1]]
+    words = set(re.findall(W, body))
+    # an operator may stand in parts
+    return any(n in words or "◌" in n for n in names)
+
+
+def turn_loop(d, name, got):
+    """An invariant or a measure over the loop's variables, one after another, as one over the record of them."""
+    comments, code = d
+    eqs = [l for l in code[1:] if not l.startswith("unfolding")]
+    mid = [l for l in code[1:] if l.startswith("unfolding")]
+    m = re.match(r"(?:(?:abbrev|pub|unfoldable) +)*\S+\s+: tie\.(invariant|decreases)-(\S+)", code[0])
+    if not m:
+        raise ValueError("the loop's item " + code[0])
+    found = [(k, it) for k, it in enumerate(got["loops"]) if alike(it[0][0]) == alike(m[2])]
+    if len(found) != 1:
+        raise ValueError(f"no loop {m[2]} in {[it[0] for it in got['loops']]}")
+    k, ((_old, new), variables) = found[0]
+    changed = got["changed"][k]
+    eq = re.match(rf"{re.escape(name)}((?:\s+(?!=\s){W})*)\s*=\s*(.*)$", "\n".join(eqs), re.S)
+    if not eq:
+        raise ValueError("the equation of " + name)
+    params = eq[1].split()
+    says = [f"l.initial.{v}" if c else f"l.{v}" for v, c in zip(variables, changed)] + [f"l.{v}" for v, c in zip(variables, changed) if c]
+    if len(params) != len(says):
+        raise ValueError(f"{len(params)} parameters of {name}, {len(says)} now")
+    to = dict(zip(params, says))
+    body = re.sub(W, lambda w: to.get(w[0], w[0]) if not (w.start() and eq[2][w.start() - 1] == ".") else w[0], eq[2])
+    label = f"{m[1]}-{new}"
+    return "\n".join([*[c for c in comments if not re.match(r"-- src/", c)], f"abbrev pub {label} : goal.{label}", *mid, f"{label} l = {body}".rstrip()])
+
+
+if __name__ == "__main__":
+    main(sys.argv[1], sys.argv[2])
