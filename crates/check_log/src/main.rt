@@ -193,7 +193,7 @@ fn end_list(
     log_feed::say_changed(stdout)
 }
 
-// A proved loop has to end, and nothing says that an input does: the turns are counted down from a number that no run uses up.
+// A proved loop has to end, and nothing says that an input does: the turns are counted, up to a number that no run uses up.
 fn walk(
     file: &mut impl Read,
     stdin: &mut impl Read,
@@ -209,8 +209,7 @@ fn walk(
 ) -> io::Result<()> {
     let mut run = opened;
     let mut place = 0;
-    let mut turns = u64::MAX;
-    while turns > 0 {
+    for _ in 0..u64::MAX {
         let n = log_reader::read_section(file, list)?;
         if n < 5 {
             return end_list(stdin, stdout, n, place, log);
@@ -226,7 +225,6 @@ fn walk(
         }
         run = t.run;
         place = t.place;
-        turns -= 1;
     }
     Ok(())
 }

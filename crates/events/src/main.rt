@@ -152,7 +152,7 @@ fn turn(
     }
 }
 
-// A proved loop has to end, and nothing says that an input does: the turns are counted down from a number that no run uses up.
+// A proved loop has to end, and nothing says that an input does: the turns are counted, up to a number that no run uses up.
 fn run(
     stdin: &mut impl Read,
     stdout: &mut impl Write,
@@ -167,9 +167,7 @@ fn run(
     let opened = eit::open(64, 4096, 512, heads, slots, cells, schedule_heads, units);
     let mut eit = opened.eit;
     let mut totals = entry_pages::no_totals();
-    let mut more = true;
-    let mut turns = u64::MAX;
-    while more & (turns > 0) {
+    for _ in 0..u64::MAX {
         let t = turn(
             stdin,
             stdout,
@@ -185,8 +183,9 @@ fn run(
         )?;
         eit = t.eit;
         totals = t.totals;
-        more = t.more;
-        turns -= 1;
+        if !t.more {
+            break;
+        }
     }
     entry_lines::heads::say_event_totals(stdout, totals)
 }

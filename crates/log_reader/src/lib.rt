@@ -75,10 +75,9 @@ pub fn read_section(list: &mut impl Read, buf: &mut [u8]) -> io::Result<usize>
 }
 
 // The whole list, judged from its start: END where it is whole, OVERLONG or LIST_CUT by the first section that is bad. A proved loop has to end, and nothing says that an input does: the turns
-// are counted down from a number that no run uses up.
+// are counted, up to a number that no run uses up.
 pub fn judge_list(list: &mut impl Read, buf: &mut [u8; 4103]) -> io::Result<usize> {
-    let mut turns = u64::MAX;
-    while turns > 0 {
+    for _ in 0..u64::MAX {
         let n = read_section(list, buf)?;
         if n == END {
             return Ok(END);
@@ -86,7 +85,6 @@ pub fn judge_list(list: &mut impl Read, buf: &mut [u8; 4103]) -> io::Result<usiz
         if LONGEST < n {
             return Ok(n);
         }
-        turns -= 1;
     }
     Ok(LIST_CUT)
 }

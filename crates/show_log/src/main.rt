@@ -68,19 +68,17 @@ fn turn(
     show(stdout, buf, place, count, n)
 }
 
-// A proved loop has to end, and nothing says that an input does: the turns are counted down from a number that no run uses up.
+// A proved loop has to end, and nothing says that an input does: the turns are counted, up to a number that no run uses up.
 fn run(stdin: &mut impl io::Read, stdout: &mut impl Write, buf: &mut [u8; 13]) -> io::Result<()> {
     let mut place = 0;
     let mut count = 0;
-    let mut turns = u64::MAX;
-    while turns > 0 {
+    for _ in 0..u64::MAX {
         let t = turn(stdin, stdout, buf, place, count)?;
         if !t.more {
             return Ok(());
         }
         place = t.place;
         count = t.count;
-        turns -= 1;
     }
     Ok(())
 }

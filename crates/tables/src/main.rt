@@ -117,7 +117,7 @@ fn turn(
     }
 }
 
-// A proved loop has to end, and nothing says that an input does: the turns are counted down from a number that no run uses up.
+// A proved loop has to end, and nothing says that an input does: the turns are counted, up to a number that no run uses up.
 fn run(
     stdin: &mut impl Read,
     stdout: &mut impl Write,
@@ -131,16 +131,15 @@ fn run(
     let opened = sets::open(64, 4096, 512, heads, slots, cells);
     let mut sets = opened.sets;
     let mut totals = entry_pages::no_totals();
-    let mut more = true;
-    let mut turns = u64::MAX;
-    while more & (turns > 0) {
+    for _ in 0..u64::MAX {
         let t = turn(
             stdin, stdout, asked, sets, heads, slots, cells, list, buf, totals,
         )?;
         sets = t.sets;
         totals = t.totals;
-        more = t.more;
-        turns -= 1;
+        if !t.more {
+            break;
+        }
     }
     entry_lines::heads::say_table_totals(stdout, totals)
 }

@@ -115,7 +115,7 @@ fn end_of(n: usize) -> Ended {
     }
 }
 
-// A proved loop has to end, and nothing says that an input does: the turns are counted down from a number that no run uses up.
+// A proved loop has to end, and nothing says that an input does: the turns are counted, up to a number that no run uses up.
 fn walk(
     file: &mut impl Read,
     stdout: &mut impl Write,
@@ -131,8 +131,7 @@ fn walk(
     let writes = purpose.writes;
     let mut run = opened;
     let mut room = purpose.room;
-    let mut turns = u64::MAX;
-    while turns > 0 {
+    for _ in 0..u64::MAX {
         let n = log_reader::read_section(file, list)?;
         if n < 5 {
             return Ok(end_of(n));
@@ -157,7 +156,6 @@ fn walk(
         }
         run = t.run;
         room = t.room;
-        turns -= 1;
     }
     Ok(Ended::Changed)
 }
