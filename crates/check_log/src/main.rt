@@ -1,11 +1,16 @@
 // Checks a log on standard input against a section list: `check_log CAPACITY REPEATS RULE LIMIT SIZE COUNT with|without|before SECTIONS < LOG`. It prints one line: whether the log is exactly the one
 // that the sections give with these settings, and where not, the first place and what is wrong there. The list is read twice: first it is judged, then run.
+#![tactic(auto)]
+
 ghost use Rattle.std.specs.Prelude.{◌≡◌, ◌≤◌, length};
 
 use answers::Outcome;
 use log_entries::Entry;
 use log_reader::{CUT, END, LONGEST, UNKNOWN};
 use log_state::{Run, Settings};
+use std::io;
+use std::io::{Read, Write};
+use std::rt::Files;
 
 // Whether the log was right so far, and the place of its next record.
 #[derive(Clone, Copy)]
@@ -24,85 +29,121 @@ struct Between {
 
 // ---- the log beside what is expected
 
-fn wrong(line: &[u8], place: u64) -> Beside
+fn wrong(stdout: &mut impl Write, line: &[u8], place: u64) -> io::Result<Beside>
     requires { length line.now ≤ 20 }
 {
-    log_lines::say_place(line, place);
-    Beside { good: false, place }
+    log_lines::say_place(stdout, line, place)?;
+    Ok(Beside { good: false, place })
 }
 
 // The next record of the log beside the one that is expected.
-fn expect(expected: &[u8], place: u64, buf: &mut [u8; 13]) -> Beside {
-    let n = log_reader::read_record(buf);
+fn expect(
+    stdin: &mut impl Read,
+    stdout: &mut impl Write,
+    expected: &[u8],
+    place: u64,
+    buf: &mut [u8; 13],
+) -> io::Result<Beside> {
+    let n = log_reader::read_record(stdin, buf)?;
     if n == END {
-        return wrong(b"40 missing ", place);
+        return wrong(stdout, b"40 missing ", place);
     }
     if n == UNKNOWN {
-        return wrong(b"38 unknown ", place);
+        return wrong(stdout, b"38 unknown ", place);
     }
     if 13 < n {
-        return wrong(b"39 cut ", place);
+        return wrong(stdout, b"39 cut ", place);
     }
-    same(expected, place, buf, n)
+    same(stdout, expected, place, buf, n)
 }
 
-fn same(expected: &[u8], place: u64, buf: &[u8], n: usize) -> Beside
+fn same(
+    stdout: &mut impl Write,
+    expected: &[u8],
+    place: u64,
+    buf: &[u8],
+    n: usize,
+) -> io::Result<Beside>
     requires { (n ≤ 13) × (13 ≡ length buf.now) }
 {
     if cells::same_bytes(&buf[0..n], expected) {
-        return Beside {
+        return Ok(Beside {
             good: true,
             place: std::num::wrapping_add_u64(place, n as u64),
-        };
+        });
     }
-    wrong(b"40 differs ", place)
+    wrong(stdout, b"40 differs ", place)
 }
 
 // The records of a section, one or two: the second begins where the first ends.
-fn expect_both(records: &[u8], place: u64, buf: &mut [u8; 13]) -> Beside {
+fn expect_both(
+    stdin: &mut impl Read,
+    stdout: &mut impl Write,
+    records: &[u8],
+    place: u64,
+    buf: &mut [u8; 13],
+) -> io::Result<Beside> {
     if records.len() == 0 {
-        return Beside { good: true, place };
+        return Ok(Beside { good: true, place });
     }
     let size = log_records::record_size(records[0]);
     if records.len() <= size {
-        return expect(records, place, buf);
+        return expect(stdin, stdout, records, place, buf);
     }
-    let first = expect(&records[0..size], place, buf);
+    let first = expect(stdin, stdout, &records[0..size], place, buf)?;
     if !first.good {
-        return first;
+        return Ok(first);
     }
-    expect(&records[size..], first.place, buf)
+    expect(stdin, stdout, &records[size..], first.place, buf)
 }
 
-fn part(bytes: &[u8], n: usize, place: u64, buf: &mut [u8; 13]) -> Beside {
+fn part(
+    stdin: &mut impl Read,
+    stdout: &mut impl Write,
+    bytes: &[u8],
+    n: usize,
+    place: u64,
+    buf: &mut [u8; 13],
+) -> io::Result<Beside> {
     if bytes.len() < n {
-        return Beside { good: false, place };
+        return Ok(Beside { good: false, place });
     }
-    expect_both(&bytes[0..n], place, buf)
+    expect_both(stdin, stdout, &bytes[0..n], place, buf)
 }
 
-fn expect_entry(entry: Entry, place: u64, buf: &mut [u8; 13]) -> Beside {
+fn expect_entry(
+    stdin: &mut impl Read,
+    stdout: &mut impl Write,
+    entry: Entry,
+    place: u64,
+    buf: &mut [u8; 13],
+) -> io::Result<Beside> {
     let bytes = entry.bytes;
     let n = entry.length;
-    part(&bytes, n, place, buf)
+    part(stdin, stdout, &bytes, n, place, buf)
 }
 
 // All sections were looked at: no record may be left.
-fn finish(place: u64, buf: &mut [u8; 13]) {
-    let n = log_reader::read_record(buf);
+fn finish(
+    stdin: &mut impl Read,
+    stdout: &mut impl Write,
+    place: u64,
+    buf: &mut [u8; 13],
+) -> io::Result<()> {
+    let n = log_reader::read_record(stdin, buf)?;
     if n == END {
-        entry_lines::say(b"8 yes\n");
-        return;
+        return entry_lines::say(stdout, b"8 yes\n");
     }
     if n == UNKNOWN {
-        wrong(b"38 unknown ", place);
-        return;
+        wrong(stdout, b"38 unknown ", place)?;
+        return Ok(());
     }
     if n == CUT {
-        wrong(b"39 cut ", place);
-        return;
+        wrong(stdout, b"39 cut ", place)?;
+        return Ok(());
     }
-    wrong(b"40 too-many ", place);
+    wrong(stdout, b"40 too-many ", place)?;
+    Ok(())
 }
 
 // ---- the run
@@ -117,6 +158,8 @@ fn leave(beside: Beside, run: Run) -> Between {
 
 // A section, and its records beside the log.
 fn turn(
+    stdin: &mut impl Read,
+    stdout: &mut impl Write,
     run: Run,
     keys: &mut [u64; 65536],
     changes: &mut [u64; 65536],
@@ -127,27 +170,34 @@ fn turn(
     n: usize,
     place: u64,
     log: &mut [u8; 13],
-) -> Between
+) -> io::Result<Between>
     requires { (5 ≤ n) × (n ≤ 4103) × (4103 ≡ length list.now) }
 {
     let taken = log_feed::take(run, keys, changes, heads, slots, cells, list, n);
     let entry = taken.entry;
     let then = taken.run;
-    leave(expect_entry(entry, place, log), then)
+    Ok(leave(expect_entry(stdin, stdout, entry, place, log)?, then))
 }
 
 // The list ends, or has changed since it was judged.
-fn end_list(n: usize, place: u64, log: &mut [u8; 13]) {
+fn end_list(
+    stdin: &mut impl Read,
+    stdout: &mut impl Write,
+    n: usize,
+    place: u64,
+    log: &mut [u8; 13],
+) -> io::Result<()> {
     if n == END {
-        finish(place, log);
-        return;
+        return finish(stdin, stdout, place, log);
     }
-    log_feed::say_changed();
+    log_feed::say_changed(stdout)
 }
 
-// A proved loop has to end, and nothing says that an input does: the turns are counted down from a number that no run uses up.
+// A proved loop has to end, and nothing says that an input does: the turns are counted, up to a number that no run uses up.
 fn walk(
-    fd: i32,
+    file: &mut impl Read,
+    stdin: &mut impl Read,
+    stdout: &mut impl Write,
     opened: Run,
     keys: &mut [u64; 65536],
     changes: &mut [u64; 65536],
@@ -156,34 +206,35 @@ fn walk(
     cells: &mut [u8; 1048576],
     list: &mut [u8; 4103],
     log: &mut [u8; 13],
-) {
+) -> io::Result<()> {
     let mut run = opened;
     let mut place = 0;
-    let mut turns = u64::MAX;
-    while turns > 0 {
-        let n = log_reader::read_section(fd, list);
+    for _ in 0..u64::MAX {
+        let n = log_reader::read_section(file, list)?;
         if n < 5 {
-            end_list(n, place, log);
-            return;
+            return end_list(stdin, stdout, n, place, log);
         }
         if LONGEST < n {
-            end_list(n, place, log);
-            return;
+            return end_list(stdin, stdout, n, place, log);
         }
-        let t = turn(run, keys, changes, heads, slots, cells, list, n, place, log);
+        let t = turn(
+            stdin, stdout, run, keys, changes, heads, slots, cells, list, n, place, log,
+        )?;
         if !t.more {
-            return;
+            return Ok(());
         }
         run = t.run;
         place = t.place;
-        turns -= 1;
     }
+    Ok(())
 }
 
 // The list is whole: the run is opened, and the list is read again.
 fn run(
     settings: Settings,
-    fd: i32,
+    file: &mut impl Read,
+    stdin: &mut impl Read,
+    stdout: &mut impl Write,
     keys: &mut [u64; 65536],
     changes: &mut [u64; 65536],
     heads: &mut [u64; 3072],
@@ -191,18 +242,26 @@ fn run(
     cells: &mut [u8; 1048576],
     list: &mut [u8; 4103],
     log: &mut [u8; 13],
-) {
+) -> io::Result<()> {
     let opened = log_state::open(settings, keys, changes, heads, slots, cells);
     let answer = opened.answer;
     let begun = opened.run;
     match answer {
-        Outcome::Done => walk(fd, begun, keys, changes, heads, slots, cells, list, log),
-        Outcome::Refused(_) => log_feed::say_too_little(),
+        Outcome::Done => walk(
+            file, stdin, stdout, begun, keys, changes, heads, slots, cells, list, log,
+        ),
+        Outcome::Refused(_) => log_feed::say_too_little(stdout),
     }
 }
 
 // Over the memory that a run is lent.
-fn run_over(settings: Settings, fd: i32, list: &mut [u8; 4103]) {
+fn run_over(
+    settings: Settings,
+    file: &mut impl Read,
+    stdin: &mut impl Read,
+    stdout: &mut impl Write,
+    list: &mut [u8; 4103],
+) -> io::Result<()> {
     let mut keys = log_feed::keys();
     let mut changes = log_feed::keys();
     let mut heads = log_feed::heads();
@@ -211,7 +270,9 @@ fn run_over(settings: Settings, fd: i32, list: &mut [u8; 4103]) {
     let mut log = [0u8; 13];
     run(
         settings,
-        fd,
+        file,
+        stdin,
+        stdout,
         &mut keys,
         &mut changes,
         &mut heads,
@@ -219,48 +280,52 @@ fn run_over(settings: Settings, fd: i32, list: &mut [u8; 4103]) {
         &mut cells,
         list,
         &mut log,
-    );
+    )
 }
 
-fn check(settings: Settings, path: &[u8]) {
+fn check(
+    rt: &impl Files,
+    settings: Settings,
+    path: &[u8],
+    stdin: &mut impl Read,
+    stdout: &mut impl Write,
+) -> io::Result<()> {
     let mut list = log_feed::section();
     let pids = settings.pids;
-    if log_feed::is_whole(path, &mut list) {
+    if log_feed::is_whole(rt, stdout, path, &mut list)? {
         if pids.is_without() {
-            log_feed::say_no_pid();
-            return;
+            return log_feed::say_no_pid(stdout);
         }
-        let fd = log_feed::open(path);
-        if fd < 0 {
-            return;
+        if let Some(mut file) = log_feed::open(rt, stdout, path)? {
+            return run_over(settings, &mut file, stdin, stdout, &mut list);
         }
-        run_over(settings, fd, &mut list);
     }
+    Ok(())
 }
 
 // SECTIONS is the eighth word.
-fn check_path(settings: Settings) {
-    let mut path = io::buffer();
-    let n = os::arg(8, &mut path);
-    check(settings, &path[0..n]);
+fn check_path(rt: &HostRuntime, settings: Settings) -> io::Result<()> {
+    let mut path = [0u8; 4096];
+    let n = program_input::arg(rt, 8, &mut path);
+    check(rt, settings, &path[0..n], &mut rt.stdin(), &mut rt.stdout())
 }
 
-fn usage() {
+fn usage(rt: &HostRuntime) -> io::Result<()> {
     entry_lines::say(
+        &mut rt.stdout(),
         b"usage: check_log CAPACITY REPEATS RULE LIMIT SIZE COUNT with|without|before SECTIONS < LOG\n",
-    );
+    )
 }
 
-fn main() {
-    if os::arg_count() != 9 {
-        usage();
-        return;
+fn main(rt: HostRuntime) -> io::Result<()> {
+    if program_input::arg_count(&rt) != 9 {
+        return usage(&rt);
     }
-    let words = log_words::settings();
+    let words = log_words::settings(&rt);
     let settings = words.settings;
     if words.good {
-        check_path(settings);
+        check_path(&rt, settings)
     } else {
-        usage();
+        usage(&rt)
     }
 }

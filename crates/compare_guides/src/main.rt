@@ -1,11 +1,18 @@
 // Compares two files, each a PID in two bytes (high byte first; FFFF, for none, is refused with 41) and then the sections of a set or a schedule to the end, and says where
 // they differ: `compare_guides set|schedule FIRST SECOND [ROOM]`, ROOM how many entries the list may have.
-ghost use Rattle.std.specs.Prelude.{◌≡◌, ◌≤◌, ◌<◌, length};
+#![tactic(auto)]
+
+ghost use Rattle.std.specs.Prelude.{◌≡◌, ◌≤◌, ◌<◌, length, IfOk};
 ghost use Rattle.compare_guides.specs.Read.{RoomFits, FileFits};
 
 use guide_lines::say;
 use guide_report::compare_files;
+use program_input::{arg, arg_count, read_full};
 use section::bytes::wide;
+use std::env::Env;
+use std::io::{Read, Write};
+use std::rt::Files;
+use std::{fs, io};
 
 // The most entries of two schedules: 16 tables of 256 sections.
 const MOST_ENTRIES: usize = 4096;
@@ -46,9 +53,9 @@ fn mode_of(text: &[u8]) -> Mode {
     Mode::Neither
 }
 
-fn asked_mode() -> Mode {
+fn asked_mode(rt: &impl Env) -> Mode {
     let mut text = [0u8; 16];
-    let n = os::arg(1, &mut text);
+    let n = arg(rt, 1, &mut text);
     mode_of(&text[..n])
 }
 
@@ -86,10 +93,10 @@ fn digit(d: usize) -> usize
 }
 
 // The room of the list, all there is where no argument says it.
-fn asked_room() -> Room
+fn asked_room(rt: &impl Env) -> Room
     ensures { RoomFits result }
 {
-    let n = os::arg_count();
+    let n = arg_count(rt);
     if n == 4 {
         return Room::Entries(MOST_ENTRIES);
     }
@@ -97,96 +104,134 @@ fn asked_room() -> Room
         return Room::Bad;
     }
     let mut text = [0u8; 32];
-    let k = os::arg(4, &mut text);
+    let k = arg(rt, 4, &mut text);
     room_of(&text[..k])
 }
 
 // ---- the files
 
-fn read_file(argument: usize, buf: &mut [u8]) -> File
+// The file that an argument names. A path that is no text names none.
+fn read_file(rt: &(impl Env + Files), argument: usize, buf: &mut [u8]) -> io::Result<File>
     requires { 2097155 ≡ length buf.old }
-    ensures { FileFits result }
+    ensures { IfOk result FileFits }
 {
-    let mut path = io::buffer();
-    let n = os::arg(argument, &mut path);
-    let fd = os::open_read(&path[..n]);
-    if fd < 0 {
-        return File::Unreadable;
+    let mut path = [0u8; 4096];
+    let n = arg(rt, argument, &mut path);
+    match str::from_utf8(&path[..n]) {
+        Ok(path) => read_path(rt, path, buf),
+        Err(_) => Ok(File::Unreadable),
     }
-    let f = read_open(fd, buf);
-    libc::close(fd);
-    f
+}
+
+fn read_path(rt: &impl Files, path: &str, buf: &mut [u8]) -> io::Result<File>
+    requires { 2097155 ≡ length buf.old }
+    ensures { IfOk result FileFits }
+{
+    match fs::open(rt, path) {
+        Ok(mut file) => read_open(&mut file, buf),
+        Err(_) => Ok(File::Unreadable),
+    }
 }
 
 // A folder opens and cannot be read, which a read of nothing tells.
-fn read_open(fd: i32, buf: &mut [u8]) -> File
+fn read_open(file: &mut impl Read, buf: &mut [u8]) -> io::Result<File>
     requires { 2097155 ≡ length buf.old }
-    ensures { FileFits result }
+    ensures { IfOk result FileFits }
 {
-    if libc::read(fd, &mut buf[0..0]) < 0 {
-        return File::Unreadable;
+    if file.read(&mut []).is_err() {
+        return Ok(File::Unreadable);
     }
-    let got = io::read_full(fd, buf);
+    let got = read_full(file, buf)?;
     if got < BUFFER {
-        return File::Bytes(got);
+        return Ok(File::Bytes(got));
     }
-    File::TooLong
+    Ok(File::TooLong)
 }
 
 // ---- the run
 
-fn usage() {
-    say(b"usage: compare_guides set|schedule FIRST SECOND [ROOM]\n");
+fn usage(stdout: &mut impl Write) -> io::Result<()> {
+    say(
+        stdout,
+        b"usage: compare_guides set|schedule FIRST SECOND [ROOM]\n",
+    )
 }
 
-fn with_second(schedules: bool, entries: usize, first: &[u8], second: &mut [u8], list: &mut [u32])
+fn with_second(
+    rt: &(impl Env + Files),
+    stdout: &mut impl Write,
+    schedules: bool,
+    entries: usize,
+    first: &[u8],
+    second: &mut [u8],
+    list: &mut [u32],
+) -> io::Result<()>
     requires { (entries ≤ 4096) × (2097155 ≡ length second.old) × (16384 ≡ length list.old) }
 {
-    match read_file(3, second) {
-        File::Unreadable => say(b"unreadable second\n"),
-        File::TooLong => say(b"too long second\n"),
-        File::Bytes(m) => {
-            compare_files(schedules, first, &second[0..m], &mut list[0..4 * entries])
-        }
+    match read_file(rt, 3, second)? {
+        File::Unreadable => say(stdout, b"unreadable second\n"),
+        File::TooLong => say(stdout, b"too long second\n"),
+        File::Bytes(m) => compare_files(
+            stdout,
+            schedules,
+            first,
+            &second[0..m],
+            &mut list[0..4 * entries],
+        ),
     }
 }
 
 fn with_first(
+    rt: &(impl Env + Files),
+    stdout: &mut impl Write,
     schedules: bool,
     entries: usize,
     first: &mut [u8],
     second: &mut [u8],
     list: &mut [u32],
-)
+) -> io::Result<()>
     requires { (entries ≤ 4096) × (2097155 ≡ length first.old) × (2097155 ≡ length second.old) × (16384 ≡ length list.old) }
 {
-    match read_file(2, first) {
-        File::Unreadable => say(b"unreadable first\n"),
-        File::TooLong => say(b"too long first\n"),
-        File::Bytes(n) => with_second(schedules, entries, &first[0..n], second, list),
+    match read_file(rt, 2, first)? {
+        File::Unreadable => say(stdout, b"unreadable first\n"),
+        File::TooLong => say(stdout, b"too long first\n"),
+        File::Bytes(n) => with_second(rt, stdout, schedules, entries, &first[0..n], second, list),
     }
 }
 
-fn with_room(schedules: bool, first: &mut [u8], second: &mut [u8], list: &mut [u32])
+fn with_room(
+    rt: &(impl Env + Files),
+    stdout: &mut impl Write,
+    schedules: bool,
+    first: &mut [u8],
+    second: &mut [u8],
+    list: &mut [u32],
+) -> io::Result<()>
     requires { (2097155 ≡ length first.old) × (2097155 ≡ length second.old) × (16384 ≡ length list.old) }
 {
-    match asked_room() {
-        Room::Bad => usage(),
-        Room::Entries(n) => with_first(schedules, n, first, second, list),
+    match asked_room(rt) {
+        Room::Bad => usage(stdout),
+        Room::Entries(n) => with_first(rt, stdout, schedules, n, first, second, list),
     }
 }
 
-fn run(first: &mut [u8; 2097155], second: &mut [u8; 2097155], list: &mut [u32; 16384]) {
-    match asked_mode() {
-        Mode::Set => with_room(false, first, second, list),
-        Mode::Schedule => with_room(true, first, second, list),
-        Mode::Neither => usage(),
+fn run(
+    rt: &(impl Env + Files),
+    stdout: &mut impl Write,
+    first: &mut [u8; 2097155],
+    second: &mut [u8; 2097155],
+    list: &mut [u32; 16384],
+) -> io::Result<()> {
+    match asked_mode(rt) {
+        Mode::Set => with_room(rt, stdout, false, first, second, list),
+        Mode::Schedule => with_room(rt, stdout, true, first, second, list),
+        Mode::Neither => usage(stdout),
     }
 }
 
-fn main() {
+fn main(rt: HostRuntime) -> io::Result<()> {
     let mut first = [0u8; 2097155];
     let mut second = [0u8; 2097155];
     let mut list = [0u32; 16384];
-    run(&mut first, &mut second, &mut list);
+    run(&rt, &mut rt.stdout(), &mut first, &mut second, &mut list)
 }

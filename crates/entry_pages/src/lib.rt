@@ -1,9 +1,13 @@
 // The entries of sets and schedules that go out, printed page by page, and the sections that are refused: what `events` and `tables` share.
+#![tactic(auto)]
+
 ghost use Rattle.std.specs.Prelude.{◌≡◌, ◌≤◌, ◌<◌, length};
 
 use answers::Refusal;
 use entry_lines::heads;
 use entry_lines::heads::Totals;
+use std::io;
+use std::io::Write;
 
 // The entries of a page, and the pages that the largest set takes: 256 sections of at most 2,040 entries.
 pub const PAGE: usize = 2048;
@@ -43,60 +47,72 @@ fn wide(x: u32) -> usize
 }
 
 // An event by its words, with the digits of its time and its duration as they were sent.
-fn say_event(words: &[u32], cells: &[u8])
+fn say_event(stdout: &mut impl Write, words: &[u32], cells: &[u8]) -> io::Result<()>
     requires { length words.now ≡ 12 }
 {
     let digits = cells::part(cells, wide(words[2]) + 4, 6);
     if digits.len() == 6 {
-        entry_lines::say_event(words, digits);
+        entry_lines::say_event(stdout, words, digits)?;
     }
+    Ok(())
 }
 
-fn say_descriptor(words: &[u32], cells: &[u8])
+fn say_descriptor(stdout: &mut impl Write, words: &[u32], cells: &[u8]) -> io::Result<()>
     requires { length words.now ≡ 12 }
 {
     let bytes = cells::part(cells, wide(words[2]) + 2, wide(words[4]));
-    entry_lines::say_descriptor((words[3] % 256) as u8, bytes);
+    entry_lines::say_descriptor(stdout, (words[3] % 256) as u8, bytes)
 }
 
 // An entry by its kind.
-fn say_entry(words: &[u32], cells: &[u8], totals: Totals) -> Totals
+fn say_entry(
+    stdout: &mut impl Write,
+    words: &[u32],
+    cells: &[u8],
+    totals: Totals,
+) -> io::Result<Totals>
     requires { length words.now ≡ 12 }
 {
     let mut t = totals;
     match words[0] {
         1 => {
-            say_event(words, cells);
+            say_event(stdout, words, cells)?;
             t.events = one_more(t.events);
         }
         3 => {
-            entry_lines::say_stream(words);
+            entry_lines::say_stream(stdout, words)?;
             t.streams = one_more(t.streams);
         }
         4 => {
-            entry_lines::say_service(words);
+            entry_lines::say_service(stdout, words)?;
             t.services = one_more(t.services);
         }
         _ => {
-            say_descriptor(words, cells);
+            say_descriptor(stdout, words, cells)?;
             t.descriptors = one_more(t.descriptors);
         }
     }
-    t
+    Ok(t)
 }
 
 // The first n entries of the list.
-pub fn say_page(list: &[u32], n: usize, cells: &[u8], totals: Totals) -> Totals
+pub fn say_page(
+    stdout: &mut impl Write,
+    list: &[u32],
+    n: usize,
+    cells: &[u8],
+    totals: Totals,
+) -> io::Result<Totals>
     requires { (length list.now ≡ 24576) × (n ≤ 2048) }
 {
     let mut t = totals;
     let mut i = 0;
     while i < n {
         let at = i * entry_words::WORDS;
-        t = say_entry(&list[at..at + entry_words::WORDS], cells, t);
+        t = say_entry(stdout, &list[at..at + entry_words::WORDS], cells, t)?;
         i += 1;
     }
-    t
+    Ok(t)
 }
 
 // How many entries of `count` stand on the page that passes over `skip`.
@@ -113,10 +129,16 @@ pub fn on_page(count: usize, skip: usize) -> usize
 }
 
 // The line of a listing that ended early: any answer but 8 and 9.
-pub fn say_end(number: u8, section: usize, place: usize) {
+pub fn say_end(
+    stdout: &mut impl Write,
+    number: u8,
+    section: usize,
+    place: usize,
+) -> io::Result<()> {
     if 9 < number {
-        heads::say_broken(number, section, place);
+        heads::say_broken(stdout, number, section, place)?;
     }
+    Ok(())
 }
 
 fn refuse(totals: Totals) -> Totals {
@@ -132,19 +154,25 @@ fn pass(totals: Totals) -> Totals {
 }
 
 // A section that is refused: its line, unless it is one that other tables have.
-pub fn tell_refused(refusal: Refusal, pid: u16, section: &[u8], totals: Totals) -> Totals
+pub fn tell_refused(
+    stdout: &mut impl Write,
+    refusal: Refusal,
+    pid: u16,
+    section: &[u8],
+    totals: Totals,
+) -> io::Result<Totals>
     requires { 3 ≤ length section.now }
 {
     match refusal {
         Refusal::BadPid => {
-            heads::say_bad_pid(pid);
-            refuse(totals)
+            heads::say_bad_pid(stdout, pid)?;
+            Ok(refuse(totals))
         }
-        Refusal::ShortForm => pass(totals),
-        Refusal::NotEit => pass(totals),
+        Refusal::ShortForm => Ok(pass(totals)),
+        Refusal::NotEit => Ok(pass(totals)),
         _ => {
-            heads::say_refused(refusal.number(), pid, section[0], section.len());
-            refuse(totals)
+            heads::say_refused(stdout, refusal.number(), pid, section[0], section.len())?;
+            Ok(refuse(totals))
         }
     }
 }

@@ -1,12 +1,15 @@
 // Reads standard input, records of a PID (two bytes, high byte first) and a section, and prints what the EIT sets and schedules among them say, event by event, when
 // each goes out; totals last. Every record goes to an EIT collector of 64 keys and 512 cells of 4,096 bytes.
+#![tactic(auto)]
+
 ghost use Rattle.std.specs.Prelude.{◌≡◌, ◌≤◌, ◌<◌, length};
 
 use eit_state::Eit;
 use entry_lines::heads::Totals;
-use libc::STDOUT_FILENO;
 use records::Next;
 use section::ids::MaybePid;
+use std::io;
+use std::io::{Read, Write};
 
 // The collector and the totals between two records, and whether there may be another.
 #[derive(Clone, Copy)]
@@ -32,6 +35,7 @@ fn wide16(x: u8) -> u16
 
 // A section on a PID goes to the collector, and what it led to is printed.
 fn offer(
+    stdout: &mut impl Write,
     eit: Eit,
     heads: &mut [u64; 768],
     slots: &mut [u32; 18432],
@@ -42,7 +46,7 @@ fn offer(
     pid: u16,
     section: &[u8],
     totals: Totals,
-) -> Between
+) -> io::Result<Between>
     requires { 3 ≤ length section.now }
 {
     let pushed = eit::push(
@@ -59,6 +63,7 @@ fn offer(
     let answer = pushed.answer;
     let then = pushed.eit;
     let told = event_sets::tell(
+        stdout,
         answer,
         then,
         heads,
@@ -70,8 +75,8 @@ fn offer(
         pid,
         section,
         totals,
-    );
-    leave(true, then, told)
+    )?;
+    Ok(leave(true, then, told))
 }
 
 fn pid_of(buf: &[u8]) -> u16
@@ -82,6 +87,7 @@ fn pid_of(buf: &[u8]) -> u16
 
 // One record of n bytes.
 fn push(
+    stdout: &mut impl Write,
     eit: Eit,
     heads: &mut [u64; 768],
     slots: &mut [u32; 18432],
@@ -92,10 +98,11 @@ fn push(
     buf: &[u8],
     n: usize,
     totals: Totals,
-) -> Between
+) -> io::Result<Between>
     requires { (5 ≤ n) × (n ≤ 4100) × (4100 ≡ length buf.now) }
 {
     offer(
+        stdout,
         eit,
         heads,
         slots,
@@ -111,6 +118,8 @@ fn push(
 
 // Reads a record into the buffer and pushes its section.
 fn turn(
+    stdin: &mut impl Read,
+    stdout: &mut impl Write,
     eit: Eit,
     heads: &mut [u64; 768],
     slots: &mut [u32; 18432],
@@ -120,9 +129,10 @@ fn turn(
     list: &mut [u32; 24576],
     buf: &mut [u8; 4100],
     totals: Totals,
-) -> Between {
-    match records::read_record(buf) {
+) -> io::Result<Between> {
+    match records::read_record(stdin, buf)? {
         Next::Record(n) => push(
+            stdout,
             eit,
             heads,
             slots,
@@ -134,16 +144,18 @@ fn turn(
             n,
             totals,
         ),
-        Next::End => leave(false, eit, totals),
+        Next::End => Ok(leave(false, eit, totals)),
         Next::Cut => {
-            io::write_all(STDOUT_FILENO, b"cut\n");
-            leave(false, eit, totals)
+            stdout.write_all(b"cut\n")?;
+            Ok(leave(false, eit, totals))
         }
     }
 }
 
-// A proved loop has to end, and nothing says that an input does: the turns are counted down from a number that no run uses up.
+// A proved loop has to end, and nothing says that an input does: the turns are counted, up to a number that no run uses up.
 fn run(
+    stdin: &mut impl Read,
+    stdout: &mut impl Write,
     heads: &mut [u64; 768],
     slots: &mut [u32; 18432],
     cells: &mut [u8; 2097152],
@@ -151,14 +163,14 @@ fn run(
     units: &mut [u32; 294912],
     list: &mut [u32; 24576],
     buf: &mut [u8; 4100],
-) {
+) -> io::Result<()> {
     let opened = eit::open(64, 4096, 512, heads, slots, cells, schedule_heads, units);
     let mut eit = opened.eit;
     let mut totals = entry_pages::no_totals();
-    let mut more = true;
-    let mut turns = u64::MAX;
-    while more & (turns > 0) {
+    for _ in 0..u64::MAX {
         let t = turn(
+            stdin,
+            stdout,
             eit,
             heads,
             slots,
@@ -168,13 +180,14 @@ fn run(
             list,
             buf,
             totals,
-        );
+        )?;
         eit = t.eit;
         totals = t.totals;
-        more = t.more;
-        turns -= 1;
+        if !t.more {
+            break;
+        }
     }
-    entry_lines::heads::say_event_totals(totals);
+    entry_lines::heads::say_event_totals(stdout, totals)
 }
 
 // What is lent: 64 sets, 64 schedules and 512 cells, a page of 2,048 entries and a record.
@@ -202,7 +215,7 @@ fn record() -> [u8; 4100] {
     [0; 4100]
 }
 
-fn main() {
+fn main(rt: HostRuntime) -> io::Result<()> {
     let mut set_heads = heads();
     let mut set_slots = slots();
     let mut bytes = cells();
@@ -211,6 +224,8 @@ fn main() {
     let mut page = list();
     let mut buf = record();
     run(
+        &mut rt.stdin(),
+        &mut rt.stdout(),
         &mut set_heads,
         &mut set_slots,
         &mut bytes,
@@ -218,5 +233,5 @@ fn main() {
         &mut tables,
         &mut page,
         &mut buf,
-    );
+    )
 }

@@ -1,11 +1,16 @@
 // What `check_log` and `write_log` do with a section list: it is judged from its start, opened again and run, section by section. What a run is lent: 65,536 rows of the gate, 256 of the
 // collector and 1 MiB of cells.
+#![tactic(auto)]
+
 ghost use Rattle.std.specs.Prelude.{◌≡◌, ◌≤◌, length};
 
 use log_reader::{LIST_CUT, OVERLONG};
 use log_run::Taken;
 use log_state::Run;
 use section::bytes::word;
+use std::io;
+use std::io::{Read, Write};
+use std::rt::Files;
 
 pub fn keys() -> [u64; 65536] {
     [0; 65536]
@@ -54,52 +59,54 @@ pub fn take(
     )
 }
 
-// Opens the list, or says that it cannot be opened: a number below 0.
-pub fn open(path: &[u8]) -> i32 {
-    let fd = log_reader::open_list(path);
-    if fd < 0 {
-        entry_lines::say(b"cannot open ");
-        entry_lines::say(path);
-        entry_lines::say(b"\n");
+// Opens the list, or says that it cannot be opened.
+pub fn open<R: Files>(rt: &R, stdout: &mut impl Write, path: &[u8]) -> io::Result<Option<R::File>> {
+    let file = log_reader::open_list(rt, path);
+    if file.is_none() {
+        entry_lines::say(stdout, b"cannot open ")?;
+        entry_lines::say(stdout, path)?;
+        entry_lines::say(stdout, b"\n")?;
     }
-    fd
+    Ok(file)
 }
 
 // Whether the list is whole; says what it is where it is not.
-fn judge(fd: i32, list: &mut [u8; 4103]) -> bool {
-    let n = log_reader::judge_list(fd, list);
+fn judge(file: &mut impl Read, stdout: &mut impl Write, list: &mut [u8; 4103]) -> io::Result<bool> {
+    let n = log_reader::judge_list(file, list)?;
     if n == OVERLONG {
-        entry_lines::say(b"42 too-long\n");
-        return false;
+        entry_lines::say(stdout, b"42 too-long\n")?;
+        return Ok(false);
     }
     if n == LIST_CUT {
-        entry_lines::say(b"10 sections-cut\n");
-        return false;
+        entry_lines::say(stdout, b"10 sections-cut\n")?;
+        return Ok(false);
     }
-    true
+    Ok(true)
 }
 
 // The first reading of the list.
-pub fn is_whole(path: &[u8], list: &mut [u8; 4103]) -> bool {
-    let fd = open(path);
-    if fd < 0 {
-        return false;
+pub fn is_whole(
+    rt: &impl Files,
+    stdout: &mut impl Write,
+    path: &[u8],
+    list: &mut [u8; 4103],
+) -> io::Result<bool> {
+    match open(rt, stdout, path)? {
+        Some(mut file) => judge(&mut file, stdout, list),
+        None => Ok(false),
     }
-    let whole = judge(fd, list);
-    libc::close(fd);
-    whole
 }
 
 // A list that was whole a moment ago is not: the file has changed.
-pub fn say_changed() {
-    entry_lines::say(b"10 sections-cut\n");
+pub fn say_changed(stdout: &mut impl Write) -> io::Result<()> {
+    entry_lines::say(stdout, b"10 sections-cut\n")
 }
 
-pub fn say_too_little() {
-    entry_lines::say(b"13 too-little\n");
+pub fn say_too_little(stdout: &mut impl Write) -> io::Result<()> {
+    entry_lines::say(stdout, b"13 too-little\n")
 }
 
 // Sets without PIDs are given up.
-pub fn say_no_pid() {
-    entry_lines::say(b"41 no-pid\n");
+pub fn say_no_pid(stdout: &mut impl Write) -> io::Result<()> {
+    entry_lines::say(stdout, b"41 no-pid\n")
 }

@@ -1,7 +1,11 @@
 // The words of `check_log` and `write_log`: CAPACITY REPEATS RULE LIMIT SIZE COUNT with|without|before.
+#![tactic(auto)]
+
 ghost use Rattle.std.specs.Prelude.{◌≤◌, length};
 
 use log_state::{Pids, Settings};
+use program_input::arg;
+use std::env::Env;
 
 // A number, and whether the word is one.
 #[derive(Clone, Copy)]
@@ -57,16 +61,16 @@ pub fn number_of(text: &[u8]) -> Number {
 }
 
 // The number that an argument is.
-pub fn number_at(i: usize) -> Number {
+pub fn number_at(rt: &impl Env, i: usize) -> Number {
     let mut text = [0u8; 64];
-    let n = os::arg(i, &mut text);
+    let n = arg(rt, i, &mut text);
     number_of(&text[0..n])
 }
 
 // Whether an argument is this word.
-pub fn is_word(i: usize, word: &[u8]) -> bool {
+pub fn is_word(rt: &impl Env, i: usize, word: &[u8]) -> bool {
     let mut text = [0u8; 64];
-    let n = os::arg(i, &mut text);
+    let n = arg(rt, i, &mut text);
     cells::same_bytes(&text[0..n], word)
 }
 
@@ -114,16 +118,16 @@ fn gathered(
 }
 
 // The first seven arguments.
-pub fn settings() -> Words {
+pub fn settings(rt: &impl Env) -> Words {
     gathered(
-        number_at(1),
-        number_at(2),
-        number_at(3),
-        number_at(4),
-        number_at(5),
-        number_at(6),
-        is_word(7, b"with"),
-        is_word(7, b"without"),
-        is_word(7, b"before"),
+        number_at(rt, 1),
+        number_at(rt, 2),
+        number_at(rt, 3),
+        number_at(rt, 4),
+        number_at(rt, 5),
+        number_at(rt, 6),
+        is_word(rt, 7, b"with"),
+        is_word(rt, 7, b"without"),
+        is_word(rt, 7, b"before"),
     )
 }

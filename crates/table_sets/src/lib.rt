@@ -1,10 +1,14 @@
 // The entries of networks, bouquets and services that go out, printed page by page.
+#![tactic(auto)]
+
 ghost use Rattle.std.specs.Prelude.{◌≡◌, ◌≤◌, length};
 
 use entry_lines::heads::Totals;
 use entry_pages::{PAGE, PAGES};
 use rules_networks::Table;
 use sets_settle::PushAnswer;
+use std::io;
+use std::io::Write;
 use store::Sets;
 
 // Which reader a run asks for: the one that a table_id has, or always this one.
@@ -28,6 +32,7 @@ fn reader_of(table_id: u64) -> Table {
 
 // All entries of the set in a row.
 fn list_set(
+    stdout: &mut impl Write,
     table: Table,
     sets: Sets,
     heads: &[u64],
@@ -36,7 +41,7 @@ fn list_set(
     row: usize,
     list: &mut [u32],
     totals: Totals,
-) -> Totals
+) -> io::Result<Totals>
     requires { length list.old ≡ 24576 }
 {
     let mut t = totals;
@@ -45,19 +50,20 @@ fn list_set(
         let skip = page * PAGE;
         let read = networks::entries_of_set(table, sets, heads, slots, cells, row, skip, list);
         let count = read.count;
-        t = entry_pages::say_page(list, entry_pages::on_page(count, skip), cells, t);
+        t = entry_pages::say_page(stdout, list, entry_pages::on_page(count, skip), cells, t)?;
         if count <= skip + PAGE {
             let answer = read.answer;
-            entry_pages::say_end(answer.number(), read.section, read.place);
-            return t;
+            entry_pages::say_end(stdout, answer.number(), read.section, read.place)?;
+            return Ok(t);
         }
         page += 1;
     }
-    t
+    Ok(t)
 }
 
 // The line of a set that went out, and its entries.
 fn say_set(
+    stdout: &mut impl Write,
     table: Table,
     sets: Sets,
     heads: &[u64],
@@ -66,16 +72,16 @@ fn say_set(
     row: usize,
     list: &mut [u32],
     totals: Totals,
-) -> Totals
+) -> io::Result<Totals>
     requires { length list.old ≡ 24576 }
 {
     if row < heads.len() / rows::HEAD_WORDS {
         let key = rows::key_at(heads, row);
         let version = rows::version(heads, row);
         let last = rows::last(heads, row);
-        entry_lines::heads::say_table_set(key, version, last);
+        entry_lines::heads::say_table_set(stdout, key, version, last)?;
     }
-    list_set(table, sets, heads, slots, cells, row, list, totals)
+    list_set(stdout, table, sets, heads, slots, cells, row, list, totals)
 }
 
 // The reader that is asked for, of the table in a row.
@@ -102,6 +108,7 @@ fn by_table(table: Table) -> Asked {
 
 // The set in a row that went out: every one counts, one with a reader is printed.
 fn tell_set(
+    stdout: &mut impl Write,
     asked: Asked,
     sets: Sets,
     heads: &[u64],
@@ -110,19 +117,20 @@ fn tell_set(
     row: usize,
     list: &mut [u32],
     totals: Totals,
-) -> Totals
+) -> io::Result<Totals>
     requires { length list.old ≡ 24576 }
 {
     let mut t = totals;
     t.sets = entry_pages::one_more(t.sets);
     match asked_reader(asked, heads, row) {
-        Asked::Always(table) => say_set(table, sets, heads, slots, cells, row, list, t),
-        Asked::ByTable => t,
+        Asked::Always(table) => say_set(stdout, table, sets, heads, slots, cells, row, list, t),
+        Asked::ByTable => Ok(t),
     }
 }
 
 // What a section led to.
 pub fn tell(
+    stdout: &mut impl Write,
     answer: PushAnswer,
     asked: Asked,
     sets: Sets,
@@ -133,12 +141,16 @@ pub fn tell(
     pid: u16,
     section: &[u8],
     totals: Totals,
-) -> Totals
+) -> io::Result<Totals>
     requires { (length list.old ≡ 24576) × (3 ≤ length section.now) }
 {
     match answer {
-        PushAnswer::Nothing => totals,
-        PushAnswer::Set(row) => tell_set(asked, sets, heads, slots, cells, row, list, totals),
-        PushAnswer::Refused(refusal) => { entry_pages::tell_refused(refusal, pid, section, totals) }
+        PushAnswer::Nothing => Ok(totals),
+        PushAnswer::Set(row) => tell_set(
+            stdout, asked, sets, heads, slots, cells, row, list, totals,
+        ),
+        PushAnswer::Refused(refusal) => {
+            entry_pages::tell_refused(stdout, refusal, pid, section, totals)
+        }
     }
 }

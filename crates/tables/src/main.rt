@@ -1,13 +1,17 @@
 // Reads standard input, records of a PID (two bytes, high byte first) and a section, and prints what the networks, bouquets and services among them say, entry by entry,
 // when each set goes out; totals last. Every record goes to a set collector of 64 keys and 512 cells of 4,096 bytes. With an argument, nit, bat or sdt, every set is read by
 // that reader.
+#![tactic(auto)]
+
 ghost use Rattle.std.specs.Prelude.{◌≡◌, ◌≤◌, ◌<◌, length};
 
 use entry_lines::heads::Totals;
-use libc::STDOUT_FILENO;
 use records::Next;
 use rules_networks::Table;
 use section::ids::MaybePid;
+use std::env::Env;
+use std::io;
+use std::io::{Read, Write};
 use store::Sets;
 use table_sets::Asked;
 
@@ -37,6 +41,7 @@ fn pid_of(buf: &[u8]) -> u16
 
 // A section on a PID goes to the collector, and what it led to is printed.
 fn offer(
+    stdout: &mut impl Write,
     asked: Asked,
     sets: Sets,
     heads: &mut [u64; 768],
@@ -46,20 +51,21 @@ fn offer(
     pid: u16,
     section: &[u8],
     totals: Totals,
-) -> Between
+) -> io::Result<Between>
     requires { 3 ≤ length section.now }
 {
     let pushed = sets::push(sets, heads, slots, cells, 0, MaybePid::Some(pid), section);
     let answer = pushed.answer;
     let then = pushed.sets;
     let told = table_sets::tell(
-        answer, asked, then, heads, slots, cells, list, pid, section, totals,
-    );
-    leave(true, then, told)
+        stdout, answer, asked, then, heads, slots, cells, list, pid, section, totals,
+    )?;
+    Ok(leave(true, then, told))
 }
 
 // One record of n bytes.
 fn push(
+    stdout: &mut impl Write,
     asked: Asked,
     sets: Sets,
     heads: &mut [u64; 768],
@@ -69,10 +75,11 @@ fn push(
     buf: &[u8],
     n: usize,
     totals: Totals,
-) -> Between
+) -> io::Result<Between>
     requires { (5 ≤ n) × (n ≤ 4100) × (4100 ≡ length buf.now) }
 {
     offer(
+        stdout,
         asked,
         sets,
         heads,
@@ -87,6 +94,8 @@ fn push(
 
 // Reads a record into the buffer and pushes its section.
 fn turn(
+    stdin: &mut impl Read,
+    stdout: &mut impl Write,
     asked: Asked,
     sets: Sets,
     heads: &mut [u64; 768],
@@ -95,39 +104,44 @@ fn turn(
     list: &mut [u32; 24576],
     buf: &mut [u8; 4100],
     totals: Totals,
-) -> Between {
-    match records::read_record(buf) {
-        Next::Record(n) => push(asked, sets, heads, slots, cells, list, buf, n, totals),
-        Next::End => leave(false, sets, totals),
+) -> io::Result<Between> {
+    match records::read_record(stdin, buf)? {
+        Next::Record(n) => push(
+            stdout, asked, sets, heads, slots, cells, list, buf, n, totals,
+        ),
+        Next::End => Ok(leave(false, sets, totals)),
         Next::Cut => {
-            io::write_all(STDOUT_FILENO, b"cut\n");
-            leave(false, sets, totals)
+            stdout.write_all(b"cut\n")?;
+            Ok(leave(false, sets, totals))
         }
     }
 }
 
-// A proved loop has to end, and nothing says that an input does: the turns are counted down from a number that no run uses up.
+// A proved loop has to end, and nothing says that an input does: the turns are counted, up to a number that no run uses up.
 fn run(
+    stdin: &mut impl Read,
+    stdout: &mut impl Write,
     asked: Asked,
     heads: &mut [u64; 768],
     slots: &mut [u32; 18432],
     cells: &mut [u8; 2097152],
     list: &mut [u32; 24576],
     buf: &mut [u8; 4100],
-) {
+) -> io::Result<()> {
     let opened = sets::open(64, 4096, 512, heads, slots, cells);
     let mut sets = opened.sets;
     let mut totals = entry_pages::no_totals();
-    let mut more = true;
-    let mut turns = u64::MAX;
-    while more & (turns > 0) {
-        let t = turn(asked, sets, heads, slots, cells, list, buf, totals);
+    for _ in 0..u64::MAX {
+        let t = turn(
+            stdin, stdout, asked, sets, heads, slots, cells, list, buf, totals,
+        )?;
         sets = t.sets;
         totals = t.totals;
-        more = t.more;
-        turns -= 1;
+        if !t.more {
+            break;
+        }
     }
-    entry_lines::heads::say_table_totals(totals);
+    entry_lines::heads::say_table_totals(stdout, totals)
 }
 
 // What is lent: 64 sets and 512 cells, a page of 2,048 entries and a record.
@@ -152,20 +166,22 @@ fn record() -> [u8; 4100] {
 }
 
 // Reads to the end of the input.
-fn read_all(asked: Asked) {
+fn read_all(stdin: &mut impl Read, stdout: &mut impl Write, asked: Asked) -> io::Result<()> {
     let mut set_heads = heads();
     let mut set_slots = slots();
     let mut bytes = cells();
     let mut page = list();
     let mut buf = record();
     run(
+        stdin,
+        stdout,
         asked,
         &mut set_heads,
         &mut set_slots,
         &mut bytes,
         &mut page,
         &mut buf,
-    );
+    )
 }
 
 // What the arguments ask for: the name of a reader, none, or something else.
@@ -188,8 +204,8 @@ fn reader_named(text: &[u8]) -> Wanted {
     Wanted::Usage
 }
 
-fn argument() -> Wanted {
-    let n = os::arg_count();
+fn argument(rt: &impl Env) -> Wanted {
+    let n = program_input::arg_count(rt);
     if n <= 1 {
         return Wanted::Reads(Asked::ByTable);
     }
@@ -197,15 +213,13 @@ fn argument() -> Wanted {
         return Wanted::Usage;
     }
     let mut text = [0u8; 16];
-    let k = os::arg(1, &mut text);
+    let k = program_input::arg(rt, 1, &mut text);
     reader_named(&text[..k])
 }
 
-fn main() {
-    match argument() {
-        Wanted::Reads(asked) => read_all(asked),
-        Wanted::Usage => {
-            entry_lines::say(b"usage: tables [nit|bat|sdt]\n");
-        }
+fn main(rt: HostRuntime) -> io::Result<()> {
+    match argument(&rt) {
+        Wanted::Reads(asked) => read_all(&mut rt.stdin(), &mut rt.stdout(), asked),
+        Wanted::Usage => entry_lines::say(&mut rt.stdout(), b"usage: tables [nit|bat|sdt]\n"),
     }
 }

@@ -1,12 +1,16 @@
 // Writes the log of a section list: `write_log CAPACITY REPEATS RULE LIMIT SIZE COUNT with|without|before ROOM SECTIONS > LOG`, ROOM how many bytes the log may have, or - for any number. It writes the log's
 // bytes and nothing else, or one line that says why there is none. The list is read twice, first it is judged, then run; with a ROOM once more between, to measure the log.
+#![tactic(auto)]
+
 ghost use Rattle.std.specs.Prelude.{◌≡◌, ◌≤◌, length};
 
 use answers::Outcome;
-use libc::STDOUT_FILENO;
 use log_entries::Entry;
 use log_reader::{END, LONGEST};
 use log_state::{Run, Settings};
+use std::io;
+use std::io::{Read, Write};
+use std::rt::Files;
 
 // What a run over the list is for: to measure the log, or to write it.
 #[derive(Clone, Copy)]
@@ -34,48 +38,56 @@ enum Ended {
 
 // ---- the records of a section
 
-fn put_part(bytes: &[u8], n: usize) -> bool {
+// Writes the first n bytes, and answers whether there are as many.
+fn put_part(stdout: &mut impl Write, bytes: &[u8], n: usize) -> io::Result<bool> {
     if bytes.len() < n {
-        return false;
+        return Ok(false);
     }
-    io::write_all(STDOUT_FILENO, &bytes[0..n])
+    stdout.write_all(&bytes[0..n])?;
+    Ok(true)
 }
 
-fn put(entry: Entry) -> bool {
+fn put(stdout: &mut impl Write, entry: Entry) -> io::Result<bool> {
     let bytes = entry.bytes;
     let n = entry.length;
-    put_part(&bytes, n)
+    put_part(stdout, &bytes, n)
 }
 
 // Takes the room that the records need, and writes them where that is what the run is for; whether all went well.
-fn place_entry(purpose: Purpose, entry: Entry, run: Run) -> Between {
+fn place_entry(
+    stdout: &mut impl Write,
+    purpose: Purpose,
+    entry: Entry,
+    run: Run,
+) -> io::Result<Between> {
     let n = entry.length as u64;
     if purpose.room < n {
-        return Between {
+        return Ok(Between {
             more: false,
             room: 0,
             run,
-        };
+        });
     }
     let left = purpose.room - n;
     if purpose.writes {
-        return Between {
-            more: put(entry),
+        return Ok(Between {
+            more: put(stdout, entry)?,
             room: left,
             run,
-        };
+        });
     }
-    Between {
+    Ok(Between {
         more: true,
         room: left,
         run,
-    }
+    })
 }
 
 // ---- the run
 
 // A section of the list, n bytes with the five before it.
 fn turn(
+    stdout: &mut impl Write,
     purpose: Purpose,
     run: Run,
     keys: &mut [u64; 65536],
@@ -85,13 +97,13 @@ fn turn(
     cells: &mut [u8; 1048576],
     list: &[u8],
     n: usize,
-) -> Between
+) -> io::Result<Between>
     requires { (5 ≤ n) × (n ≤ 4103) × (4103 ≡ length list.now) }
 {
     let taken = log_feed::take(run, keys, changes, heads, slots, cells, list, n);
     let entry = taken.entry;
     let then = taken.run;
-    place_entry(purpose, entry, then)
+    place_entry(stdout, purpose, entry, then)
 }
 
 // The list ends, or has changed since it was judged.
@@ -103,9 +115,10 @@ fn end_of(n: usize) -> Ended {
     }
 }
 
-// A proved loop has to end, and nothing says that an input does: the turns are counted down from a number that no run uses up.
+// A proved loop has to end, and nothing says that an input does: the turns are counted, up to a number that no run uses up.
 fn walk(
-    fd: i32,
+    file: &mut impl Read,
+    stdout: &mut impl Write,
     purpose: Purpose,
     opened: Run,
     keys: &mut [u64; 65536],
@@ -114,20 +127,20 @@ fn walk(
     slots: &mut [u32; 73728],
     cells: &mut [u8; 1048576],
     list: &mut [u8; 4103],
-) -> Ended {
+) -> io::Result<Ended> {
     let writes = purpose.writes;
     let mut run = opened;
     let mut room = purpose.room;
-    let mut turns = u64::MAX;
-    while turns > 0 {
-        let n = log_reader::read_section(fd, list);
+    for _ in 0..u64::MAX {
+        let n = log_reader::read_section(file, list)?;
         if n < 5 {
-            return end_of(n);
+            return Ok(end_of(n));
         }
         if LONGEST < n {
-            return end_of(n);
+            return Ok(end_of(n));
         }
         let t = turn(
+            stdout,
             Purpose { writes, room },
             run,
             keys,
@@ -137,20 +150,20 @@ fn walk(
             cells,
             list,
             n,
-        );
+        )?;
         if !t.more {
-            return Ended::NoRoom;
+            return Ok(Ended::NoRoom);
         }
         run = t.run;
         room = t.room;
-        turns -= 1;
     }
-    Ended::Changed
+    Ok(Ended::Changed)
 }
 
 fn run(
     settings: Settings,
-    fd: i32,
+    file: &mut impl Read,
+    stdout: &mut impl Write,
     purpose: Purpose,
     keys: &mut [u64; 65536],
     changes: &mut [u64; 65536],
@@ -158,18 +171,26 @@ fn run(
     slots: &mut [u32; 73728],
     cells: &mut [u8; 1048576],
     list: &mut [u8; 4103],
-) -> Ended {
+) -> io::Result<Ended> {
     let opened = log_state::open(settings, keys, changes, heads, slots, cells);
     let answer = opened.answer;
     let begun = opened.run;
     match answer {
-        Outcome::Done => walk(fd, purpose, begun, keys, changes, heads, slots, cells, list),
-        Outcome::Refused(_) => Ended::TooLittle,
+        Outcome::Done => walk(
+            file, stdout, purpose, begun, keys, changes, heads, slots, cells, list,
+        ),
+        Outcome::Refused(_) => Ok(Ended::TooLittle),
     }
 }
 
 // Over the memory that a run is lent.
-fn run_over(settings: Settings, fd: i32, purpose: Purpose, list: &mut [u8; 4103]) -> Ended {
+fn run_over(
+    settings: Settings,
+    file: &mut impl Read,
+    stdout: &mut impl Write,
+    purpose: Purpose,
+    list: &mut [u8; 4103],
+) -> io::Result<Ended> {
     let mut keys = log_feed::keys();
     let mut changes = log_feed::keys();
     let mut heads = log_feed::heads();
@@ -177,7 +198,8 @@ fn run_over(settings: Settings, fd: i32, purpose: Purpose, list: &mut [u8; 4103]
     let mut cells = log_feed::cells();
     run(
         settings,
-        fd,
+        file,
+        stdout,
         purpose,
         &mut keys,
         &mut changes,
@@ -189,109 +211,128 @@ fn run_over(settings: Settings, fd: i32, purpose: Purpose, list: &mut [u8; 4103]
 }
 
 // One reading of the list from its start.
-fn read_list(settings: Settings, path: &[u8], purpose: Purpose, list: &mut [u8; 4103]) -> Ended {
-    let fd = log_feed::open(path);
-    if fd < 0 {
-        return Ended::Whole;
+fn read_list(
+    rt: &impl Files,
+    stdout: &mut impl Write,
+    settings: Settings,
+    path: &[u8],
+    purpose: Purpose,
+    list: &mut [u8; 4103],
+) -> io::Result<Ended> {
+    match log_feed::open(rt, stdout, path)? {
+        Some(mut file) => run_over(settings, &mut file, stdout, purpose, list),
+        None => Ok(Ended::Whole),
     }
-    let e = run_over(settings, fd, purpose, list);
-    libc::close(fd);
-    e
 }
 
-// Whether the list was run to its end; says what stopped it where it was not. A write that does not succeed ends the run, and there is nobody to tell.
-fn went(e: Ended, writes: bool) -> bool {
+// Whether the list was run to its end; says what stopped it where it was not.
+fn went(stdout: &mut impl Write, e: Ended, writes: bool) -> io::Result<bool> {
     match e {
-        Ended::Whole => true,
+        Ended::Whole => return Ok(true),
         Ended::NoRoom => {
             if !writes {
-                entry_lines::say(b"44 no-room\n");
+                entry_lines::say(stdout, b"44 no-room\n")?;
             }
-            false
         }
-        Ended::Changed => {
-            log_feed::say_changed();
-            false
-        }
-        Ended::TooLittle => {
-            log_feed::say_too_little();
-            false
-        }
+        Ended::Changed => log_feed::say_changed(stdout)?,
+        Ended::TooLittle => log_feed::say_too_little(stdout)?,
     }
+    Ok(false)
 }
 
 // A log that is longer than the room is not begun: it is measured first.
-fn measured(settings: Settings, path: &[u8], room: u64, list: &mut [u8; 4103]) -> bool {
+fn measured(
+    rt: &impl Files,
+    stdout: &mut impl Write,
+    settings: Settings,
+    path: &[u8],
+    room: u64,
+    list: &mut [u8; 4103],
+) -> io::Result<bool> {
     let purpose = Purpose {
         writes: false,
         room,
     };
-    went(read_list(settings, path, purpose, list), false)
+    let e = read_list(rt, stdout, settings, path, purpose, list)?;
+    went(stdout, e, false)
 }
 
-fn write(settings: Settings, path: &[u8], list: &mut [u8; 4103]) {
+fn write(
+    rt: &impl Files,
+    stdout: &mut impl Write,
+    settings: Settings,
+    path: &[u8],
+    list: &mut [u8; 4103],
+) -> io::Result<()> {
     let purpose = Purpose {
         writes: true,
         room: u64::MAX,
     };
-    went(read_list(settings, path, purpose, list), true);
+    let e = read_list(rt, stdout, settings, path, purpose, list)?;
+    went(stdout, e, true)?;
+    Ok(())
 }
 
-fn write_within(settings: Settings, path: &[u8], limited: bool, room: u64) {
+fn write_within(
+    rt: &impl Files,
+    stdout: &mut impl Write,
+    settings: Settings,
+    path: &[u8],
+    limited: bool,
+    room: u64,
+) -> io::Result<()> {
     let mut list = log_feed::section();
     let pids = settings.pids;
-    if !log_feed::is_whole(path, &mut list) {
-        return;
+    if !log_feed::is_whole(rt, stdout, path, &mut list)? {
+        return Ok(());
     }
     if !pids.is_with() {
-        log_feed::say_no_pid();
-        return;
+        return log_feed::say_no_pid(stdout);
     }
     if limited {
-        if !measured(settings, path, room, &mut list) {
-            return;
+        if !measured(rt, stdout, settings, path, room, &mut list)? {
+            return Ok(());
         }
     }
-    write(settings, path, &mut list);
+    write(rt, stdout, settings, path, &mut list)
 }
 
 // SECTIONS is the ninth word.
-fn write_path(settings: Settings, limited: bool, room: u64) {
-    let mut path = io::buffer();
-    let n = os::arg(9, &mut path);
-    write_within(settings, &path[0..n], limited, room);
+fn write_path(rt: &HostRuntime, settings: Settings, limited: bool, room: u64) -> io::Result<()> {
+    let mut path = [0u8; 4096];
+    let n = program_input::arg(rt, 9, &mut path);
+    write_within(rt, &mut rt.stdout(), settings, &path[0..n], limited, room)
 }
 
-fn usage() {
+fn usage(rt: &HostRuntime) -> io::Result<()> {
     entry_lines::say(
+        &mut rt.stdout(),
         b"usage: write_log CAPACITY REPEATS RULE LIMIT SIZE COUNT with|without|before ROOM SECTIONS > LOG\n",
-    );
+    )
 }
 
 // ROOM is the eighth word: a number, or - for no limit.
-fn with_room(settings: Settings) {
-    if log_words::is_word(8, b"-") {
-        write_path(settings, false, 0);
-        return;
+fn with_room(rt: &HostRuntime, settings: Settings) -> io::Result<()> {
+    if log_words::is_word(rt, 8, b"-") {
+        return write_path(rt, settings, false, 0);
     }
-    let room = log_words::number_at(8);
+    let room = log_words::number_at(rt, 8);
     if room.good {
-        write_path(settings, true, room.value);
+        write_path(rt, settings, true, room.value)
     } else {
-        usage();
+        usage(rt)
     }
 }
 
-fn main() {
-    if os::arg_count() != 10 {
-        usage();
-        return;
+fn main(rt: HostRuntime) -> io::Result<()> {
+    if program_input::arg_count(&rt) != 10 {
+        return usage(&rt);
     }
-    let words = log_words::settings();
+    let words = log_words::settings(&rt);
     let settings = words.settings;
     if words.good {
-        with_room(settings);
+        with_room(&rt, settings)
     } else {
-        usage();
+        usage(&rt)
     }
 }
