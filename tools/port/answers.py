@@ -59,13 +59,29 @@ def split_args(text):
     return out
 
 
+WORDS = {"well-formed": "well_formed", "type-inv": "type_inv", "good": "well_formed"}
+CRATES = "crates"
+
+
+def lent_to(fn):
+    """The parameters of a function that are lent by `&mut`, in order."""
+    crate, name = fn.split("::")[0], fn.split("::")[-1]
+    for folder, _, files in os.walk(os.path.join(CRATES, crate, "src")):
+        for f in files:
+            with open(os.path.join(folder, f), encoding="utf-8") as it:
+                m = re.search(rf"\bfn {re.escape(name)}\b(?:<[^>]*>)?\(([^{{]*?)\)\s*(?:->|\n)", it.read())
+            if m:
+                return re.findall(r"(\w+): &(?:'\w+ )?mut\b", m[1])
+    return None
+
+
 class Steps:
     def __init__(self, said):
         self.parent, self.field, self.call = {}, {}, {}
         for place, parent, (old, new), fn, _x in said["places"]:
             self.parent[place] = parent
             self.field[place] = (old, new)
-            self.call[place] = said["params"].get(fn) if fn else None
+            self.call[place] = (said["params"].get(fn), lent_to(fn)) if fn else None
         self.arm = {}
         for (place, *_), arm in zip(said["places"], said["arms"]):
             self.arm[place] = arm
@@ -93,12 +109,15 @@ class Steps:
                     if alike(was) == alike(rest[0]) and [alike(x) for x in more] == [alike(x) for x in rest[1:1 + len(more)]]:
                         return chain[at], [arm[0], to] + rest[1 + len(more):]
                 return chain[at], [new] + self.lent(chain[at], rest[1:])
-        return place, rest
+        return place, [WORDS.get(rest[0], rest[0]), *rest[1:]]
 
     def lent(self, place, rest):
         """What a call left in a parameter: by the parameter's name and not its number."""
-        names = self.call.get(place)
-        if not names or not rest or rest[0] != "new":
+        call = self.call.get(place)
+        if not call or not rest or rest[0] not in ("new", "auto"):
+            return rest
+        names = call[0] if rest[0] == "new" else call[1]
+        if not names:
             return rest
         digits = 0
         while 1 + digits < len(rest) and rest[1 + digits] in ("0", "1"):
@@ -108,45 +127,52 @@ class Steps:
             return rest
         while seq and seq[0] == "1" and i < len(names) - 1:
             i, seq = i + 1, seq[1:]
-        if i < len(names) - 1:
-            if not seq or seq[0] != "0":
-                return rest
-            seq = seq[1:]
-        return ["new", names[i], *seq, *rest[1 + digits:]]
+        if not seq or seq[0] != "0":
+            return rest
+        seq = seq[1:]
+        return [rest[0], names[i], *seq, *rest[1 + digits:]]
 
 
 def turn_body(text, var, place, steps, words):
     """Rewrites the paths of the context variable in a term."""
-    places = {var: place}
+    # What a name stands for: a place, and the fields below it. A `let` of a plain path names one too.
+    names = {var: (place, [])}
+    dropped = set()
     pat = re.compile(rf'(?<![^\s(){{}},;\[\]])({W})((?:\.{W})+)?')
 
-    # let x = c.before.. in: another name of a place
-    def one(m):
-        head, tail = m[1], m[2]
-        if head not in places:
-            return m[0]
-        fields = tail[1:].split(".") if tail else []
-        p, f = steps.path(places[head], fields)
-        if fields and not f:
-            before = text[:m.start()]
-            let = re.search(rf"let ({W}) = $", before)
-            if let:
-                places[let[1]] = p
-            return var
-        if not fields:
-            return m[0]
-        said = ".".join([var, *f])
+    def told(head, fields):
+        at, below = names[head]
+        p, f = steps.path(at, [*below, *fields])
+        text = ".".join([var, *f])
         # Where the code tests `!x`, today's fact is of x itself.
         if len(f) == 2 and f[0].startswith("if-not-") and f[1] in ("true", "false"):
-            return f"(ap not {said})"
+            text = f"(ap not {text})"
+        return p, f, text
+
+    def one(m):
+        head, tail = m[1], m[2]
+        if head not in names:
+            return m[0]
+        fields = tail[1:].split(".") if tail else []
+        if not fields:
+            return m[0] if head == var or head not in dropped else told(head, [])[2]
+        p, f, said = told(head, fields)
+        let = re.search(rf"let ({W}) = $", m.string[: m.start()])
+        if let and re.match(r"\s+in\b", m.string[m.end():]):
+            at, below = names[head]
+            names[let[1]] = (at, [*below, *fields])
+            if not f or f[-1] == "given" or "-own" in f[-1]:
+                dropped.add(let[1])
+            return said
+        if head != var and head not in dropped:
+            base = told(head, [])[2]
+            if said.startswith(base + "."):
+                return head + said[len(base):]
         return said
 
-    # names that a let gives a place are contexts too: go left to right
     out = pat.sub(one, text)
-    for v in list(places):
-        if v != var:
-            out = re.sub(rf'(?<![^\s(){{}},;\[\]]){re.escape(v)}(?=\.)', var, out)
-            out = re.sub(rf"let {re.escape(v)} = {re.escape(var)} in\s*", "", out)
+    for v in dropped:
+        out = re.sub(rf"let {re.escape(v)} = \S+\s+in\s*", "", out)
     return out
 
 
@@ -154,6 +180,8 @@ FIELDS = {"ranges": "ranges"}
 
 
 def main(crate, names):
+    global CRATES
+    CRATES = os.path.dirname(os.path.abspath(crate))
     with open(names, encoding="utf-8") as f:
         said = json.load(f)
     name = os.path.basename(os.path.abspath(crate))

@@ -3,6 +3,7 @@
 
 usage: shapes.py CHECKED      (a file with what `rt check` printed; run it in the crate's folder)
 """
+import os
 import re
 import sys
 
@@ -146,6 +147,47 @@ def named(said):
 MISSING = re.compile(r"(?m)^(?:so far: )?(\S+\.antt):(\d+):(\d+): error: `([^`]*)`: the field `\w+` of [^\n]*\n\s*is missing\n\s*its fields are ([^\n]*)")
 
 
+PAIR = re.compile(r"(?m)^(?:so far: )?(\S+\.antt):(\d+):(\d+): error: `([^`]*)`: expected type `[^`\n]*\.Asks-returns[^\n]*\n\s*but this has type")
+
+
+def ensured(path):
+    """The names of the promises of the function whose answers stand in this file."""
+    part = path.split("proofs/")[-1].split("/")[:-1]
+    name = part[-1].lstrip("+")
+    for folder, _, files in os.walk("src"):
+        for f in files:
+            t = open(os.path.join(folder, f), encoding="utf-8").read()
+            m = re.search(rf"\bfn {re.escape(name)}\b(?:<[^>]*>)?\(.*?\n\s*\{{\n", t, re.S)
+            if m:
+                found = re.findall(r"\n\s+ensures (\w+) \{", m[0])
+                if found:
+                    return found
+    return []
+
+
+def paired(said):
+    """An answer that is several facts in a pair, under no record yet."""
+    text = open(said, encoding="utf-8").read()
+    for m in PAIR.finditer(text):
+        path, name = m[1], m[4]
+        fields = ensured(path)
+        if len(fields) < 2:
+            continue
+        t = open(path, encoding="utf-8").read()
+        eq = re.search(rf"(?m)^{re.escape(name)}((?:[ ]+[^\s=]+)*) = ", t)
+        if not eq:
+            continue
+        end = re.search(r"\n(?=\S)|\Z", t[eq.end():]).start() + eq.end()
+        body = t[eq.end():end].rstrip()
+        if body.startswith("record {") or body.startswith("let r = "):
+            continue
+        said_so = [f"r.{'1.' * i}0" if i < len(fields) - 1 else "r" + ".1" * i for i in range(len(fields))]
+        new = f"let r = {body} in record {{ " + "; ".join(f"{f} = {s}" for f, s in zip(fields, said_so)) + " }"
+        t = t[:eq.end()] + new + t[eq.end() + len(body):]
+        open(path, "w", encoding="utf-8").write(t)
+        print(path)
+
+
 def missing(said):
     """An answer of several facts at once: each into its field."""
     text = open(said, encoding="utf-8").read()
@@ -170,5 +212,6 @@ def missing(said):
 
 main(sys.argv[1])
 missing(sys.argv[1])
+paired(sys.argv[1])
 wrapped(sys.argv[1])
 named(sys.argv[1])

@@ -1,4 +1,6 @@
 // One packet over the words of the PIDs and the section buffers, without the gate: what it comes to, and its payload read (docs/RULES.md, "Packets").
+#![tactic(auto)]
+
 ghost use Rattle.std.specs.Prelude.{◌≡◌, ◌<◌, ◌≤◌, length};
 ghost use Rattle.streams.specs.Store.{with_words, pids_read, buffers_read, places_read, count_read, InWords};
 ghost use Rattle.demux_packets.specs.Plans.{plan_of, load_plan, buffer_plan, no_words, Lent, Reads};

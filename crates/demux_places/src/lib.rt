@@ -1,5 +1,7 @@
 // The places, 6 words each, that tell of the sections which a packet finished (docs/RULES.md, "Packets"): words 3 to 5, where the bytes are, are read; words 0
 // to 2, what the gate answered, are written.
+#![tactic(auto)]
+
 ghost use Rattle.std.specs.Prelude.{◌≡◌, ◌+◌, ◌*◌, ◌<◌, length, take, drop};
 ghost use Rattle.gate_state.specs.State.{said_of, failure_said};
 ghost use Rattle.demux_places.specs.Places.{place_at, bytes_at, outcome_of, answered};

@@ -1,5 +1,7 @@
 // The packet layer without its slices (docs/RULES.md, "Packets"): what a packet answers, the record of an answer with what it leaves by value, the counts that a
 // packet moves, and whether a counter is near its end. No slice is lent here.
+#![tactic(auto)]
+
 ghost use Rattle.std.specs.Prelude.{◌≡◌, false};
 ghost use Rattle.demux_state.specs.State.{said_of, number_of, finished_of, any_near, near_end, Spares, packet_counted, malformed_counted, CanFeed};
 

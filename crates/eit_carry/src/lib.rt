@@ -1,4 +1,6 @@
 // A section is offered to a store that is whole: what becomes of it is decided, and carried out (docs/RULES.md, "Collectors").
+#![tactic(auto)]
+
 ghost use Rattle.std.specs.Prelude.{◌≡◌};
 ghost use Rattle.arrivals.specs.Arrivals.{Numbered};
 ghost use Rattle.eit_state.specs.State.{store, Whole, CanCount};

@@ -1,4 +1,6 @@
 // A drop by filter: what is wanted of each field, and the sets and schedules that match leave (docs/RULES.md, "Collectors").
+#![tactic(auto)]
+
 ghost use Rattle.std.specs.Prelude.{◌≡◌};
 ghost use Rattle.eit_state.specs.State.{rows, RowsFit};
 ghost use Rattle.eit_drop.specs.Drop.{input_wanted, made_wanted, wanted_origin, fields_of, drop_wanted, matching_gone};

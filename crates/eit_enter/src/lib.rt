@@ -1,5 +1,7 @@
 // A complete set enters the schedule of its service, which is found or made, and goes out once it has all its tables (docs/RULES.md,
 // "Collectors").
+#![tactic(auto)]
+
 ghost use Rattle.std.specs.Prelude.{◌≡◌};
 ghost use Rattle.eit_state.specs.State.{rows};
 ghost use Rattle.eit_enter.specs.Entering.{schedule_entry, entered_answer, answered, entered, SettleOk};

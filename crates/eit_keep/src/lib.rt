@@ -1,4 +1,6 @@
 // A section is kept (docs/RULES.md, "Collectors").
+#![tactic(auto)]
+
 ghost use Rattle.std.specs.Prelude.{◌≡◌, ◌*◌, length};
 ghost use Rattle.std.proofs.Math.Seq.{paste};
 ghost use Rattle.cells.specs.Cells.{slot_word};

@@ -1,4 +1,6 @@
 // Whether a set or a schedule in use has no PID (docs/RULES.md, "Layouts" and "Answers"): a call on such a store answers 41. Nothing lent is written.
+#![tactic(auto)]
+
 ghost use Rattle.std.specs.Prelude.{◌≡◌};
 ghost use Rattle.eit_pids.specs.Rows.{any_without, HeadsFit};
 

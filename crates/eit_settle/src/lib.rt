@@ -1,4 +1,6 @@
 // A row becomes the newest, and what becomes of its set is done (docs/RULES.md, "Collectors").
+#![tactic(auto)]
+
 ghost use Rattle.std.specs.Prelude.{◌≡◌, ◌+◌, ◌*◌, ◌<◌, ◌≤◌, length};
 ghost use Rattle.rows.specs.Rows.{touched};
 ghost use Rattle.eit_state.specs.State.{rows};

@@ -12,7 +12,7 @@ use Rattle.laws.proofs.Tests.{and_true}
 use Rattle.ring.specs.Store.{room_of, stamp_of, seen_of, keys_after, changes_after}
 use Rattle.ring.specs.Store.{whole_of as ring_whole}
 use Rattle.ring.specs.declared.Seen.{Seen}
-use Rattle.ring.proofs.Laws.{whole as ring_whole}
+use Rattle.ring.proofs.Laws.{whole as ring_whole_lem}
 use Rattle.section.specs.Header.{table_id_of}
 use Rattle.section.specs.Judged.{rule_known}
 use Rattle.pat.specs.Pat.{readable, pat_of, with_programs}
@@ -43,7 +43,7 @@ pub fits : (g : Gate) (keys changes words : ℕ) (w : Bool) → w ≡ whole_of g
 fits g keys changes words w e h =
     let a = and_true _ _ (sym e ∙ h) in
     let b = and_true _ _ a.0 in
-    record { rows = ring_whole g.ring keys changes (ring_whole g.ring keys changes) refl b.0; watch = leb-true _ _ b.1; rule = a.1 }
+    record { rows = ring_whole_lem g.ring keys changes (ring_whole g.ring keys changes) refl b.0; watch = leb-true _ _ b.1; rule = a.1 }
 
 -- ---- following
 

@@ -1,5 +1,7 @@
 // The gate without its slices: its settings, what it holds by value, its answers, and the record of an answer with what it leaves by value. No slice is
 // lent here.
+#![tactic(auto)]
+
 ghost use Rattle.std.specs.Prelude.{◌≡◌};
 ghost use Rattle.counters.specs.Counters.{CanCount};
 ghost use Rattle.gate_state.specs.State.{by_sections, by_tables, defaults, said_of, number_of, failure_no, is_sound, begun, refused, failed_by, answer_of, seen_by};

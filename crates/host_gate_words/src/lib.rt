@@ -1,5 +1,7 @@
 // The thirteen words of a gate: 0 capacity, 1 repeats, 2 follow (0 off, 2 each changed PAT section, any other complete PATs), 3 change_rule, 4 used, 5 first, 6 completed, 7 emitted, 8 suppressed,
 // 9 crc_failures, 10 short_sections, 11 crc_mismatches, 12 evictions. And the three of a failure: 0 length, 1 stored, 2 worked.
+#![tactic(auto)]
+
 ghost use Rattle.std.specs.Prelude.{◌≡◌, []};
 ghost use Rattle.gate_state.specs.State.{said_of, failure_said};
 ghost use Rattle.host_words.specs.Answers.{words};

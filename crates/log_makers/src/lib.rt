@@ -1,5 +1,7 @@
 // The records that one section gives (docs/RULES.md, "Logs"): for a monitor that appends them to a log after each offer and each set. No store is looked at,
 // and no CRC is judged again.
+#![tactic(auto)]
+
 ghost use Rattle.std.specs.Prelude.{◌≡◌, ◌<◌, ◌≤◌, length};
 ghost use Rattle.section.specs.Header.{version_of, stored_crc, header_of};
 ghost use Rattle.section.specs.Judged.{checked_change, bare_parts, headed_parts};

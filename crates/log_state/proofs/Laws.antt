@@ -24,7 +24,7 @@ use Rattle.section.specs.declared.header.Judged.TheVariants.{Short, Mismatch, So
 use Rattle.section.proofs.Facts.{judged_parts, origin_one, origin_none, origin_outside}
 use Rattle.ring.specs.Store.{room_of}
 use Rattle.ring.specs.Store.{whole_of as ring_whole}
-use Rattle.ring.proofs.Laws.{whole as ring_whole}
+use Rattle.ring.proofs.Laws.{whole as ring_whole_lem}
 use Rattle.store.specs.Store.{Store, asked, settings_fit, counters_full}
 use Rattle.store.specs.Store.{whole_of as sets_whole}
 use Rattle.store.proofs.Whole.{whole_means, evictions_go_on, clock_goes_on}
@@ -133,7 +133,7 @@ module _ (run : Run) (keys changes : ℕ) (sets : Store) (input pid : ℕ) (sect
             go (ruling.Arrived x) o = record {
               rows =
                   let taken : (ring_whole run.ring keys changes && rule_known run.rule) ≡ true = (and_true _ (not (is_without run.pids)) (sym e ∙ h)).0 in
-                  ring_whole run.ring keys changes (ring_whole run.ring keys changes) refl (and_true (ring_whole run.ring keys changes) (rule_known run.rule) taken).0;
+                  ring_whole_lem run.ring keys changes (ring_whole run.ring keys changes) refl (and_true (ring_whole run.ring keys changes) (rule_known run.rule) taken).0;
               ready = record { whole = whole_means sets (sym d ∙ k); counts = evictions_go_on sets.sets full q f; runs = clock_goes_on sets.sets full q f };
               is_input = o.0;
               is_pid = o.1;

@@ -1,5 +1,7 @@
 // A run of a log (docs/RULES.md, "Logs"): the rows of a gate and a set collector over lent memory, opened, and what a section comes to before anything is
 // written: 42, 10, 11, 12, 37, a failure, or a section that arrived.
+#![tactic(auto)]
+
 ghost use Rattle.std.specs.Prelude.{◌≡◌, length};
 ghost use Rattle.section.specs.Judged.{rule_of, judged_of};
 ghost use Rattle.store.specs.Store.{store};

@@ -1,4 +1,6 @@
 // A section that the gate takes (docs/RULES.md, "Logs"): it is given to a collector that is whole, and its records are made. Parts of a run.
+#![tactic(auto)]
+
 ghost use Rattle.std.specs.Prelude.{◌≡◌, ◌≤◌, length};
 ghost use Rattle.store.specs.Store.{store};
 ghost use Rattle.sets_plan.specs.Plan.{Ready};

@@ -1,5 +1,7 @@
 // The packets at the front of some bytes that are passed over (docs/RULES.md, "Packets"): those without a payload that can be read, and those of PIDs that are not
 // watched, whose words become 0. Over words and bytes that the caller has judged.
+#![tactic(auto)]
+
 ghost use Rattle.std.specs.Prelude.{◌≡◌, ◌*◌, ◌<◌, ◌≤◌, length};
 ghost use Rattle.passing.specs.Passing.{pid_passes, pids_without, passes, pids_after, passed, passed_from, Looks};
 

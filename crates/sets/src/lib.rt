@@ -1,6 +1,8 @@
 // The set collector: sections in, complete sets of sections out (docs/RULES.md, "Collectors"). The host keeps a `Sets` by value and lends
 // three slices at every call: heads (12 words a row), slots (288 words a row) and cells. Every call takes any content of them and has one
 // answer; a refusal leaves them as they were, but 22, which touches the key.
+#![tactic(auto)]
+
 ghost use Rattle.std.specs.Prelude.{◌≡◌};
 ghost use Rattle.store.specs.Store.{store, asked};
 ghost use Rattle.sets_settle.specs.Settle.{after_push};

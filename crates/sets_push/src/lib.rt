@@ -1,4 +1,6 @@
 // What pushing is made of: whether the section gets in, and its way into a store that is whole.
+#![tactic(auto)]
+
 ghost use Rattle.std.specs.Prelude.{◌≡◌};
 ghost use Rattle.store.specs.Store.{store};
 ghost use Rattle.arrivals.specs.Arrivals.{Taken};

@@ -1,4 +1,6 @@
 // What a monitor counts beside the counters of its gate and collectors: the answers of the packet layer and of the collectors, a number a column.
+#![tactic(auto)]
+
 ghost use Rattle.std.specs.Prelude.{◌≡◌};
 ghost use Rattle.tallies.specs.Columns.{more_of, counted_in};
 

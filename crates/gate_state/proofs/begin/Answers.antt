@@ -1,0 +1,4 @@
+use Rattle.gate_state.proofs.begin.Goals as goal
+
+pub returns : goal.returns
+returns c = cc

@@ -1,0 +1,13 @@
+use Rattle.sets.proofs.Admit.{admitted_arrived, pushed_refused, pushed_arrived}
+use Rattle.store.specs.Store.{store}
+use Rattle.sets_settle.specs.Settle.{after_push}
+use Rattle.sets.proofs.push.Goals as goal
+
+pub push_whole-requires : goal.push_whole-requires
+push_whole-requires c = let a = c.args in admitted_arrived (store a.sets a.heads.now a.slots.now a.cells.now) a.bytes.now c.admit.result c.in-Arrived.entry c.in-Arrived.is c.admit.ensures.admitted_ok
+
+pub returns-in-Refused : goal.returns-in-Refused
+returns-in-Refused c = let a = c.args in pushed_refused (store a.sets a.heads.now a.slots.now a.cells.now) a.input a.pid a.bytes.now c.admit.result c.admit.ensures.value c.in-Refused.refusal c.in-Refused.is
+
+pub returns-in-Arrived : goal.returns-in-Arrived
+returns-in-Arrived c = let a = c.args in pushed_arrived (store a.sets a.heads.now a.slots.now a.cells.now) a.input a.pid a.bytes.now c.admit.result c.admit.ensures.value c.in-Arrived.entry (after_push c.push_whole.result c.push_whole.new.heads c.push_whole.new.slots c.push_whole.new.cells) c.in-Arrived.is c.push_whole.ensures

@@ -1,0 +1,12 @@
+-- `watched::inner::put` meets its contract. The loop's invariant: the first i words of the set are written. Assumes nothing.
+use mathlib.Core.Path.{◌≡◌, refl}
+use Prim.Native.Nat.{◌≤◌, ◌-◌}
+use lib.ListN.{length, length-set}
+use lib.Seq.{paste, paste-zero}
+use Rattle.watched.proofs.inner.put.Given as goal
+
+abbrev pub invariant-loop-i : goal.invariant-loop-i
+invariant-loop-i l = (l.i ≤ 128) × (length l.words ≡ length l.initial.words) × (l.words ≡ paste l.initial.words l.at l.set l.i)
+
+abbrev pub decreases-loop-i : goal.decreases-loop-i
+decreases-loop-i l = 128 - l.i
