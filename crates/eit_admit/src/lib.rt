@@ -1,5 +1,7 @@
 // Whether a call goes on: the refusals that come before a section or a filter is looked up in the store (docs/RULES.md, "Answers"). Nothing lent
 // is written.
+#![tactic(auto)]
+
 ghost use Rattle.std.specs.Prelude.{◌≡◌};
 ghost use Rattle.eit_state.specs.State.{store};
 ghost use Rattle.eit_admit.specs.Admitting.{admitted, Admitted, drop_of, DropOk};

@@ -1,5 +1,7 @@
 // The gate: which sections are new and which repeat what was seen, counted, and which PIDs a changed PAT adds to the watch.
 // What is small goes in by value and comes back in the answer; the rows of the ring and the words of the watch are lent.
+#![tactic(auto)]
+
 ghost use Rattle.std.specs.Prelude.{◌≡◌, length};
 ghost use Rattle.gate.specs.Store.{begun_by, opened, store_of, left_by, offered};
 

@@ -1,5 +1,7 @@
 // What comes before the sections of a list are looked at (docs/RULES.md, "Logs"): the list is judged, and then a run is opened. A part of the checker and of
 // the writer.
+#![tactic(auto)]
+
 ghost use Rattle.std.specs.Prelude.{◌≡◌, length};
 ghost use Rattle.rules_logs.specs.Sections.{sections_in};
 ghost use Rattle.log_prepare.specs.Prepare.{prepared_of, ready_of};

@@ -1,6 +1,8 @@
 // PATs in several sections (docs/RULES.md, "Watched PIDs"; ISO/IEC 13818-1, 2.4.4.3): the sections of a PAT are collected as a set, and only a
 // complete one is followed. The record of a watch is three lent slices: words, whose first 384 are the three sets of PIDs (crate watched), then the
 // counts and the head of the PAT store; the slots of its one row; its 256 cells of 1,024 bytes.
+#![tactic(auto)]
+
 ghost use Rattle.std.specs.Prelude.{◌≡◌, true, ◌&&◌, map, ◌≤◌, leb, length, get_or};
 ghost use Rattle.cells.specs.Cells.{kept, slot_whole, all_whole};
 ghost use Rattle.pat.specs.Pat.{with_programs};
