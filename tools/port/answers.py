@@ -22,7 +22,7 @@ def blocks(text):
     """The file's top-level items: lists of lines, each beginning with its comments."""
     out, cur = [], []
     for line in text.split("\n"):
-        top = line and not line[0].isspace()
+        top = line and not line[0].isspace() and line[0] not in ")}]"
         if top and cur and not all(l.startswith("--") or l.startswith("unfolding") or l == "" for l in cur):
             # A further line of the same item: its unfolding line, or an equation of its name.
             head = next((l for l in cur if l and not l.startswith("--") and not l.startswith("unfolding")), "")
@@ -61,34 +61,58 @@ def split_args(text):
 
 class Steps:
     def __init__(self, said):
-        self.parent, self.field = {}, {}
-        for place, parent, (old, new), _fn, _x in said["places"]:
+        self.parent, self.field, self.call = {}, {}, {}
+        for place, parent, (old, new), fn, _x in said["places"]:
             self.parent[place] = parent
             self.field[place] = (old, new)
+            self.call[place] = said["params"].get(fn) if fn else None
         self.arm = {}
         for (place, *_), arm in zip(said["places"], said["arms"]):
             self.arm[place] = arm
 
     def path(self, place, fields):
         """c.before..before.step.rest at a place, as today's c.step.rest; None: the place above all."""
-        rest = list(fields)
+        rest, start, depth = list(fields), place, 0
         while rest and rest[0] == "before":
-            rest = rest[1:]
+            rest, depth = rest[1:], depth + 1
             if place is not None:
                 place = self.parent.get(place)
         if not rest:
             return place, []
-        if place is not None and place in self.field:
-            old, new = self.field[place]
+        chain = []
+        while start is not None:
+            chain.append(start)
+            start = self.parent.get(start)
+        # The place that the path counts to, or else the nearest that has a step of this name.
+        for at in sorted(range(len(chain)), key=lambda i: abs(i - depth)):
+            old, new = self.field[chain[at]]
             if old and alike(old) == alike(rest[0]):
-                arm = self.arm.get(place)
-                if arm:
-                    for it in arm[2]:
-                        to, was, more = it[0], it[1], it[2] if len(it) > 2 else []
-                        if alike(was) == alike(rest[0]) and [alike(x) for x in more] == [alike(x) for x in rest[1:1 + len(more)]]:
-                            return place, [new, to] + rest[1 + len(more):]
-                return place, [new] + rest[1:]
+                arm = self.arm.get(chain[at])
+                for it in arm[2] if arm else []:
+                    to, was, more = it[0], it[1], it[2] if len(it) > 2 else []
+                    if alike(was) == alike(rest[0]) and [alike(x) for x in more] == [alike(x) for x in rest[1:1 + len(more)]]:
+                        return chain[at], [arm[0], to] + rest[1 + len(more):]
+                return chain[at], [new] + self.lent(chain[at], rest[1:])
         return place, rest
+
+    def lent(self, place, rest):
+        """What a call left in a parameter: by the parameter's name and not its number."""
+        names = self.call.get(place)
+        if not names or not rest or rest[0] != "new":
+            return rest
+        digits = 0
+        while 1 + digits < len(rest) and rest[1 + digits] in ("0", "1"):
+            digits += 1
+        i, seq = 0, rest[1:1 + digits]
+        if not seq:
+            return rest
+        while seq and seq[0] == "1" and i < len(names) - 1:
+            i, seq = i + 1, seq[1:]
+        if i < len(names) - 1:
+            if not seq or seq[0] != "0":
+                return rest
+            seq = seq[1:]
+        return ["new", names[i], *seq, *rest[1 + digits:]]
 
 
 def turn_body(text, var, place, steps, words):
@@ -109,7 +133,13 @@ def turn_body(text, var, place, steps, words):
             if let:
                 places[let[1]] = p
             return var
-        return ".".join([var if head in places else head, *f]) if fields else m[0]
+        if not fields:
+            return m[0]
+        said = ".".join([var, *f])
+        # Where the code tests `!x`, today's fact is of x itself.
+        if len(f) == 2 and f[0].startswith("if-not-") and f[1] in ("true", "false"):
+            return f"(ap not {said})"
+        return said
 
     # names that a let gives a place are contexts too: go left to right
     out = pat.sub(one, text)
@@ -207,6 +237,13 @@ def turn(text, got, crate, part):
         raise ValueError("a let around tie.spec")
     decls = [d for d in decls if d is not spec]
     by_name = {}
+    for i, (comments, code) in enumerate(decls):
+        # A type over several lines stands on one.
+        mm = re.match(rf"(?:(?:abbrev|pub|unfoldable) +)*({W})", code[0])
+        if mm:
+            k = next((j for j, l in enumerate(code) if j and (l.startswith("unfolding") or re.match(rf"{re.escape(mm[1])}(?:\s|$)", l))), None)
+            if k and k > 1:
+                decls[i] = (comments, [" ".join(l.strip() for l in code[:k]), *code[k:]])
     for d in decls:
         sig = d[1][0]
         mm = re.match(rf"(?:(?:abbrev|pub|unfoldable) +)*({W})(?: \{{[^{{}}]*\}})*\s+:\s*(.*)", sig)
@@ -260,6 +297,8 @@ def turn(text, got, crate, part):
     helpers, ihelpers = [], []
     for comments, code in decls:
         mm = re.match(rf"(?:(?:abbrev|pub|unfoldable) +)*({W})", code[0])
+        if mm is None:
+            raise ValueError("the item " + code[0])
         if mm[1] in used:
             continue
         h = "\n".join([*comments, *code])
@@ -274,6 +313,9 @@ def turn(text, got, crate, part):
             kept.insert(0, h)
             need_text += h
     hs = "\n\n".join(kept)
+    if "(ap not c.if-not-" in need_text:
+        named = {n.strip() for u in uses for n in re.findall(r"\{(.*)\}", u)[:1] for n in n.split(",")}
+        uses += [u for n, u in (("ap", "use mathlib.Core.Path.{ap}"), ("not", "use mathlib.Core.Bool.{not}")) if n not in named]
     path = part.replace("/", ".")
     out_a = out_i = None
     use_of = lambda body: [u for u in uses if keeps(u, body)]
@@ -291,8 +333,8 @@ def keeps(use, body):
     m = re.match(r"(?:pub |unfoldable )*use [^\s{]+\.\{(.*)\}\s*$", use)
     names = [it.strip().split(" as ")[-1] for it in m[1].split(",")] if m else [use.split()[-1].split(".")[-1]]
     words = set(re.findall(W, body))
-    # an operator may stand in parts
-    return any(n in words or "◌" in n for n in names)
+    # an operator may stand in parts, and [] is no word
+    return any(n in words or "◌" in n or not re.fullmatch(W, n) for n in names)
 
 
 def turn_loop(d, name, got):

@@ -1,6 +1,8 @@
 // Packets out of a stream of bytes that comes in blocks. A packet is the next 188 bytes. Where they do not begin with the sync byte, bytes are passed over, at
 // least one, up to a place where it stands and stands again a packet further, or the input has ended by then. Nothing here reads: a caller hands over what it
 // has of the input and has not used up (the window), and whether that is the last of it.
+#![tactic(auto)]
+
 ghost use Rattle.std.specs.Prelude.{◌≡◌, true, ◌<◌, ◌≤◌, length};
 ghost use Rattle.laws.specs.Lists.{first_from};
 ghost use Rattle.alignment.specs.Alignment.{sync_at, judged_to, sought, head_of, step_of};

@@ -1,6 +1,7 @@
 // The answers of the calls and their numbers (docs/RULES.md, "Answers"). A call's own answer has what only that call can say, and one case for
 // all refusals.
 #![tactic(auto)]
+
 ghost use Rattle.std.specs.Prelude.{◌≡◌};
 ghost use Rattle.answers.specs.Answers.{refusal_no, outcome_no, reply_no};
 

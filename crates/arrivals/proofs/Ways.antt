@@ -28,10 +28,10 @@ use Rattle.rows.specs.declared.Entry.{Entry}
 use Rattle.arrivals.specs.declared.OriginWords.{OriginWords}
 use Rattle.arrivals.specs.declared.OriginWords.TheVariants as words
 use Rattle.arrivals.specs.declared.SetArrival.{SetArrival}
-use Rattle.arrivals.specs.declared.SetArrival.TheVariants as set-arrival
+use Rattle.arrivals.specs.declared.SetArrival.TheVariants as set_arrival_case
 use Rattle.arrivals.specs.declared.Arrival.{Arrival}
 use Rattle.arrivals.specs.declared.EitArrival.{EitArrival}
-use Rattle.arrivals.specs.declared.EitArrival.TheVariants as eit-arrival
+use Rattle.arrivals.specs.declared.EitArrival.TheVariants as eit_arrival_case
 use Rattle.arrivals.specs.Arrivals.{made_words, origin_words, bit_of, set_key, eit_key, entry_of, kind_number, arrival_of, set_read, set_arrival, eit_fields, eit_read, eit_arrival}
 
 -- ---- where it came from
@@ -61,7 +61,7 @@ arrival_made from h f key e k p q r = rw (r, q, p)
 -- ---- what came from nowhere (12, 37)
 
 module _ (input : ℕ) (pid : MaybePid) (bytes : List ℕ) (v : OriginWords) (f : v ≡ origin_words input pid) where
-  pub set_nowhere : (r : Refusal) → v ≡ words.Refused r → set_arrival.Refused r ≡ set_arrival input pid bytes
+  pub set_nowhere : (r : Refusal) → v ≡ words.Refused r → set_arrival_case.Refused r ≡ set_arrival input pid bytes
   unfolding set_arrival
   set_nowhere r q = rw (← f, q)
 
@@ -69,7 +69,7 @@ module _ (input : ℕ) (pid : MaybePid) (bytes : List ℕ) (v : OriginWords) (f 
   unfolding set_arrival
   set_section p r q g = rw (← f, q) g
 
-  pub eit_nowhere : (r : Refusal) → v ≡ words.Refused r → eit_arrival.Refused r ≡ eit_arrival input pid bytes
+  pub eit_nowhere : (r : Refusal) → v ≡ words.Refused r → eit_arrival_case.Refused r ≡ eit_arrival input pid bytes
   unfolding eit_arrival
   eit_nowhere r q = rw (← f, q)
 
@@ -80,31 +80,31 @@ module _ (input : ℕ) (pid : MaybePid) (bytes : List ℕ) (v : OriginWords) (f 
 -- ---- 14 to 17
 
 module _ (bytes : List ℕ) (from : Origin) (c : Collected) (p : c ≡ collected_of bytes) where
-  pub set_malformed : c ≡ collected.Malformed → set_arrival.Refused refusal.Malformed ≡ set_read from (collected_of bytes)
+  pub set_malformed : c ≡ collected.Malformed → set_arrival_case.Refused refusal.Malformed ≡ set_read from (collected_of bytes)
   set_malformed q = rw (← p, q)
 
-  pub set_short : c ≡ collected.ShortForm → set_arrival.Refused refusal.ShortForm ≡ set_read from (collected_of bytes)
+  pub set_short : c ≡ collected.ShortForm → set_arrival_case.Refused refusal.ShortForm ≡ set_read from (collected_of bytes)
   set_short q = rw (← p, q)
 
-  pub set_number : c ≡ collected.BadNumber → set_arrival.Refused refusal.BadNumber ≡ set_read from (collected_of bytes)
+  pub set_number : c ≡ collected.BadNumber → set_arrival_case.Refused refusal.BadNumber ≡ set_read from (collected_of bytes)
   set_number q = rw (← p, q)
 
-  pub set_crc : c ≡ collected.BadCrc → set_arrival.Refused refusal.BadCrc ≡ set_read from (collected_of bytes)
+  pub set_crc : c ≡ collected.BadCrc → set_arrival_case.Refused refusal.BadCrc ≡ set_read from (collected_of bytes)
   set_crc q = rw (← p, q)
 
-  pub set_good : (h : Header) (key : Key) (e : Entry) → c ≡ collected.Good h → key ≡ set_key from h → e ≡ entry_of key h → set_arrival.Arrived e ≡ set_read from (collected_of bytes)
+  pub set_good : (h : Header) (key : Key) (e : Entry) → c ≡ collected.Good h → key ≡ set_key from h → e ≡ entry_of key h → set_arrival_case.Arrived e ≡ set_read from (collected_of bytes)
   set_good h key e q f g = rw (← p, q, g, f)
 
-  pub eit_malformed : c ≡ collected.Malformed → eit_arrival.Refused refusal.Malformed ≡ eit_read from bytes (collected_of bytes)
+  pub eit_malformed : c ≡ collected.Malformed → eit_arrival_case.Refused refusal.Malformed ≡ eit_read from bytes (collected_of bytes)
   eit_malformed q = rw (← p, q)
 
-  pub eit_short : c ≡ collected.ShortForm → eit_arrival.Refused refusal.ShortForm ≡ eit_read from bytes (collected_of bytes)
+  pub eit_short : c ≡ collected.ShortForm → eit_arrival_case.Refused refusal.ShortForm ≡ eit_read from bytes (collected_of bytes)
   eit_short q = rw (← p, q)
 
-  pub eit_number : c ≡ collected.BadNumber → eit_arrival.Refused refusal.BadNumber ≡ eit_read from bytes (collected_of bytes)
+  pub eit_number : c ≡ collected.BadNumber → eit_arrival_case.Refused refusal.BadNumber ≡ eit_read from bytes (collected_of bytes)
   eit_number q = rw (← p, q)
 
-  pub eit_crc : c ≡ collected.BadCrc → eit_arrival.Refused refusal.BadCrc ≡ eit_read from bytes (collected_of bytes)
+  pub eit_crc : c ≡ collected.BadCrc → eit_arrival_case.Refused refusal.BadCrc ≡ eit_read from bytes (collected_of bytes)
   eit_crc q = rw (← p, q)
 
   pub eit_good : (h : Header) (r : EitArrival) → c ≡ collected.Good h → r ≡ eit_fields from h (eit_of bytes) → r ≡ eit_read from bytes (collected_of bytes)
@@ -113,11 +113,11 @@ module _ (bytes : List ℕ) (from : Origin) (c : Collected) (p : c ≡ collected
 -- ---- 18, 19
 
 module _ (bytes : List ℕ) (from : Origin) (h : Header) (c : Reading) (p : c ≡ eit_of bytes) where
-  pub fields_none : c ≡ reading.NotEit → eit_arrival.Refused refusal.NotEit ≡ eit_fields from h (eit_of bytes)
+  pub fields_none : c ≡ reading.NotEit → eit_arrival_case.Refused refusal.NotEit ≡ eit_fields from h (eit_of bytes)
   fields_none q = rw (← p, q)
 
-  pub fields_broken : c ≡ reading.Broken → eit_arrival.Refused refusal.Broken ≡ eit_fields from h (eit_of bytes)
+  pub fields_broken : c ≡ reading.Broken → eit_arrival_case.Refused refusal.Broken ≡ eit_fields from h (eit_of bytes)
   fields_broken q = rw (← p, q)
 
-  pub fields_good : (f : Eit) (a : Arrival) → c ≡ reading.Good f → a ≡ arrival_of from h f → eit_arrival.Arrived a ≡ eit_fields from h (eit_of bytes)
+  pub fields_good : (f : Eit) (a : Arrival) → c ≡ reading.Good f → a ≡ arrival_of from h f → eit_arrival_case.Arrived a ≡ eit_fields from h (eit_of bytes)
   fields_good f a q e = rw (← p, q, e)

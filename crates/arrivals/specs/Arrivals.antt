@@ -23,10 +23,10 @@ use Rattle.rows.specs.declared.Entry.{Entry}
 use Rattle.arrivals.specs.declared.OriginWords.{OriginWords}
 use Rattle.arrivals.specs.declared.OriginWords.TheVariants as words
 use Rattle.arrivals.specs.declared.SetArrival.{SetArrival}
-use Rattle.arrivals.specs.declared.SetArrival.TheVariants as set-arrival
+use Rattle.arrivals.specs.declared.SetArrival.TheVariants as set_arrival_case
 use Rattle.arrivals.specs.declared.Arrival.{Arrival}
 use Rattle.arrivals.specs.declared.EitArrival.{EitArrival}
-use Rattle.arrivals.specs.declared.EitArrival.TheVariants as eit-arrival
+use Rattle.arrivals.specs.declared.EitArrival.TheVariants as eit_arrival_case
 
 -- ---- the key
 
@@ -90,15 +90,15 @@ arrival_of from h f = record {
 
 -- 14 to 17
 abbrev pub set_read : Origin → Collected → SetArrival
-set_read from collected.Malformed = set_arrival.Refused refusal.Malformed
-set_read from collected.ShortForm = set_arrival.Refused refusal.ShortForm
-set_read from collected.BadNumber = set_arrival.Refused refusal.BadNumber
-set_read from collected.BadCrc = set_arrival.Refused refusal.BadCrc
-set_read from (collected.Good h) = set_arrival.Arrived (entry_of (set_key from h) h)
+set_read from collected.Malformed = set_arrival_case.Refused refusal.Malformed
+set_read from collected.ShortForm = set_arrival_case.Refused refusal.ShortForm
+set_read from collected.BadNumber = set_arrival_case.Refused refusal.BadNumber
+set_read from collected.BadCrc = set_arrival_case.Refused refusal.BadCrc
+set_read from (collected.Good h) = set_arrival_case.Arrived (entry_of (set_key from h) h)
 
 -- 12, then 37
 abbrev pub set_judged : OriginWords → List ℕ → SetArrival
-set_judged (words.Refused r) bytes = set_arrival.Refused r
+set_judged (words.Refused r) bytes = set_arrival_case.Refused r
 set_judged (words.Are from) bytes = set_read from (collected_of bytes)
 
 unfoldable pub set_arrival : (input : ℕ) → MaybePid → List ℕ → SetArrival
@@ -108,21 +108,21 @@ set_arrival input pid bytes = set_judged (origin_words input pid) bytes
 
 -- 18, 19
 abbrev pub eit_fields : Origin → Header → Reading → EitArrival
-eit_fields from h reading.NotEit = eit_arrival.Refused refusal.NotEit
-eit_fields from h reading.Broken = eit_arrival.Refused refusal.Broken
-eit_fields from h (reading.Good f) = eit_arrival.Arrived (arrival_of from h f)
+eit_fields from h reading.NotEit = eit_arrival_case.Refused refusal.NotEit
+eit_fields from h reading.Broken = eit_arrival_case.Refused refusal.Broken
+eit_fields from h (reading.Good f) = eit_arrival_case.Arrived (arrival_of from h f)
 
 -- 14 to 17
 abbrev pub eit_read : Origin → List ℕ → Collected → EitArrival
-eit_read from bytes collected.Malformed = eit_arrival.Refused refusal.Malformed
-eit_read from bytes collected.ShortForm = eit_arrival.Refused refusal.ShortForm
-eit_read from bytes collected.BadNumber = eit_arrival.Refused refusal.BadNumber
-eit_read from bytes collected.BadCrc = eit_arrival.Refused refusal.BadCrc
+eit_read from bytes collected.Malformed = eit_arrival_case.Refused refusal.Malformed
+eit_read from bytes collected.ShortForm = eit_arrival_case.Refused refusal.ShortForm
+eit_read from bytes collected.BadNumber = eit_arrival_case.Refused refusal.BadNumber
+eit_read from bytes collected.BadCrc = eit_arrival_case.Refused refusal.BadCrc
 eit_read from bytes (collected.Good h) = eit_fields from h (eit_of bytes)
 
 -- 12, then 37
 abbrev pub eit_judged : OriginWords → List ℕ → EitArrival
-eit_judged (words.Refused r) bytes = eit_arrival.Refused r
+eit_judged (words.Refused r) bytes = eit_arrival_case.Refused r
 eit_judged (words.Are from) bytes = eit_read from bytes (collected_of bytes)
 
 unfoldable pub eit_arrival : (input : ℕ) → MaybePid → List ℕ → EitArrival
@@ -141,9 +141,9 @@ pub record Taken (bytes : List ℕ) (e : Entry) : Type 0 where
   pub long : 12 ≤ length bytes
 
 abbrev pub SetTaken : List ℕ → SetArrival → Type 0
-SetTaken bytes (set_arrival.Refused r) = Unit {0}
-SetTaken bytes (set_arrival.Arrived e) = Taken bytes e
+SetTaken bytes (set_arrival_case.Refused r) = Unit {0}
+SetTaken bytes (set_arrival_case.Arrived e) = Taken bytes e
 
 abbrev pub EitTaken : List ℕ → EitArrival → Type 0
-EitTaken bytes (eit_arrival.Refused r) = Unit {0}
-EitTaken bytes (eit_arrival.Arrived a) = Taken bytes a.entry
+EitTaken bytes (eit_arrival_case.Refused r) = Unit {0}
+EitTaken bytes (eit_arrival_case.Arrived a) = Taken bytes a.entry

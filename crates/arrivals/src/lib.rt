@@ -1,5 +1,7 @@
 // What a section's bytes and where it came from say to a collector (docs/RULES.md, "Collectors" and "Answers"): a refusal (41, 12, 37, 14 to 17, for the EIT collector
 // also 18 and 19), or what arrived. No store is looked at.
+#![tactic(auto)]
+
 ghost use Rattle.std.specs.Prelude.{◌≡◌};
 ghost use Rattle.section.specs.Judged.{collected_of};
 ghost use Rattle.eit_section.specs.Eit.{eit_of};

@@ -1,6 +1,8 @@
 // One packet of a PID over the PID's section buffer: a repeat is ignored, a jump drops the section under way, and what the payload finishes is told in
 // the places (ISO/IEC 13818-1, 2.4.3.3 and 2.4.4). The section that was under way and is finished stays at the buffer's front until the next packet, and
 // the beginning of the next is put behind it.
+#![tactic(auto)]
+
 ghost use Rattle.std.specs.Prelude.{◌≡◌, ◌++◌, ◌<◌, length};
 ghost use Rattle.payload.specs.Payload.{front, bytes_of};
 ghost use Rattle.assemble.specs.Store.{is_repeat, follows_on, marked, span_in, span_by, ended_told, ended_count, reading, taken_of, places_of, stepped_of, buffer_after, places_after};

@@ -1,5 +1,7 @@
 // A column of tags beside the rows of a collector, for one call: 16 bits of each row's key, one row after another. A search goes through 2 bytes a row, many
 // rows at a time, where the heads have 96 bytes a row; only a row with the key's tag is looked at itself. Nothing of it outlives the call.
+#![tactic(auto)]
+
 ghost use Rattle.std.specs.Prelude.{◌≡◌, Bool, ◌&&◌, ℕ, ◌+◌, ◌-◌, ◌*◌, ◌<◌, ◌≤◌, min, eqb, leb, ltb, length};
 ghost use Rattle.laws.specs.Lists.{any, first_from};
 ghost use Rattle.rows.specs.Rows.{key_at, same_key, row_of};

@@ -1,6 +1,8 @@
 // `counts CAPACITY LIMIT CELLS [INTERVAL] < stream.ts`: what a monitor with such a store counts of a transport stream, a line for each time that the stream tells.
 // CAPACITY keys of the gate; LIMIT keys and CELLS cells of 4,096 bytes for each collector; lines at least INTERVAL seconds of the stream apart. 256 section buffers,
 // the other settings as they are by default, all on input 0.
+#![tactic(auto)]
+
 ghost use Rattle.stream_cursor.specs.Cursor.{Inside};
 
 use counts_collect::Collectors;
@@ -8,6 +10,8 @@ use counts_step::Held;
 use counts_words::Words;
 use eit_state::Eit;
 use gate_state::{Opened, Settings};
+use std::io;
+use std::io::{Read, Write};
 use store::Sets;
 use stream_cursor::Cursor;
 use streams::Streams;
@@ -53,14 +57,16 @@ fn held(opened: Opened, streams: Streams, sets: Sets, eit: Eit) -> Held {
 }
 
 // The totals.
-fn finish(held: Held, tally: &[u64; 10]) {
+fn finish(stdout: &mut impl Write, held: Held, tally: &[u64; 10]) -> io::Result<()> {
     let c = held.collectors;
     let numbers = counts_lines::numbers(held.streams, held.counters, tally, c.sets, c.eit);
-    counts_tell::say_end(&numbers);
+    counts_tell::say_end(stdout, &numbers)
 }
 
 // All packets of standard input. A proved loop has to end, and nothing says that standard input does: the turns are counted down from a number that no run uses up.
 fn run(
+    stdin: &mut impl Read,
+    stdout: &mut impl Write,
     begun: Held,
     interval: u64,
     keys: &mut [u64; 16384],
@@ -84,13 +90,15 @@ fn run(
     tally: &mut [u64; 10],
     out: &mut [u8; 65536],
     block: &mut [u8; 65724],
-) {
+) -> io::Result<()> {
     let mut held = begun;
     let mut c = at_start();
     let mut more = true;
     let mut turns = u64::MAX;
     while more & (turns > 0) {
         let t = counts_step::step(
+            stdin,
+            stdout,
             held,
             keys,
             changes,
@@ -115,17 +123,19 @@ fn run(
             out,
             block,
             c,
-        );
+        )?;
         held = t.held;
         c = t.cursor;
         more = c.more;
         turns -= 1;
     }
-    finish(held, tally);
+    finish(stdout, held, tally)
 }
 
 // Gate, streams and collectors are opened: the words are in their bounds, so none refuses.
 fn open(
+    stdin: &mut impl Read,
+    stdout: &mut impl Write,
     words: Words,
     keys: &mut [u64; 16384],
     changes: &mut [u64; 16384],
@@ -148,7 +158,7 @@ fn open(
     tally: &mut [u64; 10],
     out: &mut [u8; 65536],
     block: &mut [u8; 65724],
-) {
+) -> io::Result<()> {
     let none = [0u16; 1];
     let limit = words.limit as usize;
     let count = words.cells as usize;
@@ -175,8 +185,10 @@ fn open(
         schedule_heads,
         units,
     );
-    counts_tell::say_names();
+    counts_tell::say_names(stdout)?;
     run(
+        stdin,
+        stdout,
         held(opened, started.streams, sets.sets, eit.eit),
         words.interval,
         keys,
@@ -200,11 +212,11 @@ fn open(
         tally,
         out,
         block,
-    );
+    )
 }
 
 // What is lent.
-fn lend(words: Words) {
+fn lend(stdin: &mut impl Read, stdout: &mut impl Write, words: Words) -> io::Result<()> {
     let mut keys = [0u64; 16384];
     let mut changes = [0u64; 16384];
     let mut buckets = [0u64; 16384];
@@ -227,6 +239,8 @@ fn lend(words: Words) {
     let mut out = [0u8; 65536];
     let mut block = [0u8; 65724];
     open(
+        stdin,
+        stdout,
         words,
         &mut keys,
         &mut changes,
@@ -249,14 +263,14 @@ fn lend(words: Words) {
         &mut tally,
         &mut out,
         &mut block,
-    );
+    )
 }
 
-fn main() {
-    let words = counts_words::read();
+fn main(rt: HostRuntime) -> io::Result<()> {
+    let words = counts_words::read(&rt);
     if words.good {
-        lend(words);
+        lend(&mut rt.stdin(), &mut rt.stdout(), words)
     } else {
-        counts_tell::say_usage();
+        counts_tell::say_usage(&mut rt.stdout())
     }
 }

@@ -13,12 +13,12 @@ use Rattle.store.specs.Store as sets_memory
 use Rattle.sets_settle.specs.Settle as set_told
 use Rattle.sets_settle.specs.declared.Pushed.{Pushed as SetPushed}
 use Rattle.sets_settle.specs.declared.PushAnswer.{PushAnswer as SetAnswer}
-use Rattle.sets_settle.specs.declared.PushAnswer.TheVariants as set-answer
+use Rattle.sets_settle.specs.declared.PushAnswer.TheVariants as set_answer
 use Rattle.sets.specs.Store as sets
 use Rattle.eit_state.specs.State as eit_memory
 use Rattle.eit_state.specs.declared.Pushed.{Pushed as EitPushed}
 use Rattle.eit_state.specs.declared.PushAnswer.{PushAnswer as EitAnswer}
-use Rattle.eit_state.specs.declared.PushAnswer.TheVariants as eit-answer
+use Rattle.eit_state.specs.declared.PushAnswer.TheVariants as eit_answer
 use Rattle.eit.specs.Store as eit
 use Rattle.tallies.specs.Columns.{set_column, eit_column, set_refusal, eit_refusal, counted_in}
 use Rattle.counts_collect.specs.Collected.{held, set_told_of, eit_told, set_side, eit_side, set_after, eit_after, with_sets, with_eit, set_counted, eit_counted, is_eit, collected}

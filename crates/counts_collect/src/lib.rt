@@ -1,4 +1,6 @@
 // The collectors of `counts`: a section that the gate answered 1 or 2 goes to one of them, and what it answers is counted.
+#![tactic(auto)]
+
 ghost use Rattle.std.specs.Prelude.{◌≡◌};
 ghost use Rattle.store.specs.Store as sets_memory;
 ghost use Rattle.eit_state.specs.State as eit_memory;

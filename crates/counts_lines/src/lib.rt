@@ -1,4 +1,6 @@
 // The lines of `counts`: the names of the columns, a time or `end` with the numbers behind it, tab-separated.
+#![tactic(auto)]
+
 ghost use Rattle.std.specs.Prelude.{◌≡◌, ◌+◌, ◌*◌, ◌≤◌, length, ◌∷◌, ◌++◌};
 ghost use Rattle.text.specs.Text.{decimal, Wrote};
 ghost use Rattle.counts_lines.specs.Lines.{numbers_of, date_text, clock_text, stamp_text, tabbed, rest_of};

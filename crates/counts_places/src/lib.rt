@@ -1,4 +1,6 @@
 // The sections that a packet finished, one after another through the collectors of `counts`.
+#![tactic(auto)]
+
 ghost use Rattle.std.specs.Prelude.{◌≡◌, ◌+◌, ◌*◌, ◌≤◌, ◌<◌, length};
 ghost use Rattle.store.specs.Store as sets_memory;
 ghost use Rattle.eit_state.specs.State as eit_memory;

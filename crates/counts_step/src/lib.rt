@@ -1,6 +1,8 @@
 // One step of `counts`: the packet at the front of the block is fed to the gate with an index, the sections that it finished go to the collectors, and a line is
 // written where the stream tells a time; or what is no packet is passed over, or more is read.
-ghost use Rattle.std.specs.Prelude.{◌≡◌, ◌+◌, ◌*◌, ◌-◌, ◌≤◌, length};
+#![tactic(auto)]
+
+ghost use Rattle.std.specs.Prelude.{◌≡◌, ◌+◌, ◌*◌, ◌-◌, ◌≤◌, IfOk, length};
 ghost use Rattle.stream_cursor.specs.Cursor.{Inside};
 ghost use Rattle.counts_step.specs.Step.{no_buffer_counted};
 
@@ -10,6 +12,8 @@ use counts_collect::Collectors;
 use counts_times::Last;
 use demux_state::Answer;
 use gate_state::Gate;
+use std::io;
+use std::io::{Read, Write};
 use stream_cursor::Cursor;
 use streams::Streams;
 
@@ -60,6 +64,7 @@ fn count_no_buffer(tally: &mut [u64; 10], answer: Answer)
 
 // What the totals are now, in a line where the packet has a clock and one is due.
 fn tell<'a>(
+    stdout: &mut impl Write,
     held: Held,
     tally: &[u64; 10],
     interval: u64,
@@ -67,20 +72,23 @@ fn tell<'a>(
     count: usize,
     packet: &'a [u8],
     buffers: &'a [u8],
-) -> Last
+) -> io::Result<Last>
     requires { (count * 6 ≤ length places.now) × (188 ≡ length packet.now) }
 {
     let last = held.last;
     if pid_of(packet) == CLOCK_PID {
         let c = held.collectors;
         let numbers = counts_lines::numbers(held.streams, held.counters, tally, c.sets, c.eit);
-        return counts_tell::tell(last, interval, &numbers, places, count, packet, buffers);
+        return counts_tell::tell(
+            stdout, last, interval, &numbers, places, count, packet, buffers,
+        );
     }
-    last
+    Ok(last)
 }
 
 // The packet at the front of the bytes that are not used up is fed to the gate, counted and told.
 fn take(
+    stdout: &mut impl Write,
     held: Held,
     keys: &mut [u64; 16384],
     changes: &mut [u64; 16384],
@@ -105,9 +113,9 @@ fn take(
     block: &[u8],
     c: Cursor,
     next: Next,
-) -> Turn
+) -> io::Result<Turn>
     requires { (length block.now ≡ 65724) × Inside c × (188 ≤ c.to - c.from) }
-    ensures { Inside result.cursor }
+    ensures { IfOk result (λ t. Inside t.cursor) }
 {
     let from = c.from;
     let packet = &block[from..from + 188];
@@ -159,8 +167,10 @@ fn take(
         collectors,
         last: before,
     };
-    let last = tell(then, tally, interval, places, count, packet, buffers);
-    Turn {
+    let last = tell(
+        stdout, then, tally, interval, places, count, packet, buffers,
+    )?;
+    Ok(Turn {
         held: Held {
             gate,
             counters,
@@ -169,11 +179,13 @@ fn take(
             last,
         },
         cursor: stream_cursor::behind(c, next),
-    }
+    })
 }
 
 // One step: a packet is taken, or what is no packet is passed over, or more is read. Nothing waits to be written.
 pub fn step(
+    stdin: &mut impl Read,
+    stdout: &mut impl Write,
     held: Held,
     keys: &mut [u64; 16384],
     changes: &mut [u64; 16384],
@@ -198,14 +210,15 @@ pub fn step(
     out: &mut [u8; 65536],
     block: &mut [u8; 65724],
     c: Cursor,
-) -> Turn
+) -> io::Result<Turn>
     requires { Inside c }
-    ensures { Inside result.cursor }
+    ensures { IfOk result (λ t. Inside t.cursor) }
 {
     let step = stream_cursor::look(block, c);
     let next = step.next;
     if stream_cursor::is_packet(next) {
         return take(
+            stdout,
             held,
             keys,
             changes,
@@ -232,8 +245,8 @@ pub fn step(
             next,
         );
     }
-    Turn {
+    Ok(Turn {
         held,
-        cursor: stream_cursor::go_on(false, out, block, c, step),
-    }
+        cursor: stream_cursor::go_on(stdin, stdout, false, out, block, c, step)?,
+    })
 }

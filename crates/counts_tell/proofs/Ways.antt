@@ -4,6 +4,7 @@ use mathlib.Core.Path.{◌≡◌, refl}
 use mathlib.Core.List.{List}
 use mathlib.Core.Bool.{Bool, true, false}
 use Prim.Native.Nat.{ℕ}
+use Rattle.std.specs.Prelude.{Result, IfOk}
 use Rattle.clocks.specs.Clocks.{clock_of}
 use Rattle.clocks.specs.declared.Stamp.{Stamp}
 use Rattle.clocks.specs.declared.Clock.{Clock}
@@ -29,3 +30,7 @@ module _ (l : Last) (i : ℕ) (b : List ℕ) (k : Clock) (e : k ≡ clock_of b) 
   pub a_clock : (s : Stamp) (r : Last) → k ≡ clock.At s → r ≡ last_told l i s → r ≡ last_read l i b
   unfolding last_read
   a_clock s r q g = rw (← e, q) g
+
+  pub told_clock : {E : Type 0} (s : Stamp) (r : Result Last E) → k ≡ clock.At s → IfOk r (λ x. x ≡ last_told l i s) → IfOk r (λ x. x ≡ last_read l i b)
+  unfolding last_read
+  told_clock s r q g = rw (← e, q) g

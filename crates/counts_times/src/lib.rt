@@ -1,5 +1,7 @@
 // When `counts` writes a line: at the first time that the stream tells, at one that lies an interval or more behind that of the last line, and at one that goes
 // backwards.
+#![tactic(auto)]
+
 ghost use Rattle.std.specs.Prelude.{◌≡◌};
 ghost use Rattle.counts_times.specs.Due.{seconds_at, moment_of, no_line, last_at, is_due};
 

@@ -1,8 +1,11 @@
 // The words of `counts`: CAPACITY LIMIT CELLS [INTERVAL]. A program has a stack and no heap: what it can lend bounds the words.
+#![tactic(auto)]
+
 ghost use Rattle.std.specs.Prelude.{◌≡◌};
 ghost use Rattle.counts_words.specs.Words.{words_of};
 
 use log_words::Number;
+use std::env::{Env, FillError};
 
 // The rows of the gate, the keys of each collector and its cells that are lent.
 pub const MOST_ROWS: u64 = 16384;
@@ -44,23 +47,41 @@ fn number(good: bool, value: u64) -> Number {
     Number { good, value }
 }
 
-// The last word, or 1 where there is none.
-fn interval(count: usize) -> Number {
-    if count == 4 {
-        return number(true, 1);
+// Whether there is such an argument. Argument 0 is the program's name.
+fn has_word(rt: &impl Env, i: usize) -> bool {
+    let mut text = [0u8; 64];
+    match rt.arg(i, &mut text) {
+        Ok(_) => true,
+        Err(FillError::TooLong) => true,
+        Err(FillError::NotPresent) => false,
     }
-    log_words::number_at(4)
+}
+
+// The number that an argument is.
+fn number_at(rt: &impl Env, i: usize) -> Number {
+    let mut text = [0u8; 64];
+    match rt.arg(i, &mut text) {
+        Ok(n) => log_words::number_of(&text[0..n]),
+        Err(_) => number(false, 0),
+    }
+}
+
+// The last word, or 1 where there is none.
+fn interval(rt: &impl Env) -> Number {
+    if has_word(rt, 4) {
+        return number_at(rt, 4);
+    }
+    number(true, 1)
 }
 
 // Three or four words.
-pub fn read() -> Words {
-    let count = os::arg_count();
-    if (count == 4) | (count == 5) {
+pub fn read(rt: &impl Env) -> Words {
+    if has_word(rt, 3) & !has_word(rt, 5) {
         return gathered(
-            log_words::number_at(1),
-            log_words::number_at(2),
-            log_words::number_at(3),
-            interval(count),
+            number_at(rt, 1),
+            number_at(rt, 2),
+            number_at(rt, 3),
+            interval(rt),
         );
     }
     gathered(

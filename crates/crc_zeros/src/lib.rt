@@ -1,6 +1,7 @@
 // What the register becomes when zeros go into it. It is linear: each of its bits makes a number by itself, and the register makes the
 // exclusive or of those of its bits that are 1. Bit i makes the remainder by the polynomial of x^(32 + i), or of x^(64 + i).
 #![tactic(auto)]
+
 ghost use Rattle.std.specs.Prelude.{◌≡◌, ◌%◌, ◌^◌, get_or};
 ghost use Rattle.crc_zeros.specs.Zeros.{zeros};
 ghost use Rattle.crc_zeros.specs.Sums.{sums};

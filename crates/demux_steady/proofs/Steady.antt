@@ -91,9 +91,9 @@ module _ (n : ℕ) (s : Kept) (o : Steady (suc n) s) (input pid : ℕ) (section 
 
   module _ (stays : Stays n (sections_in s) t) (same_words : by_tables s.gate.follow ≡ true → t.words ≡ s.watch.words) where
     -- by complete PATs: the gate of sections writes no word
-    by_tables : by_tables s.gate.follow ≡ true → Keeps n s.watch then
+    by_tables_lem : by_tables s.gate.follow ≡ true → Keeps n s.watch then
     unfolding record_after
-    by_tables h =
+    by_tables_lem h =
         subst (λ (w : List ℕ). Keeps n s.watch (cond (by_tables s.gate.follow && sound_by answer && eqb pid 0) (entered_in (record_of w s.watch.slots s.watch.cells) input section) (record_of w s.watch.slots s.watch.cells)))
         (sym (same_words h)) (after_keeps n s.watch (o.pats h) (o.evictions h) input section b (by_tables s.gate.follow && sound_by answer && eqb pid 0))
 
@@ -103,7 +103,7 @@ module _ (n : ℕ) (s : Kept) (o : Steady (suc n) s) (input pid : ℕ) (section 
     not_tables f = rw f refl
 
     as_long : (h : Bool) → by_tables s.gate.follow ≡ h → length then.words ≡ length t.words
-    as_long true h = (by_tables h).long ∙ ap length (sym (same_words h))
+    as_long true h = (by_tables_lem h).long ∙ ap length (sym (same_words h))
     as_long false f = ap (λ (r : Record). length r.words) (not_tables f)
 
     pub steady_after : Steady n (kept_of t.gate t.counters t.keys t.changes then)
@@ -113,12 +113,12 @@ module _ (n : ℕ) (s : Kept) (o : Steady (suc n) s) (input pid : ℕ) (section 
         record {
           whole = ap (whole_of t.gate (length t.keys) (length t.changes)) l ∙ stays.whole;
           spare = stays.spare;
-          pats = λ h. (by_tables (sym same ∙ h)).whole;
-          evictions = λ h. (by_tables (sym same ∙ h)).evictions;
+          pats = λ h. (by_tables_lem (sym same ∙ h)).whole;
+          evictions = λ h. (by_tables_lem (sym same ∙ h)).evictions;
         }
 
     pub evictions_after : by_tables s.gate.follow ≡ true → pat_most s.watch.words ≤ pat_most then.words
-    evictions_after h = (by_tables h).more
+    evictions_after h = (by_tables_lem h).more
 
 module _ (n : ℕ) (s : Kept) (o : Steady (suc n) s) (input pid : ℕ) (section : List ℕ) (b : get_or section 7 0 < 256) where
   abbrev x : Offering

@@ -1,5 +1,7 @@
 // Where two sides differ (docs/RULES.md, "Compared guides"): the entries of the list, and what is said of the tables of two schedules. A side is
 // sections by rising table_id and number in lent bytes. These are the parts of `guides`, which has made sure that both sides are laid so.
+#![tactic(auto)]
+
 ghost use Rattle.std.specs.Prelude.{◌≡◌, cond, ◌+◌, ◌≤◌, ◌<◌, min, length, set};
 ghost use Rattle.std.proofs.lemmas.List.Edits.{sets};
 ghost use Rattle.laid.specs.Laid.{sections_in};

@@ -4,7 +4,7 @@ use Prim.Native.Nat.{ℕ}
 use mathlib.Core.Path.{◌≡◌, refl, sym, ap, ◌∙◌}
 use mathlib.Core.List.{List}
 use Rattle.eit_state.specs.State.{Store}
-use Rattle.eit_state.specs.declared.PushAnswer.TheVariants as push-answer
+use Rattle.eit_state.specs.declared.PushAnswer.TheVariants as push_answer
 use Rattle.eit.specs.Store.{done, nothing, a_set, a_schedule, refused, set_out_lem, schedule_out}
 use Rattle.eit.proofs.Unique.{Same}
 use Rattle.eit_each.specs.declared.AllAnswer.{AllAnswer}

@@ -8,7 +8,7 @@ use native.Mathlib.Omega.{arith}
 use Rattle.answers.specs.declared.Refusal.{Refusal}
 use Rattle.answers.specs.declared.Refusal.TheVariants.{NotWhole, CounterFull, NoPid}
 use Rattle.eit_state.specs.declared.Eit.{Eit}
-use Rattle.eit_state.specs.declared.PushAnswer.TheVariants as push-answer
+use Rattle.eit_state.specs.declared.PushAnswer.TheVariants as push_answer
 use Rattle.eit_state.specs.State.{Store, store, whole_of, counters_full}
 use Rattle.eit_pids.specs.Rows.{any_without}
 use Rattle.eit.specs.Store.{refused}

@@ -1,4 +1,6 @@
 // What becomes of a set once its row is the newest: it stays, goes out, is refused, or enters its schedule (docs/RULES.md, "Collectors").
+#![tactic(auto)]
+
 ghost use Rattle.std.specs.Prelude.{◌≡◌, ◌+◌, ◌*◌, ◌≤◌, length};
 ghost use Rattle.eit_becomes.specs.Becoming.{own_table, becomes_of, is_marked};
 

@@ -21,10 +21,10 @@ use Rattle.filter.specs.Drops.{rest, dropped_rows, Fits}
 use Rattle.eit_state.specs.declared.Eit.{Eit}
 use Rattle.eit_state.specs.State.{Rows, rows, with_sets, with_schedules, RowsFit}
 use Rattle.eit_drop.specs.declared.WantedPid.{WantedPid}
-use Rattle.eit_drop.specs.declared.WantedPid.TheVariants as wanted-pid
+use Rattle.eit_drop.specs.declared.WantedPid.TheVariants as wanted_pid
 use Rattle.eit_drop.specs.declared.Filter.{Filter}
 use Rattle.eit_drop.specs.declared.OriginWanted.{OriginWanted}
-use Rattle.eit_drop.specs.declared.OriginWanted.TheVariants as origin-wanted
+use Rattle.eit_drop.specs.declared.OriginWanted.TheVariants as origin_wanted
 use Rattle.eit_drop.specs.declared.Drop.{Drop}
 use Rattle.eit_drop.specs.declared.Drop.TheVariants as drop
 use Rattle.eit_drop.specs.Drop.{input_wanted, made_wanted, wanted_origin, fields_of, drop_from, drop_wanted, matching_gone}

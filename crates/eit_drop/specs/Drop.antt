@@ -12,10 +12,10 @@ use Rattle.filter.specs.declared.Of.TheVariants as of
 use Rattle.filter.specs.Drops.{Rest, rest, dropped_rows}
 use Rattle.eit_state.specs.State.{Rows, rows, with_sets, with_schedules}
 use Rattle.eit_drop.specs.declared.WantedPid.{WantedPid}
-use Rattle.eit_drop.specs.declared.WantedPid.TheVariants as wanted-pid
+use Rattle.eit_drop.specs.declared.WantedPid.TheVariants as wanted_pid
 use Rattle.eit_drop.specs.declared.Filter.{Filter}
 use Rattle.eit_drop.specs.declared.OriginWanted.{OriginWanted}
-use Rattle.eit_drop.specs.declared.OriginWanted.TheVariants as origin-wanted
+use Rattle.eit_drop.specs.declared.OriginWanted.TheVariants as origin_wanted
 use Rattle.eit_drop.specs.declared.Drop.{Drop}
 use Rattle.eit_drop.specs.declared.Drop.TheVariants as drop
 

@@ -13,7 +13,7 @@ use Rattle.answers.proofs.Laws.{refused_from_10}
 use Rattle.section.specs.declared.ids.MaybePid.TheVariants as maybe
 use Rattle.eit_state.specs.State.{Store, push_number}
 use Rattle.eit_state.specs.declared.PushAnswer.{PushAnswer}
-use Rattle.eit_state.specs.declared.PushAnswer.TheVariants as push-answer
+use Rattle.eit_state.specs.declared.PushAnswer.TheVariants as push_answer
 use Rattle.eit.specs.Store.{nothing, After, answer_of, pushed_of}
 use Rattle.rules_logs.specs.Records.{Bytes}
 use Rattle.log_list.specs.List.{givens_from, given_at, PlacedAt}

@@ -1,4 +1,6 @@
 // The sections of a set, and of a table of a schedule, one after another, in a store that is whole (docs/RULES.md, "Collectors").
+#![tactic(auto)]
+
 ghost use Rattle.std.specs.Prelude.{◌≡◌, ◌+◌, ◌*◌, ◌≤◌, length};
 ghost use Rattle.eit_next.specs.Following.{row_next, unit_next, schedule_next};
 

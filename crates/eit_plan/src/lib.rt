@@ -1,4 +1,6 @@
 // What a section does to a store that is whole, decided before anything is written (docs/RULES.md, "Collectors" and "Cells").
+#![tactic(auto)]
+
 ghost use Rattle.std.specs.Prelude.{◌≡◌, ◌≤◌};
 ghost use Rattle.arrivals.specs.Arrivals.{Numbered};
 ghost use Rattle.eit_state.specs.State.{store, rows, Whole, RowsFit, CanCount};

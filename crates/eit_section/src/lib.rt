@@ -1,4 +1,6 @@
 // The event information table, EN 300 468 5.2.4: its kinds, its layout and the end of a segment.
+#![tactic(auto)]
+
 ghost use Rattle.std.specs.Prelude.{◌≡◌, ◌≤◌, length};
 ghost use Rattle.laws.specs.Entries.{entry_size, whole_entries};
 ghost use Rattle.section.specs.Header.{byte_at};

@@ -1,5 +1,7 @@
 // The EIT collector's settings and counts, and when they and the memory lent beside them are whole (docs/RULES.md, "Layouts" and "Answers", 10
 // and 13): what every other part of the collector stands on.
+#![tactic(auto)]
+
 ghost use Rattle.std.specs.Prelude.{◌≡◌, true, ◌≢◌};
 ghost use Rattle.without_pid.specs.Pids.{without_pid};
 ghost use Rattle.eit_state.specs.State.{store, schedules_fit, settings_fit, whole_of, counters_full, with_sets, risen_eit, with_schedules, push_number, asked, opened_as, cleared_as};

@@ -1,5 +1,7 @@
 // What an entry of a loop says, and the twelve words by which it is listed (docs/RULES.md, "Entries"). An entry is lent as its header's bytes: twelve of an event
 // (EN 300 468, 5.2.4), tag and length of a descriptor (6.1).
+#![tactic(auto)]
+
 ghost use Rattle.std.specs.Prelude.{◌≡◌, ◌≤◌, ◌<◌, length};
 ghost use Rattle.laws.specs.Entries.{counted};
 ghost use Rattle.entry_words.specs.Words.{event_of, seconds_word, flag_word, event_words, plain_words, stream_words, service_words, entry_words, descriptor_words};

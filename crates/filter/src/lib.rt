@@ -1,6 +1,8 @@
 // What a drop by filter does to the rows of a collector, sets and schedules alike (docs/RULES.md, "Collectors": "sets and schedules that match
 // go"). The rows in use are the first `used`. From the last down to the first, a row that matches leaves: the last row in use takes its place.
 // Words past the rows in use stay as they are, and nothing is counted.
+#![tactic(auto)]
+
 ghost use Rattle.std.specs.Prelude.{◌≡◌, Bool, true, false, ℕ, ◌+◌, ◌-◌, ◌*◌, ◌<◌, ◌≤◌, length};
 ghost use Rattle.filter.specs.Drops.{wants, wants_origin, kind_told, kind_word, kind_in, matches, width_of, moved_to, removed_heads, removed_words};
 ghost use Rattle.filter.specs.Drops.{Fits, rest, dropped_row, dropped_rows};

@@ -31,7 +31,7 @@ use Rattle.guides.specs.Store.{beside_bad, same_sides, keyed, set_sides, schedul
 use Rattle.guides.specs.Store.{set_or_empty, held_not, held_one, held_for, held_of, held_by, section_of, table_part, AlikeSets, AlikeSchedules, LaidSides}
 use Rattle.guides.specs.declared.CompareAnswer.TheVariants as answer
 use Rattle.guides.specs.declared.Compared.{Compared}
-use Rattle.guides.specs.declared.HeldAnswer.TheVariants as held-answer
+use Rattle.guides.specs.declared.HeldAnswer.TheVariants as held_answer
 use Rattle.guides.specs.declared.Holder.{Holder}
 use Rattle.guides.specs.declared.Sides.{Sides}
 use Rattle.guides.specs.declared.Sides.TheVariants as sides

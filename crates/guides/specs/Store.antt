@@ -15,7 +15,7 @@ use Rattle.guides.specs.declared.CompareAnswer.{CompareAnswer}
 use Rattle.guides.specs.declared.CompareAnswer.TheVariants as answer
 use Rattle.guides.specs.declared.Compared.{Compared}
 use Rattle.guides.specs.declared.HeldAnswer.{HeldAnswer}
-use Rattle.guides.specs.declared.HeldAnswer.TheVariants as held-answer
+use Rattle.guides.specs.declared.HeldAnswer.TheVariants as held_answer
 use Rattle.guides.specs.declared.Holder.{Holder}
 use Rattle.guides.specs.declared.Sides.{Sides}
 use Rattle.guides.specs.declared.Sides.TheVariants as sides

@@ -1,6 +1,7 @@
 // Which sets of a collector are out: handed out, and nothing came for them since (docs/RULES.md, "Entries"). Only these are listed, so that half a table is never listed
 // by the number of a row that was kept too long.
 #![tactic(auto)]
+
 ghost use Rattle.std.specs.Prelude.{◌≡◌, ◌*◌, ◌≤◌, length};
 ghost use Rattle.handed.specs.Handed.{set_out_lem};
 

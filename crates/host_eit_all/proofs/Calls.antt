@@ -6,7 +6,7 @@ use mathlib.Core.List.{List, [], ◌∷◌}
 use Rattle.eit_state.specs.State.{store}
 use Rattle.eit_state.specs.declared.Eit.{Eit}
 use Rattle.eit_state.specs.declared.PushAnswer.{PushAnswer}
-use Rattle.eit_state.specs.declared.PushAnswer.TheVariants as push-answer
+use Rattle.eit_state.specs.declared.PushAnswer.TheVariants as push_answer
 use Rattle.eit.specs.Store.{set_out_lem, schedule_out}
 use Rattle.eit_each.specs.Each.{told_by, after_all}
 use Rattle.eit_each.specs.declared.AllAnswer.{AllAnswer}

@@ -11,9 +11,9 @@ use Rattle.filter.specs.declared.Wanted.TheVariants as wanted
 use Rattle.eit_state.specs.declared.Eit.{Eit}
 use Rattle.eit_drop.specs.declared.Filter.{Filter}
 use Rattle.eit_drop.specs.declared.WantedPid.{WantedPid}
-use Rattle.eit_drop.specs.declared.WantedPid.TheVariants as wanted-pid
+use Rattle.eit_drop.specs.declared.WantedPid.TheVariants as wanted_pid
 use Rattle.eit_state.specs.declared.PushAnswer as eit_push
-use Rattle.eit_state.specs.declared.PushAnswer.TheVariants as eit-answer
+use Rattle.eit_state.specs.declared.PushAnswer.TheVariants as eit_answer
 use Rattle.host_words.specs.Answers.{at}
 use Rattle.host_words.specs.Pids.{pid_number}
 use Rattle.host_eit_words.specs.Words as eits

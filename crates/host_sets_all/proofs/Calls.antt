@@ -7,7 +7,7 @@ use Rattle.store.specs.Store.{store}
 use Rattle.store.specs.declared.Sets.{Sets}
 use Rattle.sets_settle.specs.Settle.{set_in}
 use Rattle.sets_settle.specs.declared.PushAnswer.{PushAnswer}
-use Rattle.sets_settle.specs.declared.PushAnswer.TheVariants as push-answer
+use Rattle.sets_settle.specs.declared.PushAnswer.TheVariants as push_answer
 use Rattle.sets_all.specs.All.{told_by, after_all, pushed_all}
 use Rattle.sets_all.specs.declared.AllAnswer.{AllAnswer}
 use Rattle.sets_all.specs.declared.AllAnswer.TheVariants as answer

@@ -7,7 +7,7 @@ use Rattle.answers.specs.declared.Outcome.{Outcome}
 use Rattle.answers.specs.declared.Outcome.TheVariants as outcome
 use Rattle.store.specs.declared.Sets.{Sets}
 use Rattle.sets_settle.specs.declared.PushAnswer.{PushAnswer}
-use Rattle.sets_settle.specs.declared.PushAnswer.TheVariants as push-answer
+use Rattle.sets_settle.specs.declared.PushAnswer.TheVariants as push_answer
 use Rattle.host_sets_words.specs.Words as collectors
 
 pub sets_written : (a : Outcome) (s : Sets) (w ws : List ℕ) → a ≡ outcome.Done → ws ≡ collectors.words_of s → ws ≡ collectors.words_opened a s w

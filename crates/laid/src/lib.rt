@@ -1,6 +1,8 @@
 // Sections laid one after another in bytes, as two laboratories send one table (docs/RULES.md, "Compared guides"): whether the bytes are a set of
 // sections or a schedule, the section that starts at a place, the section of a number, and the part of a table. These are the parts of `guides`:
 // where one asks for bytes that are laid so, the public calls there have looked.
+#![tactic(auto)]
+
 ghost use Rattle.std.specs.Prelude.{◌≡◌, true, cond, ◌+◌, ◌≤◌, ◌<◌, length};
 ghost use Rattle.section.specs.Header.{byte_at, word16};
 ghost use Rattle.laid.specs.Laid.{word_of, pid_word, is_eit, of_schedule, key_of, key_in, schedule_key_in, in_table, in_set, in_schedule, joins, joined, laid_out, is_set, is_schedule, table_in};

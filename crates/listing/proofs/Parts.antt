@@ -68,18 +68,18 @@ module _ (m n : ℕ) (p : 0 < n) where
   judged s = judged_in (length s) s (omega arith)
 
   -- the parts that are computed
-  parts_in : {s : List ℕ} {parts : List Part} → Laid m n s parts → (k : ℕ) → length s ≤ k → parts_in m n k s ≡ parts
+  parts_in_lem : {s : List ℕ} {parts : List Part} → Laid m n s parts → (k : ℕ) → length s ≤ k → parts_in m n k s ≡ parts
   unfolding parts_in
-  parts_in laid_none zero h = refl
-  parts_in laid_none (suc k) h = refl
-  parts_in (laid_more header body {rest} {parts} h b d) zero l = absurd (omega (arith, length-append header (body ++ rest)))
-  parts_in (laid_more header body {rest} {parts} h b d) (suc k) l =
+  parts_in_lem laid_none zero h = refl
+  parts_in_lem laid_none (suc k) h = refl
+  parts_in_lem (laid_more header body {rest} {parts} h b d) zero l = absurd (omega (arith, length-append header (body ++ rest)))
+  parts_in_lem (laid_more header body {rest} {parts} h b d) (suc k) l =
       let e : counted_by m n (header ++ (body ++ rest)) ≡ length body = count_front header (body ++ rest) h ∙ sym b in
       let z : length (header ++ (body ++ rest)) ≡ length header + (length body + length rest) = length-append header (body ++ rest) ∙ ap (λ (i : ℕ). length header + i) (length-append body rest) in
       let r : drop (n + length body) (header ++ (body ++ rest)) ≡ rest = rw (← h, drop-append-add header (body ++ rest) (length body), drop-append_seam body rest) in
       simp (ne_eqb (length (header ++ (body ++ rest))) 0 (λ (q : length (header ++ (body ++ rest)) ≡ 0). absurd (omega arith)))
-      (rw (e, r, take_at header (body ++ rest) n h, drop_at header (body ++ rest) n h, take_at body rest (length body) refl, parts_in d k (omega arith)))
+      (rw (e, r, take_at header (body ++ rest) n h, drop_at header (body ++ rest) n h, take_at body rest (length body) refl, parts_in_lem d k (omega arith)))
 
   pub parts_are : {s : List ℕ} {parts : List Part} → Laid m n s parts → parts_of m n s ≡ parts
   unfolding parts_of
-  parts_are {s} d = parts_in d (length s) (omega arith)
+  parts_are {s} d = parts_in_lem d (length s) (omega arith)

@@ -1,5 +1,7 @@
 // The entries of a loop and their descriptors, listed. The reader of entries passes to the reader of descriptors, and that one hands back. Both call on inside one
 // section alone, whose bytes bound how deep; a caller goes from section to section by a loop.
+#![tactic(auto)]
+
 ghost use Rattle.std.specs.Prelude.{◌≡◌, ◌+◌, ◌≤◌, ◌<◌, length, get_or, take, drop};
 ghost use Rattle.std.proofs.Math.Seq.{paste};
 ghost use Rattle.laws.specs.Entries.{counted};

@@ -1,5 +1,7 @@
 // Records that are expected beside those that a log has (docs/RULES.md, "Logs"). Parts for the checker: it passes records that are as expected, and says
 // of the first that is not what is wrong with it.
+#![tactic(auto)]
+
 ghost use Rattle.std.specs.Prelude.{◌≡◌, ◌+◌, ◌≤◌, ◌<◌, length};
 ghost use Rattle.log_compare.specs.Compare.{seen, is_none, met_of, passed_one, passed, finished, records_in, Laid};
 

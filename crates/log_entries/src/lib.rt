@@ -1,4 +1,6 @@
 // The records that one section gives, in 23 bytes (docs/RULES.md, "Logs"). Parts of what makes them.
+#![tactic(auto)]
+
 ghost use Rattle.std.specs.Prelude.{◌≡◌, [], ◌++◌, ◌<◌, ◌≤◌, take};
 ghost use Rattle.rules_logs.specs.Records.{seen_record, failed_record};
 ghost use Rattle.log_entries.specs.Entries.{entry_with, joined_of, failed_kind};

@@ -132,9 +132,9 @@ module _ (s : Bytes) (p : ℕ) where
   unfolding next_at
   head_cut h l = rw (lt-leb (length s) p h, lt-ltb (length s - p) 5 l) refl
 
-  pub too_long : {r : Place} → p < length s → 5 ≤ length s - p → r ≡ place_at s p → 4098 < r.length → next.TooLong ≡ next_at s p
+  pub too_long_lem : {r : Place} → p < length s → 5 ≤ length s - p → r ≡ place_at s p → 4098 < r.length → next.TooLong ≡ next_at s p
   unfolding next_at
-  too_long {r = r} h l e m = rw (lt-leb (length s) p h, le-ltb (length s - p) 5 l, ← e, lt-ltb 4098 r.length m) refl
+  too_long_lem {r = r} h l e m = rw (lt-leb (length s) p h, le-ltb (length s - p) 5 l, ← e, lt-ltb 4098 r.length m) refl
 
   pub starts : (place_at s p).start ≡ p + 5
   unfolding place_at

@@ -1,5 +1,7 @@
 // A section list read from its bytes (docs/RULES.md, "Logs"): for each section an input (1 byte), a PID (2), a length (2), then so many bytes. Parts for the
 // checker and the writer.
+#![tactic(auto)]
+
 ghost use Rattle.std.specs.Prelude.{◌≡◌, ◌+◌, ◌≤◌, ◌<◌, length};
 ghost use Rattle.rules_logs.specs.Sections.{sections_in};
 ghost use Rattle.log_list.specs.List.{place_at, next_at, judged_of, WholeFrom, PlacedAt};

@@ -1,4 +1,6 @@
 // The records of a log in bytes (docs/RULES.md, "Logs"). Parts for the writer and the checker: each makes one record.
+#![tactic(auto)]
+
 ghost use Rattle.std.specs.Prelude.{◌≡◌, cond, ◌<◌, ◌/◌, ◌%◌, ◌+◌, ◌≤◌, length};
 ghost use Rattle.rules_logs.specs.Records.{record_size, seen_record, failed_record, set_record, bare_set_record};
 ghost use Rattle.log_records.specs.Reading.{seen_at, failed_at, set_at, bare_set_at, fields_at, read_at, read_number, IsSize};

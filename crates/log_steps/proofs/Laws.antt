@@ -24,7 +24,7 @@ use Rattle.arrivals.specs.declared.SetArrival.TheVariants as arrival
 use Rattle.sets_plan.specs.Plan.{Ready}
 use Rattle.sets_settle.specs.Settle.{SetsAfter, after_push}
 use Rattle.sets_settle.specs.declared.PushAnswer.{PushAnswer}
-use Rattle.sets_settle.specs.declared.PushAnswer.TheVariants as push-answer
+use Rattle.sets_settle.specs.declared.PushAnswer.TheVariants as push_answer
 use Rattle.sets_push.specs.Pushing.{whole_pushed}
 use Rattle.sets.specs.Store.{pushed_as}
 use Rattle.rules_logs.specs.Records.{seen_record}

@@ -13,7 +13,7 @@ use Rattle.section.specs.declared.ids.MaybePid.TheVariants as maybe
 use Rattle.store.specs.Store.{Store}
 use Rattle.sets_settle.specs.Settle.{Told, done, nothing, handed, refused, answer_of}
 use Rattle.sets_settle.specs.declared.PushAnswer.{PushAnswer}
-use Rattle.sets_settle.specs.declared.PushAnswer.TheVariants as push-answer
+use Rattle.sets_settle.specs.declared.PushAnswer.TheVariants as push_answer
 use Rattle.rules_logs.specs.Records.{Bytes, record_size, seen_record, failed_record, set_record, bare_set_record}
 use Rattle.rules_logs.specs.Verdict.{log_of, IsRecord, AllRecords}
 use Rattle.log_entries.specs.Entries.{entry_with, joined_of, failed_kind}

@@ -11,7 +11,7 @@ use Rattle.arrivals.specs.Arrivals.{set_read}
 use Rattle.sets.specs.Store.{pushed_as}
 use Rattle.sets_settle.specs.Settle.{Told, done, nothing, handed, refused, SetsAfter}
 use Rattle.sets_settle.specs.declared.PushAnswer.{PushAnswer}
-use Rattle.sets_settle.specs.declared.PushAnswer.TheVariants as push-answer
+use Rattle.sets_settle.specs.declared.PushAnswer.TheVariants as push_answer
 use Rattle.rules_logs.specs.Records.{Bytes, seen_record}
 use Rattle.log_entries.specs.Entries.{entry_with, joined_of}
 use Rattle.log_entries.specs.declared.Entry.{Entry}

@@ -178,8 +178,8 @@ module _ (bytes : List ℕ) (start size number k : ℕ) (i : SectionIn (length b
     pub services_in : LoopIn (length bytes) 5 (start + 11) 0 (start + size - 4)
     services_in = let h = sdt_long in let a = i.within in let b = i.short in record { low = omega arith; small = omega arith; within = omega arith; there = omega arith; short = omega arith }
 
-    services_found : found_from 5 (take (start + size - 4) bytes) (start + 11) 0 ≡ placed start (services_found part)
-    services_found =
+    services_found_lem : found_from 5 (take (start + size - 4) bytes) (start + 11) 0 ≡ placed start (services_found part)
+    services_found_lem =
         let h = sdt_long in
         let x : start + size - 4 ≡ start + (size - 4) = omega arith in
         ap (λ (a : ℕ). found_from 5 (take a bytes) (start + 11) 0) x
@@ -196,7 +196,7 @@ module _ (bytes : List ℕ) (start size number k : ℕ) (i : SectionIn (length b
       pub sdt_listed : (r, m) ≡ listed_from skip k (words_of network number (found_from 5 (take (start + size - 4) bytes) (start + 11) 0)) list
           → (r, m) ≡ listed_from skip k (sdt_entries start number part) list
       unfolding sdt_entries
-      sdt_listed a = a ∙ ap₂ (λ (f : Found) (n : ℕ). listed_from skip k (words_of n number f) list) services_found (g ∙ network_is)
+      sdt_listed a = a ∙ ap₂ (λ (f : Found) (n : ℕ). listed_from skip k (words_of n number f) list) services_found_lem (g ∙ network_is)
 
     pub sdt_few : (r : ℕ) → r ≤ k + (start + size - 4 - (start + 11)) → r ≤ k + size
     sdt_few r a = let h = sdt_long in omega arith

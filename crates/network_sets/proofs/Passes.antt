@@ -38,9 +38,9 @@ one_then number a xs ys f = go (eqb a 0) refl
     go false e = stays_told (eqb a 1) number (a - 1) (told_by f.section f.fault ys) ∙ sym (rw e)
 
 module _ (t : Table) (cells : List ℕ) (size : ℕ) where
-  slot_told : (w number : ℕ) → slot_told t cells size w number ≡ told_by number (slot_fault t cells size w) (slot_entries t cells size w number)
+  slot_told_lem : (w number : ℕ) → slot_told t cells size w number ≡ told_by number (slot_fault t cells size w) (slot_entries t cells size w number)
   unfolding slot_told slot_fault slot_entries read_at
-  slot_told w number = go (filled w)
+  slot_told_lem w number = go (filled w)
     where
       go : (b : Bool) → cond b (read_at t (cell_number w * size) number (kept cells size w)) (entries []) ≡ told_by number (cond b (fault_of t (kept cells size w)) 0) (cond b (entries_of t (cell_number w * size) number (kept cells size w)) [])
       go true = refl
@@ -51,7 +51,7 @@ module _ (t : Table) (cells : List ℕ) (size : ℕ) where
   unfolding slots_told slots_fault slots_entries
   slots_told_lem [] number = refl
   slots_told_lem (w ∷ ws) number =
-      ap₂ and_then (slot_told w number) (slots_told_lem ws (number + 1))
+      ap₂ and_then (slot_told_lem w number) (slots_told_lem ws (number + 1))
       ∙ one_then number (slot_fault t cells size w) (slot_entries t cells size w number) (slots_entries t cells size ws (number + 1)) (slots_fault t cells size ws (number + 1))
 
   -- where none is refused, each is taken

@@ -1,5 +1,7 @@
 // What an offer to the gate comes to before a row is looked at (docs/RULES.md, "Gate" and "Answers"): 10, 11, 12, 37, a CRC failure with
 // what tells it, or a section that is to be looked up. No slice of the store is lent.
+#![tactic(auto)]
+
 ghost use Rattle.std.specs.Prelude.{◌≡◌, length};
 ghost use Rattle.section.specs.Judged.{rule_of, judged_of};
 ghost use Rattle.offers.specs.Offers.{is_short, arrival_of, read_as, read_of, Taken, verdict_of, VerdictOk};

@@ -1,4 +1,6 @@
 // One packet of a transport stream: what its 188 bytes say (ISO/IEC 13818-1, 2.4.3.2 and 2.4.3.3).
+#![tactic(auto)]
+
 ghost use Rattle.std.specs.Prelude.{◌≡◌, ◌<◌, ◌≤◌, length};
 ghost use Rattle.packet.specs.Packets.{packet_of, payload_at, is_readable, pid_of, starts_in, load_of};
 

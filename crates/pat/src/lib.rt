@@ -1,4 +1,6 @@
 // The program association table, ISO/IEC 13818-1 2.4.4.3.
+#![tactic(auto)]
+
 ghost use Rattle.std.specs.Prelude.{◌≡◌, ◌+◌, ◌≤◌, ◌<◌, length};
 ghost use Rattle.laws.specs.Bits.{add_bits};
 ghost use Rattle.section.specs.Header.{byte_at, word16};

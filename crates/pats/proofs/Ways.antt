@@ -31,7 +31,7 @@ use Rattle.arrivals.specs.declared.SetArrival.{SetArrival}
 use Rattle.arrivals.specs.declared.SetArrival.TheVariants as arrival
 use Rattle.sets_settle.specs.Settle.{set_in, answer_of}
 use Rattle.sets_settle.specs.declared.PushAnswer.{PushAnswer}
-use Rattle.sets_settle.specs.declared.PushAnswer.TheVariants as push-answer
+use Rattle.sets_settle.specs.declared.PushAnswer.TheVariants as push_answer
 use Rattle.sets_push.specs.Pushing.{whole_pushed}
 use Rattle.pats.specs.Store.{Record, record_of, pat_clock, pat_sets, pat_head, pat_store, room_for, pats_whole, pats_full, begun_words, enters, with_all, programs_of_row, Entering, pushed_by, pushed_in, watch_after, followed_in, entered_in, Arrives, RowThere, Pushed, HasRow}
 

@@ -17,7 +17,7 @@ use Rattle.arrivals.specs.declared.SetArrival.TheVariants as arrival
 use Rattle.sets_plan.specs.Plan.{Ready}
 use Rattle.sets_settle.specs.Settle.{Told, done, nothing, handed, refused, SetsAfter, set_in, answer_of}
 use Rattle.sets_settle.specs.declared.PushAnswer.{PushAnswer}
-use Rattle.sets_settle.specs.declared.PushAnswer.TheVariants as push-answer
+use Rattle.sets_settle.specs.declared.PushAnswer.TheVariants as push_answer
 use Rattle.sets_push.specs.Pushing.{whole_pushed}
 
 -- ---- the record

@@ -1,5 +1,7 @@
 // The bytes of one payload (ISO/IEC 13818-1, 2.4.4), over the section buffer of its PID and the places that tell where finished sections are. Bytes are
 // copied in whole parts: how many bytes finish a section is decided before one is copied, so a section that is dropped writes nothing.
+#![tactic(auto)]
+
 ghost use Rattle.std.specs.Prelude.{◌≡◌, true, [], ◌++◌, ◌+◌, ◌-◌, ◌*◌, ◌<◌, ◌≤◌, length, take, drop, get_or};
 ghost use Rattle.transport.specs.Rules.{gather};
 ghost use Rattle.payload.specs.Payload.{total_of, end_of, front, bytes_of, parts_of, gone_of, ended_of, going_of, placed, told_from, begun_of};

@@ -1,5 +1,7 @@
 // Where a section goes among the rows of a collector: it is in its slot already, it conflicts with what is there, or it is kept, and then in
 // which row. Nothing is written, and no cell is looked for: the set collector and the EIT collector differ in what else names cells.
+#![tactic(auto)]
+
 ghost use Rattle.std.specs.Prelude.{◌≡◌, true, ◌<◌};
 ghost use Rattle.cells.specs.Cells.{slot_whole};
 ghost use Rattle.rows.specs.Rows.{room_in, room_renewed};

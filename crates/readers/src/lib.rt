@@ -1,6 +1,7 @@
 // The sections of a row, one after another (docs/RULES.md, "Collectors"): where the next one's bytes are in the lent cells, and a reader that
 // hands them out as parts of the cells. Shared by all collectors, which say which row's slots are looked at.
 #![tactic(auto)]
+
 ghost use Rattle.std.specs.Prelude.{◌≡◌, ◌≤◌};
 ghost use Rattle.cells.specs.Cells.{next_filled, part_of};
 ghost use Rattle.readers.specs.Next.{no_section, slot_told};

@@ -3,6 +3,8 @@
 //
 // The hash is fixed and public, so whoever chooses the keys can choose keys of one bucket. All rows are then one chain, and a walk, cut at as many
 // steps as there are rows, costs what a search through the rows costs: a key is never lost, and no offer takes longer than in order of the capacity.
+#![tactic(auto)]
+
 ghost use Rattle.std.specs.Prelude.{◌≡◌, ◌<◌, ◌≤◌, length, set, get_or};
 ghost use Rattle.ring.specs.Store.{room_of, Whole, stamp_of};
 ghost use Rattle.ring_index.specs.Store.{bucket_of, Covers, index_of, walk_of, cleared_by, linked, unlinked, entered, seen_by, keys_by, changes_by, index_by};

@@ -2,6 +2,7 @@
 // Lent are heads, 12 words a row, and slots, 288 words a row. Rows 0 to used - 1 are in use. What a collector adds (when a row is
 // complete, what an answer is) is its own; how it finds, touches, evicts, empties and scans rows is here.
 #![tactic(auto)]
+
 ghost use Rattle.std.specs.Prelude.{◌≡◌, true, cond, ◌+◌, ◌-◌, ◌*◌, ◌<◌, ◌≤◌, length, get_or};
 ghost use Rattle.std.proofs.Math.Seq.{paste};
 ghost use Rattle.cells.specs.Cells.{all_whole, all_filled};

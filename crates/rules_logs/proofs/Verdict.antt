@@ -52,7 +52,7 @@ said_once {p = p} {v = v} (passes (k ∷ e) log es r s) =
     let d : drop (record_size k) (k ∷ (e ++ log)) ≡ log = drop_at (k ∷ e) log (record_size k) r.sized in
     let long : record_size k ≤ length (k ∷ (e ++ log)) = omega (arith, r.sized, length-append (k ∷ e) log) in
     head_whole p k _ _ r.known long
-    ∙ rw (t, d, same_refl (k ∷ e), ← r.sized) (said_once s)
+    ∙ rw (t, d, same_refl (k ∷ e)) (subst (λ (m : ℕ). verdict (p + m) log es ≡ v) r.sized (said_once s))
 
 -- ---- something is said of every log
 

@@ -1,5 +1,7 @@
 // The rows of schedules: 12 words of a head each, whose table_id word is the kind and whose last word is last_table_id, and 16 units, one for
 // each table of the kind. A complete set of a schedule kind goes into the schedule of its service, which is found or made.
+#![tactic(auto)]
+
 ghost use Rattle.std.specs.Prelude.{◌≡◌, Bool, true, false, cond, ◌&&◌, ℕ, ◌+◌, ◌-◌, ◌*◌, ◌%◌, ◌<◌, ◌≤◌, length};
 ghost use Rattle.cells.specs.Cells.{lowest_free};
 ghost use Rattle.rows.specs.Rows.{table_word};

@@ -26,9 +26,9 @@ use Rattle.section.proofs.Facts.{judged_parts}
 
 module _ (s : List ℕ) (rule : ChangeRule) (p : Parts) (e : judged_of rule s ≡ Sound p) where
   -- a sound section's change number is that of its form
-  change_of : (f : Form) → form_of s ≡ f → p.change ≡ change_of rule s f
+  change_of_lem : (f : Form) → form_of s ≡ f → p.change ≡ change_of rule s f
   unfolding parts_of
-  change_of f h = ap (λ (x : Parts). x.change) (judged_parts rule s p e) ∙ go (form_of s) ∙ ap (change_of rule s) h
+  change_of_lem f h = ap (λ (x : Parts). x.change) (judged_parts rule s p e) ∙ go (form_of s) ∙ ap (change_of rule s) h
     where
       go : (g : Form) → (parts_of rule s g).change ≡ change_of rule s g
       go Headed = refl
@@ -38,7 +38,7 @@ module _ (s : List ℕ) (rule : ChangeRule) (p : Parts) (e : judged_of rule s �
   -- by both rules, without a CRC: the CRC over all bytes
   pub plain : form_of s ≡ Plain → p.change ≡ crc_of s
   unfolding change_of
-  plain h = change_of Plain h
+  plain h = change_of_lem Plain h
 
   -- a sound section with a CRC and no header holds its CRC, and it is the one worked out
   pub sound_crc : form_of s ≡ Checked → (4 ≤ length s) × (stored_crc s ≡ worked_crc s)
@@ -59,13 +59,13 @@ unfolding change_of checked_change stored_crc worked_crc
 stuck s b p e h =
     let c = sound_crc s AllBytes p e h in
     let n : length s ≡ length s - 4 + 4 = omega (arith, c.0) in
-    change_of s AllBytes p e Checked h ∙ (sealed s (length s - 4) n b).0 (sym c.1)
+    change_of_lem s AllBytes p e Checked h ∙ (sealed s (length s - 4) n b).0 (sym c.1)
 
 -- rule 2: the number of every sound section with a checked CRC is the CRC that it carries
 pub stored : (s : List ℕ) (p : Parts) → judged_of StoredCrc s ≡ Sound p → (form_of s ≡ Headed) ⊎ (form_of s ≡ Checked) → p.change ≡ stored_crc s
 unfolding change_of checked_change
 stored s p e =
-    ⊎_elim (λ (h : form_of s ≡ Headed). change_of s StoredCrc p e Headed h) (λ (h : form_of s ≡ Checked). change_of s StoredCrc p e Checked h)
+    ⊎_elim (λ (h : form_of s ≡ Headed). change_of_lem s StoredCrc p e Headed h) (λ (h : form_of s ≡ Checked). change_of_lem s StoredCrc p e Checked h)
 
 -- the rules agree on every section with a header and on every one without a CRC
 pub rules_agree : (s : List ℕ) → (form_of s ≡ Headed) ⊎ (form_of s ≡ Plain) → judged_of AllBytes s ≡ judged_of StoredCrc s

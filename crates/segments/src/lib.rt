@@ -1,5 +1,7 @@
 // The segments of a set of EIT sections, by which the set is complete (EN 300 468, 5.2.4; docs/RULES.md, "Collectors"): 32 words a row, before
 // its slots.
+#![tactic(auto)]
+
 ghost use Rattle.std.specs.Prelude.{◌≡◌, Bool, true, false, cond, not, ◌&&◌, ℕ, ◌+◌, ◌-◌, ◌*◌, ◌/◌, ◌%◌, ◌<◌, ◌≤◌, length, get_or};
 ghost use Rattle.segments.specs.Segments.{word_of, with_word, filled_to, segment_complete, segments_complete, set_complete, kept_section};
 

@@ -16,7 +16,7 @@ use Rattle.readers.specs.Next.{no_section, slot_told}
 use Rattle.readers.specs.declared.Next.{Next}
 use Rattle.sets_push.specs.Pushing.{admitted, whole_pushed}
 use Rattle.sets_settle.specs.Settle.{Told, done, refused, SetsAfter, after, answered}
-use Rattle.sets_settle.specs.declared.PushAnswer.TheVariants as push-answer
+use Rattle.sets_settle.specs.declared.PushAnswer.TheVariants as push_answer
 use Rattle.sets.specs.declared.Opened.{Opened}
 use Rattle.sets.specs.declared.Cleared.{Cleared}
 

@@ -4,7 +4,7 @@ use Prim.Native.Nat.{ℕ}
 use mathlib.Core.Path.{◌≡◌, refl, sym, ap, ◌∙◌}
 use mathlib.Core.List.{List}
 use Rattle.store.specs.Store.{Store}
-use Rattle.sets_settle.specs.declared.PushAnswer.TheVariants as push-answer
+use Rattle.sets_settle.specs.declared.PushAnswer.TheVariants as push_answer
 use Rattle.sets_settle.specs.Settle.{Told, done, nothing, handed, refused, set_in}
 use Rattle.sets_all.specs.declared.AllAnswer.{AllAnswer}
 use Rattle.sets_all.specs.declared.AllAnswer.TheVariants as answer

@@ -27,7 +27,7 @@ use Rattle.sets_plan.specs.Plan.{Ready}
 use Rattle.sets_repeats.specs.Repeats.{Passed, start, next}
 use Rattle.sets_settle.specs.Settle.{Told, nothing, refused, SetsAfter, after, after_push, answer_of, push_no}
 use Rattle.sets_settle.specs.declared.PushAnswer.{PushAnswer}
-use Rattle.sets_settle.specs.declared.PushAnswer.TheVariants as push-answer
+use Rattle.sets_settle.specs.declared.PushAnswer.TheVariants as push_answer
 use Rattle.sets_push.specs.Pushing.{whole_pushed, admitted}
 use Rattle.sets_push.proofs.Ways.{admit_full, admit_section}
 use Rattle.sets.specs.Store.{pushed_of}

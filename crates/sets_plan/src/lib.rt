@@ -1,5 +1,7 @@
 // What a section that arrived does to the rows of the set collector, decided before anything is written (docs/RULES.md, "Collectors" and "Cells"):
 // it is refused, it goes nowhere since there is no key to be had, it conflicts, it is there already, or it is kept, in which row and in which cell.
+#![tactic(auto)]
+
 ghost use Rattle.std.specs.Prelude.{◌≡◌, ◌*◌, ◌≤◌, length};
 ghost use Rattle.cells.specs.Cells.{lowest_free};
 ghost use Rattle.rows.specs.Rows.{taken_in};

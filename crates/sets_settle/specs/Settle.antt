@@ -15,7 +15,7 @@ use Rattle.sets_plan.specs.declared.Keeping.{Keeping}
 use Rattle.sets_plan.specs.declared.Plan.{Plan}
 use Rattle.sets_plan.specs.declared.Plan.TheVariants as plan
 use Rattle.sets_settle.specs.declared.PushAnswer.{PushAnswer}
-use Rattle.sets_settle.specs.declared.PushAnswer.TheVariants as push-answer
+use Rattle.sets_settle.specs.declared.PushAnswer.TheVariants as push_answer
 use Rattle.sets_settle.specs.declared.Pushed.{Pushed}
 
 -- ---- what is answered

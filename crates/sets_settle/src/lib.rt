@@ -1,5 +1,7 @@
 // The doing of what was decided on a section for the set collector (docs/RULES.md, "Collectors" and "Cells"): its row, slot and cell are written, its key
 // becomes the newest, and a full row that is not marked goes out.
+#![tactic(auto)]
+
 ghost use Rattle.std.specs.Prelude.{◌≡◌, ◌+◌, ◌*◌, ◌<◌, ◌≤◌, length};
 ghost use Rattle.store.specs.Store.{store};
 ghost use Rattle.sets_plan.specs.Plan.{KeepOk, PlanOk};

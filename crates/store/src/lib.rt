@@ -1,5 +1,6 @@
 // A collector's settings and counts, and when they and the memory lent beside them are whole (docs/RULES.md, "Layouts" and "Answers", 10 and 13).
 #![tactic(auto)]
+
 ghost use Rattle.std.specs.Prelude.{◌≡◌, true, ◌≢◌};
 ghost use Rattle.without_pid.specs.Pids.{without_pid};
 ghost use Rattle.store.specs.Store.{store, settings_fit, whole_of, counters_full, risen_sets};

@@ -1,12 +1,16 @@
 // Reading a transport stream from standard input in blocks (docs/RULES.md, "Packets"): where in the block it stands, what of it is a packet, and what `watch_ts` and
 // `sections` write. No gate here.
-ghost use Rattle.std.specs.Prelude.{◌≡◌, ◌+◌, ◌-◌, ◌≤◌, length};
+#![tactic(auto)]
+
+ghost use Rattle.std.specs.Prelude.{◌≡◌, ◌+◌, ◌-◌, ◌≤◌, IfOk, length};
 ghost use Rattle.stream_cursor.specs.Cursor.{Inside, StepOk, is_packet};
 
 use alignment::{Next, Step};
 use blocks::Window;
 use counters::Counters;
 use demux_state::Answer;
+use std::io;
+use std::io::{Read, Write};
 use streams::Streams;
 
 // The bytes from..to of the block are not used up, and the input has ended behind them where `last`; the first of them is byte `at` of the input. `passing`: bytes are
@@ -124,47 +128,61 @@ pub fn behind(c: Cursor, next: Next) -> Cursor
 }
 
 // The place up to which bytes were passed over.
-fn found(lines: bool, out: &mut [u8], c: Cursor, used: usize) -> Cursor
+fn found(
+    stdout: &mut impl Write,
+    lines: bool,
+    out: &mut [u8],
+    c: Cursor,
+    used: usize,
+) -> io::Result<Cursor>
     requires { (length out.old ≡ 65536) × Inside c × (used ≤ c.to - c.from) }
-    ensures { Inside result }
+    ensures { IfOk result Inside }
 {
     let then = passing(moved(c, used), false, 0);
     if lines {
         let skipped = further(c.skipped, used);
-        let n = stream_lines::put_number(out, c.filled, b"skipped ", skipped);
-        return filled(then, n, true);
+        let n = stream_lines::put_number(stdout, out, c.filled, b"skipped ", skipped)?;
+        return Ok(filled(then, n, true));
     }
-    then
+    Ok(then)
 }
 
 // Fewer than 188 bytes, the last of the input.
-fn cut(lines: bool, out: &mut [u8], c: Cursor) -> Cursor
+fn cut(stdout: &mut impl Write, lines: bool, out: &mut [u8], c: Cursor) -> io::Result<Cursor>
     requires { (length out.old ≡ 65536) × Inside c }
-    ensures { Inside result }
+    ensures { IfOk result Inside }
 {
     if lines {
-        let n = stream_lines::emit(out, c.filled, b"cut\n");
-        return filled(c, n, false);
+        let n = stream_lines::emit(stdout, out, c.filled, b"cut\n")?;
+        return Ok(filled(c, n, false));
     }
-    filled(c, c.filled, false)
+    Ok(filled(c, c.filled, false))
 }
 
 // What is there is written out, and more of the input is read behind the bytes that are kept.
-fn refill(out: &[u8], block: &mut [u8], c: Cursor, used: usize) -> Cursor
+fn refill(
+    stdin: &mut impl Read,
+    stdout: &mut impl Write,
+    out: &[u8],
+    block: &mut [u8],
+    c: Cursor,
+    used: usize,
+) -> io::Result<Cursor>
     requires { (length out.now ≡ 65536) × (length block.old ≡ 65724) × Inside c × (used ≤ c.to - c.from) × (c.to - c.from ≤ used + 188) }
-    ensures { Inside result }
+    ensures { IfOk result Inside }
 {
-    stream_lines::flush(out, c.filled);
+    stream_lines::flush(stdout, out, c.filled)?;
     let from = c.from + used;
     let window = blocks::refill(
+        stdin,
         block,
         Window {
             from,
             to: c.to,
             last: c.last,
         },
-    );
-    Cursor {
+    )?;
+    Ok(Cursor {
         from: window.from,
         to: window.to,
         last: window.last,
@@ -173,23 +191,31 @@ fn refill(out: &[u8], block: &mut [u8], c: Cursor, used: usize) -> Cursor
         skipped: further(c.skipped, used),
         filled: 0,
         more: true,
-    }
+    })
 }
 
 // What is no packet.
-pub fn go_on(lines: bool, out: &mut [u8], block: &mut [u8], c: Cursor, step: Step) -> Cursor
+pub fn go_on(
+    stdin: &mut impl Read,
+    stdout: &mut impl Write,
+    lines: bool,
+    out: &mut [u8],
+    block: &mut [u8],
+    c: Cursor,
+    step: Step,
+) -> io::Result<Cursor>
     requires { (length out.old ≡ 65536) × (length block.old ≡ 65724) × Inside c × StepOk c step }
-    ensures { Inside result }
+    ensures { IfOk result Inside }
 {
     let used = step.used;
     let next = step.next;
     match next {
-        Next::Packet => filled(c, c.filled, false),
-        Next::Loose => filled(c, c.filled, false),
-        Next::Found => found(lines, out, c, used),
-        Next::More => refill(out, block, c, used),
-        Next::Cut => cut(lines, out, c),
-        Next::Over => filled(c, c.filled, false),
+        Next::Packet => Ok(filled(c, c.filled, false)),
+        Next::Loose => Ok(filled(c, c.filled, false)),
+        Next::Found => found(stdout, lines, out, c, used),
+        Next::More => refill(stdin, stdout, out, block, c, used),
+        Next::Cut => cut(stdout, lines, out, c),
+        Next::Over => Ok(filled(c, c.filled, false)),
     }
 }
 
@@ -202,6 +228,7 @@ fn pid_of(packet: &[u8]) -> u16
 
 // What a packet came to, in lines or records.
 pub fn tell<'a>(
+    stdout: &mut impl Write,
     lines: bool,
     out: &mut [u8],
     c: Cursor,
@@ -209,12 +236,13 @@ pub fn tell<'a>(
     places: &[u64],
     packet: &'a [u8],
     buffers: &'a [u8],
-) -> usize
+) -> io::Result<usize>
     requires { (length out.old ≡ 65536) × Inside c × (length places.now ≡ 384) × (188 ≡ length packet.now) }
-    ensures { result ≤ 65536 }
+    ensures { IfOk result (λ n. n ≤ 65536) }
 {
     match answer {
         Answer::Taken(count) => stream_lines::put_sections(
+            stdout,
             lines,
             out,
             c.filled,
@@ -224,40 +252,52 @@ pub fn tell<'a>(
             packet,
             buffers,
         ),
-        Answer::Malformed => malformed(lines, out, c),
-        Answer::NoBuffer => no_buffer(lines, out, c, pid_of(packet)),
-        Answer::Refused(_) => c.filled,
+        Answer::Malformed => malformed(stdout, lines, out, c),
+        Answer::NoBuffer => no_buffer(stdout, lines, out, c, pid_of(packet)),
+        Answer::Refused(_) => Ok(c.filled),
     }
 }
 
-fn malformed(lines: bool, out: &mut [u8], c: Cursor) -> usize
+fn malformed(stdout: &mut impl Write, lines: bool, out: &mut [u8], c: Cursor) -> io::Result<usize>
     requires { (length out.old ≡ 65536) × Inside c }
-    ensures { result ≤ 65536 }
+    ensures { IfOk result (λ n. n ≤ 65536) }
 {
     if lines {
-        return stream_lines::put_number(out, c.filled, b"malformed ", c.at);
+        return stream_lines::put_number(stdout, out, c.filled, b"malformed ", c.at);
     }
-    c.filled
+    Ok(c.filled)
 }
 
-fn no_buffer(lines: bool, out: &mut [u8], c: Cursor, pid: u16) -> usize
+fn no_buffer(
+    stdout: &mut impl Write,
+    lines: bool,
+    out: &mut [u8],
+    c: Cursor,
+    pid: u16,
+) -> io::Result<usize>
     requires { (length out.old ≡ 65536) × Inside c }
-    ensures { result ≤ 65536 }
+    ensures { IfOk result (λ n. n ≤ 65536) }
 {
     if lines {
-        return stream_lines::put_no_buffer(out, c.filled, pid);
+        return stream_lines::put_no_buffer(stdout, out, c.filled, pid);
     }
-    c.filled
+    Ok(c.filled)
 }
 
 // The totals, and what still waits is written out.
-pub fn finish(lines: bool, out: &mut [u8], n: usize, s: Streams, counters: Counters)
+pub fn finish(
+    stdout: &mut impl Write,
+    lines: bool,
+    out: &mut [u8],
+    n: usize,
+    s: Streams,
+    counters: Counters,
+) -> io::Result<()>
     requires { (length out.old ≡ 65536) × (n ≤ 65536) }
 {
     if lines {
-        let m = stream_lines::put_totals(out, n, s, counters);
-        stream_lines::flush(out, m);
-        return;
+        let m = stream_lines::put_totals(stdout, out, n, s, counters)?;
+        return stream_lines::flush(stdout, out, m);
     }
-    stream_lines::flush(out, n);
+    stream_lines::flush(stdout, out, n)
 }

@@ -1,13 +1,19 @@
 // What `watch_ts` and `sections` do: they read a transport stream from standard input, of any length, in blocks, feed each packet to the gate with an index, and
 // write a line for each section that a packet finished, or its record. Default settings, 256 section buffers, all on input 0. What a block gave is written out
 // before the next is read.
+#![tactic(auto)]
+
 use gate_state::Settings;
+use std::io;
+use std::io::{Read, Write};
 use stream_cursor::Cursor;
 use stream_step::Held;
 use streams::Streams;
 
 // A proved loop has to end, and nothing says that standard input does: the turns are counted down from a number that no run uses up.
 fn all(
+    stdin: &mut impl Read,
+    stdout: &mut impl Write,
     lines: bool,
     keys: &mut [u64; 65536],
     changes: &mut [u64; 65536],
@@ -21,7 +27,7 @@ fn all(
     places: &mut [u64; 384],
     out: &mut [u8; 65536],
     block: &mut [u8; 65724],
-) {
+) -> io::Result<()> {
     let none = [0u16; 1];
     let opened = gate_pats_indexed::open(
         Settings::by_default(),
@@ -57,19 +63,19 @@ fn all(
     let mut turns = u64::MAX;
     while more & (turns > 0) {
         let t = stream_step::step(
-            lines, held, keys, changes, buckets, links, words, pat_slots, pat_cells, pids, buffers,
-            places, out, block, c,
-        );
+            stdin, stdout, lines, held, keys, changes, buckets, links, words, pat_slots, pat_cells,
+            pids, buffers, places, out, block, c,
+        )?;
         held = t.held;
         c = t.cursor;
         more = c.more;
         turns -= 1;
     }
-    stream_cursor::finish(lines, out, c.filled, held.streams, held.counters);
+    stream_cursor::finish(stdout, lines, out, c.filled, held.streams, held.counters)
 }
 
 // All packets of standard input: a line for each section that they finish, and the totals last; or the records of these sections alone.
-pub fn run(lines: bool) {
+pub fn run(stdin: &mut impl Read, stdout: &mut impl Write, lines: bool) -> io::Result<()> {
     let mut keys = [0u64; 65536];
     let mut changes = [0u64; 65536];
     let mut buckets = [0u64; 65536];
@@ -83,6 +89,8 @@ pub fn run(lines: bool) {
     let mut out = [0u8; 65536];
     let mut block = [0u8; 65724];
     all(
+        stdin,
+        stdout,
         lines,
         &mut keys,
         &mut changes,
@@ -96,5 +104,5 @@ pub fn run(lines: bool) {
         &mut places,
         &mut out,
         &mut block,
-    );
+    )
 }

@@ -1,10 +1,14 @@
 // One step of reading a transport stream: the packet at the front of the block is fed to the gate with an index, or what is no packet is passed over, or more is read.
-ghost use Rattle.std.specs.Prelude.{◌≡◌, ◌-◌, ◌≤◌, length};
+#![tactic(auto)]
+
+ghost use Rattle.std.specs.Prelude.{◌≡◌, ◌-◌, ◌≤◌, IfOk, length};
 ghost use Rattle.stream_cursor.specs.Cursor.{Inside};
 
 use alignment::Next;
 use counters::Counters;
 use gate_state::Gate;
+use std::io;
+use std::io::{Read, Write};
 use stream_cursor::Cursor;
 use streams::Streams;
 
@@ -25,6 +29,7 @@ pub struct Turn {
 
 // The packet at the front of the bytes that are not used up is fed to the gate, and told.
 fn feed(
+    stdout: &mut impl Write,
     lines: bool,
     held: Held,
     keys: &mut [u64; 65536],
@@ -41,9 +46,9 @@ fn feed(
     block: &[u8],
     c: Cursor,
     next: Next,
-) -> Turn
+) -> io::Result<Turn>
     requires { (length block.now ≡ 65724) × Inside c × (188 ≤ c.to - c.from) }
-    ensures { Inside result.cursor }
+    ensures { IfOk result (λ t. Inside t.cursor) }
 {
     let from = c.from;
     let packet = &block[from..from + 188];
@@ -65,22 +70,24 @@ fn feed(
         places,
     );
     let answer = fed.answer;
-    let n = stream_cursor::tell(lines, out, c, answer, places, packet, buffers);
+    let n = stream_cursor::tell(stdout, lines, out, c, answer, places, packet, buffers)?;
     let gate = fed.gate;
     let counters = fed.counters;
     let streams = fed.streams;
-    Turn {
+    Ok(Turn {
         held: Held {
             gate,
             counters,
             streams,
         },
         cursor: stream_cursor::filled(stream_cursor::behind(c, next), n, true),
-    }
+    })
 }
 
 // One step: a packet is fed, or what is no packet is passed over, or more is read.
 pub fn step(
+    stdin: &mut impl Read,
+    stdout: &mut impl Write,
     lines: bool,
     held: Held,
     keys: &mut [u64; 65536],
@@ -96,20 +103,20 @@ pub fn step(
     out: &mut [u8; 65536],
     block: &mut [u8; 65724],
     c: Cursor,
-) -> Turn
+) -> io::Result<Turn>
     requires { Inside c }
-    ensures { Inside result.cursor }
+    ensures { IfOk result (λ t. Inside t.cursor) }
 {
     let step = stream_cursor::look(block, c);
     let next = step.next;
     if stream_cursor::is_packet(next) {
         return feed(
-            lines, held, keys, changes, buckets, links, words, pat_slots, pat_cells, pids, buffers,
-            places, out, block, c, next,
+            stdout, lines, held, keys, changes, buckets, links, words, pat_slots, pat_cells, pids,
+            buffers, places, out, block, c, next,
         );
     }
-    Turn {
+    Ok(Turn {
         held,
-        cursor: stream_cursor::go_on(lines, out, block, c, step),
-    }
+        cursor: stream_cursor::go_on(stdin, stdout, lines, out, block, c, step)?,
+    })
 }

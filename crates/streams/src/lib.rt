@@ -1,6 +1,8 @@
 // The PID words and the section buffers of one transport stream: 32,768 lent words of 64 bits, four for each PID, and 1 to 8,192 lent buffers of 4,288 bytes.
 // Word 0 of a PID is the number of its buffer and 1; the other three are `assemble`'s. Every content of the words is whole: a number past the last buffer is
 // none, and a buffer is free exactly when no PID's word 0 names it.
+#![tactic(auto)]
+
 ghost use Rattle.std.specs.Prelude.{◌≡◌, ◌≤◌, length};
 ghost use Rattle.streams.specs.Store.{opened_of, opening, cleared};
 

@@ -1,6 +1,7 @@
 // Text into a lent buffer: bytes as they are, upper-case hexadecimal, and decimals. Each function writes from a place on and answers the
 // place after what it wrote.
 #![tactic(auto)]
+
 ghost use Rattle.std.specs.Prelude.{◌+◌, ◌≤◌, ◌<◌, ◌≡◌, length};
 ghost use Rattle.text.specs.Text.{hex_digit, hex2, hex4, decimal, Wrote};
 

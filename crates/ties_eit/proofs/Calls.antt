@@ -49,7 +49,7 @@ use Rattle.store.proofs.Whole.{long}
 use Rattle.placing.specs.Places.{place_of as place_in}
 use Rattle.schedules.specs.Schedules.{schedules_whole}
 use Rattle.eit_drop.specs.declared.Filter.{Filter}
-use Rattle.eit_drop.specs.declared.Drop.TheVariants as plan-drop
+use Rattle.eit_drop.specs.declared.Drop.TheVariants as plan_drop
 use Rattle.arrivals.specs.declared.Arrival.{Arrival}
 use Rattle.eit_plan.specs.declared.Plan.TheVariants as plan
 use Rattle.eit_state.specs.declared.PushAnswer.TheVariants as answer

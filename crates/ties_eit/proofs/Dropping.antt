@@ -32,8 +32,8 @@ use Rattle.filter.specs.Drops.{wants, wants_origin, matches, removed_heads, remo
 use Rattle.ties_eit.proofs.Removed.{removed_word, removed_words_lem, removed_part, removed_slots}
 use Rattle.eit_drop.specs.declared.Filter.{Filter}
 use Rattle.eit_drop.specs.declared.WantedPid.{WantedPid}
-use Rattle.eit_drop.specs.declared.WantedPid.TheVariants as wanted-pid
-use Rattle.eit_drop.specs.declared.OriginWanted.TheVariants as origin-wanted
+use Rattle.eit_drop.specs.declared.WantedPid.TheVariants as wanted_pid
+use Rattle.eit_drop.specs.declared.OriginWanted.TheVariants as origin_wanted
 use Rattle.eit_drop.specs.declared.Drop.{Drop}
 use Rattle.eit_drop.specs.declared.Drop.TheVariants as drop
 use Rattle.eit_state.specs.State.{Store, store, Whole, with_sets, with_schedules}

@@ -230,9 +230,9 @@ module _ (L : Store) (z : Reached L) (a : Arrival) (kind : Kind) (first i : ℕ)
   first_is : first_table a.kind ≡ first
   first_is = ap first_table h.number ∙ h.in_kind.by_kind
 
-  copy_for : (j : ℕ) → j < 16 → first + j ≢ table → copy_for L.heads L.slots L.eit.sets.used skey table j ≡ copied (find same_set (table_of l (first + j)) others)
+  copy_for_lem : (j : ℕ) → j < 16 → first + j ≢ table → copy_for L.heads L.slots L.eit.sets.used skey table j ≡ copied (find same_set (table_of l (first + j)) others)
   unfolding copy_for
-  copy_for j k ne = rw (first_is, ne_eqb (first + j) table ne) (sym (place_copy j k ne))
+  copy_for_lem j k ne = rw (first_is, ne_eqb (first + j) table ne) (sym (place_copy j k ne))
 
   -- ---- which schedule
 
@@ -375,7 +375,7 @@ module _ (L : Store) (z : Reached L) (a : Arrival) (kind : Kind) (first i : ℕ)
           let s = same in
           refill_own L.heads L.slots L.eit.sets.used skey table (there * 16) h.slots_long rows_fit n emptied (omega arith)
           (λ v w. without_own (there * 16) 16 L.units (there * 16 + v) (omega arith) (omega arith) (omega arith)) j m
-          ∙ copy_for j (omega arith) ne ∙ sym (refill_inside others l a.tables 16 first j (omega arith) (omega arith))
+          ∙ copy_for_lem j (omega arith) ne ∙ sym (refill_inside others l a.tables 16 first j (omega arith) (omega arith))
 
       refilled_ok : first ≤ a.tables → (j : ℕ) → j < 16 → first + j ≢ table → Dec (first + j ≤ a.tables) → ok (get_or (refill others l a.tables first 16) j none) ≡ true
       refilled_ok low j q ne (yes m) = rw (refill_inside others l a.tables 16 first j q m) (copied_ok j q ne)
@@ -618,9 +618,9 @@ module _ (L : Store) (z : Reached L) (a : Arrival) (kind : Kind) (first i : ℕ)
             rw (q, get_or-set_same old.copies (table - first) (some copy) none (omega arith)) (set_ok i h.row)
         go (no ne) = let f = places_few in rw (get_or-set_other old.copies (table - first) j (some copy) none ne) (w.ok j (omega arith) (not_own j ne))
 
-    unit_whole : (j : ℕ) → j < count_of a → is_present units₁ (row * 16 + j) ≡ true → all_whole L.eit.sets.count L.eit.sets.size (unit_slots units₁ (row * 16 + j)) ≡ true
+    unit_whole_lem : (j : ℕ) → j < count_of a → is_present units₁ (row * 16 + j) ≡ true → all_whole L.eit.sets.count L.eit.sets.size (unit_slots units₁ (row * 16 + j)) ≡ true
     unfolding unit_whole seen
-    unit_whole j k e =
+    unit_whole_lem j k e =
         let p : unit_whole units₁ (length (seen L).cells) L.eit.sets.size (row * 16 + j) ≡ true = sym (copy_whole_lem (seen L).settings (seen L).cells units₁ (row * 16 + j)) ∙ copy_ok j k in
         let q : all_whole (length (seen L).cells) L.eit.sets.size (unit_slots units₁ (row * 16 + j)) ≡ true = rw e at p in
         ap (λ (m : ℕ). all_whole m L.eit.sets.size (unit_slots units₁ (row * 16 + j))) (sym (cells_length L.cells L.eit.sets.size L.eit.sets.count)) ∙ q
@@ -643,11 +643,11 @@ module _ (L : Store) (z : Reached L) (a : Arrival) (kind : Kind) (first i : ℕ)
         let f = first_is in
         sym (tables_out_lem after l (place_seen schedule_heads₁ units₁ row) count 16 0 (row * 16) first (omega arith)
         (λ j k. let y : 0 + j ≡ j = omega arith in ap (place_seen schedule_heads₁ units₁ row) y ∙ place_in schedule_heads₁ units₁ row j (omega arith) ∙ copy_there units₁ (row * 16 + j) (present_get units₁ (row * 16) count j e k))
-        (λ j k. unit_whole j (omega arith) (present_get units₁ (row * 16) count j e k)))
+        (λ j k. unit_whole_lem j (omega arith) (present_get units₁ (row * 16) count j e k)))
 
-    schedule_out : a.tables - first < 16 → all_present units₁ (row * 16) count ≡ true → answer_told (a_schedule (schedule_out after row)) ≡ on_answer read (schedule (guide l first g))
+    schedule_out_lem : a.tables - first < 16 → all_present units₁ (row * 16) count ≡ true → answer_told (a_schedule (schedule_out after row)) ≡ on_answer read (schedule (guide l first g))
     unfolding answer_told schedule_out on_answer on_guide guide enter
-    schedule_out d e =
+    schedule_out_lem d e =
         let k : schedule_shown (key_at schedule_heads₁ row) ≡ l = ap schedule_shown key_after ∙ skey_shown in
         let v : last_of schedule_heads₁ row ≡ old.last_table = last_is ∙ sym w.old_last in
         let f = first_after in
@@ -660,8 +660,8 @@ module _ (L : Store) (z : Reached L) (a : Arrival) (kind : Kind) (first i : ℕ)
         let s = p ∙ q ∙ shown_tables d e ∙ r in
         λ t. schedule (record { key = k t; last_table = v t; tables = s t })
 
-    all_tables : all_tables first g ≡ tables_there units₁ row entry
-    all_tables =
+    all_tables_lem : all_tables first g ≡ tables_there units₁ row entry
+    all_tables_lem =
         ap (all_tables first) (sym own_schedule) ∙ ap (λ (f : ℕ). all_tables f (schedule_seen schedule_heads₁ units₁ row)) (sym first_is) ∙ tables_there_lem schedule_heads₁ units₁ row entry last_is kind_is
 
     told_after : (t : Bool) → tables_there units₁ row entry ≡ t → answer_told (answer_of (entered_answer t row) after) ≡ on_answer read (told l first g t)
@@ -671,13 +671,13 @@ module _ (L : Store) (z : Reached L) (a : Arrival) (kind : Kind) (first i : ℕ)
         let d = ltb-true (a.tables - first_table a.kind) 16 p.0 in
         let f = first_is in
         let n : count_of a ≡ count = omega arith in
-        schedule_out (omega arith) (ap (all_present units₁ (row * 16)) (sym n) ∙ p.1)
+        schedule_out_lem (omega arith) (ap (all_present units₁ (row * 16)) (sym n) ∙ p.1)
     told_after false e = refl
 
     in_tied : Tied (after_settled (entered_in (rows_of L) a i b) L.cells)
         (shows (seen L) (seen L).cells (gives (told l first g (all_tables first g)) (schedule_touched limit l g (seen L).eit)))
     unfolding entered_in scheduled_units scheduled_heads shows
-    in_tied = rw all_tables (record { told = told_after (tables_there units₁ row entry) refl; shown = shown_after; reached = reached_after })
+    in_tied = rw all_tables_lem (record { told = told_after (tables_there units₁ row entry) refl; shown = shown_after; reached = reached_after })
 
   pub enter_tied : Tied (after_settled (entered (rows_of L) a i) L.cells)
       (shows (seen L) (seen L).cells

@@ -22,7 +22,7 @@ use Rattle.filter.specs.Drops.{wants, wants_origin, kind_in, matches, Rest, rest
 use Rattle.eit_drop.specs.declared.Filter.{Filter}
 use Rattle.eit_drop.specs.declared.Drop.TheVariants as drop
 use Rattle.eit_drop.specs.declared.OriginWanted.{OriginWanted}
-use Rattle.eit_drop.specs.declared.OriginWanted.TheVariants as origin-wanted
+use Rattle.eit_drop.specs.declared.OriginWanted.TheVariants as origin_wanted
 use Rattle.eit_state.specs.State.{Store, whole_of}
 use Rattle.eit_drop.specs.Drop.{wanted_origin, fields_of, drop_from, matching_gone}
 use Rattle.eit_admit.specs.Admitting.{drop_of}

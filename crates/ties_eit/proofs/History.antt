@@ -38,9 +38,9 @@ use Rattle.schedules.specs.declared.ScheduleRoom.{ScheduleRoom}
 use Rattle.schedules.specs.Schedules.{room_of, scheduled_units, tables_there}
 use Rattle.eit_drop.specs.declared.Filter.{Filter}
 use Rattle.eit_drop.specs.declared.WantedPid.{WantedPid}
-use Rattle.eit_drop.specs.declared.WantedPid.TheVariants as wanted-pid
+use Rattle.eit_drop.specs.declared.WantedPid.TheVariants as wanted_pid
 use Rattle.eit_drop.specs.declared.Drop.{Drop}
-use Rattle.eit_drop.specs.declared.Drop.TheVariants as plan-drop
+use Rattle.eit_drop.specs.declared.Drop.TheVariants as plan_drop
 use Rattle.arrivals.specs.declared.Arrival.{Arrival}
 use Rattle.eit_becomes.specs.declared.Becomes.{Becomes}
 use Rattle.eit_becomes.specs.declared.Becomes.TheVariants as becomes

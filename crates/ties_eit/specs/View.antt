@@ -34,7 +34,7 @@ use Rattle.filter.specs.declared.Wanted.{Wanted}
 use Rattle.filter.specs.declared.Wanted.TheVariants as wanted
 use Rattle.eit_drop.specs.declared.Filter.{Filter}
 use Rattle.eit_drop.specs.declared.WantedPid.{WantedPid}
-use Rattle.eit_drop.specs.declared.WantedPid.TheVariants as wanted-pid
+use Rattle.eit_drop.specs.declared.WantedPid.TheVariants as wanted_pid
 use Rattle.eit_state.specs.State.{Store, settings_fit}
 use Rattle.eit.specs.Store as eit
 use Rattle.eit.specs.Store.{Told, a_set, a_schedule, TableOut, After, opened_of, cleared_of, dropped_of, pushed_of}

@@ -43,10 +43,10 @@ module _ (rule : ChangeRule) (s : List ℕ) where
   same_tests Checked = refl
   same_tests Plain = refl
 
-  judged_by : judged_of rule s
+  judged_by_lem : judged_of rule s
       ≡ cond (is_too_short s) judged.Short (cond (announces s && not (eqb (stored_crc s) (worked_crc s))) (judged.Mismatch (stored_crc s) (worked_crc s)) (judged.Sound (parts_of rule s (form_of s))))
   unfolding judged_of form_of by_tests
-  judged_by =
+  judged_by_lem =
       ap (cond (ltb (length s) 3) judged.Short) (same_tests (form_of s))
       ∙ go (ltb (length s) 3) (long_form s) (leb 12 (length s)) (eqb (table_id_of s) 0x73) (ltb (length s) 4) (eqb (stored_crc s) (worked_crc s))
     where
@@ -69,10 +69,10 @@ module _ (rule : ChangeRule) (s : List ℕ) where
 -- too short, and nothing else, is found too short
 module _ (rule : ChangeRule) (s : List ℕ) where
   short_judged : is_too_short s ≡ true → judged_of rule s ≡ judged.Short
-  short_judged h = judged_by rule s ∙ simp h
+  short_judged h = judged_by_lem rule s ∙ simp h
 
   judged_short : judged_of rule s ≡ judged.Short → is_too_short s ≡ true
-  judged_short e = go (is_too_short s) (announces s && not (eqb (stored_crc s) (worked_crc s))) refl (sym (judged_by rule s) ∙ e)
+  judged_short e = go (is_too_short s) (announces s && not (eqb (stored_crc s) (worked_crc s))) refl (sym (judged_by_lem rule s) ∙ e)
     where
       go : (t m : Bool) → is_too_short s ≡ t → cond t judged.Short (cond m (judged.Mismatch (stored_crc s) (worked_crc s)) (judged.Sound (parts_of rule s (form_of s)))) ≡ judged.Short → is_too_short s ≡ true
       go true m q h = q
@@ -91,10 +91,10 @@ module _ (rule : ChangeRule) (s : List ℕ) (stored worked : ℕ) where
   mismatch_judged : Mismatches s stored worked → judged_of rule s ≡ judged.Mismatch stored worked
   mismatch_judged k =
       let d : eqb (stored_crc s) (worked_crc s) ≡ false = ne_eqb (stored_crc s) (worked_crc s) (λ e. k.differ (k.stored_is ∙ e ∙ sym k.worked_is)) in
-      judged_by rule s ∙ rw (k.long, k.ends, d, k.stored_is, k.worked_is)
+      judged_by_lem rule s ∙ rw (k.long, k.ends, d, k.stored_is, k.worked_is)
 
   judged_mismatch : judged_of rule s ≡ judged.Mismatch stored worked → Mismatches s stored worked
-  judged_mismatch e = go (is_too_short s) (announces s) (eqb (stored_crc s) (worked_crc s)) refl refl refl (sym (judged_by rule s) ∙ e)
+  judged_mismatch e = go (is_too_short s) (announces s) (eqb (stored_crc s) (worked_crc s)) refl refl refl (sym (judged_by_lem rule s) ∙ e)
     where
       go : (t a q : Bool) → is_too_short s ≡ t → announces s ≡ a → eqb (stored_crc s) (worked_crc s) ≡ q
           → cond t judged.Short (cond (a && not q) (judged.Mismatch (stored_crc s) (worked_crc s)) (judged.Sound (parts_of rule s (form_of s)))) ≡ judged.Mismatch stored worked

@@ -53,9 +53,9 @@ use Rattle.ties_gate_pats.proofs.Entered.{one_entering, always_opened}
 
 module _ (s : Kept) (o : Offer) (k : OpenedWith s) (b : Bytes o.section) (i : InStep s.watch.words) where
   -- where complete PATs are followed
-  by_tables : by_tables s.gate.follow ≡ true → InStep (kept_acts s o).watch.words
+  by_tables_lem : by_tables s.gate.follow ≡ true → InStep (kept_acts s o).watch.words
   unfolding entering
-  by_tables h = subst (λ (r : Record). InStep r.words) (sym (one_entering s o k b h)) (go (sound_by (kept_tells s o) && eqb o.pid 0) (pats_full s.watch.words) refl)
+  by_tables_lem h = subst (λ (r : Record). InStep r.words) (sym (one_entering s o k b h)) (go (sound_by (kept_tells s o) && eqb o.pid 0) (pats_full s.watch.words) refl)
     where
       go : (c f : Bool) → pats_full s.watch.words ≡ f → InStep (cond c (cond f s.watch (entered_in s.watch o.input o.section)) s.watch).words
       go true true e = i
@@ -73,7 +73,7 @@ module _ (s : Kept) (o : Offer) (k : OpenedWith s) (b : Bytes o.section) (i : In
   in_step_one = go (by_tables s.gate.follow) refl
     where
       go : (t : Bool) → by_tables s.gate.follow ≡ t → InStep (kept_acts s o).watch.words
-      go true h = by_tables h
+      go true h = by_tables_lem h
       go false h = not_by_tables h
 
 pub watch_always : (os : List Offer) (s : Kept) → OpenedWith s → OfBytes os → InStep s.watch.words → InStep (store_after kept_acts s os).watch.words

@@ -41,7 +41,7 @@ use Rattle.arrivals.specs.declared.SetArrival.TheVariants as arrival
 use Rattle.sets_plan.specs.declared.Plan.{Plan}
 use Rattle.sets_plan.specs.declared.Plan.TheVariants as plan
 use Rattle.sets_plan.specs.Plan.{plan_keep, plan_placed, plan_of}
-use Rattle.sets_settle.specs.declared.PushAnswer.TheVariants as push-answer
+use Rattle.sets_settle.specs.declared.PushAnswer.TheVariants as push_answer
 use Rattle.sets_settle.specs.Settle.{Handed, nothing, handed, set_in, answer_of, goes_out, settled_answer, settled_heads, settled, kept_in, carried}
 use Rattle.sets_push.specs.Pushing.{whole_pushed, admitted}
 use Rattle.sets.specs.Store.{pushed_as, pushed_of}

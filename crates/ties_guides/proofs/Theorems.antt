@@ -32,7 +32,7 @@ use Rattle.differences.proofs.Theorems.{proper, empty_same, same_empty, of_rank,
 use Rattle.guides.specs.Store.{compare_no, held_no, same_sides, keyed, set_sides, schedule_sides, told, refused, told_of, compared_by, set_entries, schedule_entries, schedule_words, compared, compared_schedules, set_or_empty, held_not, held_one, held_for, held_of, held_by, section_of, AlikeSets, AlikeSchedules}
 use Rattle.guides.specs.declared.CompareAnswer.TheVariants as answer
 use Rattle.guides.specs.declared.Compared.{Compared}
-use Rattle.guides.specs.declared.HeldAnswer.TheVariants as held-answer
+use Rattle.guides.specs.declared.HeldAnswer.TheVariants as held_answer
 use Rattle.guides.specs.declared.Holder.{Holder}
 use Rattle.guides.specs.declared.Sides.{Sides}
 use Rattle.guides.specs.declared.Sides.TheVariants as sides

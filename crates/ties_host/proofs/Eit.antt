@@ -34,7 +34,7 @@ use Rattle.eit_carry.specs.Carried.{kept_and_settled, carried, pushed_whole}
 use Rattle.eit_drop.specs.Drop.{matching_gone}
 use Rattle.eit_drop.specs.declared.Filter.{Filter}
 use Rattle.eit_drop.specs.declared.Drop.{Drop}
-use Rattle.eit_drop.specs.declared.Drop.TheVariants as plan-drop
+use Rattle.eit_drop.specs.declared.Drop.TheVariants as plan_drop
 use Rattle.eit_admit.specs.Admitting.{drop_of, admitted}
 use Rattle.eit.specs.Store as eit
 use Rattle.eit.specs.Store.{Told, number, After, after, opened_of, cleared_of, carried_drop, dropped_of, pushed_as, pushed_of}

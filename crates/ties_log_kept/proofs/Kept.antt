@@ -91,9 +91,9 @@ module _ (g : Given) where
     told_noted (refused r) e = refl
 
     module _ (hp : ltb g.pid 8192 ≡ true) (hi : ltb g.input 16 ≡ true) where
-      set_noted : set_noted g (pushes c g).told ≡ records.log_of (set_records o.pids (call_tells (seen c) (pushed o g)))
+      set_noted_lem : set_noted g (pushes c g).told ≡ records.log_of (set_records o.pids (call_tells (seen c) (pushed o g)))
       unfolding tells reads pushes
-      set_noted =
+      set_noted_lem =
           told_noted (pushes c g).told refl
           ∙ ap (λ x. records.log_of (set_records o.pids x)) (tells_seen c z (section g.input (maybe.Some g.pid) g.section) b ∙ ap (call_tells (seen c)) (given_as o h g hp hi))
 
@@ -129,7 +129,7 @@ module _ (o : Settings) (with : o.pids ≡ true) (follow : Bool) (h : Held) (c :
         bytes_of : (b : Bool) → offer_noted o (answer_of b) g ++ set_noted g (pushes c g).told ≡ seen_record (cond b 1 2) g.input g.pid p ++ records.log_of (set_records o.pids (call_tells (seen c) (pushed o g)))
         bytes_of b =
             let q = sound_noted o g t.short hp hi p e b in
-            let s = set_noted g o with c z t.of_bytes hp hi in
+            let s = set_noted_lem g o with c z t.of_bytes hp hi in
             λ i. q i ++ s i
 
         go : (b : Bool) → Follows o c (answer_of b) g (record {

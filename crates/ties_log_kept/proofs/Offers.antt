@@ -95,17 +95,17 @@ module _ (rule : ChangeRule) (s : Bytes) (p : Parts) where
   form_room Checked e = crc_room Checked (ltb (length s) 4) (eqb (stored_crc s) (worked_crc s)) refl e
   form_room Plain e = refl
 
-  has_parts : judged_of rule s ≡ Sound p → has_parts s ≡ true
+  has_parts_lem : judged_of rule s ≡ Sound p → has_parts s ≡ true
   unfolding judged_of has_parts
-  has_parts e = go (ltb (length s) 3) e
+  has_parts_lem e = go (ltb (length s) 3) e
     where
       go : (b : Bool) → cond b Short (judged_by rule s (form_of s)) ≡ Sound p → cond b false (room_for (form_of s) (length s)) ≡ true
       go true h = let z : ◌≡◌ {A = ℕ} 0 1 = cc in absurd (omega arith)
       go false h = form_room (form_of s) h
 
-  parts_in : judged_of rule s ≡ Sound p → parts_in rule s ≡ found.Are p
+  parts_in_lem : judged_of rule s ≡ Sound p → parts_in rule s ≡ found.Are p
   unfolding parts_in
-  parts_in e = rw (has_parts e) (ap found.Are (sym (judged_parts rule s p e)))
+  parts_in_lem e = rw (has_parts_lem e) (ap found.Are (sym (judged_parts rule s p e)))
 
 -- ---- what is noted
 
@@ -136,5 +136,5 @@ module _ (o : Settings) (g : Given) (h : length g.section ≤ 4098) where
 
     pub sound_noted : (p : Parts) → judged_of rule g.section ≡ Sound p → (b : Bool) → offer_noted o (answer_of b) g ≡ seen_record (cond b 1 2) g.input g.pid p
     unfolding offer_record
-    sound_noted p e true = origin_noted answer.Emitted ∙ ap (makers.seen_or 1 g.input g.pid) (parts_in rule g.section p e)
-    sound_noted p e false = origin_noted answer.Suppressed ∙ ap (makers.seen_or 2 g.input g.pid) (parts_in rule g.section p e)
+    sound_noted p e true = origin_noted answer.Emitted ∙ ap (makers.seen_or 1 g.input g.pid) (parts_in_lem rule g.section p e)
+    sound_noted p e false = origin_noted answer.Suppressed ∙ ap (makers.seen_or 2 g.input g.pid) (parts_in_lem rule g.section p e)

@@ -67,9 +67,9 @@ module _ (a : Settings) (list : Bytes) (b : OfBytes list) (n : length list < 2 ^
   log = log_of (settings_of a) gs
 
   -- the log over any memory that is enough
-  log_over : (m : Memory) → opens a m ≡ true → log_over (run_of a) m gs ≡ log_of (settings_of a) gs
+  log_over_lem : (m : Memory) → opens a m ≡ true → log_over (run_of a) m gs ≡ log_of (settings_of a) gs
   unfolding log_of
-  log_over m h = ap records.log_of (run_expects a list b n gs w m h)
+  log_over_lem m h = ap records.log_of (run_expects a list b n gs w m h)
 
   module _ (m : Memory) (h : opens a m ≡ true) (t : is_with a.pids ≡ true) where
     abbrev after : Memory
@@ -87,7 +87,7 @@ module _ (a : Settings) (list : Bytes) (b : OfBytes list) (n : length list < 2 ^
     unfolding written_of ran_twice
     written_as =
         ap (λ (s : Settings). written_by s room m (sections_in list)) (as_with a t)
-        ∙ rw (w, h, opened_taken a m.keys m.changes m.heads m.slots m.cells h, log_over m h, log_over after after_opens) refl
+        ∙ rw (w, h, opened_taken a m.keys m.changes m.heads m.slots m.cells h, log_over_lem m h, log_over_lem after after_opens) refl
 
     no_room : length room < length (log_of (settings_of a) gs) → Refuses room (written_of a list room m)
     no_room l = subst (Refuses room) (sym (written_as ∙ pick)) (record { answer = refl; kept = refl })

@@ -31,7 +31,7 @@ use Rattle.sets_plan.specs.declared.Plan.{Plan}
 use Rattle.sets_plan.specs.declared.Plan.TheVariants as plan
 use Rattle.sets_plan.specs.Plan.{plan_of, PlanOk}
 use Rattle.sets_plan.proofs.May.{plan_ok}
-use Rattle.sets_settle.specs.declared.PushAnswer.TheVariants as push-answer
+use Rattle.sets_settle.specs.declared.PushAnswer.TheVariants as push_answer
 use Rattle.sets_settle.specs.Settle.{Handed, Told, done, nothing, handed, refused, set_in, SetsAfter, answered, goes_out, settled_answer, settled_heads, settled, kept_in, carried}
 use Rattle.sets.specs.Store.{next_of, pushed_as, pushed_of}
 use Rattle.sets_push.specs.Pushing.{whole_pushed, admitted, AdmittedOk}

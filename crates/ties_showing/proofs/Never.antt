@@ -32,7 +32,7 @@ use Rattle.section.specs.Judged.{collected_of}
 use Rattle.section.specs.declared.header.Header.{Header}
 use Rattle.section.specs.declared.header.Collected.{Collected}
 use Rattle.section.specs.declared.header.Collected.TheVariants as collected
-use Rattle.section.specs.declared.ids.MaybePid.TheVariants as maybe-pid
+use Rattle.section.specs.declared.ids.MaybePid.TheVariants as maybe_pid
 use Rattle.eit_section.specs.Eit.{eit_of}
 use Rattle.eit_section.specs.Eit.{kind_of as kind_read}
 use Rattle.eit_section.specs.declared.MaybeKind.TheVariants as maybe

@@ -1,5 +1,6 @@
 // Day numbers, second counts and calendar dates of the guide (EN 300 468, 5.2.4 and Annex C). A day number is no second count: each has its own type.
 #![tactic(auto)]
+
 ghost use Rattle.std.specs.Prelude.{◌≡◌, ◌*◌, ◌≤◌};
 ghost use Rattle.times.specs.Times.{is_bcd, bcd_of, time_of, day_of, carry_for, date_of};
 

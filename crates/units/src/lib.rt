@@ -1,5 +1,7 @@
 // The copies of complete sets that schedules are made of: a unit of 288 words for each table. A copy is a copy of slot words: it names the same
 // cells as the set did when it went in (docs/RULES.md, "Collectors" and "Cells").
+#![tactic(auto)]
+
 ghost use Rattle.std.specs.Prelude.{◌≡◌, Bool, true, false, cond, not, ◌&&◌, ℕ, ◌+◌, ◌-◌, ◌*◌, ◌%◌, ◌<◌, ◌≤◌, length};
 ghost use Rattle.std.proofs.Math.Seq.{paste};
 ghost use Rattle.units.specs.Units.{is_present, unit_slots, unit_whole, units_whole, marked_unit, marked_units, all_present, without_units};

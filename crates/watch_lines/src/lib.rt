@@ -1,11 +1,14 @@
-// The lines that `watch` and `watch_inputs` print (docs/RULES.md, "Answers" has the numbers that they stand for). Each says whether it could be written.
+// The lines that `watch` and `watch_inputs` print (docs/RULES.md, "Answers" has the numbers that they stand for). Each is an error where it could not be written.
+#![tactic(auto)]
+
 ghost use Rattle.std.specs.Prelude.{◌+◌, ◌≤◌, length};
 
 use answers::Refusal;
 use counters::Counters;
 use gate_state::Answer;
-use libc::STDOUT_FILENO;
 use offers::Failure;
+use std::io;
+use std::io::Write;
 
 // Where a record says that its section came from, neither number judged yet, and whether its line names the input.
 #[derive(Clone, Copy)]
@@ -37,18 +40,18 @@ fn put_place(line: &mut [u8], at: usize, place: Place) -> usize
 }
 
 // A line that names a place alone.
-pub fn say_place(word: &[u8], place: Place) -> bool
+pub fn say_place(stdout: &mut impl Write, word: &[u8], place: Place) -> io::Result<()>
     requires { length word.now ≤ 12 }
 {
     let mut line = [0u8; 24];
     let a = text::put(&mut line, 0, word);
     let b = put_place(&mut line, a, place);
     let c = text::put(&mut line, b, b"\n");
-    io::write_all(STDOUT_FILENO, &line[0..c])
+    stdout.write_all(&line[0..c])
 }
 
 // A line of a section that was offered.
-fn say_section(word: &[u8], place: Place, section: &[u8]) -> bool
+fn say_section(stdout: &mut impl Write, word: &[u8], place: Place, section: &[u8]) -> io::Result<()>
     requires { (length word.now ≤ 12) × (3 ≤ length section.now) × (length section.now ≤ 4098) }
 {
     let mut line = [0u8; 48];
@@ -59,55 +62,67 @@ fn say_section(word: &[u8], place: Place, section: &[u8]) -> bool
     let e = text::put(&mut line, d, b" ");
     let f = text::put_dec(&mut line, e, section.len() as u64);
     let g = text::put(&mut line, f, b"\n");
-    io::write_all(STDOUT_FILENO, &line[0..g])
+    stdout.write_all(&line[0..g])
 }
 
 // A word of the totals and its count.
-fn say_count(word: &[u8], count: u64) -> bool
+fn say_count(stdout: &mut impl Write, word: &[u8], count: u64) -> io::Result<()>
     requires { length word.now ≤ 12 }
 {
     let mut line = [0u8; 32];
     let a = text::put(&mut line, 0, word);
     let b = text::put_dec(&mut line, a, count);
-    io::write_all(STDOUT_FILENO, &line[0..b])
+    stdout.write_all(&line[0..b])
 }
 
-pub fn say_totals(c: Counters) -> bool {
-    say_count(b"completed ", c.completed);
-    say_count(b" emitted ", c.emitted);
-    say_count(b" suppressed ", c.suppressed);
-    say_count(b" crc ", c.crc_failures);
-    say_count(b" evicted ", c.evictions);
-    io::write_all(STDOUT_FILENO, b"\n")
+pub fn say_totals(stdout: &mut impl Write, c: Counters) -> io::Result<()> {
+    say_count(stdout, b"completed ", c.completed)?;
+    say_count(stdout, b" emitted ", c.emitted)?;
+    say_count(stdout, b" suppressed ", c.suppressed)?;
+    say_count(stdout, b" crc ", c.crc_failures)?;
+    say_count(stdout, b" evicted ", c.evictions)?;
+    stdout.write_all(b"\n")
 }
 
-// The line of a refused PID or input. A gate that was opened here refuses nothing else; if it did, the run would end.
-pub fn say_refusal(refusal: Refusal, place: Place) -> bool {
+// The line of a refused PID or input, and whether there is one. A gate that was opened here refuses nothing else; if it did, the run would end.
+pub fn say_refusal(stdout: &mut impl Write, refusal: Refusal, place: Place) -> io::Result<bool> {
     match refusal {
-        Refusal::BadPid => say_place(b"badpid ", place),
-        Refusal::BadInput => say_place(b"badinput ", place),
-        _ => false,
+        Refusal::BadPid => say_place(stdout, b"badpid ", place)?,
+        Refusal::BadInput => say_place(stdout, b"badinput ", place)?,
+        _ => return Ok(false),
     }
+    Ok(true)
 }
 
 // The line of a section that failed its CRC.
-fn say_failure(failure: Failure, place: Place, section: &[u8]) -> bool
+fn say_failure(
+    stdout: &mut impl Write,
+    failure: Failure,
+    place: Place,
+    section: &[u8],
+) -> io::Result<()>
     requires { (3 ≤ length section.now) × (length section.now ≤ 4098) }
 {
     match failure {
-        Failure::TooShort(_) => say_section(b"short ", place, section),
-        Failure::Mismatch(_, _) => say_section(b"mismatch ", place, section),
+        Failure::TooShort(_) => say_section(stdout, b"short ", place, section),
+        Failure::Mismatch(_, _) => say_section(stdout, b"mismatch ", place, section),
     }
 }
 
-// The line of a section that was offered.
-pub fn say_answer(answer: Answer, place: Place, section: &[u8]) -> bool
+// The line of a section that was offered, and whether there is one.
+pub fn say_answer(
+    stdout: &mut impl Write,
+    answer: Answer,
+    place: Place,
+    section: &[u8],
+) -> io::Result<bool>
     requires { (3 ≤ length section.now) × (length section.now ≤ 4098) }
 {
     match answer {
-        Answer::Emitted => say_section(b"emitted ", place, section),
-        Answer::Suppressed => say_section(b"suppressed ", place, section),
-        Answer::Failed(failure) => say_failure(failure, place, section),
-        Answer::Refused(refusal) => say_refusal(refusal, place),
+        Answer::Emitted => say_section(stdout, b"emitted ", place, section)?,
+        Answer::Suppressed => say_section(stdout, b"suppressed ", place, section)?,
+        Answer::Failed(failure) => say_failure(stdout, failure, place, section)?,
+        Answer::Refused(refusal) => return say_refusal(stdout, refusal, place),
     }
+    Ok(true)
 }

@@ -1,6 +1,8 @@
 // Which PIDs to look at: three sets of PIDs over 384 words that the host lends. Words 0 to 127 hold the PIDs watched, 128 to 255 those
 // protected, which following never drops, 256 to 383 those followed, the N of the last PAT. PID p is bit p % 64 of its set's word p / 64.
 // Every content of the words is whole; words past 384 are never read or written.
+#![tactic(auto)]
+
 ghost use Rattle.std.specs.Prelude.{◌≡◌};
 ghost use Rattle.answers.specs.Answers.{reply_no};
 ghost use Rattle.watched.specs.Store.{reply_of, opening_by, opened, asked};

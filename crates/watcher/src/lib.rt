@@ -1,17 +1,20 @@
 // What `watch` and `watch_inputs` do: they read records from standard input, a PID (two bytes, high byte first) and a section, or an input (one byte) before
 // these, and say of each record what the gate makes of it, a line for each, and the totals last. Default settings, so complete PATs are followed, but a gate of
 // 512 keys; sixteen watch records opened alike, of which `watch` uses the first. One record is held at a time, so standard input may be of any length.
-ghost use Rattle.std.specs.Prelude.{◌≡◌, ◌≤◌, ◌<◌, length};
+#![tactic(auto)]
+
+ghost use Rattle.std.specs.Prelude.{◌≡◌, ◌≤◌, ◌<◌, IfOk, length};
 ghost use Rattle.records.specs.Next as records;
 ghost use Rattle.watcher.specs.Read.{Within, IsInput, InWatches};
 
 use answers::{Refusal, Reply};
 use counters::Counters;
 use gate_state::{Gate, Settings};
-use libc::STDOUT_FILENO;
 use records::{InputRead, Next};
 use section::bytes::wide;
 use section::ids::{Origin, OriginMade};
+use std::io;
+use std::io::{Read, Write};
 use watch_lines::Place;
 
 // The gate and its counters between two records, and whether there may be another.
@@ -77,16 +80,16 @@ fn inside(rest: Came) -> Came
 }
 
 // Reads a record, of which all but the input comes to the start of buf. One without an input is on input 0.
-fn read(inputs: bool, buf: &mut [u8]) -> Came
+fn read(stdin: &mut impl Read, inputs: bool, buf: &mut [u8]) -> io::Result<Came>
     requires { 4100 ≡ length buf.old }
-    ensures { Within result }
+    ensures { IfOk result Within }
 {
     if !inputs {
-        return on_input(0, records::read_record(buf));
+        return Ok(on_input(0, records::read_record(stdin, buf)?));
     }
-    match records::read_input() {
-        InputRead::One(input) => inside(on_input(input, records::read_record(buf))),
-        InputRead::End => Came::End,
+    match records::read_input(stdin)? {
+        InputRead::One(input) => Ok(inside(on_input(input, records::read_record(stdin, buf)?))),
+        InputRead::End => Ok(Came::End),
     }
 }
 
@@ -148,6 +151,7 @@ fn told(i: usize, reply: Reply) -> Asked
 
 // A section on a watched PID goes to the gate with the record of its input, the i-th of the sixteen.
 fn offer(
+    stdout: &mut impl Write,
     gate: Gate,
     counters: Counters,
     keys: &mut [u64; 512],
@@ -158,7 +162,7 @@ fn offer(
     i: usize,
     place: Place,
     section: &[u8],
-) -> Between
+) -> io::Result<Between>
     requires value { (6368 ≡ length watches.old) × (4608 ≡ length slots.old) × (4194304 ≡ length cells.old) × (i ≤ 15) }
     requires in_bounds { (3 ≤ length section.now) × (length section.now ≤ 4098) }
 {
@@ -177,15 +181,13 @@ fn offer(
     let answer = offered.answer;
     let then = offered.gate;
     let counted = offered.counters;
-    leave(
-        watch_lines::say_answer(answer, place, section),
-        then,
-        counted,
-    )
+    let more = watch_lines::say_answer(stdout, answer, place, section)?;
+    Ok(leave(more, then, counted))
 }
 
 // One record, of which all but the input is the first n bytes of buf, by what the watch says.
 fn judge(
+    stdout: &mut impl Write,
     gate: Gate,
     counters: Counters,
     keys: &mut [u64; 512],
@@ -196,12 +198,13 @@ fn judge(
     place: Place,
     buf: &[u8],
     n: usize,
-) -> Between
+) -> io::Result<Between>
     requires value { (6368 ≡ length watches.old) × (4608 ≡ length slots.old) × (4194304 ≡ length cells.old) }
     requires le_n { (5 ≤ n) × (n ≤ 4100) × (4100 ≡ length buf.now) }
 {
     match ask(watches, place) {
         Asked::Watched(i) => offer(
+            stdout,
             gate,
             counters,
             keys,
@@ -213,13 +216,21 @@ fn judge(
             place,
             &buf[2..n],
         ),
-        Asked::Unwatched => leave(watch_lines::say_place(b"unwatched ", place), gate, counters),
-        Asked::Refused(refusal) => leave(watch_lines::say_refusal(refusal, place), gate, counters),
+        Asked::Unwatched => {
+            watch_lines::say_place(stdout, b"unwatched ", place)?;
+            Ok(leave(true, gate, counters))
+        }
+        Asked::Refused(refusal) => {
+            let more = watch_lines::say_refusal(stdout, refusal, place)?;
+            Ok(leave(more, gate, counters))
+        }
     }
 }
 
 // Reads a record into the buffer and judges it.
 fn turn(
+    stdin: &mut impl Read,
+    stdout: &mut impl Write,
     inputs: bool,
     gate: Gate,
     counters: Counters,
@@ -229,18 +240,18 @@ fn turn(
     slots: &mut [u32; 4608],
     cells: &mut [u8; 4_194_304],
     buf: &mut [u8; 4100],
-) -> Between {
-    match read(inputs, buf) {
+) -> io::Result<Between> {
+    match read(stdin, inputs, buf)? {
         Came::Record(input, n) => {
             let from = place_of(inputs, input, buf);
             judge(
-                gate, counters, keys, changes, watches, slots, cells, from, buf, n,
+                stdout, gate, counters, keys, changes, watches, slots, cells, from, buf, n,
             )
         }
-        Came::End => leave(false, gate, counters),
+        Came::End => Ok(leave(false, gate, counters)),
         Came::Cut => {
-            io::write_all(STDOUT_FILENO, b"cut\n");
-            leave(false, gate, counters)
+            stdout.write_all(b"cut\n")?;
+            Ok(leave(false, gate, counters))
         }
     }
 }
@@ -272,6 +283,8 @@ fn open_watches(settings: Settings, watches: &mut [u64], slots: &[u32], cells: &
 
 // A proved loop has to end, and nothing says that standard input does: the turns are counted down from a number that no run uses up.
 fn all(
+    stdin: &mut impl Read,
+    stdout: &mut impl Write,
     inputs: bool,
     keys: &mut [u64; 512],
     changes: &mut [u64; 512],
@@ -279,7 +292,7 @@ fn all(
     slots: &mut [u32; 4608],
     cells: &mut [u8; 4_194_304],
     buf: &mut [u8; 4100],
-) {
+) -> io::Result<()> {
     let mut settings = Settings::by_default();
     settings.capacity = 512;
     let none = [0u16; 1];
@@ -291,18 +304,18 @@ fn all(
     let mut turns = u64::MAX;
     while more & (turns > 0) {
         let t = turn(
-            inputs, gate, counters, keys, changes, watches, slots, cells, buf,
-        );
+            stdin, stdout, inputs, gate, counters, keys, changes, watches, slots, cells, buf,
+        )?;
         gate = t.gate;
         counters = t.counters;
         more = t.more;
         turns -= 1;
     }
-    watch_lines::say_totals(counters);
+    watch_lines::say_totals(stdout, counters)
 }
 
 // All records of standard input, each with its input where `inputs` says so.
-pub fn run(inputs: bool) {
+pub fn run(stdin: &mut impl Read, stdout: &mut impl Write, inputs: bool) -> io::Result<()> {
     let mut keys = [0u64; 512];
     let mut changes = [0u64; 512];
     let mut watches = [0u64; 6368];
@@ -310,6 +323,8 @@ pub fn run(inputs: bool) {
     let mut cells = [0u8; 4_194_304];
     let mut buf = [0u8; 4100];
     all(
+        stdin,
+        stdout,
         inputs,
         &mut keys,
         &mut changes,
@@ -317,5 +332,5 @@ pub fn run(inputs: bool) {
         &mut slots,
         &mut cells,
         &mut buf,
-    );
+    )
 }

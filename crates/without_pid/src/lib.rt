@@ -1,5 +1,6 @@
 // Whether a row in use has no PID (docs/RULES.md, "Layouts"): the PID word of its head is 8192, a number that no PID has. Rows past those in use do not matter.
 #![tactic(auto)]
+
 ghost use Rattle.std.specs.Prelude.{◌≡◌, true, false, ◌+◌, ◌*◌, ◌≤◌, eqb, length, get_or};
 ghost use Rattle.cells.specs.Cells.{all_whole};
 ghost use Rattle.rows.specs.Rows.{rows_whole, row_slots};
