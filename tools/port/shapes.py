@@ -32,7 +32,7 @@ def parts(text):
         depth -= ch in ")]}"
         cur += ch
     out.append(cur.strip())
-    return out
+    return [it for it in out if it]
 
 
 def flat(items, n):

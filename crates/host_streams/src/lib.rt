@@ -1,5 +1,7 @@
 // The three words of the streams of one input: 0 count, 1 packets, 2 malformed; the word that tells how many sections a packet finished; and their opening for a host
 // in another language.
+#![tactic(auto)]
+
 ghost use Rattle.std.specs.Prelude.{◌≡◌};
 ghost use Rattle.demux_state.specs.State.{said_of};
 ghost use Rattle.host_words.specs.Answers.{words};

@@ -1,5 +1,7 @@
 // A section through a run of a log (docs/RULES.md, "Logs"): it is judged, looked up in the gate's rows and given to the collector, and its records are told.
 // The host keeps a `Run` by value and lends five slices at every call: keys and changes of the gate, heads, slots and cells of the collector.
+#![tactic(auto)]
+
 ghost use Rattle.std.specs.Prelude.{◌≡◌, length};
 ghost use Rattle.store.specs.Store.{store};
 ghost use Rattle.log_state.specs.State.{lent, Arrives};

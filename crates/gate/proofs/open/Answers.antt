@@ -12,7 +12,7 @@ returns-then-not-can_open c = let a = c.args in
     opened_little a.settings a.extra.now a.words.now (length a.keys.now) (length a.changes.now) _ c.pids_good.ensures (ap not c.if-not-pids_good.false) _ c.can_open.ensures _ (ap not c.if-not-can_open.true) c.begin-then-not-can_open.ensures
 
 pub fill-requires : goal.fill-requires
-fill-requires c = let a = c.args in record { in_bounds = words_room a.settings a.extra.now a.words.now (length a.keys.now) (length a.changes.now) _ c.pids_good.ensures (ap not c.if-not-pids_good.false) _ c.can_open.ensures (ap not c.if-not-can_open.false); extra_value = (pids_good a.settings a.extra.now a.words.now (length a.keys.now) (length a.changes.now) _ c.pids_good.ensures (ap not c.if-not-pids_good.false), ) }
+fill-requires c = let a = c.args in record { in_bounds = words_room a.settings a.extra.now a.words.now (length a.keys.now) (length a.changes.now) _ c.pids_good.ensures (ap not c.if-not-pids_good.false) _ c.can_open.ensures (ap not c.if-not-can_open.false); extra_value = (pids_good a.settings a.extra.now a.words.now (length a.keys.now) (length a.changes.now) _ c.pids_good.ensures (ap not c.if-not-pids_good.false)) }
 
 pub returns : goal.returns
 returns c = let a = c.args in
