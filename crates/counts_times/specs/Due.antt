@@ -4,7 +4,6 @@
 -- Assumes nothing.
 use Rattle.std.specs.Prelude.{ℕ, ◌+◌, ◌*◌, ◌-◌, Bool, cond, true, false, leb, ltb}
 use Rattle.times.specs.Times.{time_of}
-use Rattle.times.specs.declared.Seconds.{Seconds}
 use Rattle.times.specs.declared.Time.{Time}
 use Rattle.times.specs.declared.Time.TheVariants as time
 use Rattle.clocks.specs.declared.Stamp.{Stamp}

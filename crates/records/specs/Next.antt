@@ -1,5 +1,5 @@
 -- What reading a record promises.
-use Rattle.std.specs.Prelude.{ℕ, ◌≤◌}
+use Rattle.std.specs.Prelude.{◌≤◌}
 use Rattle.records.specs.declared.Next.{Next}
 use Rattle.records.specs.declared.Next.TheVariants.{Record, End, Cut}
 
