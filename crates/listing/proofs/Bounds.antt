@@ -1,17 +1,17 @@
 -- How many entries there can be: each takes two bytes or more. Where one that runs past its loop starts.
 -- Assumes nothing.
-use mathlib.Core.Path.{◌≡◌, refl, ap, ◌∙◌}
+use mathlib.Core.Path.{◌≡◌, refl}
 use mathlib.Core.Bool.{Bool, true, false, cond}
 use Prim.Native.Nat.{ℕ, zero, suc, ◌+◌, ◌*◌, ◌≤◌, ◌<◌, ◌-◌}
 use native.Mathlib.Omega.{arith}
 use mathlib.Core.List.{List, [], ◌∷◌}
-use lib.ListN.{length, get_or, take, drop, length-drop}
+use lib.ListN.{length, get_or, drop, length-drop}
 use lib.Dec.{ltb}
 use borrow.Author.Tests.{ltb-false}
 use Rattle.laws.specs.Entries.{counted}
 use Rattle.listing.specs.declared.Walked.{Walked}
 use Rattle.listing.specs.declared.Walked.TheVariants.{Done, Past}
-use Rattle.listing.specs.Store.{Found, done, past, entry, descriptor, walk, found_from, words_of, end_of}
+use Rattle.listing.specs.Store.{Found, past, walk, found_from, words_of, end_of}
 
 module _ (network number n : ℕ) (p : 2 ≤ n) where
   abbrev few : Found → ℕ → Type 0

@@ -3,13 +3,12 @@
 use mathlib.Core.Path.{◌≡◌, refl}
 use mathlib.Core.List.{List, [], ◌∷◌, ◌++◌}
 use Prim.Native.Nat.{ℕ}
-use lib.ListN.{length, replicate}
+use lib.ListN.{replicate}
 use Rattle.times.specs.Times.{time_of}
 use Rattle.entry_words.specs.Words.{event_of, event_words, entry_words, descriptor_words}
 use Rattle.listing.specs.declared.Loop.{Loop}
 use Rattle.listing.specs.declared.Walked.{Walked}
 use Rattle.listing.specs.declared.Walked.TheVariants.{Done, Past}
-use Rattle.listing.specs.Rules.{Part, Item, parts_in, parts_of, items_of, flat_parts, size_of, flat}
 use Rattle.listing.specs.Store.{walk, found_from, put_in, put_all, words_of, end_of, listing}
 
 -- event 1, 1993-10-13 12:45:00 for 01:45:30, running, with ten bytes of descriptors: a short event descriptor of eight bytes

@@ -1,15 +1,15 @@
 -- Where the bytes are whole entries (the layout that answer 19 asks of an EIT) no entry runs past the loop: only a descriptor can.
 -- Assumes nothing.
-use mathlib.Core.Path.{◌≡◌, refl, sym, ap, ◌∙◌}
+use mathlib.Core.Path.{◌≡◌, sym, ap, ◌∙◌}
 use mathlib.Core.Bool.{Bool, true, false}
-use Prim.Native.Nat.{ℕ, ◌+◌, ◌*◌, ◌≤◌, ◌<◌, ◌-◌}
+use Prim.Native.Nat.{ℕ, ◌+◌, ◌≤◌}
 use native.Mathlib.Omega.{arith}
-use mathlib.Core.List.{List, [], ◌∷◌, ◌++◌}
+use mathlib.Core.List.{List, ◌++◌}
 use lib.ListN.{length, drop, length-append}
 use lib.Seq.{drop-append-add, drop-append_seam}
 use Rattle.laws.specs.Entries.{counted, entry_size, whole_entries, counted_by}
 use Rattle.laws.proofs.Entries.{entries_short, entries_past, entries_more}
-use Rattle.listing.specs.Rules.{Part, Item, RunsPast, past_short, past_entry, past_descriptor, past_later, DescriptorPast, past_here, past_further}
+use Rattle.listing.specs.Rules.{Item, RunsPast, past_short, past_entry, past_descriptor, past_later, DescriptorPast, past_here, past_further}
 use Rattle.listing.proofs.Parts.{count_front}
 
 clash : {b : Bool} {A : Type 0} → b ≡ true → b ≡ false → A

@@ -3,26 +3,23 @@
 -- Assumes nothing.
 use mathlib.Core.Path.{◌≡◌, refl, sym, ap, ap₂, ◌∙◌}
 use mathlib.Core.Logic.{⊎_elim}
-use mathlib.Core.Bool.{Bool, true, false, cond}
 use Prim.Native.Nat.{ℕ, zero, suc, ◌+◌, ◌*◌, ◌%◌, ◌≤◌, ◌<◌, ◌-◌}
 use native.Mathlib.Nat.{add-zero, mod-one}
 use native.Mathlib.Omega.{arith}
 use mathlib.Core.List.{List, [], ◌∷◌, ◌++◌, append-nil, append_assoc, map}
-use lib.ListN.{length, get_or, take, drop, length-append, length-drop, take-append-drop}
+use lib.ListN.{length, take, drop, length-append, length-drop, take-append-drop}
 use lib.Seq.{take_at, drop_at, length-take-le, drop-append-add, drop-append_seam}
 use borrow.Author.Tests.{ne_eqb}
-use lib.Dec.{ltb}
-use Rattle.laws.specs.Entries.{counted, Entries, none, entry as one, counted_by}
+use Rattle.laws.specs.Entries.{counted, counted_by}
 use Rattle.laws.proofs.Tests.{lt_or_le}
 use Rattle.section.specs.Header.{byte_at}
 use Rattle.entry_words.specs.Words.{entry_words, descriptor_words}
 use Rattle.listing.specs.declared.Loop.{Loop}
-use Rattle.listing.specs.declared.Walked.{Walked}
 use Rattle.listing.specs.declared.Walked.TheVariants.{Done, Past}
-use Rattle.listing.specs.Rules.{Part, part, Laid, laid_none, laid_more, Breaks, breaks_short, breaks_past, breaks_later, parts_in, parts_of}
+use Rattle.listing.specs.Rules.{Part, Laid, laid_none, laid_more, Breaks, breaks_short, breaks_past, breaks_later, parts_in, parts_of}
 use Rattle.listing.specs.Rules.{Item, item, Whole, whole_none, whole_more, RunsPast, past_short, past_entry, past_descriptor, past_later, items_of, flat_parts, size_of, flat}
 use Rattle.listing.specs.Store.{Found, done, past, entry, descriptor, walk, found_from, put_all, words_of, end_of, listing}
-use Rattle.listing.proofs.Walk.{walk_end, walk_short, walk_past, walk_entry, walk_one, walk_over, walk_descriptor}
+use Rattle.listing.proofs.Walk.{walk_short, walk_past, walk_entry, walk_one, walk_over, walk_descriptor}
 use Rattle.listing.proofs.Parts.{count_front, count_take, put_together, header_long, body_long, Judged, is_laid, is_broken, judged, parts_are}
 
 -- ---- the descriptors of an entry, and then what f says

@@ -2,13 +2,13 @@
 -- Assumes nothing.
 use mathlib.Core.Path.{◌≡◌, refl, sym, ap, ◌∙◌}
 use mathlib.Core.Logic.{⊎_elim}
-use Prim.Native.Nat.{ℕ, zero, suc, ◌+◌, ◌*◌, ◌%◌, ◌≤◌, ◌<◌, ◌-◌}
+use Prim.Native.Nat.{ℕ, zero, suc, ◌+◌, ◌≤◌, ◌<◌, ◌-◌}
 use native.Mathlib.Omega.{arith}
 use mathlib.Core.List.{List, [], ◌∷◌, ◌++◌}
 use lib.ListN.{length, take, drop, length-append, length-drop, take-append-drop, get_or-append}
 use lib.Seq.{drop-drop, drop-append-add, drop-append_seam, take_at, drop_at, length-take-le, get_or-take}
-use borrow.Author.Tests.{eq-eqb, ne_eqb}
-use Rattle.laws.specs.Entries.{counted, counted_by}
+use borrow.Author.Tests.{ne_eqb}
+use Rattle.laws.specs.Entries.{counted_by}
 use Rattle.laws.proofs.Tests.{lt_or_le}
 use Rattle.listing.specs.Rules.{Part, part, Laid, laid_none, laid_more, Breaks, breaks_short, breaks_past, breaks_later, parts_in, parts_of}
 

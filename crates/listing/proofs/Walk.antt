@@ -1,14 +1,14 @@
 -- The laws of the walk: what it finds where an entry or a descriptor stands, or where one runs past its loop.
 -- Assumes nothing.
 use mathlib.Core.Path.{◌≡◌, refl, ap, ap₂, ◌∙◌}
-use Prim.Native.Nat.{ℕ, zero, suc, ◌+◌, ◌*◌, ◌≤◌, ◌<◌, ◌-◌}
+use Prim.Native.Nat.{ℕ, zero, suc, ◌+◌, ◌≤◌, ◌<◌, ◌-◌}
 use native.Mathlib.Nat.{add-zero}
 use native.Mathlib.Omega.{arith}
 use mathlib.Core.List.{List, [], ◌∷◌}
 use lib.ListN.{length, get_or, take, drop}
 use borrow.Author.Tests.{lt-ltb, le-ltb}
 use Rattle.laws.specs.Entries.{counted}
-use Rattle.listing.specs.Store.{Found, done, past, entry, descriptor, walk}
+use Rattle.listing.specs.Store.{done, past, entry, descriptor, walk}
 
 module _ (n : ℕ) where
   passing : (j : ℕ) (r : List ℕ) (left at : ℕ) → j ≤ length r → walk n r j left at ≡ walk n (drop j r) 0 left (at + j)

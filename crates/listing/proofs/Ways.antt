@@ -1,19 +1,18 @@
 -- One law for each way out of the two readers, and of what they put into the list.
 -- Assumes nothing.
-use mathlib.Core.Path.{◌≡◌, refl, sym, ap, ◌∙◌}
-use Prim.Native.Nat.{ℕ, zero, suc, ◌+◌, ◌*◌, ◌/◌, ◌≤◌, ◌<◌, ◌-◌}
+use mathlib.Core.Path.{◌≡◌, sym, ◌∙◌}
+use Prim.Native.Nat.{ℕ, ◌+◌, ◌*◌, ◌/◌, ◌≤◌, ◌<◌, ◌-◌}
 use native.Mathlib.Nat.{add-zero, add_assoc}
 use native.Mathlib.Omega.{arith}
-use mathlib.Core.List.{List, [], ◌∷◌}
+use mathlib.Core.List.{List}
 use lib.ListN.{length, get_or, take, drop, length-drop}
 use lib.Seq.{drop-drop, get_or-drop, get_or-take, length-take-le, paste}
 use borrow.Author.Tests.{lt-ltb, le-ltb}
 use Rattle.laws.specs.Entries.{counted}
 use Rattle.entry_words.specs.Words.{entry_words, descriptor_words}
 use Rattle.listing.specs.declared.Loop.{Loop}
-use Rattle.listing.specs.declared.Walked.{Walked}
 use Rattle.listing.specs.declared.Walked.TheVariants.{Done, Past}
-use Rattle.listing.specs.Store.{Found, done, past, entry, descriptor, found_from, put_in, put_all, words_of, end_of, listing}
+use Rattle.listing.specs.Store.{Found, done, past, found_from, put_in, put_all, words_of, end_of, listing}
 use Rattle.listing.proofs.Walk.{walk_end, walk_short, walk_past, walk_entry, walk_one, walk_over, walk_descriptor}
 
 module _ (of : Loop) (s : List ℕ) (at : ℕ) (list : List ℕ) (k : ℕ) where

@@ -1,6 +1,6 @@
 -- A loop of entries with descriptors (EN 300 468: events 5.2.4, services 5.2.3, transport streams 5.2.1 and 5.2.2; descriptors 6.1), for any length of an entry's
 -- header. A descriptor loop is a loop too: its headers are a tag and a count of 8 bits. No memory here: a loop is the list of its bytes.
-use Rattle.std.specs.Prelude.{◌≡◌, ℕ, zero, suc, ◌+◌, ◌<◌, List, [], ◌∷◌, ◌++◌, map, Bool, cond, length, take, drop, eqb}
+use Rattle.std.specs.Prelude.{◌≡◌, ℕ, zero, suc, ◌+◌, ◌<◌, List, [], ◌∷◌, ◌++◌, map, cond, length, take, drop, eqb}
 use Rattle.laws.specs.Entries.{counted_by}
 use Rattle.section.specs.Header.{byte_at}
 use Rattle.entry_words.specs.Words.{entry_words, descriptor_words}

@@ -1,8 +1,8 @@
 -- The loop's invariant: the first i words are written. Assumes nothing.
-use mathlib.Core.Path.{◌≡◌, refl}
+use mathlib.Core.Path.{◌≡◌}
 use Prim.Native.Nat.{◌≤◌, ◌-◌}
-use lib.ListN.{length, length-set}
-use lib.Seq.{paste, paste-zero}
+use lib.ListN.{length}
+use lib.Seq.{paste}
 use Rattle.listing.proofs.write.Given as goal
 
 abbrev pub invariant-loop-i : goal.invariant-loop-i
