@@ -60,19 +60,6 @@ def split_args(text):
 
 
 WORDS = {"well-formed": "well_formed", "type-inv": "type_inv", "good": "well_formed"}
-CRATES = "crates"
-
-
-def lent_to(fn):
-    """The parameters of a function that are lent by `&mut`, in order."""
-    crate, name = fn.split("::")[0], fn.split("::")[-1]
-    for folder, _, files in os.walk(os.path.join(CRATES, crate, "src")):
-        for f in files:
-            with open(os.path.join(folder, f), encoding="utf-8") as it:
-                m = re.search(rf"\bfn {re.escape(name)}\b(?:<[^>]*>)?\(([^{{]*?)\)\s*(?:->|\n)", it.read())
-            if m:
-                return re.findall(r"(\w+): &(?:'\w+ )?mut\b", m[1])
-    return None
 
 
 class Steps:
@@ -81,7 +68,7 @@ class Steps:
         for place, parent, (old, new), fn, _x in said["places"]:
             self.parent[place] = parent
             self.field[place] = (old, new)
-            self.call[place] = (said["params"].get(fn), lent_to(fn)) if fn else None
+            self.call[place] = (said["params"].get(fn),) if fn else None
         self.arm = {}
         for (place, *_), arm in zip(said["places"], said["arms"]):
             self.arm[place] = arm
@@ -116,7 +103,7 @@ class Steps:
         call = self.call.get(place)
         if not call or not rest or rest[0] not in ("new", "auto"):
             return rest
-        names = call[0] if rest[0] == "new" else call[1]
+        names = call[0]
         if not names:
             return rest
         digits = 0
@@ -180,8 +167,6 @@ FIELDS = {"ranges": "ranges"}
 
 
 def main(crate, names):
-    global CRATES
-    CRATES = os.path.dirname(os.path.abspath(crate))
     with open(names, encoding="utf-8") as f:
         said = json.load(f)
     name = os.path.basename(os.path.abspath(crate))

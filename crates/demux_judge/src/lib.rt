@@ -1,4 +1,6 @@
 // What a packet comes to before anything is written (docs/RULES.md, "Packets"): 10, 11, 37, then what its bytes, the watched PIDs and the words of the PIDs say.
+#![tactic(auto)]
+
 ghost use Rattle.std.specs.Prelude.{◌≡◌, length, max};
 ghost use Rattle.pats.specs.Store.{record_of};
 ghost use Rattle.demux_judge.specs.Verdicts.{record_whole, pat_count, lent_whole, whole_with, verdict_of, HasCount};

@@ -1,5 +1,7 @@
 // The gate with an index over its rows: a key is looked up, held and given up in a time that does not grow with the capacity. From an opened store
 // it answers and leaves rows as the gate without an index. What is small goes in by value and comes back in the answer.
+#![tactic(auto)]
+
 ghost use Rattle.std.specs.Prelude.{◌≡◌, length};
 ghost use Rattle.ring_index.specs.Store.{index_of};
 ghost use Rattle.gate_indexed.specs.Store.{begun_by, opened_by, indexed_of, left_by, offered_by};

@@ -1,6 +1,8 @@
 // The gate with a watch record of its input (docs/RULES.md, "Gate" and "Watched PIDs"): which sections are new and which repeat what was seen, counted;
 // and which PIDs to look at, by each changed PAT section or by complete PATs. What is small goes in by value and comes back in the answer; the rows of
 // the ring and the three slices of the record are lent.
+#![tactic(auto)]
+
 ghost use Rattle.std.specs.Prelude.{◌≡◌, length};
 ghost use Rattle.watched.specs.Store.{opening_by};
 ghost use Rattle.gate.specs.Store.{begun_by};

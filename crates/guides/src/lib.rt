@@ -1,6 +1,8 @@
 // Compares two guides (docs/RULES.md, "Compared guides"): two sets of sections, or two schedules, each as its sections by rising number in its own
 // lent bytes, its PID beside them. Says where they differ, and gives the bytes of a section that one side alone holds. Every call takes any bytes
 // and has one answer for them; a refusal leaves the lent list and words as they were.
+#![tactic(auto)]
+
 use laid::PidWord;
 use rows::Key;
 use section::ids::MaybePid;

@@ -1,5 +1,7 @@
 // A log checked against a section list (docs/RULES.md, "Logs"): whether it is exactly the log that the list gives, and where not, the first place and what
 // is wrong there.
+#![tactic(auto)]
+
 ghost use Rattle.std.specs.Prelude.{◌≡◌};
 ghost use Rattle.log_compare.specs.Compare.{passed, records_in};
 ghost use Rattle.log_list.specs.List.{WholeFrom};

@@ -1,5 +1,7 @@
 // The log of a section list written into the room for it (docs/RULES.md, "Logs"). A part of the writer: it has measured the log before, and what would find
 // no room is left out.
+#![tactic(auto)]
+
 ghost use Rattle.std.specs.Prelude.{◌≡◌, ◌≤◌, min, length};
 ghost use Rattle.log_list.specs.List.{WholeFrom};
 ghost use Rattle.log_state.specs.State.{lent};

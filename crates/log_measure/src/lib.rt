@@ -1,4 +1,6 @@
 // How long the log of a section list is (docs/RULES.md, "Logs"), as far as there is room for it. A part of the writer.
+#![tactic(auto)]
+
 ghost use Rattle.log_list.specs.List.{WholeFrom};
 ghost use Rattle.log_state.specs.State.{lent};
 ghost use Rattle.log_sections.specs.Steps.{memory};

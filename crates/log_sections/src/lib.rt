@@ -1,4 +1,6 @@
 // The sections of a list through a run of a log, one at a time (docs/RULES.md, "Logs"). A part of the checker and of the writer.
+#![tactic(auto)]
+
 ghost use Rattle.std.specs.Prelude.{◌<◌, length};
 ghost use Rattle.log_list.specs.List.{WholeFrom};
 ghost use Rattle.log_state.specs.State.{lent};

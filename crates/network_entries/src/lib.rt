@@ -1,5 +1,7 @@
 // The entries of a NIT, BAT or SDT section in which every loop ends where its length says, listed (docs/RULES.md, "Entries"). The section stands somewhere in lent bytes,
 // so that the place of an entry is one in them: the host reads a descriptor's bytes there.
+#![tactic(auto)]
+
 ghost use Rattle.std.specs.Prelude.{◌≡◌, ◌+◌, ◌-◌, ◌<◌, ◌≤◌, length, take, drop};
 ghost use Rattle.listing.specs.Store.{found_from, words_of};
 ghost use Rattle.rules_networks.specs.Networks.{nit_broken, sdt_broken, nit_entries, sdt_entries, fault_of, entries_of};

@@ -1,5 +1,7 @@
 // Why a section is none that a reader takes (docs/RULES.md, "Entries"): 35, a table_id that is none of the reader's, or 36, a loop that does not end where its length
 // says; told by its place, and 1, so that 0 is a section in which every loop ends there. A section is judged by itself, before anything of it is listed.
+#![tactic(auto)]
+
 ghost use Rattle.std.specs.Prelude.{◌≡◌, ◌+◌, ◌<◌, ◌≤◌, length, take};
 ghost use Rattle.section.specs.Header.{byte_at};
 ghost use Rattle.listing.specs.Store.{found_from};

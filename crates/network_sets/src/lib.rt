@@ -1,5 +1,7 @@
 // The entries of the sections of a row, one after another (docs/RULES.md, "Entries"). All sections are judged before anything is listed, so that 35 and 36 leave the list
 // as it was.
+#![tactic(auto)]
+
 ghost use Rattle.std.specs.Prelude.{◌≡◌, ◌+◌, ◌*◌, ◌≤◌, ◌<◌, length};
 ghost use Rattle.cells.specs.Cells.{cell_number};
 ghost use Rattle.network_entries.specs.Entries.{listed_from};

@@ -1,5 +1,7 @@
 // The slots that a reader (crate readers) is given, where the store is whole and every row in use has a PID: those of a set in use, of an EIT set in use, and of a
 // table of a schedule in use. None else. While they are lent the store can't change, so a host asks once for a whole set.
+#![tactic(auto)]
+
 ghost use Rattle.std.specs.Prelude.{◌≡◌, [], ◌+◌, ◌*◌, ◌≤◌, length};
 ghost use Rattle.store.specs.Store.{store};
 ghost use Rattle.eit_state.specs.State.{store as eit_store};
@@ -46,7 +48,7 @@ pub fn eit_slots<'a>(
     units: &[u32],
     row: usize,
 ) -> &'a [u32]
-    ensures { result.now ≡ eit_slots (eitStore eit heads.now slots.now cells.now schedule_heads.now units.now) row }
+    ensures { result.now ≡ eit_slots (eit_store eit heads.now slots.now cells.now schedule_heads.now units.now) row }
 {
     let held = eit.sets;
     if eit_state::is_whole(eit, heads, slots, cells, schedule_heads, units) {
@@ -83,7 +85,7 @@ pub fn table_slots<'a>(
     row: usize,
     table: usize,
 ) -> &'a [u32]
-    ensures { result.now ≡ table_slots (eitStore eit heads.now slots.now cells.now schedule_heads.now units.now) row table }
+    ensures { result.now ≡ table_slots (eit_store eit heads.now slots.now cells.now schedule_heads.now units.now) row table }
 {
     if eit_state::is_whole(eit, heads, slots, cells, schedule_heads, units) {
         if eit_pids::any_row_without_pid(eit, heads, schedule_heads) {

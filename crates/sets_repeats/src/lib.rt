@@ -1,5 +1,7 @@
 // Sections that the set collector has already, at the start of a list: each tells 4 and touches its row, so that no key changes, and a column of tags that is made
 // once finds the row of each. The first section that is anything else ends it. What is answered and left is that of pushing them one by one.
+#![tactic(auto)]
+
 ghost use Rattle.std.specs.Prelude.{◌≡◌, false, cond, ◌+◌, ◌*◌, ◌<◌, ◌≤◌, length};
 ghost use Rattle.without_pid.specs.Pids.{without_pid};
 ghost use Rattle.store.specs.Store.{store, Whole};

@@ -1,6 +1,8 @@
 // What an EIT section, a present/following set that was handed out, and a table of a schedule that was handed out say (docs/RULES.md, "Entries"; EN 300 468, 5.2.4):
 // every event and every descriptor, one entry of twelve words each, into a lent list. The list is a window: it shows entries from `skip` on as far as there is room,
 // and `count` says how many there are. Every call takes any content of what is lent and has one answer.
+#![tactic(auto)]
+
 ghost use Rattle.std.specs.Prelude.{◌≡◌, ◌+◌, ◌*◌, ◌<◌, ◌≤◌, length};
 ghost use Rattle.section.specs.Header.{byte_at};
 ghost use Rattle.eit_state.specs.State.{store};

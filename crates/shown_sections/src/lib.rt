@@ -1,5 +1,7 @@
 // The entries of an EIT section, and of the sections of a row one after another, listed (docs/RULES.md, "Entries"). A section stands somewhere in lent bytes, so that
 // the place of an entry is one in them: the host reads a descriptor's bytes there.
+#![tactic(auto)]
+
 ghost use Rattle.std.specs.Prelude.{◌≡◌, ◌+◌, ◌*◌, ◌≤◌, ◌<◌, length};
 ghost use Rattle.cells.specs.Cells.{kept_length, cell_number};
 ghost use Rattle.shown_sections.specs.Shown.{show_number, goes_on, nothing_shown, ended_at, told_by, reached_by, From, Kept, HeldSlot, HeldSlots};

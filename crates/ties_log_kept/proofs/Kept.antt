@@ -40,7 +40,7 @@ use Rattle.ties_sets.specs.View.{Reached as SetsReached}
 use Rattle.ties_sets.proofs.History.{tells_seen, acts_seen, acts_reached}
 use Rattle.rows.specs.declared.Origin.{Origin}
 use Rattle.ties_given.specs.Given.{AsRead, AsGiven}
-use Rattle.ties_given.proofs.Given.{goes-out-as-given}
+use Rattle.ties_given.proofs.Given.{goes_out_as_given}
 use Rattle.rules_logs.specs.Records.{Bytes, seen_record, failed_record}
 use Rattle.rules_logs.specs.Sections.{Given}
 use Rattle.rules_logs.specs.Verdict as records
@@ -83,7 +83,7 @@ module _ (g : Given) where
     told_noted done e = refl
     told_noted nothing e = refl
     told_noted (handed w) e =
-        let a = goes-out-as-given c g.input (maybe.Some g.pid) g.section w e in
+        let a = goes_out_as_given c g.input (maybe.Some g.pid) g.section w e in
         let n : ◌≡◌ {A = Origin} (record { input = g.input; pid = a.number }) (record { input = g.input; pid = g.pid }) = λ i. record { input = g.input; pid = sym (same_number a) i } in
         let r = subst (λ (x : Origin). AsRead x g.section w) n a.read in
         set_shows w a ∙ sym (append-nil (set_record_of g.input (maybe.Some g.pid) g.section))

@@ -13,10 +13,10 @@ settle-requires c = let a = c.args in
     let k = c.keep in
     let w = c.with_sets-then in
     let e = c.risen in
-    kept_may a.eit a.heads.now a.slots.now a.cells.now a.schedule_heads.now a.units.now a.bytes.now a.k c.requires w.result e.result k.new.heads k.new.slots w.ensures e.ensures k.auto.slots k.auto.cells
+    kept_may a.eit a.heads.now a.slots.now a.cells.now a.schedule_heads.now a.units.now a.bytes.now a.k c.requires w.result e.result k.new.heads k.new.slots w.ensures e.ensures k.auto.heads k.auto.slots
 
 pub shape_of-heads : goal.shape_of-heads
-shape_of-heads c = c.settle.auto.schedule_heads ∙ c.keep.auto.slots
+shape_of-heads c = c.settle.auto.heads ∙ c.keep.auto.heads
 
 pub returns : goal.returns
 returns c = let a = c.args in
