@@ -1,4 +1,6 @@
 // What a packet comes to before anything is written, where the gate's rows have an index (docs/RULES.md, "Packets").
+#![tactic(auto)]
+
 ghost use Rattle.std.specs.Prelude.{◌≡◌};
 ghost use Rattle.pats.specs.Store.{record_of};
 ghost use Rattle.demux_indexed_judge.specs.Verdicts.{verdict_by};

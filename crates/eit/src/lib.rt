@@ -2,6 +2,8 @@
 // The host keeps an `Eit` by value and lends five slices at every call: heads (12 words a set) and slots (288 words a set), cells,
 // schedule_heads (12 words a schedule) and units (16 * 288 words a schedule). Every call takes any content of them and has one answer; a
 // refusal leaves them as they were, but 22, which touches the key, and 23, which keeps the section.
+#![tactic(auto)]
+
 ghost use Rattle.std.specs.Prelude.{◌≡◌};
 ghost use Rattle.eit_state.specs.State.{store, asked};
 ghost use Rattle.eit.specs.Store.{turned, pushed, opened_of, cleared_of, dropped_of, pushed_of, next_of, next_in_of};

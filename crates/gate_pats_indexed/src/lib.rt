@@ -1,5 +1,7 @@
 // The gate with an index over its rows and a watch record of its input: as the gate with a record (crate gate_pats), and a key is looked up, held and
 // given up in a time that does not grow with the capacity.
+#![tactic(auto)]
+
 ghost use Rattle.std.specs.Prelude.{◌≡◌, length};
 ghost use Rattle.pats.specs.Store.{record_of};
 ghost use Rattle.ring_index.specs.Store.{index_of};

@@ -1,5 +1,7 @@
 // The log that a section list gives, written into a room (docs/RULES.md, "Logs"). The list is run twice: a log that is too long for the room must leave it as
 // it was, so it is measured first.
+#![tactic(auto)]
+
 ghost use Rattle.std.specs.Prelude.{◌≡◌};
 ghost use Rattle.log_list.specs.List.{WholeFrom, givens_from};
 ghost use Rattle.log_sections.specs.Steps.{memory};

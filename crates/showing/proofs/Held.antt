@@ -143,14 +143,14 @@ module _ (e : Eit) (heads slots cells schedule_heads units : List ℕ) (b : Bool
       table_present p y =
           let h = there p y in
           let a = and_true (ltb (last_of schedule_heads row - first_table (table_word schedule_heads row)) 16) (all_present units (row * 16) (table_count (key_at schedule_heads row).table_id (last_of schedule_heads row))) h.all_in in
-          present_get units (row * 16) (tables_of schedule_heads row) table a.1 h.table-in
+          present_get units (row * 16) (tables_of schedule_heads row) table a.1 h.table_in_lem
 
       pub table_whole : o ≡ table_out schedule_heads units e.schedules row table → o ≡ true → all_whole e.sets.count e.sets.size (unit_slots units (row * 16 + table)) ≡ true
       table_whole p y =
           let h = there p y in
           let count = e.sets.count in
           let size = e.sets.size in
-          let v = units_get units count size (row * 16) (tables_of schedule_heads row) table (schedules_get schedule_heads units count size e.schedules row (units_whole_lem all (sym q ∙ t)) h.row_in) h.table-in in
+          let v = units_get units count size (row * 16) (tables_of schedule_heads row) table (schedules_get schedule_heads units count size e.schedules row (units_whole_lem all (sym q ∙ t)) h.row_in) h.table_in_lem in
           unit_there units count size (row * 16 + table) v (table_present p y)
 
       pub table_held : (part : List ℕ) → o ≡ table_out schedule_heads units e.schedules row table → o ≡ true → part ≡ unit_slots units (row * 16 + table) → HeldSlots (length cells) e.sets.size part

@@ -128,8 +128,8 @@ told_number : (t : Told) → number t ≡ answer_no (answer_told t)
 unfolding answer_told
 told_number eit.done = refl
 told_number eit.nothing = refl
-told_number (eit.a-set x) = refl
-told_number (eit.a-schedule x) = refl
+told_number (eit.a_set x) = refl
+told_number (eit.a_schedule x) = refl
 told_number (eit.refused r) = refl
 
 pub tells_as : (l : Lent) (c : Call) → tells l c ≡ answer_no (ties.tells (store_in l) (call_of c))

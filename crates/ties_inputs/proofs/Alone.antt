@@ -333,11 +333,11 @@ module _ (m : Manner) (i : ℕ) where
           let f = on_card c t o (length os) (length os) alone (eqb-true o.input i q) b.0 k k' still in
           let g = ih (acts m t o) (below_after m t o (length os) k') f.left in
           let h = sym f.told_is in
-          let l = g.told-are in
+          let l = g.told_are in
           (λ j. h j ∷ l j, g.left)
       go false q ih =
           let g = ih t (below_kept (length os) t.counters k') (off_card c t o alone (eqb-false o.input i q) b.0 still) in
-          (g.told-are, g.left)
+          (g.told_are, g.left)
 
 none_yet : (n : ℕ) → n < 2 ^ 64 → Below n zeroes
 none_yet n h =
@@ -356,7 +356,7 @@ module _
 
     -- the answers to the offers on input i are those that a gate opened alike gives to these offers alone
     pub card_as_if_alone : answers_on i os (answers (card_tells m) (card_acts m) (empty_card protected) os) ≡ answers (tells m) (acts m) (empty_held (protected i)) (offers_on i os)
-    card_as_if_alone = served.told-are
+    card_as_if_alone = served.told_are
 
     -- the rows of input i are those that this gate has then
     pub rows_as_if_alone : (store_after (acts m) (empty_held (protected i)) (offers_on i os)).rows ≡ rows_on i (store_after (card_acts m) (empty_card protected) os).rows

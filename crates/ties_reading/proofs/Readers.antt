@@ -115,7 +115,7 @@ eit_reader s row {parts = parts} {last = last} r = go (eit_store.whole_of s) ref
 
 -- after an answer 5, in every history from an opening on
 pub eit_handed : (s : eit_store.Store) → Opened s → (calls : List Given) → EachFitting calls → (input : ℕ) (pid : MaybePid) (bytes : List ℕ) → ((i : ℕ) → get_or bytes i 0 < 256) → (h : eit.SetOut)
-    → (eit.pushed_of (store_after acts s calls) input pid bytes).told ≡ eit.a-set h
+    → (eit.pushed_of (store_after acts s calls) input pid bytes).told ≡ eit.a_set h
     → HandsOut (eit.pushed_of (store_after acts s calls) input pid bytes).store.eit.sets.size (eit_slots (eit.pushed_of (store_after acts s calls) input pid bytes).store h.row)
     (begun (eit.pushed_of (store_after acts s calls) input pid bytes).store.cells) h.sections
 eit_handed s o calls f input pid bytes b h e = eit_reader (eit.pushed_of (store_after acts s calls) input pid bytes).store h.row (of_eit.read_in_every_history s o calls f input pid bytes b h e)
@@ -154,7 +154,7 @@ pub record HandsSchedule (t : eit_store.Store) (g : eit.ScheduleOut) : Type 0 wh
   pub past : (j : ℕ) → length g.tables ≤ j → HandsOut t.eit.sets.size (table_slots t g.row j) (begun t.cells) []
 
 pub schedule_handed : (s : eit_store.Store) → Opened s → (calls : List Given) → EachFitting calls → (input : ℕ) (pid : MaybePid) (bytes : List ℕ) → ((i : ℕ) → get_or bytes i 0 < 256) → (g : eit.ScheduleOut)
-    → (eit.pushed_of (store_after acts s calls) input pid bytes).told ≡ eit.a-schedule g → HandsSchedule (eit.pushed_of (store_after acts s calls) input pid bytes).store g
+    → (eit.pushed_of (store_after acts s calls) input pid bytes).told ≡ eit.a_schedule g → HandsSchedule (eit.pushed_of (store_after acts s calls) input pid bytes).store g
 schedule_handed s o calls f input pid bytes b g e =
     let t : eit_store.Store = (eit.pushed_of (store_after acts s calls) input pid bytes).store in
     let r = of_schedules.read_in_every_history s o calls f input pid bytes b g e in

@@ -279,7 +279,7 @@ module _ (s : Store) (l : Left s) where
           let p = table_present s.eit s.heads s.slots s.cells s.schedule_heads s.units true (sym l.whole) refl row true table (sym e) refl in
           let w = table_whole s.eit s.heads s.slots s.cells s.schedule_heads s.units true (sym l.whole) refl row true table (sym e) refl in
           laid_answers skip (slots_show s.cells s.eit.sets.size (unit_slots s.units (row * 16 + table)) 0) list
-          (slots_good s.cells s.eit.sets.size s.eit.sets.count (unit_slots s.units (row * 16 + table)) 0 w (table_good row table t.row_in t.table-in (omega arith) p))
+          (slots_good s.cells s.eit.sets.size s.eit.sets.count (unit_slots s.units (row * 16 + table)) 0 w (table_good row table t.row_in t.table_in_lem (omega arith) p))
 
 -- a set, in every history
 pub never_set : (s : Store) → Opened s → (calls : List Given) → EachFitting calls → (row skip : ℕ) (list : List ℕ) → Neither (shown_set (store_after acts s calls) row skip list).0.answer
