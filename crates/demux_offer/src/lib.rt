@@ -1,4 +1,6 @@
 // A section of a packet, offered to the gate (docs/RULES.md, "Packets"): PIDs that leave the watch by it give their buffers back.
+#![tactic(auto)]
+
 ghost use Rattle.std.specs.Prelude.{◌≡◌, ◌≤◌, length, take};
 ghost use Rattle.streams.specs.Store.{left_of, given_back};
 ghost use Rattle.pats.specs.Store.{record_of};

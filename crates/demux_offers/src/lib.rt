@@ -1,5 +1,7 @@
 // The sections that a packet finished, offered to the gate one after another (docs/RULES.md, "Packets"): each place tells one, and is told the answer. After
 // each, PIDs that left the watch give their buffers back.
+#![tactic(auto)]
+
 ghost use Rattle.std.specs.Prelude.{◌≡◌};
 ghost use Rattle.pats.specs.Store.{record_of};
 ghost use Rattle.demux_turns.specs.Offers.{held_of, turned, offers_from, TurnOk, Turns};

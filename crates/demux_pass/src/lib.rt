@@ -1,5 +1,7 @@
 // Many packets at once (docs/RULES.md, "Packets"): those at the front that a feed would pass over one by one are counted by one call, which looks at the gate,
 // the record and the counters once. The next packet is for `demux::feed`.
+#![tactic(auto)]
+
 ghost use Rattle.std.specs.Prelude.{◌≡◌, ◌/◌, length};
 ghost use Rattle.pats.specs.Store.{record_of};
 ghost use Rattle.gate_pats.specs.Store.{kept_of};
