@@ -160,6 +160,8 @@ def turn_body(text, var, place, steps, words):
         return said
 
     out = pat.sub(one, text)
+    # Fields of the repository's own records.
+    out = re.sub(r"(?<!let )(?<=[{; \n])([a-z]\w*(?:-\w+)+)(?= = )", lambda m: m[1].replace("-", "_"), out)
     for v in dropped:
         out = re.sub(rf"let {re.escape(v)} = \S+\s+in\s*", "", out)
     return out
@@ -267,6 +269,25 @@ def turn(text, got, crate, part):
     needs, asked = got["needs"], got["asked_at"]
     loops = [a for a in args if a in by_name and re.search(r": tie\.(invariant|decreases|Inv|Measure)", by_name[a][1][0])]
     rest = [a for a in args if a not in loops]
+    if len(rest) > len(needs):
+        # What is not asked any more, and had the plain answer.
+        def plain_answer(a):
+            d = by_name.get(a)
+            return d and re.search(r"= (search rules|tt)\s*$", "\n".join(d[1]))
+
+        def need_of(a):
+            m = a in by_name and re.search(r": tie\.Need-(\S+)", by_name[a][1][0])
+            return alike(m[1]) if m else None
+
+        kept, k = [], 0
+        for a in rest:
+            if k < len(needs) and (need_of(a) == alike(needs[k][0]) or not plain_answer(a)):
+                kept.append(a)
+                k += 1
+            elif len(rest) - len(kept) <= len(needs) - k:
+                kept.append(a)
+                k += 1
+        rest = kept
     if len(rest) != len(needs):
         raise ValueError(f"{len(rest)} answers, {len(needs)} goals now: {[n[0] for n in needs]}")
     answers, inv, used = [], [], set()

@@ -30,8 +30,8 @@ set_told_of (set_told.refused r) = set_refusal r
 abbrev pub eit_told : eit.Told → ℕ
 eit_told eit.done = 10
 eit_told eit.nothing = 10
-eit_told (eit.a-set x) = 4
-eit_told (eit.a-schedule x) = 5
+eit_told (eit.a_set x) = 4
+eit_told (eit.a_schedule x) = 5
 eit_told (eit.refused r) = eit_refusal r
 
 -- ---- a section

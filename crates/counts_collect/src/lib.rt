@@ -37,7 +37,7 @@ fn push_set(
     pid: u16,
     section: &[u8],
 ) -> Sets
-    ensures { set_side (sets-memory.store result heads.new slots.new cells.new) tally.new ≡ set_counted (set_side (sets-memory.store sets heads.old slots.old cells.old) tally.old) pid section.now }
+    ensures { set_side (sets_memory.store result heads.new slots.new cells.new) tally.new ≡ set_counted (set_side (sets_memory.store sets heads.old slots.old cells.old) tally.old) pid section.now }
 {
     let pushed = sets::push(sets, heads, slots, cells, 0, MaybePid::Some(pid), section);
     let answer = pushed.answer;
@@ -57,7 +57,7 @@ fn push_eit(
     pid: u16,
     section: &[u8],
 ) -> Eit
-    ensures { eit_side (eit-memory.store result heads.new slots.new cells.new schedule_heads.new units.new) tally.new ≡ eit_counted (eit_side (eit-memory.store eit heads.old slots.old cells.old schedule_heads.old units.old) tally.old) pid section.now }
+    ensures { eit_side (eit_memory.store result heads.new slots.new cells.new schedule_heads.new units.new) tally.new ≡ eit_counted (eit_side (eit_memory.store eit heads.old slots.old cells.old schedule_heads.old units.old) tally.old) pid section.now }
 {
     let pushed = eit::push(
         eit,
@@ -90,7 +90,7 @@ pub fn collect(
     pid: u16,
     section: &[u8],
 ) -> Collectors
-    ensures { held (sets-memory.store result.sets heads.new slots.new cells.new) (eit-memory.store result.eit eit_heads.new eit_slots.new eit_cells.new schedule_heads.new units.new) tally.new ≡ collected (held (sets-memory.store c.sets heads.old slots.old cells.old) (eit-memory.store c.eit eit_heads.old eit_slots.old eit_cells.old schedule_heads.old units.old) tally.old) pid section.now }
+    ensures { held (sets_memory.store result.sets heads.new slots.new cells.new) (eit_memory.store result.eit eit_heads.new eit_slots.new eit_cells.new schedule_heads.new units.new) tally.new ≡ collected (held (sets_memory.store c.sets heads.old slots.old cells.old) (eit_memory.store c.eit eit_heads.old eit_slots.old eit_cells.old schedule_heads.old units.old) tally.old) pid section.now }
 {
     if is_eit(section) {
         let sets = c.sets;

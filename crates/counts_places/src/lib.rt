@@ -35,7 +35,7 @@ fn collect_at<'a>(
     buffers: &'a [u8],
 ) -> Collectors
     requires { k * 6 + 5 < length places.now }
-    ensures { held (sets-memory.store result.sets heads.new slots.new cells.new) (eit-memory.store result.eit eit_heads.new eit_slots.new eit_cells.new schedule_heads.new units.new) tally.new ≡ collected_at places.now packet.now buffers.now pid k (held (sets-memory.store c.sets heads.old slots.old cells.old) (eit-memory.store c.eit eit_heads.old eit_slots.old eit_cells.old schedule_heads.old units.old) tally.old) }
+    ensures { held (sets_memory.store result.sets heads.new slots.new cells.new) (eit_memory.store result.eit eit_heads.new eit_slots.new eit_cells.new schedule_heads.new units.new) tally.new ≡ collected_at places.now packet.now buffers.now pid k (held (sets_memory.store c.sets heads.old slots.old cells.old) (eit_memory.store c.eit eit_heads.old eit_slots.old eit_cells.old schedule_heads.old units.old) tally.old) }
 {
     if is_sound(places[k * 6]) {
         let place = demux_places::place_at(places, k);
@@ -76,7 +76,7 @@ pub fn collect_all<'a>(
     buffers: &'a [u8],
 ) -> Collectors
     requires { count * 6 ≤ length places.now }
-    ensures { held (sets-memory.store result.sets heads.new slots.new cells.new) (eit-memory.store result.eit eit_heads.new eit_slots.new eit_cells.new schedule_heads.new units.new) tally.new ≡ collected_from places.now packet.now buffers.now pid count 0 (held (sets-memory.store c.sets heads.old slots.old cells.old) (eit-memory.store c.eit eit_heads.old eit_slots.old eit_cells.old schedule_heads.old units.old) tally.old) }
+    ensures { held (sets_memory.store result.sets heads.new slots.new cells.new) (eit_memory.store result.eit eit_heads.new eit_slots.new eit_cells.new schedule_heads.new units.new) tally.new ≡ collected_from places.now packet.now buffers.now pid count 0 (held (sets_memory.store c.sets heads.old slots.old cells.old) (eit_memory.store c.eit eit_heads.old eit_slots.old eit_cells.old schedule_heads.old units.old) tally.old) }
 {
     let mut held = c;
     let mut k = 0;

@@ -1,5 +1,7 @@
 // The transport stream: packets in, the sections that they finish through the gate (docs/RULES.md, "Packets"). What is small goes in by value and comes back in
 // the answer; the rows of the gate, the watch record and the PID words and section buffers of an input are lent, and the places that tell of the sections.
+#![tactic(auto)]
+
 ghost use Rattle.std.specs.Prelude.{◌≡◌};
 ghost use Rattle.pats.specs.Store.{record_of};
 ghost use Rattle.gate_pats.specs.Store.{kept_of};

@@ -1,4 +1,6 @@
 // The sections that a packet finished, offered one after another to the gate with an index over its rows: as without an index (crate demux_offers).
+#![tactic(auto)]
+
 ghost use Rattle.std.specs.Prelude.{◌≡◌};
 ghost use Rattle.ring_index.specs.Store.{index_of};
 ghost use Rattle.pats.specs.Store.{record_of};

@@ -1,5 +1,7 @@
 // A section that a packet finished, offered to the gate with an index over its rows: as without an index (crate demux_offer). After it, PIDs that left the watch
 // give their buffers back.
+#![tactic(auto)]
+
 ghost use Rattle.std.specs.Prelude.{◌≡◌};
 ghost use Rattle.ring_index.specs.Store.{index_of};
 ghost use Rattle.streams.specs.Store.{left_of, given_back};

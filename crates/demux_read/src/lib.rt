@@ -1,4 +1,6 @@
 // A payload over slices that the caller has judged (docs/RULES.md, "Packets").
+#![tactic(auto)]
+
 ghost use Rattle.std.specs.Prelude.{◌≡◌};
 ghost use Rattle.pats.specs.Store.{record_of};
 ghost use Rattle.gate_pats.specs.Store.{kept_of};

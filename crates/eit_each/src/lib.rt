@@ -1,5 +1,7 @@
 // The sections of a list pushed to the EIT collector one after another, over a store that is known to be whole and to have PIDs alone (docs/RULES.md, "Collectors", and
 // "Logs" for a section list).
+#![tactic(auto)]
+
 ghost use Rattle.std.specs.Prelude.{◌≡◌, ◌+◌, ◌≤◌, length};
 ghost use Rattle.eit_state.specs.State.{store};
 ghost use Rattle.eit.specs.Store.{pushed};

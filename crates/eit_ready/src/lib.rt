@@ -1,5 +1,7 @@
 // A section is pushed to a store of the EIT collector that is known to be whole and to have PIDs alone (docs/RULES.md, "Collectors"): what `eit::push` does behind its
 // look at the store. So a call that pushes many sections looks at the store once.
+#![tactic(auto)]
+
 ghost use Rattle.std.specs.Prelude.{◌≡◌};
 ghost use Rattle.eit_state.specs.State.{store};
 ghost use Rattle.eit.specs.Store.{pushed, pushed_of};

@@ -1,5 +1,7 @@
 // The sections at the start of a list that are there already and only make their sets the newest, for a call over many sections (docs/RULES.md, "Collectors"): their
 // rows are found by a column of tags that is made once, and of the lent memory the heads alone are written. Answer and memory are those of pushing them one by one.
+#![tactic(auto)]
+
 ghost use Rattle.std.specs.Prelude.{◌≡◌, ◌+◌, ◌≤◌, ◌<◌, length};
 ghost use Rattle.arrivals.specs.Arrivals.{Numbered};
 ghost use Rattle.store.specs.Store.{Whole};

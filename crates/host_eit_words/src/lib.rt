@@ -1,5 +1,7 @@
 // The eight words of an EIT collector: 0 limit, 1 size, 2 count, 3 used, 4 evictions, 5 schedules, 6 schedule_evictions, 7 clock; the word of a
 // row that goes out; and the seven words of a filter: 0 pid, 1 kind, 2 service_id, 3 transport_stream_id, 4 original_network_id, 5 current_next, 6 input.
+#![tactic(auto)]
+
 ghost use Rattle.std.specs.Prelude.{◌≡◌};
 ghost use Rattle.host_words.specs.Answers.{words, pushes};
 ghost use Rattle.host_eit_words.specs.Words.{eit_of, words_of, words_opened, words_after, row_by, tells_opened, tells_pushed, tells_turned, wanted_of, wanted_pid_of, filter_of};

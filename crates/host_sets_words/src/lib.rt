@@ -1,4 +1,6 @@
 // The six words of a set collector: 0 limit, 1 size, 2 count, 3 used, 4 evictions, 5 clock; and the word of a row that goes out.
+#![tactic(auto)]
+
 ghost use Rattle.std.specs.Prelude.{◌≡◌};
 ghost use Rattle.host_words.specs.Answers.{words, pushes};
 ghost use Rattle.host_sets_words.specs.Words.{sets_of, words_of, words_opened, words_after, row_by, tells_opened, tells_pushed, tells_cleared};

@@ -1,6 +1,8 @@
 // What a NIT, BAT or SDT section and a set that was handed out say (docs/RULES.md, "Entries"; EN 300 468, 5.2.1 to 5.2.3): every transport stream or service and every
 // descriptor, one entry of twelve words each, into a lent list. The list is a window: it shows entries from `skip` on as far as there is room, and `count` says how many
 // there are. Every call takes any content of what is lent and has one answer; 10, 41, 35 and 36 leave the list as it was.
+#![tactic(auto)]
+
 ghost use Rattle.std.specs.Prelude.{◌≡◌, ◌≤◌, length};
 ghost use Rattle.rules_networks.specs.Networks.{fault_of};
 ghost use Rattle.store.specs.Store.{store};

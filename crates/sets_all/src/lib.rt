@@ -1,5 +1,7 @@
 // Many sections in one call (docs/RULES.md, "Collectors", and "Logs" for a section list): the list is judged and the store is looked at once, then one section
 // after another is pushed, until one answers something else than 4. Answer and memory are those of pushing them one by one.
+#![tactic(auto)]
+
 ghost use Rattle.std.specs.Prelude.{◌≡◌, ◌+◌, ◌≤◌, length, take, drop};
 ghost use Rattle.section.specs.declared.ids.MaybePid.TheVariants as maybe;
 ghost use Rattle.store.specs.Store.{store};

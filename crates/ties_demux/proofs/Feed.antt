@@ -515,9 +515,9 @@ module _ (c : Card) (i : ℕ) (packet : List ℕ) (st : AllStand c) (bytes : All
         go true e = by_buffer l q e
         go false e = not_watched l q
 
-    by_packet : SameCall (by_plan (plan_of (words_in k) count own.pids packet)) (by_packet (packet_of packet))
+    by_packet_lem : SameCall (by_plan (plan_of (words_in k) count own.pids packet)) (by_packet (packet_of packet))
     unfolding plan_of packet_plan planned_by packet_fed
-    by_packet = go (packet_of packet) refl
+    by_packet_lem = go (packet_of packet) refl
       where
         go : (x : Packet) → packet_of packet ≡ x → SameCall (by_plan (packet_plan (words_in k) count own.pids x)) (by_packet x)
         go read.Malformed e = only_counts 30 (malformed_counted own.streams) refl
@@ -540,5 +540,5 @@ module _ (c : Card) (i : ℕ) (packet : List ℕ) (st : AllStand c) (bytes : All
           → SameCall (judged_in s i packet (cond a (Refused CounterFull) (cond d (Goes (plan_of (words_in k) count own.pids packet)) (Refused BadInput))))
           (cond a (refused watched_on tells_on acts_on gate_near pats_near h 11) (cond d (by_packet (packet_of packet)) (refused watched_on tells_on acts_on gate_near pats_near h 37)))
       go true d e = refuses 11
-      go false true e = by_packet (spares g.counters own.streams (pat_count g.gate.follow (words_in k)) e)
+      go false true e = by_packet_lem (spares g.counters own.streams (pat_count g.gate.follow (words_in k)) e)
       go false false e = refuses 37

@@ -179,9 +179,9 @@ module _ (o : Settings) (cells : Cells) where
 -- ---- the cells that schedules name
 
 module _ (units : List ℕ) (c : ℕ) where
-  unit_names : (u : ℕ) → held_names (copy_takes c) (copy_seen units u) ≡ (is_present units u && some_names c (unit_slots units u))
+  unit_names_lem : (u : ℕ) → held_names (copy_takes c) (copy_seen units u) ≡ (is_present units u && some_names c (unit_slots units u))
   unfolding copy_seen copy_takes
-  unit_names u = go (is_present units u)
+  unit_names_lem u = go (is_present units u)
     where
       go : (b : Bool) → held_names (copy_takes c) (cond b (some (record { version = word_of units u 1; last = word_of units u 2; slots = held_slots (unit_slots units u) })) none)
           ≡ (b && some_names c (unit_slots units u))
@@ -229,7 +229,7 @@ module _ (units : List ℕ) (c : ℕ) where
     place_free k e j = go (dec_lt j (tables_of schedule_heads k))
       where
         go : Dec (j < tables_of schedule_heads k) → held_names (copy_takes c) (place_seen schedule_heads units k j) ≡ false
-        go (yes h) = rw (place_in schedule_heads units k j h) (unit_names (k * 16 + j) ∙ taken_get (k * 16) (tables_of schedule_heads k) j e h)
+        go (yes h) = rw (place_in schedule_heads units k j h) (unit_names_lem (k * 16 + j) ∙ taken_get (k * 16) (tables_of schedule_heads k) j e h)
         go (no h) = rw (place_past schedule_heads units k j (omega arith))
 
 same_fails : (p q : Bool) → (p ≡ false → q ≡ false) → (q ≡ false → p ≡ false) → p ≡ q
@@ -245,7 +245,7 @@ schedules_taken schedule_heads units used clock c w =
     same_fails _ (taken_in_schedules schedule_heads units used c)
     (λ t. named_all units c schedule_heads used (λ k h. taken_all units c (k * 16) (tables_of schedule_heads k) (λ j m.
     let few = tables_few schedule_heads k in
-    sym (unit_names units c (k * 16 + j)) ∙ ap (held_names (copy_takes c)) (sym (place_in schedule_heads units k j m))
+    sym (unit_names_lem units c (k * 16 + j)) ∙ ap (held_names (copy_takes c)) (sym (place_in schedule_heads units k j m))
     ∙ places_none (copy_takes c) (place_seen schedule_heads units k) 16 0 (none_order (tick_of schedule_heads) used clock w _ (schedule_takes c) k t h) j (omega arith) (omega arith))))
     (λ t. order_none (tick_of schedule_heads) used clock w _ (schedule_takes c) (λ k h.
     none_places (copy_takes c) (place_seen schedule_heads units k) 16 0 (λ j a b. place_free units c schedule_heads k (named_get units c schedule_heads used k t h) j)))

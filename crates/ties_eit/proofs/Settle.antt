@@ -190,9 +190,9 @@ module _ (s : Store) (z : Reached s) (f : Whole s)
   abbrev left_shown : Bool → Shown
   left_shown b = record { settings = (seen s).settings; eit = set_newest k (row_left b) beside; cells = cells_there; clock = suc (seen s).clock }
 
-  left_shown : (b : Bool) → seen (left_store b) ≡ left_shown b
+  left_shown_lem : (b : Bool) → seen (left_store b) ≡ left_shown b
   unfolding seen rest set_aside set_newest
-  left_shown b =
+  left_shown_lem b =
       let q = left_sets b in
       let p = left_schedules in
       let n = add-one s.eit.sets.clock in
@@ -283,7 +283,7 @@ module _ (s : Store) (z : Reached s) (f : Whole s)
     others_found : (q : SetKey) → same_set q k ≡ false → find same_set q beside.sets.rows ≡ find same_set q (seen (left_store true)).eit.sets.rows
     unfolding set_newest
     others_found q e =
-        sym (ap (λ (o : TouchOrder SetKey (SetOf Held)). find same_set q o.rows) (ap (λ (t : Shown). t.eit.sets) (left_shown true)) ∙ find_newest q k (marked row_there) beside.sets e)
+        sym (ap (λ (o : TouchOrder SetKey (SetOf Held)). find same_set q o.rows) (ap (λ (t : Shown). t.eit.sets) (left_shown_lem true)) ∙ find_newest q k (marked row_there) beside.sets e)
 
     entering_tied : Tied (after_settled (entered (rows_of (left_store true)) a i) cells₁)
         (turn_of first (seen (left_store true)) (copy_of (row_seen (left_heads true) slots₁ i)))
@@ -297,7 +297,7 @@ module _ (s : Store) (z : Reached s) (f : Whole s)
     enters_tied : Tied (after_settled (entered (rows_of (left_store true)) a i) cells₁)
         (turn_of first (left_shown true) (copy_of row_there))
     enters_tied =
-        let p = left_shown true in
+        let p = left_shown_lem true in
         let q = copy_marked in
         subst (Tied (after_settled (entered (rows_of (left_store true)) a i) cells₁)) (λ t. turn_of first (p t) (q t)) entering_tied
 
@@ -328,7 +328,7 @@ module _ (s : Store) (z : Reached s) (f : Whole s)
           → Tied (settled_by (cond b becomes.OutOfRange becomes.Enters)) (shows (risen (seen s)) cells_there (ranged s.eit.sets.limit beside k row_there first (leb table a.tables)
           (enter (table - first) (copy_of row_there) (begin beside.sets.rows l first a.tables (find same_schedule l beside.schedules.rows)))))
       fits first in_kind true q =
-          rw (lt-leb table a.tables (ltb-true a.tables table q)) (record { told = refl; shown = left_shown false; reached = left_reached false })
+          rw (lt-leb table a.tables (ltb-true a.tables table q)) (record { told = refl; shown = left_shown_lem false; reached = left_reached false })
       fits first in_kind false q =
           let m = ltb-false a.tables table q in
           rw (le-leb table a.tables m) (enters_tied first in_kind m)
@@ -337,7 +337,7 @@ module _ (s : Store) (z : Reached s) (f : Whole s)
           (shows (risen (seen s)) cells_there (ready s.eit.sets.limit beside k a.tables row_there (first_of kind)))
       go (present e lt) =
           let n = arr.number in
-          rw (e, lt-ltb a.kind 2 (omega arith)) (record { told = set_out; shown = left_shown true; reached = left_reached true })
+          rw (e, lt-ltb a.kind 2 (omega arith)) (record { told = set_out; shown = left_shown_lem true; reached = left_reached true })
       go (scheduled first in_kind) =
           let n = arr.number in
           let m = in_kind.number in
@@ -351,10 +351,10 @@ module _ (s : Store) (z : Reached s) (f : Whole s)
       go : (m c : Bool) → Tied (settled_by (cond (m && c) (cond (ltb a.kind 2) becomes.GoesOut (cond (ltb a.tables table) becomes.OutOfRange becomes.Enters)) becomes.Stays))
           (shows (risen (seen s)) cells_there (judged s.eit.sets.limit beside k a.tables row_there (not m) c))
       go true true = ready_tied
-      go true false = record { told = refl; shown = left_shown false; reached = left_reached false }
-      go false c = record { told = refl; shown = left_shown false; reached = left_reached false }
+      go true false = record { told = refl; shown = left_shown_lem false; reached = left_reached false }
+      go false c = record { told = refl; shown = left_shown_lem false; reached = left_reached false }
 
   pub conflict_tied : Tied (after (eit.refused refusal.Conflict) (store eit₁ newer slots₁ cells₁ s.schedule_heads s.units))
       (shows (risen (seen s)) cells_there (gives (refused refusal.Conflict) (set_newest k row_there beside)))
   unfolding shows answer_told on_answer
-  conflict_tied = record { told = refl; shown = left_shown false; reached = left_reached false }
+  conflict_tied = record { told = refl; shown = left_shown_lem false; reached = left_reached false }
