@@ -131,7 +131,7 @@ def turn_body(text, var, place, steps, words):
         at, below = names[head]
         p, f = steps.path(at, [*below, *fields])
         # Names of the source keep their spelling.
-        f = [*f[:1], *[x if re.match(r"(long|known|in|if|loop)-", x) else x.replace("-", "_") for x in f[1:]]]
+        f = [*f[:1], *[x if re.match(r"(long|known|in|if|loop|field)-", x) else x.replace("-", "_") for x in f[1:]]]
         text = ".".join([var, *f])
         # Where the code tests `!x`, today's fact is of x itself.
         if len(f) == 2 and f[0].startswith("if-not-") and f[1] in ("true", "false"):

@@ -1,4 +1,6 @@
 // Many packets at once through the gate with an index over its rows (docs/RULES.md, "Packets"): as without an index (crate demux_pass).
+#![tactic(auto)]
+
 ghost use Rattle.std.specs.Prelude.{◌≡◌, ◌/◌, length};
 ghost use Rattle.pats.specs.Store.{record_of};
 ghost use Rattle.ring_index.specs.Store.{index_of};

@@ -1,5 +1,7 @@
 // Many sections in one call of the EIT collector (docs/RULES.md, "Collectors", and "Logs" for a section list): the list is judged and the store is looked at once, then
 // one section after another is pushed, until one answers something else than 4. Answer and memory are those of pushing them one by one.
+#![tactic(auto)]
+
 ghost use Rattle.std.specs.Prelude.{◌≡◌};
 ghost use Rattle.eit_state.specs.State.{store};
 ghost use Rattle.log_list.specs.List.{givens_from, WholeFrom};
