@@ -1,5 +1,7 @@
 // The transport stream through the gate with an index over its rows (docs/RULES.md, "Packets"): as without an index (crate demux), and a section's key is
 // looked up, held and given up in a time that does not grow with the capacity.
+#![tactic(auto)]
+
 ghost use Rattle.std.specs.Prelude.{◌≡◌};
 ghost use Rattle.pats.specs.Store.{record_of};
 ghost use Rattle.ring_index.specs.Store.{index_of};

@@ -1,4 +1,6 @@
 // A packet that is counted, over slices that the caller has judged, where the gate's rows have an index.
+#![tactic(auto)]
+
 ghost use Rattle.std.specs.Prelude.{◌≡◌};
 ghost use Rattle.pats.specs.Store.{record_of};
 ghost use Rattle.ring_index.specs.Store.{index_of};

@@ -1,5 +1,7 @@
 // The transport stream for a host in another language, which keeps a gate and the streams of each input as plain words: what the words hold is taken apart, the one call
 // is made, and what it leaves is written back. Every content of the words has one answer.
+#![tactic(auto)]
+
 ghost use Rattle.std.specs.Prelude.{◌≡◌};
 ghost use Rattle.pats.specs.Store.{record_of};
 ghost use Rattle.host_feed.specs.Calls.{left, packet_fed};

@@ -49,8 +49,8 @@ use Rattle.ties_gate_pats.proofs.Order.{OpenedWith, end_shown, follows_with, sam
 -- what an offer comes to
 pub data Comes (m : Manner) (h : Held) (o : Offer) : Said → Type 0 where
   full : any_full h.counters ≡ true → Comes m h o (plain 11)
-  bad-pid : Comes m h o (plain 12)
-  bad-input : Comes m h o (plain 37)
+  bad_pid : Comes m h o (plain 12)
+  bad_input_lem : Comes m h o (plain 37)
   failed : (f : Failure) → Comes m h o (failure_said f)
   sound : (p : Parts) → any_full h.counters ≡ false → o.pid < 8192 → o.input < 16 → judged_of (rule_of m.rule) o.section ≡ judged.Sound p
       → (emits : Bool) → told m h o ≡ admitted m h (row_from (arrival_of (origin_of o.input o.pid) p)) o.section → Comes m h o (plain (cond emits 1 2))
@@ -67,30 +67,30 @@ module _ (m : Manner) (h : Held) (o : Offer) where
       go : (f p i : Bool) (j : Judged) → any_full h.counters ≡ f → ltb o.pid 8192 ≡ p → ltb o.input 16 ≡ i → judged_of (rule_of m.rule) o.section ≡ j
           → Comes m h o (carried_in m h o.section (verdict f p i j)).answer
       go true p i j a b c d = full a
-      go false false i j a b c d = bad-pid
-      go false true false j a b c d = bad-input
+      go false false i j a b c d = bad_pid
+      go false true false j a b c d = bad_input_lem
       go false true true judged.Short a b c d = failed (TooShort (length o.section))
       go false true true (judged.Mismatch x y) a b c d = failed (Mismatch x y)
       go false true true (judged.Sound q) a b c d =
           sound q a (ltb-true o.pid 8192 b) (ltb-true o.input 16 c) d (changed (row_from (arrival_of (origin_of o.input o.pid) q)) h.rows || m.repeats) (rw (a, b, c, d))
 
-  not-ten : (a : Said) → Comes m h o a → a ≢ plain 10
-  not-ten a (full f) e = let z : ◌≡◌ {A = ℕ} 11 10 = cc in omega arith
-  not-ten a bad-pid e = let z : ◌≡◌ {A = ℕ} 12 10 = cc in omega arith
-  not-ten a bad-input e = let z : ◌≡◌ {A = ℕ} 37 10 = cc in omega arith
-  not-ten a (failed (TooShort n)) e = let z : ◌≡◌ {A = ℕ} 0 1 = cc in omega arith
-  not-ten a (failed (Mismatch x y)) e = let z : ◌≡◌ {A = ℕ} 0 1 = cc in omega arith
-  not-ten a (sound p f i j d true t) e = let z : ◌≡◌ {A = ℕ} 1 10 = cc in omega arith
-  not-ten a (sound p f i j d false t) e = let z : ◌≡◌ {A = ℕ} 2 10 = cc in omega arith
+  not_ten : (a : Said) → Comes m h o a → a ≢ plain 10
+  not_ten a (full f) e = let z : ◌≡◌ {A = ℕ} 11 10 = cc in omega arith
+  not_ten a bad_pid e = let z : ◌≡◌ {A = ℕ} 12 10 = cc in omega arith
+  not_ten a bad_input_lem e = let z : ◌≡◌ {A = ℕ} 37 10 = cc in omega arith
+  not_ten a (failed (TooShort n)) e = let z : ◌≡◌ {A = ℕ} 0 1 = cc in omega arith
+  not_ten a (failed (Mismatch x y)) e = let z : ◌≡◌ {A = ℕ} 0 1 = cc in omega arith
+  not_ten a (sound p f i j d true t) e = let z : ◌≡◌ {A = ℕ} 1 10 = cc in omega arith
+  not_ten a (sound p f i j d false t) e = let z : ◌≡◌ {A = ℕ} 2 10 = cc in omega arith
 
-  only-full : (a : Said) → Comes m h o a → a ≡ plain 11 → any_full h.counters ≡ true
-  only-full a (full f) e = f
-  only-full a bad-pid e = let z : ◌≡◌ {A = ℕ} 12 11 = cc in absurd (omega arith)
-  only-full a bad-input e = let z : ◌≡◌ {A = ℕ} 37 11 = cc in absurd (omega arith)
-  only-full a (failed (TooShort n)) e = let z : ◌≡◌ {A = ℕ} 0 1 = cc in absurd (omega arith)
-  only-full a (failed (Mismatch x y)) e = let z : ◌≡◌ {A = ℕ} 0 1 = cc in absurd (omega arith)
-  only-full a (sound p f i j d true t) e = let z : ◌≡◌ {A = ℕ} 1 11 = cc in absurd (omega arith)
-  only-full a (sound p f i j d false t) e = let z : ◌≡◌ {A = ℕ} 2 11 = cc in absurd (omega arith)
+  only_full : (a : Said) → Comes m h o a → a ≡ plain 11 → any_full h.counters ≡ true
+  only_full a (full f) e = f
+  only_full a bad_pid e = let z : ◌≡◌ {A = ℕ} 12 11 = cc in absurd (omega arith)
+  only_full a bad_input_lem e = let z : ◌≡◌ {A = ℕ} 37 11 = cc in absurd (omega arith)
+  only_full a (failed (TooShort n)) e = let z : ◌≡◌ {A = ℕ} 0 1 = cc in absurd (omega arith)
+  only_full a (failed (Mismatch x y)) e = let z : ◌≡◌ {A = ℕ} 0 1 = cc in absurd (omega arith)
+  only_full a (sound p f i j d true t) e = let z : ◌≡◌ {A = ℕ} 1 11 = cc in absurd (omega arith)
+  only_full a (sound p f i j d false t) e = let z : ◌≡◌ {A = ℕ} 2 11 = cc in absurd (omega arith)
 
   -- what is so of a section that is answered 1 or 2
   pub record Sounds : Type 0 where
@@ -101,16 +101,16 @@ module _ (m : Manner) (h : Held) (o : Offer) where
     pub sound : judged_of (rule_of m.rule) o.section ≡ judged.Sound parts
     pub told : told m h o ≡ admitted m h (row_from (arrival_of (origin_of o.input o.pid) parts)) o.section
 
-  sounds-by : (a : Said) → Comes m h o a → sound_by a ≡ true → Sounds
-  sounds-by a (full f) e = absurd (true≢false (sym e))
-  sounds-by a bad-pid e = absurd (true≢false (sym e))
-  sounds-by a bad-input e = absurd (true≢false (sym e))
-  sounds-by a (failed (TooShort n)) e = absurd (true≢false (sym e))
-  sounds-by a (failed (Mismatch x y)) e = absurd (true≢false (sym e))
-  sounds-by a (sound p f i j d b t) e = record { counts = f; pid = i; input = j; parts = p; sound = d; told = t }
+  sounds_by : (a : Said) → Comes m h o a → sound_by a ≡ true → Sounds
+  sounds_by a (full f) e = absurd (true≢false (sym e))
+  sounds_by a bad_pid e = absurd (true≢false (sym e))
+  sounds_by a bad_input_lem e = absurd (true≢false (sym e))
+  sounds_by a (failed (TooShort n)) e = absurd (true≢false (sym e))
+  sounds_by a (failed (Mismatch x y)) e = absurd (true≢false (sym e))
+  sounds_by a (sound p f i j d b t) e = record { counts = f; pid = i; input = j; parts = p; sound = d; told = t }
 
   pub sounds : sound_by (told m h o).answer ≡ true → Sounds
-  sounds = sounds-by (told m h o).answer comes
+  sounds = sounds_by (told m h o).answer comes
 
 -- ---- a PAT among them
 
@@ -120,8 +120,8 @@ pub record Titled (s : List ℕ) : Type 0 where
   pub bytes : 12 ≤ length s
   pub table : table_id_of s ≡ 0
 
-pub readable-headed : (s : List ℕ) → readable s ≡ true → Titled s
-readable-headed s r =
+pub readable_headed : (s : List ℕ) → readable s ≡ true → Titled s
+readable_headed s r =
     let c = and_true (leb 12 (length s)) _ r in
     let d = and_true (eqb (byte_at s 0) 0 && long_form s && eqb (length s) (3 + section_length s)) _ c.1 in
     let f = and_true (eqb (byte_at s 0) 0 && long_form s) (eqb (length s) (3 + section_length s)) d.0 in
@@ -131,7 +131,7 @@ readable-headed s r =
 -- where it is sound its CRC is the one of its bytes, and its row has its version
 module _ (rule : ChangeRule) (s : List ℕ) (r : readable s ≡ true) (p : Parts) (e : judged_of rule s ≡ judged.Sound p) where
   z : Titled s
-  z = readable-headed s r
+  z = readable_headed s r
 
   form : form_of s ≡ Headed
   unfolding form_of
@@ -147,9 +147,9 @@ module _ (rule : ChangeRule) (s : List ℕ) (r : readable s ≡ true) (p : Parts
       go true q h = sym (eqb-true (stored_crc s) (worked_crc s) q)
       go false q h = let y : ◌≡◌ {A = ℕ} 0 1 = cc in absurd (omega arith)
 
-  pub sound-parts : p ≡ headed_parts s (stored_crc s)
+  pub sound_parts : p ≡ headed_parts s (stored_crc s)
   unfolding parts_of change_of
-  sound-parts = judged_parts rule s p e ∙ ap (parts_of rule s) form
+  sound_parts = judged_parts rule s p e ∙ ap (parts_of rule s) form
 
 -- ---- the rules of the gate with a record
 
@@ -161,22 +161,22 @@ module _ (f : Follow) (m : Manner) (h : Holding) (o : Offer) where
     where
       go : (b : Bool) → (cond b (record { answer = plain 11; holding = h }) (behind f h o (told m h.held o))).answer ≢ plain 10
       go true e = let y : ◌≡◌ {A = ℕ} 11 10 = cc in omega arith
-      go false e = not-ten m h.held o _ (comes m h.held o) e
+      go false e = not_ten m h.held o _ (comes m h.held o) e
 
   -- 11 only at the end of a count
-  pub eleven-at-end : tells_with f m h o ≡ plain 11 → (any_full h.held.counters ≡ true) ⊎ ((by_tables f && at_end h.pats) ≡ true)
+  pub eleven_at_end : tells_with f m h o ≡ plain 11 → (any_full h.held.counters ≡ true) ⊎ ((by_tables f && at_end h.pats) ≡ true)
   unfolding tells_with told_with
-  eleven-at-end = go (by_tables f && at_end h.pats) refl
+  eleven_at_end = go (by_tables f && at_end h.pats) refl
     where
       go : (b : Bool) → (by_tables f && at_end h.pats) ≡ b → (cond b (record { answer = plain 11; holding = h }) (behind f h o (told m h.held o))).answer ≡ plain 11
           → (any_full h.held.counters ≡ true) ⊎ ((by_tables f && at_end h.pats) ≡ true)
       go true q e = inr q
-      go false q e = inl (only-full m h.held o _ (comes m h.held o) e)
+      go false q e = inl (only_full m h.held o _ (comes m h.held o) e)
 
   -- 1 and 2 are the gate's, where the PAT store can count
-  pub sound-with : sound_by (tells_with f m h o) ≡ true → ((by_tables f && at_end h.pats) ≡ false) × (sound_by (told m h.held o).answer ≡ true)
+  pub sound_with : sound_by (tells_with f m h o) ≡ true → ((by_tables f && at_end h.pats) ≡ false) × (sound_by (told m h.held o).answer ≡ true)
   unfolding tells_with told_with
-  sound-with = go (by_tables f && at_end h.pats) refl
+  sound_with = go (by_tables f && at_end h.pats) refl
     where
       go : (b : Bool) → (by_tables f && at_end h.pats) ≡ b → sound_by (cond b (record { answer = plain 11; holding = h }) (behind f h o (told m h.held o))).answer ≡ true
           → ((by_tables f && at_end h.pats) ≡ false) × (sound_by (told m h.held o).answer ≡ true)
@@ -190,12 +190,12 @@ module _ (s : Kept) (o : Offer) (k : OpenedWith s) (b : Bytes o.section) where
   unfolding kept_tells tells_with
   told_same = ap (λ (x : ToldWith). x.answer) (follows_with s o k b).same
 
-  pub kept-sounds : sound_by (kept_tells s o) ≡ true → Sounds (manner_of s.gate) (holding s).held o
-  kept-sounds e =
-      sounds (manner_of s.gate) (holding s).held o (sound-with s.gate.follow (manner_of s.gate) (holding s) o (sym (ap sound_by told_same) ∙ e)).1
+  pub kept_sounds : sound_by (kept_tells s o) ≡ true → Sounds (manner_of s.gate) (holding s).held o
+  kept_sounds e =
+      sounds (manner_of s.gate) (holding s).held o (sound_with s.gate.follow (manner_of s.gate) (holding s) o (sym (ap sound_by told_same) ∙ e)).1
 
-  pub only-11 : kept_tells s o ≡ plain 11 → (any_full s.counters ≡ true) ⊎ ((by_tables s.gate.follow ≡ true) × (pats_full s.watch.words ≡ true))
-  only-11 e = go (eleven-at-end s.gate.follow (manner_of s.gate) (holding s) o (sym told_same ∙ e))
+  pub only_11 : kept_tells s o ≡ plain 11 → (any_full s.counters ≡ true) ⊎ ((by_tables s.gate.follow ≡ true) × (pats_full s.watch.words ≡ true))
+  only_11 e = go (eleven_at_end s.gate.follow (manner_of s.gate) (holding s) o (sym told_same ∙ e))
     where
       go : (any_full s.counters ≡ true) ⊎ ((by_tables s.gate.follow && at_end (pats_of s)) ≡ true)
           → (any_full s.counters ≡ true) ⊎ ((by_tables s.gate.follow ≡ true) × (pats_full s.watch.words ≡ true))

@@ -45,7 +45,7 @@ use Rattle.sets.proofs.Stays.{whole_stays}
 use Rattle.ties_sets.specs.View.{seen, reads_as, answer_told, Standing}
 use Rattle.ties_sets.proofs.Settle.{Tied}
 use Rattle.ties_sets.proofs.Calls.{whole_seen, ended_seen, judged_tied}
-use Rattle.ties_given.proofs.Given.{goes-out-as-read}
+use Rattle.ties_given.proofs.Given.{goes_out_as_read}
 use Rattle.rules_logs.specs.Records.{Bytes, seen_record}
 use Rattle.rules_logs.specs.Sections.{Given}
 use Rattle.rules_log_run.specs.Run as rules
@@ -129,8 +129,8 @@ module _ (s : Store) (f : WholeStore s) (bytes : Bytes) where
   unfolding rules.set_records answer_told gathered_of
   told_same pids input pid done e = refl
   told_same pids input pid nothing e = refl
-  told_same true input pid (handed w) e = line_given bytes w (from_for true input pid) (goes-out-as-read bytes w s f (from_for true input pid) e)
-  told_same false input pid (handed w) e = line_bare bytes w (from_for false input pid) (goes-out-as-read bytes w s f (from_for false input pid) e)
+  told_same true input pid (handed w) e = line_given bytes w (from_for true input pid) (goes_out_as_read bytes w s f (from_for true input pid) e)
+  told_same false input pid (handed w) e = line_bare bytes w (from_for false input pid) (goes_out_as_read bytes w s f (from_for false input pid) e)
   told_same pids input pid (refused r) e = refl
 
 -- ---- a section that arrived
