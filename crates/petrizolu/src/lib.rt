@@ -171,7 +171,7 @@ pub extern "C" fn petrizolu_streams_open(
     pids: &mut [u64],
     buffers: &[u8],
 ) -> u8
-    ensures { streamCalls.begun result streams.new pids.new ≡ streamCalls.streams_opened streams.old count pids.old buffers.now }
+    ensures { stream_calls.begun result streams.new pids.new ≡ stream_calls.streams_opened streams.old count pids.old buffers.now }
 {
     host_streams::open(streams, count, pids, buffers)
 }
@@ -244,7 +244,7 @@ pub extern "C" fn petrizolu_indexed_feed(
     places: &mut [u64],
     finished: &mut [u64; 1],
 ) -> u8
-    ensures { indexedPackets.left result gate.new streams.new keys.new changes.new buckets.new links.new (record_of watch.new pat_slots.new pat_cells.new) pids.new buffers.new places.new finished.new ≡ indexedPackets.packet_fed gate.old streams.old keys.old changes.old buckets.old links.old (record_of watch.old pat_slots.old pat_cells.old) pids.old buffers.old input packet.now places.old finished.old }
+    ensures { indexed_packets.left result gate.new streams.new keys.new changes.new buckets.new links.new (record_of watch.new pat_slots.new pat_cells.new) pids.new buffers.new places.new finished.new ≡ indexed_packets.packet_fed gate.old streams.old keys.old changes.old buckets.old links.old (record_of watch.old pat_slots.old pat_cells.old) pids.old buffers.old input packet.now places.old finished.old }
 {
     host_feed_indexed::feed(
         gate, streams, keys, changes, buckets, links, watch, pat_slots, pat_cells, pids, buffers,
@@ -270,7 +270,7 @@ pub extern "C" fn petrizolu_indexed_pass(
     packets: &[u8],
     places: &[u64],
 ) -> u64
-    ensures { passes.left result streams.new pids.new ≡ indexedPasses.packets_passed gate.now streams.old keys.now changes.now buckets.now links.now (record_of watch.now pat_slots.now pat_cells.now) pids.old buffers.now input packets.now places.now }
+    ensures { passes.left result streams.new pids.new ≡ indexed_passes.packets_passed gate.now streams.old keys.now changes.now buckets.now links.now (record_of watch.now pat_slots.now pat_cells.now) pids.old buffers.now input packets.now places.now }
 {
     host_pass_indexed::pass(
         gate, streams, keys, changes, buckets, links, watch, pat_slots, pat_cells, pids, buffers,
@@ -428,7 +428,7 @@ pub extern "C" fn petrizolu_eit_push_all(
     row: &mut [u64; 1],
     taken: &mut [u64; 1],
 ) -> u8
-    ensures { eitAllLeft (eit_left result eit.new heads.new slots.new cells.new schedule_heads.new units.new row.new) taken.new ≡ eit_pushed_all eit.old heads.old slots.old cells.old schedule_heads.old units.old list.now row.old }
+    ensures { eit_all_left (eit_left result eit.new heads.new slots.new cells.new schedule_heads.new units.new row.new) taken.new ≡ eit_pushed_all eit.old heads.old slots.old cells.old schedule_heads.old units.old list.now row.old }
 {
     host_eit_all::push_all(
         eit,
