@@ -223,6 +223,10 @@ def name_of(item):
 
 
 def turn(text, got, crate, part):
+    text = re.sub(r"\.«([^»]*)»", r".\1", text)
+    # A module's other name, as the `use` line has it.
+    for alias in re.findall(r"(?m)^(?:pub |unfoldable )*use \S+ as (\w*_\w*)$", text):
+        text = re.sub(rf"(?<![\w-]){re.escape(alias.replace('_', '-'))}(?=\.)", alias, text)
     steps = Steps(got)
     items = blocks(text)
     uses, decls, head = [], [], []

@@ -1,5 +1,7 @@
 // The EIT collector for a host in another language, which keeps a collector as plain words: what the words hold is taken apart, the one call is made,
 // and what it leaves is written back. Every content of the words has one answer.
+#![tactic(auto)]
+
 ghost use Rattle.std.specs.Prelude.{◌≡◌};
 ghost use Rattle.host_words.specs.Answers.{words};
 ghost use Rattle.host_eit.specs.Calls.{eit_opened, eit_left, eit_pushed, eit_cleared, eit_dropped_to, eit_dropped, eit_next, eit_next_in};

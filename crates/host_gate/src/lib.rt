@@ -1,5 +1,7 @@
 // The gate and the watch for a host in another language, which keeps a gate and its counters as plain words: what the words hold is taken apart, the one
 // call is made, and what it leaves is written back. Every content of the words has one answer.
+#![tactic(auto)]
+
 ghost use Rattle.std.specs.Prelude.{◌≡◌};
 ghost use Rattle.host_gate.specs.Calls.{begun, gate_opened, left, gate_offered, watch_opened, watch_asked};
 ghost use Rattle.host_words.specs.Answers.{words};

@@ -1,4 +1,6 @@
 // What the words of a host stand for in the calls on logs (docs/RULES.md, "Logs"): seven words of settings, and the word that a call tells a place or a length in.
+#![tactic(auto)]
+
 ghost use Rattle.std.specs.Prelude.{◌≡◌};
 ghost use Rattle.host_words.specs.Answers.{words};
 ghost use Rattle.host_log_words.specs.Words.{settings_of, rule_for, pids_for, tells_checked, tells_written};

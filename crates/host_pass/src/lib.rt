@@ -1,4 +1,6 @@
 // Packets that are passed over, for a host in another language (`host_feed`): one call for those at the front of some bytes that need no feed.
+#![tactic(auto)]
+
 ghost use Rattle.std.specs.Prelude.{◌≡◌};
 ghost use Rattle.pats.specs.Store.{record_of};
 ghost use Rattle.host_streams.specs.Words.{words_after};

@@ -1,5 +1,7 @@
 // The set collector for a host in another language, which keeps a collector as plain words: what the words hold is taken apart, the one call is made,
 // and what it leaves is written back. Every content of the words has one answer.
+#![tactic(auto)]
+
 ghost use Rattle.std.specs.Prelude.{◌≡◌};
 ghost use Rattle.host_words.specs.Answers.{words};
 ghost use Rattle.host_sets.specs.Calls.{sets_left, sets_opened, sets_pushed, sets_cleared, sets_next};

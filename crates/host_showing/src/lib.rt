@@ -1,5 +1,7 @@
 // The readers of events for a host in another language: an EIT section, a set that was handed out, a table of a schedule that was handed out, entry by entry into a
 // lent list; and the calendar date of a day. Every content of what is lent has one answer.
+#![tactic(auto)]
+
 ghost use Rattle.std.specs.Prelude.{◌≡◌};
 ghost use Rattle.host_words.specs.Answers.{words};
 ghost use Rattle.host_showing.specs.Calls.{tells_listed, listing, section_listed, set_listed, table_listed, date_word, date_number};
