@@ -1,4 +1,6 @@
 // The gate with a watch record for a host that keeps one record of seven counters and lends it: they are counted up where they stand.
+#![tactic(auto)]
+
 ghost use Rattle.std.specs.Prelude.{◌≡◌};
 ghost use Rattle.pats.specs.Store.{record_of};
 ghost use Rattle.gate_pats.specs.Store.{kept_of, offered_with};

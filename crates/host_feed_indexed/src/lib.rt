@@ -1,4 +1,6 @@
 // The transport stream through the gate with an index for a host in another language: `host_feed` with a bucket and a link for each row.
+#![tactic(auto)]
+
 ghost use Rattle.std.specs.Prelude.{◌≡◌};
 ghost use Rattle.pats.specs.Store.{record_of};
 ghost use Rattle.host_feed_indexed_calls.specs.Calls.{left, packet_fed};

@@ -1,4 +1,6 @@
 // The comparisons for a host in another language: two sets, two schedules, and the section that one side alone holds. Every content of what is lent has one answer.
+#![tactic(auto)]
+
 ghost use Rattle.std.specs.Prelude.{◌≡◌};
 ghost use Rattle.host_words.specs.Answers.{words};
 ghost use Rattle.host_guides.specs.Calls.{flag, tells_compared, tells_held, comparison, sets_compared, comparisons, schedules_compared, held_by_one};

@@ -1,4 +1,6 @@
 // The gate with an index for a host in another language: `host_gate` with a bucket and a link for each row.
+#![tactic(auto)]
+
 ghost use Rattle.std.specs.Prelude.{◌≡◌};
 ghost use Rattle.pats.specs.Store.{record_of};
 ghost use Rattle.host_indexed.specs.Calls.{begun, gate_opened, left, gate_offered};

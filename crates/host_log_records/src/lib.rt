@@ -1,5 +1,7 @@
 // The records of a log for a host in another language (docs/RULES.md, "Logs"): one read, and those that a monitor appends after an offer and after a set. Every content of
 // what is lent has one answer.
+#![tactic(auto)]
+
 ghost use Rattle.std.specs.Prelude.{◌≡◌, [], ◌∷◌, ◌≤◌, length, take};
 ghost use Rattle.host_words.specs.Answers.{words};
 ghost use Rattle.host_log_records.specs.Calls.{record_words, log_read, answer_of, laid_over, RoomFor, Made, made, offer_made, set_made};

@@ -1,4 +1,6 @@
 // Logs for a host in another language (docs/RULES.md, "Logs"): one checked against a section list, and one written. Every content of what is lent has one answer.
+#![tactic(auto)]
+
 ghost use Rattle.std.specs.Prelude.{◌≡◌};
 ghost use Rattle.log_sections.specs.Steps.{memory};
 ghost use Rattle.host_logs.specs.Calls.{check_left, log_checked, write_left, log_written};

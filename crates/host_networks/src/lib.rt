@@ -1,5 +1,7 @@
 // The readers of networks, bouquets and services for a host in another language: a NIT, BAT or SDT section, and a set that was handed out, entry by entry into a lent list.
 // Every content of what is lent has one answer.
+#![tactic(auto)]
+
 ghost use Rattle.std.specs.Prelude.{◌≡◌};
 ghost use Rattle.host_words.specs.Answers.{words};
 ghost use Rattle.host_showing.specs.Calls.{listing};

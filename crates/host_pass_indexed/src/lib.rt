@@ -1,4 +1,6 @@
 // `host_pass` through the gate with an index.
+#![tactic(auto)]
+
 ghost use Rattle.std.specs.Prelude.{◌≡◌};
 ghost use Rattle.pats.specs.Store.{record_of};
 ghost use Rattle.host_pass.specs.Calls.{left};

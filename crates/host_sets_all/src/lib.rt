@@ -1,5 +1,7 @@
 // Many sections in one call of the set collector, for a host in another language, which keeps a collector as plain words: what the words hold is taken
 // apart, the one call is made, and what it leaves is written back. Every content of the words and every list has one answer.
+#![tactic(auto)]
+
 ghost use Rattle.std.specs.Prelude.{◌≡◌};
 ghost use Rattle.host_words.specs.Answers.{pushes};
 ghost use Rattle.host_sets.specs.Calls.{sets_left};

@@ -81,7 +81,7 @@ limit_0 s bytes a z = go (ltb s.eit.sets.size (length bytes)) (eqb s.eit.sets.li
 
 -- whatever the store holds
 pub never_empty_anywhere : (s : Store) (input : ℕ) (pid : MaybePid) (bytes : List ℕ) (a : Arrival) → Reaches s input pid bytes a → FullAndEmpty s → ⊥
-never_empty_anywhere s input pid bytes a r f = let l = f.0 in let n = f.1 in limit_0 s bytes a (omega arith) r.goes_on
+never_empty_anywhere s input pid bytes a r f = let l = f.0 in let n = f.1 in limit_0 s bytes a (omega arith) r.goes_on_lem
 
 -- so in a store that passes check 10
 pub never_empty : (s : Store) (input : ℕ) (pid : MaybePid) (bytes : List ℕ) (a : Arrival) → whole_of s ≡ true → Reaches s input pid bytes a → FullAndEmpty s → ⊥
