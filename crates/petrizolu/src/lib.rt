@@ -1,6 +1,8 @@
 // The library for hosts in C and Rust: every public call as a C function over memory that the host lends. An array comes as a pointer, a slice as a
 // pointer and a count of its elements. Each function takes any content of what is lent, answers the number that docs/RULES.md, "Answers", has, and leaves what its promise says.
 // `include/petrizolu.h` has the words of each array as structs.
+#![tactic(auto)]
+
 ghost use Rattle.std.specs.Prelude.{◌≡◌};
 ghost use Rattle.crc.specs.Crc.{crc_of};
 ghost use Rattle.host_gate.specs.Calls.{begun, gate_opened, left, gate_offered, watch_opened, watch_asked};
