@@ -1,4 +1,0 @@
-pub mod Calls
-pub mod Single
-pub mod Refusals
-pub mod Unique

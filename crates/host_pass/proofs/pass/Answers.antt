@@ -1,5 +1,0 @@
-use Rattle.host_pass.proofs.Calls.{packets_passed_lem}
-use Rattle.host_pass.proofs.pass.Goals as goal
-
-pub returns : goal.returns
-returns c = search packets_passed_lem

@@ -1,4 +1,0 @@
-pub mod Calls
-pub mod Unique
-pub mod Refusals
-pub mod Examples

@@ -1,2 +1,0 @@
-pub mod Dead
-pub mod Ever

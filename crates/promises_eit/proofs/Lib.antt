@@ -1,3 +1,0 @@
-pub mod PresentFollowing
-pub mod PresentNeeded
-pub mod PresentFollowingRead

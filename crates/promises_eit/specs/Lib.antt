@@ -1,2 +1,0 @@
-pub mod PresentFollowing
-pub mod PresentFollowingRead

@@ -1,5 +1,0 @@
-pub mod Rules
-pub mod Card
-pub mod History
-pub mod Opened
-pub mod Counting

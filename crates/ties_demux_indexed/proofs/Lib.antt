@@ -1,6 +1,0 @@
-pub mod Gate
-pub mod Turns
-pub mod Feed
-pub mod Card
-pub mod Opening
-pub mod History

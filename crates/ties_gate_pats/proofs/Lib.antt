@@ -1,7 +1,0 @@
-pub mod Order
-pub mod Opening
-pub mod Indexed
-pub mod Answers
-pub mod Entered
-pub mod Watch
-pub mod One

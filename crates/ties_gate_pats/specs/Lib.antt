@@ -1,3 +1,0 @@
-pub mod Rules
-pub mod View
-pub mod History

@@ -1,3 +1,0 @@
-pub mod Theorems
-pub mod Tables
-pub mod Examples

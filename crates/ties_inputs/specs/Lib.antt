@@ -1,4 +1,0 @@
-pub mod Inputs
-pub mod Card
-pub mod Before
-pub mod Records

@@ -1,4 +1,0 @@
-pub mod Evicted
-pub mod Kept
-pub mod Card
-pub mod Opened

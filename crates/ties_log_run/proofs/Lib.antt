@@ -1,4 +1,0 @@
-pub mod Counted
-pub mod Step
-pub mod Run
-pub mod Again
