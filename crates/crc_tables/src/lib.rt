@@ -53,8 +53,7 @@ pub fn after128(x: u32) -> u32
         ^ tables128::byte3(turned(x >> 24))
 }
 
-// The low byte with its highest bit turned. The compiler's data of a `match` on a byte begin at the entry of 128, for which it turns that
-// bit too: so it is turned twice, and the compiler leaves both out.
+// The low byte with its highest bit turned: the tables begin at the entry of 128.
 fn turned(x: u32) -> u8
     ensures { result ≡ bit_xor (x % 256) 128 }
 {

@@ -32,7 +32,7 @@ by_tables Off = false
 by_tables Sections = false
 by_tables Tables = true
 
--- capacity 65,536, repeats off, complete PATs followed, the well_known PIDs watched, change rule 2
+-- capacity 65,536, repeats off, complete PATs followed, the well-known PIDs watched, change rule 2
 abbrev pub defaults : Settings
 defaults = record { capacity = 65536; repeats = false; follow = Tables; well_known = true; change_rule = 2 }
 

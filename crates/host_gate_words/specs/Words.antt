@@ -34,7 +34,7 @@ follow_word Off = 0
 follow_word Sections = 2
 follow_word Tables = 1
 
--- bit 1 repeats, 2 follow, 4 the well_known PIDs, 8 with 2 each changed PAT section; other bits are not looked at
+-- bit 1 repeats, 2 follow, 4 the well-known PIDs, 8 with 2 each changed PAT section; other bits are not looked at
 abbrev pub settings_of : ℕ → ℕ → ℕ → Settings
 settings_of capacity bits rule =
     record { capacity = capacity; repeats = eqb (bits % 2) 1; follow = follow_asked bits; well_known = asks_for_known bits; change_rule = rule }

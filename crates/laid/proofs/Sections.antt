@@ -79,7 +79,7 @@ unlaid_past : (s : List ℕ) → 3 ≤ length s → length s < size_of s → lai
 unfolding laid_out
 unlaid_past s h l = rw (entries_past 3 (omega arith) s h l)
 
--- a whole long_form section stands at the front
+-- a whole long-form section stands at the front
 pub record Front (s : List ℕ) (n : ℕ) : Type 0 where
   pub exact : n ≡ size_of s
   pub least : 12 ≤ n

@@ -34,7 +34,7 @@ sections_in s = cut (length s) s
 abbrev pub is_long : List ℕ → Bool
 is_long x = long_form x && leb 12 (length x)
 
--- no bytes, or long_form sections to the last byte
+-- no bytes, or long-form sections to the last byte
 unfoldable pub laid_out : List ℕ → Bool
 laid_out s = whole_entries 3 s && every is_long (sections_in s)
 

@@ -4,7 +4,7 @@ use mathlib.Core.List.{List, [], ◌∷◌, flatten}
 use Rattle.section.specs.Header.{table_id_of, long_form, section_number}
 use Rattle.laid.specs.Laid.{size_of, sections_in, laid_out, of_table}
 
--- the bytes of the long_form section that s starts with, 0 where it starts with no whole one
+-- the bytes of the long-form section that s starts with, 0 where it starts with no whole one
 abbrev pub long_size : List ℕ → ℕ
 long_size s = cond (leb 12 (length s)) (cond (long_form s && leb 12 (size_of s) && leb (size_of s) (length s)) (size_of s) 0) 0
 
@@ -13,7 +13,7 @@ pub record Sized (s : List ℕ) (r : ℕ) : Type 0 where
   pub within : r ≤ length s
   pub small : r ≤ 4098
 
--- from `at` on the bytes are long_form sections to the last, or none are left
+-- from `at` on the bytes are long-form sections to the last, or none are left
 pub record LaidFrom (s : List ℕ) (at : ℕ) : Type 0 where
   pub fits : at ≤ length s
   pub whole : laid_out (drop at s) ≡ true
@@ -55,7 +55,7 @@ abbrev pub leads : ℕ → List (List ℕ) → List ℕ
 leads t [] = []
 leads t (x ∷ xs) = cond (of_table t x) x []
 
--- no bytes, or as many as a long_form section may have
+-- no bytes, or as many as a long-form section may have
 pub record Sectioned (x : List ℕ) : Type 0 where
   pub least : (length x ≡ 0 → ⊥) → 12 ≤ length x
   pub most : length x ≤ 4098

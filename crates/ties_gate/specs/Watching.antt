@@ -11,7 +11,7 @@ use Rattle.offers.specs.declared.Verdict.{Verdict}
 use Rattle.offers.specs.declared.Verdict.TheVariants.{Refused, Failed, Arrived}
 use Rattle.gate.specs.Rules.{Offer, Manner, Held, row_from, acts}
 
--- protected from the start: the well_known PIDs, where that setting is on, and the extra ones
+-- protected from the start: the well-known PIDs, where that setting is on, and the extra ones
 abbrev pub is_protected : Bool → List ℕ → ℕ → Bool
 is_protected well_known extra pid = listed pid (cond well_known known_pids [] ++ extra)
 

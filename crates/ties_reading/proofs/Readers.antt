@@ -148,7 +148,7 @@ table_reader s row table {parts = parts} {last = last} r =
     go true e true m c h d g p k = none (Refused refusal.NoPid) (refused≢yes refusal.NoPid) (rw (e, m) refl) (rw (e, m) refl)
     go false e l m c h d g p k = none (Refused refusal.NotWhole) (refused≢yes refusal.NotWhole) (rw e refl) (rw e refl)
 
--- after an answer 6, in every history from an opening on: of table j the sections of the j_th table that was handed out; past the last one nothing
+-- after an answer 6, in every history from an opening on: of table j the sections of the j-th table that was handed out; past the last one nothing
 pub record HandsSchedule (t : eit_store.Store) (g : eit.ScheduleOut) : Type 0 where
   pub tables : (j : ℕ) (x : eit.TableOut) → At g.tables j x → HandsOut t.eit.sets.size (table_slots t g.row j) (begun t.cells) x.sections
   pub past : (j : ℕ) → length g.tables ≤ j → HandsOut t.eit.sets.size (table_slots t g.row j) (begun t.cells) []

@@ -121,7 +121,7 @@ tables_count s u (suc n) = ap suc (tables_count s (suc u) n)
 
 -- ---- after an answer 6
 
--- What a host reads out of a schedule that is told of, asking each of its tables from 0 on: of table j the sections of the j_th table that was handed
+-- What a host reads out of a schedule that is told of, asking each of its tables from 0 on: of table j the sections of the j-th table that was handed
 -- out, byte for byte; past the last one nothing. Then the answer is no
 pub record ReadsSchedule (t : Store) (g : ScheduleOut) : Type 0 where
   pub tables : (j : ℕ) (x : TableOut) → At g.tables j x → Reads (next_in_of t g.row j) t.cells 0 x.sections No

@@ -155,7 +155,7 @@ follow_laid words n h l =
     ∙ ap (λ (v : List ℕ). paste v 256 n 128) (put_watched w p f s words (length_watched words h) lp lf ls)
     ∙ put_followed s p f n words ls lp lf l
 
--- the well_known ones, where they are on, and then the extra ones
+-- the well-known ones, where they are on, and then the extra ones
 pub protect_all : (w : List ℕ) (on : Bool) (extra : List ℕ) → add_bits (cond on (add_bits w known_pids) w) extra ≡ add_bits w (protected_pids on extra)
 protect_all w true extra = add_bits_append w known_pids extra
 protect_all w false extra = refl

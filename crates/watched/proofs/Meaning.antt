@@ -74,7 +74,7 @@ module _ (words : List ℕ) (on : Bool) (extra : List ℕ) (e : all_pids extra �
       has_all no_pids (protected_pids on extra) q (in_room no_pids (protected_pids on extra) refl (all_protected on extra e))
       ∙ rw (has_none 128 q) (or-false (among q (protected_pids on extra)))
 
-  -- a PID is watched, and protected, exactly where it is a well_known one with that setting on, or an extra one; none is followed
+  -- a PID is watched, and protected, exactly where it is a well-known one with that setting on, or an extra one; none is followed
   pub opened_watched : has_bit (watched_of (filled words on extra)) q ≡ among q (protected_pids on extra)
   unfolding filled
   opened_watched = rw (laid_watched _ _ no_pids words (length_protecting on extra) (length_protecting on extra) refl) starts

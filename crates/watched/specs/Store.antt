@@ -32,7 +32,7 @@ unfoldable pub all_pids : List ℕ → Bool
 all_pids [] = true
 all_pids (p ∷ ps) = ltb p 8192 && all_pids ps
 
--- the PIDs watched and protected from the start: the well_known ones, where that setting is on, and the extra ones
+-- the PIDs watched and protected from the start: the well-known ones, where that setting is on, and the extra ones
 abbrev pub protected_pids : Bool → List ℕ → List ℕ
 protected_pids well_known extra = cond well_known known_pids [] ++ extra
 

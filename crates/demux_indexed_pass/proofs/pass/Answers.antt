@@ -1,0 +1,25 @@
+use Prim.Native.Nat.{◌/◌}
+use lib.ListN.{length}
+use Rattle.pats.specs.Store.{record_of}
+use Rattle.ring_index.specs.Store.{index_of}
+use Rattle.gate_pats_indexed.specs.Store.{kept_by}
+use Rattle.demux_indexed_store.specs.Carried.{store_of}
+use Rattle.demux_indexed_pass.proofs.Store.{can_pass_by, pass_none, pass_some}
+use Rattle.demux_indexed_pass.proofs.pass.Goals as goal
+
+pub pass-requires : goal.pass-requires
+pass-requires c = let a = c.args in
+    let j = c.judge in
+    can_pass_by a.gate a.counters (length a.keys.now) (length a.changes.now) (length a.buckets.now) (length a.links.now) (record_of a.words.now a.pat_slots.now a.pat_cells.now) (length a.buffers.now) a.input
+    (length a.places.now) a.streams a.pids.now _ c.in-Goes.field-0 j.result j.ensures c.in-Goes.is
+
+pub returns-in-Refused : goal.returns-in-Refused
+returns-in-Refused c = let a = c.args in
+    let j = c.judge in
+    pass_none (length a.packets.now / 188) (store_of (kept_by a.gate a.counters a.keys.now a.changes.now (index_of a.buckets.now a.links.now) (record_of a.words.now a.pat_slots.now a.pat_cells.now)) a.streams a.pids.now a.buffers.now a.places.now) a.input _ a.packets.now j.result c.in-Refused.field-0 j.ensures c.in-Refused.is
+
+pub returns-in-Goes : goal.returns-in-Goes
+returns-in-Goes c = let a = c.args in
+    let j = c.judge in
+    let r = c.pass in
+    pass_some (kept_by a.gate a.counters a.keys.now a.changes.now (index_of a.buckets.now a.links.now) (record_of a.words.now a.pat_slots.now a.pat_cells.now)) a.streams a.pids.now a.buffers.now a.places.now a.input _ a.packets.now j.result c.in-Goes.field-0 r.result r.new.pids j.ensures c.in-Goes.is r.ensures

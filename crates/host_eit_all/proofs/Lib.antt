@@ -1,0 +1,4 @@
+pub mod Calls
+pub mod Single
+pub mod Refusals
+pub mod Unique

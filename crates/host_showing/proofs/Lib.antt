@@ -1,0 +1,4 @@
+pub mod Calls
+pub mod Unique
+pub mod Refusals
+pub mod Examples

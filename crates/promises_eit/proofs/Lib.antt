@@ -1,0 +1,3 @@
+pub mod PresentFollowing
+pub mod PresentNeeded
+pub mod PresentFollowingRead

@@ -1,0 +1,2 @@
+pub mod PresentFollowing
+pub mod PresentFollowingRead

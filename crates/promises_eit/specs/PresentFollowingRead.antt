@@ -1,0 +1,44 @@
+-- The third demand for present and following (PresentFollowing.antt has its words) of what a host reads out of the lent memory: the row that a 5 tells of, its head, and its
+-- sections one after another, as `next_section` of the crate eit and `section_part` of the crate readers are proved to give them.
+-- Assumes nothing.
+use Rattle.std.specs.Prelude.{ℕ, suc, ◌≤◌, ◌≡◌, List, take}
+use Rattle.laws.specs.Runs.{answers, store_after, At, Without}
+use Rattle.answers.specs.declared.Reply.TheVariants.{No}
+use Rattle.rules_eit.specs.Rules.{Whole}
+use Rattle.rows.specs.Rows.{key_at, version_of, last_of}
+use Rattle.reading.specs.Reading.{Reads}
+use Rattle.eit.specs.Store.{SetOut, Told, a_set, next_of}
+use Rattle.ties_eit.specs.View.{called, key_shown}
+use Rattle.promises_eit.specs.PresentFollowing.{Collector, StartsEmpty, EqualCellSize, LimitNoLarger, clears, made, acts, Calls, CallsFit, RefusesNoneAsConflicting, RefusesNoneForItsStore, SegmentsAgree, NoneAboveItsSegment}
+
+-- the collector with its memory as call number t left it
+abbrev pub after : Collector → Calls → ℕ → Collector
+after s calls t = store_after acts s (take (suc t) calls)
+
+-- call number t was answered 5 and told this row
+abbrev pub TellsRow : Collector → Calls → ℕ → (row : ℕ) → Type 0
+TellsRow s calls t row = (h : SetOut) × At (answers (λ c i. (called c (made i)).told) acts s calls) t (a_set h) × (h.row ≡ row)
+
+-- after call number t a host reads this set out of the row that it was told of: key, version and last_section_number from the row's head; and asking for
+-- the next section from 0 on, and then behind each number, the sections' bytes in order, each a part of the cells, until the answer is no
+pub record ReadsOut (s : Collector) (calls : Calls) (t : ℕ) (set : Whole) : Type 0 where
+  pub row : ℕ
+  pub told : TellsRow s calls t row
+  pub key : key_shown (key_at (after s calls t).heads row) ≡ set.key
+  pub version : version_of (after s calls t).heads row ≡ set.version
+  pub last : last_of (after s calls t).heads row ≡ set.last
+  pub sections : Reads (next_of (after s calls t) row) (after s calls t).cells 0 set.sections No
+
+-- ".. has, since the last clear," been read out of "the larger at the same section or before, with the same bytes"
+pub record ReadOutSinceTheLastClear (s : Collector) (calls : Calls) (t : ℕ) (set : Whole) : Type 0 where
+  pub at : ℕ
+  pub early : at ≤ t
+  pub read : ReadsOut s calls at set
+  pub since : Without clears calls at t
+
+abbrev pub PresentFollowingRead : Type 0
+PresentFollowingRead = (smaller larger : Collector) → StartsEmpty smaller → StartsEmpty larger → EqualCellSize smaller larger → LimitNoLarger smaller larger
+    → (calls : Calls) → CallsFit calls
+    → RefusesNoneAsConflicting larger calls → RefusesNoneForItsStore smaller calls → RefusesNoneForItsStore larger calls
+    → SegmentsAgree larger calls → NoneAboveItsSegment larger calls
+    → (t : ℕ) (set : Whole) → ReadsOut smaller calls t set → ReadOutSinceTheLastClear larger calls t set

@@ -1,0 +1,14 @@
+pub mod Numbers
+pub mod Turns
+pub mod Offers
+pub mod Counts
+pub mod Back
+pub mod Feed
+pub mod History
+pub mod Finished
+pub mod First
+pub mod Opening
+pub mod Exact
+pub mod Always
+pub mod AsBefore
+pub mod Counting

@@ -1,0 +1,5 @@
+pub mod Rules
+pub mod Card
+pub mod History
+pub mod Opened
+pub mod Counting

@@ -1,0 +1,3 @@
+pub mod Theorems
+pub mod Tables
+pub mod Examples

@@ -1,0 +1,4 @@
+pub mod Inputs
+pub mod Card
+pub mod Before
+pub mod Records

@@ -1,0 +1,4 @@
+pub mod Evicted
+pub mod Kept
+pub mod Card
+pub mod Opened

@@ -1,0 +1,4 @@
+pub mod Counted
+pub mod Step
+pub mod Run
+pub mod Again
