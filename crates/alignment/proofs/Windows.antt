@@ -1,4 +1,4 @@
--- However the input comes in windows, the pieces told are those of the whole input (`one-step`): what a step tells, and what is to come behind the bytes that
+-- However the input comes in windows, the pieces told are those of the whole input (`one_step`): what a step tells, and what is to come behind the bytes that
 -- it used up, is what was to come.
 -- Assumes nothing.
 use mathlib.Core.Path.{◌≡◌, refl, sym, ap, ◌∙◌}

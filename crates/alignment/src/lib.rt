@@ -68,14 +68,12 @@ fn seek(window: &[u8], end: usize) -> usize
     requires { end ≤ length window.now }
     ensures { result ≡ first_from (sync_at window.now) end 0 }
 {
-    let mut j = 0;
-    while j < end {
+    for j in 0..end {
         if sync_at(window, j) {
             return j;
         }
-        j += 1;
     }
-    j
+    end
 }
 
 // While bytes are passed over.

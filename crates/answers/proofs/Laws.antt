@@ -8,11 +8,8 @@ use lib.Dec.{eqb, ltb}
 use native.Mathlib.Omega.{arith}
 use Rattle.answers.specs.declared.Refusal.{Refusal}
 use Rattle.answers.specs.declared.Refusal.TheVariants.{NotWhole, CounterFull, BadPid, TooLittle, Malformed, ShortForm, BadNumber, BadCrc, NotEit, Broken, TooLong, NoCell, Conflict, Range, BadInput, NoPid}
-use Rattle.answers.specs.declared.Outcome.{Outcome}
-use Rattle.answers.specs.declared.Outcome.TheVariants as outcome
-use Rattle.answers.specs.declared.Reply.{Reply}
-use Rattle.answers.specs.declared.Reply.TheVariants as reply
-use Rattle.answers.specs.Answers.{refusal_no, outcome_no, reply_no}
+use Rattle.std.specs.Prelude.{Ok, Err, true}
+use Rattle.answers.specs.Answers.{refusal_no, outcome_no, reply_no, Outcome, Reply}
 
 -- the refusals by rising number
 refusals : List Refusal
@@ -73,26 +70,26 @@ refused_not_31 r e = let q : r ≡ NotWhole = sym (refusal_at_lem r) ∙ ap refu
 
 -- an answer of which one case has no refusal's number
 outcome_at : ℕ → Outcome
-outcome_at n = cond (ltb n 10) outcome.Done (outcome.Refused (refusal_at n))
+outcome_at n = cond (ltb n 10) (Ok tt) (Err (refusal_at n))
 
 outcome_at_lem : (a : Outcome) → outcome_at (outcome_no a) ≡ a
 unfolding outcome_at
-outcome_at_lem outcome.Done = refl
-outcome_at_lem (outcome.Refused r) =
-    ap (λ b. cond b outcome.Done (outcome.Refused (refusal_at (refusal_no r)))) (refused_from_10 r) ∙ ap outcome.Refused (refusal_at_lem r)
+outcome_at_lem (Ok _) = refl
+outcome_at_lem (Err r) =
+    ap (λ b. cond b (Ok tt) (Err (refusal_at (refusal_no r)))) (refused_from_10 r) ∙ ap Err (refusal_at_lem r)
 
 pub outcome_apart : (a b : Outcome) → outcome_no a ≡ outcome_no b → a ≡ b
 outcome_apart a b e = sym (outcome_at_lem a) ∙ ap outcome_at e ∙ outcome_at_lem b
 
 reply_at : ℕ → Reply
-reply_at n = cond (ltb n 10) (cond (eqb n 8) reply.Yes reply.No) (reply.Refused (refusal_at n))
+reply_at n = cond (ltb n 10) (cond (eqb n 8) (Ok true) (Ok false)) (Err (refusal_at n))
 
 reply_at_lem : (a : Reply) → reply_at (reply_no a) ≡ a
 unfolding reply_at
-reply_at_lem reply.Yes = refl
-reply_at_lem reply.No = refl
-reply_at_lem (reply.Refused r) =
-    ap (λ b. cond b (cond (eqb (refusal_no r) 8) reply.Yes reply.No) (reply.Refused (refusal_at (refusal_no r)))) (refused_from_10 r) ∙ ap reply.Refused (refusal_at_lem r)
+reply_at_lem (Ok true) = refl
+reply_at_lem (Ok false) = refl
+reply_at_lem (Err r) =
+    ap (λ b. cond b (cond (eqb (refusal_no r) 8) (Ok true) (Ok false)) (Err (refusal_at (refusal_no r)))) (refused_from_10 r) ∙ ap Err (refusal_at_lem r)
 
 pub reply_apart : (a b : Reply) → reply_no a ≡ reply_no b → a ≡ b
 reply_apart a b e = sym (reply_at_lem a) ∙ ap reply_at e ∙ reply_at_lem b

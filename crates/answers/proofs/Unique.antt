@@ -2,10 +2,8 @@
 -- Assumes nothing.
 use mathlib.Core.Path.{◌≡◌, sym, ◌∙◌}
 use Prim.Native.Nat.{ℕ}
-use Rattle.answers.specs.Answers.{refusal_no, outcome_no, reply_no}
+use Rattle.answers.specs.Answers.{refusal_no, outcome_no, reply_no, Outcome, Reply}
 use Rattle.answers.specs.declared.Refusal.{Refusal}
-use Rattle.answers.specs.declared.Outcome.{Outcome}
-use Rattle.answers.specs.declared.Reply.{Reply}
 
 pub unique_refusal_number : (a : Refusal) (r q : ℕ) → r ≡ refusal_no a → q ≡ refusal_no a → r ≡ q
 unique_refusal_number a r q e f = e ∙ sym f

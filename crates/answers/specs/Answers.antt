@@ -1,11 +1,7 @@
 -- The numbers of the answers (docs/RULES.md, "Answers").
-use Rattle.std.specs.Prelude.{ℕ}
+use Rattle.std.specs.Prelude.{ℕ, Result, Ok, Err, Bool, true, false, ⊤}
 use Rattle.answers.specs.declared.Refusal.{Refusal}
 use Rattle.answers.specs.declared.Refusal.TheVariants.{NotWhole, CounterFull, BadPid, TooLittle, Malformed, ShortForm, BadNumber, BadCrc, NotEit, Broken, TooLong, NoCell, Conflict, Range, BadInput, NoPid}
-use Rattle.answers.specs.declared.Outcome.{Outcome}
-use Rattle.answers.specs.declared.Outcome.TheVariants as outcome
-use Rattle.answers.specs.declared.Reply.{Reply}
-use Rattle.answers.specs.declared.Reply.TheVariants as reply
 
 abbrev pub refusal_no : Refusal → ℕ
 -- the lent store is not whole
@@ -41,12 +37,20 @@ refusal_no BadInput = 37
 -- a section without a PID, or a store in which a row has none, to a collector
 refusal_no NoPid = 41
 
+-- what opening, clearing or dropping answers
+abbrev pub Outcome : Type 0
+Outcome = Result ⊤ Refusal
+
+-- what a question answers
+abbrev pub Reply : Type 0
+Reply = Result Bool Refusal
+
 abbrev pub outcome_no : Outcome → ℕ
 -- opened, cleared or dropped
-outcome_no outcome.Done = 7
-outcome_no (outcome.Refused r) = refusal_no r
+outcome_no (Ok _) = 7
+outcome_no (Err r) = refusal_no r
 
 abbrev pub reply_no : Reply → ℕ
-reply_no reply.Yes = 8
-reply_no reply.No = 9
-reply_no (reply.Refused r) = refusal_no r
+reply_no (Ok true) = 8
+reply_no (Ok false) = 9
+reply_no (Err r) = refusal_no r

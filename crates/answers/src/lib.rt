@@ -1,8 +1,7 @@
-// The answers of the calls and their numbers (docs/RULES.md, "Answers"). A call's own answer has what only that call can say, and one case for
-// all refusals.
+// The answers of the calls and their numbers (docs/RULES.md, "Answers"): a call gives what only that call can say, or it is refused.
 #![tactic(auto)]
 
-ghost use Rattle.std.specs.Prelude.{◌≡◌};
+ghost use Rattle.std.specs.Prelude.{◌≡◌, ℕ};
 ghost use Rattle.answers.specs.Answers.{refusal_no, outcome_no, reply_no};
 
 // Why a call did not do what it was asked for.
@@ -27,18 +26,17 @@ pub enum Refusal {
 }
 
 // What opening, clearing or dropping answers.
-#[derive(Clone, Copy)]
-pub enum Outcome {
-    Done,
-    Refused(Refusal),
-}
+pub type Outcome = Result<(), Refusal>;
 
-// What a question answers.
-#[derive(Clone, Copy)]
-pub enum Reply {
-    Yes,
-    No,
-    Refused(Refusal),
+// What a question answers: yes, no, or why there is no answer.
+pub type Reply = Result<bool, Refusal>;
+
+// An answer that has a number, which a host in another language is given.
+pub trait Numbered {
+    ghost number_of: { Self → ℕ };
+
+    fn number(self) -> u8
+        ensures { result ≡ number_of self };
 }
 
 impl Refusal {
@@ -66,25 +64,25 @@ impl Refusal {
     }
 }
 
-impl Outcome {
-    pub fn number(self) -> u8
-        ensures { result ≡ outcome_no self }
-    {
+impl Numbered for Result<(), Refusal> {
+    ghost number_of = { outcome_no };
+
+    fn number(self) -> u8 {
         match self {
-            Outcome::Done => 7,
-            Outcome::Refused(refusal) => refusal.number(),
+            Ok(()) => 7,
+            Err(refusal) => refusal.number(),
         }
     }
 }
 
-impl Reply {
-    pub fn number(self) -> u8
-        ensures { result ≡ reply_no self }
-    {
+impl Numbered for Result<bool, Refusal> {
+    ghost number_of = { reply_no };
+
+    fn number(self) -> u8 {
         match self {
-            Reply::Yes => 8,
-            Reply::No => 9,
-            Reply::Refused(refusal) => refusal.number(),
+            Ok(true) => 8,
+            Ok(false) => 9,
+            Err(r) => r.number(),
         }
     }
 }

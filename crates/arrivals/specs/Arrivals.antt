@@ -1,45 +1,31 @@
 -- What a section's bytes and where it came from say to a collector (docs/RULES.md, "Collectors" and "Answers"): a refusal, lower number first, or what arrived.
-use Rattle.std.specs.Prelude.{ℕ, ◌+◌, ◌≤◌, ◌<◌, List, Bool, cond, length}
+use Rattle.std.specs.Prelude.{ℕ, ◌+◌, ◌≤◌, ◌<◌, List, Bool, cond, length, Option, Some, None, Result, Ok, Err}
 use Rattle.answers.specs.declared.Refusal.{Refusal}
 use Rattle.answers.specs.declared.Refusal.TheVariants as refusal
 use Rattle.section.specs.Ids.{origin_made}
 use Rattle.section.specs.Judged.{collected_of}
 use Rattle.section.specs.declared.header.Header.{Header}
-use Rattle.section.specs.declared.header.Collected.{Collected}
-use Rattle.section.specs.declared.header.Collected.TheVariants as collected
-use Rattle.section.specs.declared.ids.OriginMade.{OriginMade}
-use Rattle.section.specs.declared.ids.OriginMade.TheVariants as origin
-use Rattle.section.specs.declared.ids.MaybePid.{MaybePid}
-use Rattle.section.specs.declared.ids.MaybePid.TheVariants as maybe
+use Rattle.section.specs.declared.ids.Origin as section_origin
 use Rattle.eit_section.specs.Eit.{eit_of}
 use Rattle.eit_section.specs.declared.Eit.{Eit}
 use Rattle.eit_section.specs.declared.Kind.{Kind}
 use Rattle.eit_section.specs.declared.Kind.TheVariants as kind
-use Rattle.eit_section.specs.declared.Reading.{Reading}
-use Rattle.eit_section.specs.declared.Reading.TheVariants as reading
 use Rattle.rows.specs.declared.Origin.{Origin}
 use Rattle.rows.specs.declared.Key.{Key}
 use Rattle.rows.specs.declared.Entry.{Entry}
-use Rattle.arrivals.specs.declared.OriginWords.{OriginWords}
-use Rattle.arrivals.specs.declared.OriginWords.TheVariants as words
-use Rattle.arrivals.specs.declared.SetArrival.{SetArrival}
-use Rattle.arrivals.specs.declared.SetArrival.TheVariants as set_arrival_case
 use Rattle.arrivals.specs.declared.Arrival.{Arrival}
-use Rattle.arrivals.specs.declared.EitArrival.{EitArrival}
-use Rattle.arrivals.specs.declared.EitArrival.TheVariants as eit_arrival_case
 
 -- ---- the key
 
 -- a PID of 8192 or more is none (12), then an input of 16 or more (37)
-abbrev pub made_words : OriginMade → OriginWords
-made_words (origin.One o) = words.Are (record { input = o.input.0; pid = o.pid.0 })
-made_words origin.BadPid = words.Refused refusal.BadPid
-made_words origin.BadInput = words.Refused refusal.BadInput
+abbrev pub made_words : Result section_origin.Origin Refusal → Result Origin Refusal
+made_words (Ok o) = Ok (record { input = o.input.0; pid = o.pid.0 })
+made_words (Err r) = Err r
 
 -- where a section came from, in the words of a key; 41 without a PID
-abbrev pub origin_words : ℕ → MaybePid → OriginWords
-origin_words input maybe.None = words.Refused refusal.NoPid
-origin_words input (maybe.Some v) = made_words (origin_made input v)
+abbrev pub origin_words : ℕ → Option ℕ → Result Origin Refusal
+origin_words input None = Err refusal.NoPid
+origin_words input (Some v) = made_words (origin_made input v)
 
 abbrev pub bit_of : Bool → ℕ
 bit_of b = cond b 1 0
@@ -89,43 +75,36 @@ arrival_of from h f = record {
 -- ---- the set collector
 
 -- 14 to 17
-abbrev pub set_read : Origin → Collected → SetArrival
-set_read from collected.Malformed = set_arrival_case.Refused refusal.Malformed
-set_read from collected.ShortForm = set_arrival_case.Refused refusal.ShortForm
-set_read from collected.BadNumber = set_arrival_case.Refused refusal.BadNumber
-set_read from collected.BadCrc = set_arrival_case.Refused refusal.BadCrc
-set_read from (collected.Good h) = set_arrival_case.Arrived (entry_of (set_key from h) h)
+abbrev pub set_read : Origin → Result Header Refusal → Result Entry Refusal
+set_read from (Err r) = Err r
+set_read from (Ok h) = Ok (entry_of (set_key from h) h)
 
 -- 12, then 37
-abbrev pub set_judged : OriginWords → List ℕ → SetArrival
-set_judged (words.Refused r) bytes = set_arrival_case.Refused r
-set_judged (words.Are from) bytes = set_read from (collected_of bytes)
+abbrev pub set_judged : Result Origin Refusal → List ℕ → Result Entry Refusal
+set_judged (Err r) bytes = Err r
+set_judged (Ok from) bytes = set_read from (collected_of bytes)
 
-unfoldable pub set_arrival : (input : ℕ) → MaybePid → List ℕ → SetArrival
+unfoldable pub set_arrival : (input : ℕ) → Option ℕ → List ℕ → Result Entry Refusal
 set_arrival input pid bytes = set_judged (origin_words input pid) bytes
 
 -- ---- the EIT collector
 
 -- 18, 19
-abbrev pub eit_fields : Origin → Header → Reading → EitArrival
-eit_fields from h reading.NotEit = eit_arrival_case.Refused refusal.NotEit
-eit_fields from h reading.Broken = eit_arrival_case.Refused refusal.Broken
-eit_fields from h (reading.Good f) = eit_arrival_case.Arrived (arrival_of from h f)
+abbrev pub eit_fields : Origin → Header → Result Eit Refusal → Result Arrival Refusal
+eit_fields from h (Err r) = Err r
+eit_fields from h (Ok f) = Ok (arrival_of from h f)
 
 -- 14 to 17
-abbrev pub eit_read : Origin → List ℕ → Collected → EitArrival
-eit_read from bytes collected.Malformed = eit_arrival_case.Refused refusal.Malformed
-eit_read from bytes collected.ShortForm = eit_arrival_case.Refused refusal.ShortForm
-eit_read from bytes collected.BadNumber = eit_arrival_case.Refused refusal.BadNumber
-eit_read from bytes collected.BadCrc = eit_arrival_case.Refused refusal.BadCrc
-eit_read from bytes (collected.Good h) = eit_fields from h (eit_of bytes)
+abbrev pub eit_read : Origin → List ℕ → Result Header Refusal → Result Arrival Refusal
+eit_read from bytes (Err r) = Err r
+eit_read from bytes (Ok h) = eit_fields from h (eit_of bytes)
 
 -- 12, then 37
-abbrev pub eit_judged : OriginWords → List ℕ → EitArrival
-eit_judged (words.Refused r) bytes = eit_arrival_case.Refused r
-eit_judged (words.Are from) bytes = eit_read from bytes (collected_of bytes)
+abbrev pub eit_judged : Result Origin Refusal → List ℕ → Result Arrival Refusal
+eit_judged (Err r) bytes = Err r
+eit_judged (Ok from) bytes = eit_read from bytes (collected_of bytes)
 
-unfoldable pub eit_arrival : (input : ℕ) → MaybePid → List ℕ → EitArrival
+unfoldable pub eit_arrival : (input : ℕ) → Option ℕ → List ℕ → Result Arrival Refusal
 eit_arrival input pid bytes = eit_judged (origin_words input pid) bytes
 
 -- ---- what holds of a section that arrived
@@ -140,10 +119,10 @@ pub record Taken (bytes : List ℕ) (e : Entry) : Type 0 where
   pub numbered : Numbered e
   pub long : 12 ≤ length bytes
 
-abbrev pub SetTaken : List ℕ → SetArrival → Type 0
-SetTaken bytes (set_arrival_case.Refused r) = Unit {0}
-SetTaken bytes (set_arrival_case.Arrived e) = Taken bytes e
+abbrev pub SetTaken : List ℕ → Result Entry Refusal → Type 0
+SetTaken bytes (Err r) = Unit {0}
+SetTaken bytes (Ok e) = Taken bytes e
 
-abbrev pub EitTaken : List ℕ → EitArrival → Type 0
-EitTaken bytes (eit_arrival_case.Refused r) = Unit {0}
-EitTaken bytes (eit_arrival_case.Arrived a) = Taken bytes a.entry
+abbrev pub EitTaken : List ℕ → Result Arrival Refusal → Type 0
+EitTaken bytes (Err r) = Unit {0}
+EitTaken bytes (Ok a) = Taken bytes a.entry

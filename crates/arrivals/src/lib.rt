@@ -9,24 +9,9 @@ ghost use Rattle.arrivals.specs.Arrivals.{made_words, origin_words, bit_of, set_
 ghost use Rattle.arrivals.specs.Arrivals.{set_read, set_arrival, eit_fields, eit_read, eit_arrival, SetTaken, EitTaken};
 
 use answers::Refusal;
-use eit_section::{Eit, Kind, Reading};
+use eit_section::{Eit, Kind};
 use rows::{Entry, Key, Origin};
-use section::header::{Collected, Header};
-use section::ids::{MaybePid, OriginMade};
-
-// The words of a key that say where a section came from, or why there is no such place.
-#[derive(Clone, Copy)]
-pub enum OriginWords {
-    Are(Origin),
-    Refused(Refusal),
-}
-
-// What a section says to the set collector.
-#[derive(Clone, Copy)]
-pub enum SetArrival {
-    Refused(Refusal),
-    Arrived(Entry),
-}
+use section::header::Header;
 
 // What an EIT section says: its row and slot; its kind, by number; the word of its segment, segment_last_section_number and 1; last_table_id.
 #[derive(Clone, Copy)]
@@ -37,60 +22,40 @@ pub struct Arrival {
     pub tables: u64,
 }
 
-// What a section says to the EIT collector.
-#[derive(Clone, Copy)]
-pub enum EitArrival {
-    Refused(Refusal),
-    Arrived(Arrival),
-}
-
-// 41, then 12, then 37, then 14 to 17.
-pub fn set_arrival(input: u8, pid: MaybePid, bytes: &[u8]) -> SetArrival
+// What a section says to the set collector: 41, then 12, then 37, then 14 to 17. No PID and PID 0 are different.
+#[tactic(auto, unfolding(crate::specs::Arrivals::set_arrival))]
+pub fn set_arrival(input: u8, pid: Option<u16>, bytes: &[u8]) -> Result<Entry, Refusal>
     ensures value { result ≡ set_arrival input pid bytes.now }
     ensures set_taken { SetTaken bytes.now result }
 {
-    match origin_words(input, pid) {
-        OriginWords::Refused(refusal) => SetArrival::Refused(refusal),
-        OriginWords::Are(from) => set_read(from, bytes),
-    }
+    let from = origin_words(input, pid)?;
+    set_read(from, bytes)
 }
 
-// 41, then 12, then 37, then 14 to 19.
-pub fn eit_arrival(input: u8, pid: MaybePid, bytes: &[u8]) -> EitArrival
+// What a section says to the EIT collector: 41, then 12, then 37, then 14 to 19.
+#[tactic(auto, unfolding(crate::specs::Arrivals::eit_arrival))]
+pub fn eit_arrival(input: u8, pid: Option<u16>, bytes: &[u8]) -> Result<Arrival, Refusal>
     ensures value { result ≡ eit_arrival input pid bytes.now }
     ensures eit_taken { EitTaken bytes.now result }
 {
-    match origin_words(input, pid) {
-        OriginWords::Refused(refusal) => EitArrival::Refused(refusal),
-        OriginWords::Are(from) => eit_read(from, bytes),
-    }
+    let from = origin_words(input, pid)?;
+    eit_read(from, bytes)
 }
 
 // Where a section came from, in the words of a key: no PID is refused (41), then a PID of 8192 or more (12), then an input of 16 or more (37).
-pub fn origin_words(input: u8, pid: MaybePid) -> OriginWords
+pub fn origin_words(input: u8, pid: Option<u16>) -> Result<Origin, Refusal>
     ensures { result ≡ origin_words input pid }
 {
-    match pid {
-        MaybePid::None => OriginWords::Refused(Refusal::NoPid),
-        MaybePid::Some(v) => made_words(section::ids::Origin::make(input, v)),
-    }
-}
-
-fn made_words(m: OriginMade) -> OriginWords
-    ensures { result ≡ made_words m }
-{
-    match m {
-        OriginMade::One(o) => {
-            let input = o.input;
-            let pid = o.pid;
-            OriginWords::Are(Origin {
-                input: input.0 as u64,
-                pid: pid.0 as u64,
-            })
-        }
-        OriginMade::BadPid => OriginWords::Refused(Refusal::BadPid),
-        OriginMade::BadInput => OriginWords::Refused(Refusal::BadInput),
-    }
+    let Some(pid) = pid else {
+        return Err(Refusal::NoPid);
+    };
+    let made = section::ids::Origin::make(input, pid)?;
+    let input = made.input;
+    let pid = made.pid;
+    Ok(Origin {
+        input: input.0 as u64,
+        pid: pid.0 as u64,
+    })
 }
 
 // A bit of a section, as a word of a key.
@@ -163,38 +128,25 @@ fn arrival_of(from: Origin, h: Header, f: Eit) -> Arrival
 }
 
 // 14 to 17, then what the header says.
-pub fn set_read(from: Origin, bytes: &[u8]) -> SetArrival
+pub fn set_read(from: Origin, bytes: &[u8]) -> Result<Entry, Refusal>
     ensures { result ≡ set_read from (collected_of bytes.now) }
 {
-    match section::header::collect(bytes) {
-        Collected::Malformed => SetArrival::Refused(Refusal::Malformed),
-        Collected::ShortForm => SetArrival::Refused(Refusal::ShortForm),
-        Collected::BadNumber => SetArrival::Refused(Refusal::BadNumber),
-        Collected::BadCrc => SetArrival::Refused(Refusal::BadCrc),
-        Collected::Good(h) => SetArrival::Arrived(entry_of(set_key(from, h), h)),
-    }
+    let h = section::header::collect(bytes)?;
+    Ok(entry_of(set_key(from, h), h))
 }
 
 // 14 to 17, then the rest.
-fn eit_read(from: Origin, bytes: &[u8]) -> EitArrival
+fn eit_read(from: Origin, bytes: &[u8]) -> Result<Arrival, Refusal>
     ensures { result ≡ eit_read from bytes.now (collected_of bytes.now) }
 {
-    match section::header::collect(bytes) {
-        Collected::Malformed => EitArrival::Refused(Refusal::Malformed),
-        Collected::ShortForm => EitArrival::Refused(Refusal::ShortForm),
-        Collected::BadNumber => EitArrival::Refused(Refusal::BadNumber),
-        Collected::BadCrc => EitArrival::Refused(Refusal::BadCrc),
-        Collected::Good(h) => eit_fields(from, h, bytes),
-    }
+    let header = section::header::collect(bytes)?;
+    eit_fields(from, header, bytes)
 }
 
 // 18 and 19, then what the section says.
-fn eit_fields(from: Origin, h: Header, bytes: &[u8]) -> EitArrival
+fn eit_fields(from: Origin, h: Header, bytes: &[u8]) -> Result<Arrival, Refusal>
     ensures { result ≡ eit_fields from h (eit_of bytes.now) }
 {
-    match eit_section::read(bytes) {
-        Reading::NotEit => EitArrival::Refused(Refusal::NotEit),
-        Reading::Broken => EitArrival::Refused(Refusal::Broken),
-        Reading::Good(f) => EitArrival::Arrived(arrival_of(from, h, f)),
-    }
+    let f = eit_section::read(bytes)?;
+    Ok(arrival_of(from, h, f))
 }

@@ -1,5 +1,5 @@
 -- One packet over the words and the buffer of a PID is one step of the rules: the sections found are the rules', words and buffer then stand for the rules'
--- next state (`same-sections`, `same-state`), and the bytes that place k names are the k-th section found (`told-bytes`).
+-- next state (`same_sections`, `same_state`), and the bytes that place k names are the k-th section found (`told_bytes`).
 -- Assumes nothing.
 use mathlib.Core.Path.{◌≡◌, refl, sym, ap, ◌∙◌}
 use mathlib.Core.Logic.{◌≢◌, ◌⊎◌, inl, inr}

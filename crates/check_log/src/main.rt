@@ -4,36 +4,21 @@
 
 ghost use Rattle.std.specs.Prelude.{◌≡◌, ◌≤◌, length};
 
-use answers::Outcome;
 use log_entries::Entry;
-use log_reader::{CUT, END, LONGEST, UNKNOWN};
+use log_records::ReadError;
 use log_state::{Run, Settings};
 use std::io;
 use std::io::{Read, Write};
 use std::rt::Files;
 
-// Whether the log was right so far, and the place of its next record.
-#[derive(Clone, Copy)]
-struct Beside {
-    good: bool,
-    place: u64,
-}
+// ---- the log beside what is expected: the place of its next record, `None` where it is wrong
 
-// The run between two sections, and whether there may be another.
-#[derive(Clone, Copy)]
-struct Between {
-    more: bool,
-    place: u64,
-    run: Run,
-}
-
-// ---- the log beside what is expected
-
-fn wrong(stdout: &mut impl Write, line: &[u8], place: u64) -> io::Result<Beside>
+// Says what is wrong, and where.
+fn wrong(stdout: &mut impl Write, line: &[u8], place: u64) -> io::Result<Option<u64>>
     requires { length line.now ≤ 20 }
 {
     log_lines::say_place(stdout, line, place)?;
-    Ok(Beside { good: false, place })
+    Ok(None)
 }
 
 // The next record of the log beside the one that is expected.
@@ -43,36 +28,18 @@ fn expect(
     expected: &[u8],
     place: u64,
     buf: &mut [u8; 13],
-) -> io::Result<Beside> {
-    let n = log_reader::read_record(stdin, buf)?;
-    if n == END {
-        return wrong(stdout, b"40 missing ", place);
+) -> io::Result<Option<u64>> {
+    match log_reader::read_record(stdin, buf)? {
+        Ok(Some(n)) => {
+            if &buf[0..n] == expected {
+                return Ok(Some(place.wrapping_add(n as u64)));
+            }
+            wrong(stdout, b"40 differs ", place)
+        }
+        Ok(None) => wrong(stdout, b"40 missing ", place),
+        Err(ReadError::Unknown) => wrong(stdout, b"38 unknown ", place),
+        Err(ReadError::Cut) => wrong(stdout, b"39 cut ", place),
     }
-    if n == UNKNOWN {
-        return wrong(stdout, b"38 unknown ", place);
-    }
-    if 13 < n {
-        return wrong(stdout, b"39 cut ", place);
-    }
-    same(stdout, expected, place, buf, n)
-}
-
-fn same(
-    stdout: &mut impl Write,
-    expected: &[u8],
-    place: u64,
-    buf: &[u8],
-    n: usize,
-) -> io::Result<Beside>
-    requires { (n ≤ 13) × (13 ≡ length buf.now) }
-{
-    if cells::same_bytes(&buf[0..n], expected) {
-        return Ok(Beside {
-            good: true,
-            place: std::num::wrapping_add_u64(place, n as u64),
-        });
-    }
-    wrong(stdout, b"40 differs ", place)
 }
 
 // The records of a section, one or two: the second begins where the first ends.
@@ -82,33 +49,18 @@ fn expect_both(
     records: &[u8],
     place: u64,
     buf: &mut [u8; 13],
-) -> io::Result<Beside> {
-    if records.len() == 0 {
-        return Ok(Beside { good: true, place });
+) -> io::Result<Option<u64>> {
+    if records.is_empty() {
+        return Ok(Some(place));
     }
     let size = log_records::record_size(records[0]);
     if records.len() <= size {
         return expect(stdin, stdout, records, place, buf);
     }
-    let first = expect(stdin, stdout, &records[0..size], place, buf)?;
-    if !first.good {
-        return Ok(first);
+    match expect(stdin, stdout, &records[0..size], place, buf)? {
+        Some(second) => expect(stdin, stdout, &records[size..], second, buf),
+        None => Ok(None),
     }
-    expect(stdin, stdout, &records[size..], first.place, buf)
-}
-
-fn part(
-    stdin: &mut impl Read,
-    stdout: &mut impl Write,
-    bytes: &[u8],
-    n: usize,
-    place: u64,
-    buf: &mut [u8; 13],
-) -> io::Result<Beside> {
-    if bytes.len() < n {
-        return Ok(Beside { good: false, place });
-    }
-    expect_both(stdin, stdout, &bytes[0..n], place, buf)
 }
 
 fn expect_entry(
@@ -117,10 +69,12 @@ fn expect_entry(
     entry: Entry,
     place: u64,
     buf: &mut [u8; 13],
-) -> io::Result<Beside> {
+) -> io::Result<Option<u64>> {
     let bytes = entry.bytes;
-    let n = entry.length;
-    part(stdin, stdout, &bytes, n, place, buf)
+    match bytes.get(0..entry.length) {
+        Some(records) => expect_both(stdin, stdout, records, place, buf),
+        None => Ok(None),
+    }
 }
 
 // All sections were looked at: no record may be left.
@@ -130,37 +84,21 @@ fn finish(
     place: u64,
     buf: &mut [u8; 13],
 ) -> io::Result<()> {
-    let n = log_reader::read_record(stdin, buf)?;
-    if n == END {
-        return entry_lines::say(stdout, b"8 yes\n");
+    match log_reader::read_record(stdin, buf)? {
+        Ok(None) => entry_lines::say(stdout, b"8 yes\n"),
+        Ok(Some(_)) => log_lines::say_place(stdout, b"40 too-many ", place),
+        Err(ReadError::Unknown) => log_lines::say_place(stdout, b"38 unknown ", place),
+        Err(ReadError::Cut) => log_lines::say_place(stdout, b"39 cut ", place),
     }
-    if n == UNKNOWN {
-        wrong(stdout, b"38 unknown ", place)?;
-        return Ok(());
-    }
-    if n == CUT {
-        wrong(stdout, b"39 cut ", place)?;
-        return Ok(());
-    }
-    wrong(stdout, b"40 too-many ", place)?;
-    Ok(())
 }
 
 // ---- the run
-
-fn leave(beside: Beside, run: Run) -> Between {
-    Between {
-        more: beside.good,
-        place: beside.place,
-        run,
-    }
-}
 
 // A section, and its records beside the log.
 fn turn(
     stdin: &mut impl Read,
     stdout: &mut impl Write,
-    run: Run,
+    run: &mut Run,
     keys: &mut [u64; 65536],
     changes: &mut [u64; 65536],
     heads: &mut [u64; 3072],
@@ -170,27 +108,13 @@ fn turn(
     n: usize,
     place: u64,
     log: &mut [u8; 13],
-) -> io::Result<Between>
+) -> io::Result<Option<u64>>
     requires { (5 ≤ n) × (n ≤ 4103) × (4103 ≡ length list.now) }
 {
-    let taken = log_feed::take(run, keys, changes, heads, slots, cells, list, n);
+    let taken = log_feed::take(*run, keys, changes, heads, slots, cells, list, n);
     let entry = taken.entry;
-    let then = taken.run;
-    Ok(leave(expect_entry(stdin, stdout, entry, place, log)?, then))
-}
-
-// The list ends, or has changed since it was judged.
-fn end_list(
-    stdin: &mut impl Read,
-    stdout: &mut impl Write,
-    n: usize,
-    place: u64,
-    log: &mut [u8; 13],
-) -> io::Result<()> {
-    if n == END {
-        return finish(stdin, stdout, place, log);
-    }
-    log_feed::say_changed(stdout)
+    *run = taken.run;
+    expect_entry(stdin, stdout, entry, place, log)
 }
 
 // A proved loop has to end, and nothing says that an input does: the turns are counted, up to a number that no run uses up.
@@ -210,21 +134,20 @@ fn walk(
     let mut run = opened;
     let mut place = 0;
     for _ in 0..u64::MAX {
-        let n = log_reader::read_section(file, list)?;
-        if n < 5 {
-            return end_list(stdin, stdout, n, place, log);
+        match log_reader::read_section(file, list)? {
+            Ok(Some(n)) => {
+                let next = turn(
+                    stdin, stdout, &mut run, keys, changes, heads, slots, cells, list, n, place,
+                    log,
+                )?;
+                match next {
+                    Some(behind) => place = behind,
+                    None => return Ok(()),
+                }
+            }
+            Ok(None) => return finish(stdin, stdout, place, log),
+            Err(_) => return log_feed::say_changed(stdout),
         }
-        if LONGEST < n {
-            return end_list(stdin, stdout, n, place, log);
-        }
-        let t = turn(
-            stdin, stdout, run, keys, changes, heads, slots, cells, list, n, place, log,
-        )?;
-        if !t.more {
-            return Ok(());
-        }
-        run = t.run;
-        place = t.place;
     }
     Ok(())
 }
@@ -247,10 +170,10 @@ fn run(
     let answer = opened.answer;
     let begun = opened.run;
     match answer {
-        Outcome::Done => walk(
+        Ok(()) => walk(
             file, stdin, stdout, begun, keys, changes, heads, slots, cells, list, log,
         ),
-        Outcome::Refused(_) => log_feed::say_too_little(stdout),
+        Err(_) => log_feed::say_too_little(stdout),
     }
 }
 
@@ -321,11 +244,8 @@ fn main(rt: HostRuntime) -> io::Result<()> {
     if program_input::arg_count(&rt) != 9 {
         return usage(&rt);
     }
-    let words = log_words::settings(&rt);
-    let settings = words.settings;
-    if words.good {
-        check_path(&rt, settings)
-    } else {
-        usage(&rt)
+    match log_words::settings(&rt) {
+        Some(settings) => check_path(&rt, settings),
+        None => usage(&rt),
     }
 }

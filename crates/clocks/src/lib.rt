@@ -4,7 +4,7 @@
 ghost use Rattle.std.specs.Prelude.{◌≡◌, true, ◌≤◌, length};
 ghost use Rattle.clocks.specs.Clocks.{is_clock, stamped_of, clock_of};
 
-use times::{Date, Day, Time};
+use times::Day;
 
 // A day and the six BCD digits of a time of that day, each digit 0 to 9, on or after the first day that has a date.
 #[derive(Clone, Copy)]
@@ -13,12 +13,6 @@ pub struct Stamp {
     pub hours: u8,
     pub minutes: u8,
     pub seconds: u8,
-}
-
-#[derive(Clone, Copy)]
-pub enum Clock {
-    None,
-    At(Stamp),
 }
 
 const TDT: u8 = 0x70;
@@ -39,30 +33,26 @@ fn is_clock(section: &[u8]) -> bool
 }
 
 // A day and six digits; none where a digit is above 9 or the day has no date.
-fn stamped(day: Day, hours: u8, minutes: u8, seconds: u8) -> Clock
+fn stamped(day: Day, hours: u8, minutes: u8, seconds: u8) -> Option<Stamp>
     ensures { result ≡ stamped_of day hours minutes seconds }
 {
-    match times::date_of(day) {
-        Date::Before => Clock::None,
-        Date::On(_) => match times::time_of(hours, minutes, seconds) {
-            Time::Undefined => Clock::None,
-            Time::At(_) => Clock::At(Stamp {
-                day: day.0,
-                hours,
-                minutes,
-                seconds,
-            }),
-        },
-    }
+    times::date_of(day)?;
+    times::time_of(hours, minutes, seconds)?;
+    Some(Stamp {
+        day: day.0,
+        hours,
+        minutes,
+        seconds,
+    })
 }
 
 // The time that a TDT or TOT tells.
-pub fn read(section: &[u8]) -> Clock
+pub fn read(section: &[u8]) -> Option<Stamp>
     ensures { result ≡ clock_of section.now }
 {
     if is_clock(section) {
         let day = times::day_of(section[3], section[4]);
         return stamped(day, section[5], section[6], section[7]);
     }
-    Clock::None
+    None
 }

@@ -4,7 +4,7 @@ use mathlib.Core.Path.{◌≡◌, refl, sym, ap, ◌∙◌}
 use mathlib.Core.List.{List}
 use mathlib.Core.Logic.{◌≢◌}
 use mathlib.Core.Bool.{Bool, true, false, cond, ◌&&◌, ◌||◌, or_assoc, or-false}
-use Prim.Native.Nat.{ℕ, zero, suc, ◌+◌, ◌-◌, ◌*◌, ◌<◌, ◌≤◌, ◌%◌}
+use Prim.Native.Nat.{ℕ, zero, suc, ◌+◌, ◌-◌, ◌<◌, ◌≤◌, min}
 use native.Mathlib.Numerals.{add-one}
 use native.Mathlib.Decide.{ℕ_discrete}
 use native.Mathlib.Omega.{arith}
@@ -15,7 +15,7 @@ use lib.Seq.{drop-cons, get_or-take, get_or-drop, length-take-le, get_or-set_sam
 use Rattle.laws.specs.Lists.{any, first_from}
 use Rattle.laws.proofs.Search.{any_not, first_before, first_skip}
 use Rattle.laws.proofs.Tests.{and_true as both_true}
-use Rattle.rows.specs.Rows.{word, key_at, same_origin, same_key, touched}
+use Rattle.rows.specs.Rows.{key_at, same_origin, same_key, touched}
 use Rattle.rows.specs.declared.Origin.{Origin}
 use Rattle.rows.specs.declared.Key.{Key}
 use Rattle.rows.proofs.Words.{touched_not}
@@ -136,6 +136,41 @@ module _ (test : ℕ → Bool) where
       let y : a + (e - a) ≡ e = omega arith in
       w ∙ ap (λ (n : ℕ). first_from test n a) z
       ∙ first_skip test (e - a) (used - e) a (λ j p m. first_before test (e - a) a j p (rw (← q) (omega arith))) ∙ rw y
+
+  -- the same by the number that the blocks count on with, which may pass the last
+  pub blocks_start : (used : ℕ) → first_from test used 0 ≡ first_from test (used - min 0 used) (min 0 used)
+  blocks_start used =
+      let z : min 0 used ≡ 0 = omega arith in
+      let y : used - 0 ≡ used = omega arith in
+      rw (z, y)
+
+  pub block_found : (whole used a e i : ℕ) → a < used → e ≡ min (a + 256) used → i ≡ first_from test (e - a) a → i < e → whole ≡ first_from test (used - min a used) (min a used) → i ≡ whole
+  block_found whole used a e i h n q l w =
+      let z : min a used ≡ a = omega arith in
+      block_hit whole used a e i (omega arith) (omega arith) q l (rw z at w)
+
+  pub block_passed : (whole used a e i : ℕ) → a < used → e ≡ min (a + 256) used → i ≡ first_from test (e - a) a → e ≤ i → whole ≡ first_from test (used - min a used) (min a used)
+      → whole ≡ first_from test (used - min (a + 256) used) (min (a + 256) used)
+  block_passed whole used a e i h n q l w =
+      let z : min a used ≡ a = omega arith in
+      let m : whole ≡ first_from test (used - e) e = block_miss whole used a e i (omega arith) (omega arith) q l (rw z at w) in
+      rw (← n) m
+
+  pub block_last : (whole used a e i : ℕ) → a < used → used ≤ a + 256 → e ≡ min (a + 256) used → i ≡ first_from test (e - a) a → e ≤ i → whole ≡ first_from test (used - min a used) (min a used) → used ≡ whole
+  unfolding first_from
+  block_last whole used a e i h k n q l w =
+      let z : min a used ≡ a = omega arith in
+      let m : whole ≡ first_from test (used - e) e = block_miss whole used a e i (omega arith) (omega arith) q l (rw z at w) in
+      let y : used - e ≡ 0 = omega arith in
+      let x : used ≡ e = omega arith in
+      x ∙ sym (m ∙ rw y)
+
+  pub blocks_end : (whole used a : ℕ) → used ≤ a → whole ≡ first_from test (used - min a used) (min a used) → used ≡ whole
+  unfolding first_from
+  blocks_end whole used a h w =
+      let z : min a used ≡ used = omega arith in
+      let y : used - used ≡ 0 = omega arith in
+      sym (w ∙ rw (z, y))
 
 pub block_none : (tags heads : List ℕ) (key : Key) (t a e : ℕ) (r : Bool) → a ≤ e → e ≤ length tags → Tells tags heads e → t ≡ tag_of key
     → r ≡ any (λ (x : ℕ). eqb x t) (take (e - a) (drop a tags)) → r ≡ false → e ≡ first_from (λ (k : ℕ). same_key (key_at heads k) key) (e - a) a

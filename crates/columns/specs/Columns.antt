@@ -1,6 +1,6 @@
 -- A column of tags beside the rows of a collector: a number of 16 bits for each row in use, made of its key. For every content of the heads.
 -- Assumes nothing.
-use Rattle.std.specs.Prelude.{ℕ, ◌+◌, ◌*◌, ◌%◌, ◌^◌, ◌<◌, ◌≡◌, List, get_or}
+use Rattle.std.specs.Prelude.{ℕ, ◌*◌, ◌%◌, ◌^◌, ◌<◌, ◌≡◌, List, get_or}
 use Rattle.std.specs.Int.Bits.{bit_xor}
 use Rattle.rows.specs.Rows.{key_at}
 use Rattle.rows.specs.declared.Key.{Key}

@@ -51,10 +51,8 @@ pub fn fill(tags: &mut [u16], heads: &[u64], used: usize)
     requires { (used ≤ length tags.old) × (used * 12 ≤ length heads.now) }
     ensures { Tells tags.new heads.now used }
 {
-    let mut i = 0;
-    while i < used {
+    for i in 0..used {
         tags[i] = tag(rows::key_at(heads, i));
-        i += 1;
     }
 }
 
@@ -63,10 +61,8 @@ fn any_tag(tags: &[u16], t: u16) -> bool
     ensures { result ≡ any (λ (x : ℕ). eqb x t) tags.now }
 {
     let mut found = false;
-    let mut j = 0;
-    while j < tags.len() {
-        found = found | (tags[j] == t);
-        j += 1;
+    for x in tags {
+        found |= *x == t;
     }
     found
 }
@@ -89,14 +85,12 @@ fn find_among(tags: &[u16], heads: &[u64], key: Key, t: u16, a: usize, e: usize)
     requires tells { Tells tags.now heads.now e }
     ensures { result ≡ first_from (λ (k : ℕ). same_key (key_at heads.now k) key) (e - a) a }
 {
-    let mut i = a;
-    while i < e {
+    for i in a..e {
         if row_is(tags, heads, key, t, i) {
             return i;
         }
-        i += 1;
     }
-    i
+    e
 }
 
 // The same, without a look at the rows where none of them has the tag.
@@ -126,14 +120,12 @@ pub fn find(tags: &[u16], heads: &[u64], key: Key, used: usize) -> usize
     ensures { result ≡ row_of heads.now key used }
 {
     let t = tag(key);
-    let mut a = 0;
-    while a < used {
+    for a in (0..used).step_by(BLOCK) {
         let e = block_end(a, used);
         let i = find_block(tags, heads, key, t, a, e);
         if i < e {
             return i;
         }
-        a = e;
     }
-    a
+    used
 }

@@ -63,7 +63,7 @@ fn finish(stdout: &mut impl Write, held: Held, tally: &[u64; 10]) -> io::Result<
     counts_tell::say_end(stdout, &numbers)
 }
 
-// All packets of standard input. A proved loop has to end, and nothing says that standard input does: the turns are counted down from a number that no run uses up.
+// All packets of standard input. A proved loop has to end, and nothing says that standard input does: the turns are counted, up to a number that no run uses up.
 fn run(
     stdin: &mut impl Read,
     stdout: &mut impl Write,
@@ -93,9 +93,7 @@ fn run(
 ) -> io::Result<()> {
     let mut held = begun;
     let mut c = at_start();
-    let mut more = true;
-    let mut turns = u64::MAX;
-    while more & (turns > 0) {
+    for _ in 0..u64::MAX {
         let t = counts_step::step(
             stdin,
             stdout,
@@ -126,8 +124,9 @@ fn run(
         )?;
         held = t.held;
         c = t.cursor;
-        more = c.more;
-        turns -= 1;
+        if !c.more {
+            break;
+        }
     }
     finish(stdout, held, tally)
 }
@@ -267,10 +266,8 @@ fn lend(stdin: &mut impl Read, stdout: &mut impl Write, words: Words) -> io::Res
 }
 
 fn main(rt: HostRuntime) -> io::Result<()> {
-    let words = counts_words::read(&rt);
-    if words.good {
-        lend(&mut rt.stdin(), &mut rt.stdout(), words)
-    } else {
-        counts_tell::say_usage(&mut rt.stdout())
+    match counts_words::read(&rt) {
+        Some(words) => lend(&mut rt.stdin(), &mut rt.stdout(), words),
+        None => counts_tell::say_usage(&mut rt.stdout()),
     }
 }

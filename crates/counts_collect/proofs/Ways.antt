@@ -7,7 +7,7 @@ use Prim.Native.Nat.{ℕ}
 use borrow.Author.Tests.{eq-eqb, ne_eqb}
 use lib.Dec.{eqb, leb}
 use lib.ListN.{length, get_or}
-use Rattle.section.specs.declared.ids.MaybePid.TheVariants as maybe
+use Rattle.std.specs.Prelude.{Some}
 use Rattle.store.specs.declared.Sets.{Sets}
 use Rattle.store.specs.Store as sets_memory
 use Rattle.sets_settle.specs.Settle as set_told
@@ -46,7 +46,7 @@ eit_column_lem (eit_answer.Set i) s = refl
 eit_column_lem (eit_answer.Schedule i) s = refl
 eit_column_lem (eit_answer.Refused r) s = refl
 
-pub set_pushed : (s : sets_memory.Store) (pid : ℕ) (b t t' : List ℕ) (p : SetPushed) (hs ss cs : List ℕ) (n : ℕ) → set_told.after_push p hs ss cs ≡ sets.pushed_of s 0 (maybe.Some pid) b
+pub set_pushed : (s : sets_memory.Store) (pid : ℕ) (b t t' : List ℕ) (p : SetPushed) (hs ss cs : List ℕ) (n : ℕ) → set_told.after_push p hs ss cs ≡ sets.pushed_of s 0 (Some pid) b
     → n ≡ set_column p.answer → t' ≡ counted_in t n → set_side (sets_memory.store p.sets hs ss cs) t' ≡ set_counted (set_side s t) pid b
 unfolding set_counted
 set_pushed s pid b t t' p hs ss cs n e f g =
@@ -55,7 +55,7 @@ set_pushed s pid b t t' p hs ss cs n e f g =
     let q : t' ≡ counted_in t (set_told_of (set_told.answer_of a l)) = g ∙ ap (counted_in t) (f ∙ set_column_lem a l) in
     ap (set_side l) q ∙ ap (λ (x : set_told.SetsAfter). set_after x t) e
 
-pub eit_pushed_lem : (s : eit_memory.Store) (pid : ℕ) (b t t' : List ℕ) (p : EitPushed) (hs ss cs ks us : List ℕ) (n : ℕ) → eit.pushed p hs ss cs ks us ≡ eit.pushed_of s 0 (maybe.Some pid) b
+pub eit_pushed_lem : (s : eit_memory.Store) (pid : ℕ) (b t t' : List ℕ) (p : EitPushed) (hs ss cs ks us : List ℕ) (n : ℕ) → eit.pushed p hs ss cs ks us ≡ eit.pushed_of s 0 (Some pid) b
     → n ≡ eit_column p.answer → t' ≡ counted_in t n → eit_side (eit_memory.store p.eit hs ss cs ks us) t' ≡ eit_counted (eit_side s t) pid b
 unfolding eit_counted
 eit_pushed_lem s pid b t t' p hs ss cs ks us n e f g =

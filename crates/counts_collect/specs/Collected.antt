@@ -1,8 +1,7 @@
 -- What `counts` does with a section that the gate answered 1 or 2: it goes to the EIT collector where it has the table_id of an EIT, else to the set collector, and what
 -- that answers is counted. `cond test a b` is a where the test is true, else b.
 -- Assumes nothing.
-use Rattle.std.specs.Prelude.{ℕ, List, Bool, cond, false, ◌&&◌, eqb, leb, length, get_or}
-use Rattle.section.specs.declared.ids.MaybePid.TheVariants as maybe
+use Rattle.std.specs.Prelude.{ℕ, List, Bool, cond, false, ◌&&◌, eqb, leb, length, get_or, Some}
 use Rattle.store.specs.Store as sets_memory
 use Rattle.sets_settle.specs.Settle as set_told
 use Rattle.sets.specs.Store as sets
@@ -59,10 +58,10 @@ abbrev pub eit_after : eit.After → (tally : List ℕ) → EitSide
 eit_after a tally = eit_side a.store (counted_in tally (eit_told a.told))
 
 unfoldable pub set_counted : SetSide → (pid : ℕ) → (section : List ℕ) → SetSide
-set_counted x pid section = set_after (sets.pushed_of x.store 0 (maybe.Some pid) section) x.tally
+set_counted x pid section = set_after (sets.pushed_of x.store 0 (Some pid) section) x.tally
 
 unfoldable pub eit_counted : EitSide → (pid : ℕ) → (section : List ℕ) → EitSide
-eit_counted x pid section = eit_after (eit.pushed_of x.store 0 (maybe.Some pid) section) x.tally
+eit_counted x pid section = eit_after (eit.pushed_of x.store 0 (Some pid) section) x.tally
 
 abbrev pub with_sets : Held → SetSide → Held
 with_sets h x = held x.store h.eit x.tally

@@ -7,7 +7,6 @@ ghost use Rattle.eit_state.specs.State as eit_memory;
 ghost use Rattle.counts_collect.specs.Collected.{set_side, eit_side, held, set_counted, eit_counted, is_eit, collected};
 
 use eit_state::Eit;
-use section::ids::MaybePid;
 use store::Sets;
 
 // Settings and counts of both, by value.
@@ -39,7 +38,7 @@ fn push_set(
 ) -> Sets
     ensures { set_side (sets_memory.store result heads.new slots.new cells.new) tally.new ≡ set_counted (set_side (sets_memory.store sets heads.old slots.old cells.old) tally.old) pid section.now }
 {
-    let pushed = sets::push(sets, heads, slots, cells, 0, MaybePid::Some(pid), section);
+    let pushed = sets::push(sets, heads, slots, cells, 0, Some(pid), section);
     let answer = pushed.answer;
     tallies::count(tally, tallies::sets::column(answer));
     pushed.sets
@@ -67,7 +66,7 @@ fn push_eit(
         schedule_heads,
         units,
         0,
-        MaybePid::Some(pid),
+        Some(pid),
         section,
     );
     let answer = pushed.answer;

@@ -12,19 +12,18 @@ use Rattle.text.specs.Text.{decimal, Wrote}
 use Rattle.text.proofs.Laws.{wrote_then}
 use Rattle.times.specs.Times.{date_of}
 use Rattle.times.specs.declared.Calendar.{Calendar}
-use Rattle.times.specs.declared.Date.{Date}
-use Rattle.times.specs.declared.Date.TheVariants as date
+use Rattle.std.specs.Prelude.{Option, Some, None}
 use Rattle.clocks.specs.declared.Stamp.{Stamp}
 use Rattle.counts_lines.specs.Lines.{date_text, clock_text, stamp_text, tabbed, rest_of}
 
 -- ---- the time
 
-module _ (l m : List ℕ) (r : ℕ) (s : Stamp) (d : Date) (e : d ≡ date_of s.day) where
-  pub dated : (c : Calendar) → d ≡ date.On c → Wrote l 0 (date_text c ++ clock_text s.hours s.minutes s.seconds) m r → Wrote l 0 (stamp_text s) m r
+module _ (l m : List ℕ) (r : ℕ) (s : Stamp) (d : Option Calendar) (e : d ≡ date_of s.day) where
+  pub dated : (c : Calendar) → d ≡ Some c → Wrote l 0 (date_text c ++ clock_text s.hours s.minutes s.seconds) m r → Wrote l 0 (stamp_text s) m r
   unfolding stamp_text
   dated c q w = rw (← e, q) w
 
-  pub undated : d ≡ date.Before → Wrote l 0 (clock_text s.hours s.minutes s.seconds) m r → Wrote l 0 (stamp_text s) m r
+  pub undated : d ≡ None → Wrote l 0 (clock_text s.hours s.minutes s.seconds) m r → Wrote l 0 (stamp_text s) m r
   unfolding stamp_text
   undated q w = rw (← e, q) w
 

@@ -1,11 +1,9 @@
 -- What a line of `counts` says: a time, or the word `end`, and behind a tab (9) each of 21 numbers in decimal. `cond test a b` is a where the test is true, else b.
 -- Assumes nothing.
-use Rattle.std.specs.Prelude.{ℕ, ◌+◌, ◌*◌, ◌/◌, ◌%◌, List, [], ◌∷◌, ◌++◌, get_or}
+use Rattle.std.specs.Prelude.{ℕ, ◌+◌, ◌*◌, ◌/◌, ◌%◌, List, [], ◌∷◌, ◌++◌, get_or, Option, Some, None}
 use Rattle.text.specs.Text.{decimal}
 use Rattle.times.specs.Times.{date_of}
 use Rattle.times.specs.declared.Calendar.{Calendar}
-use Rattle.times.specs.declared.Date.{Date}
-use Rattle.times.specs.declared.Date.TheVariants as date
 use Rattle.clocks.specs.declared.Stamp.{Stamp}
 use Rattle.counters.specs.declared.Counters.{Counters}
 use Rattle.streams.specs.declared.Streams.{Streams}
@@ -33,9 +31,9 @@ clock_text hours minutes seconds =
     (48 + hours / 16) ∷ (48 + hours % 16) ∷ 58 ∷ (48 + minutes / 16) ∷ (48 + minutes % 16) ∷ 58 ∷ (48 + seconds / 16) ∷ (48 + seconds % 16) ∷ []
 
 -- a day before 1900-03-01 has no date
-abbrev pub dated_text : Date → List ℕ → List ℕ
-dated_text (date.On c) t = date_text c ++ t
-dated_text date.Before t = t
+abbrev pub dated_text : Option Calendar → List ℕ → List ℕ
+dated_text (Some c) t = date_text c ++ t
+dated_text None t = t
 
 unfoldable pub stamp_text : Stamp → List ℕ
 stamp_text s = dated_text (date_of s.day) (clock_text s.hours s.minutes s.seconds)

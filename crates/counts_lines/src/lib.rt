@@ -10,7 +10,7 @@ use counters::Counters;
 use eit_state::Eit;
 use store::Sets;
 use streams::Streams;
-use times::{Calendar, Date, Day};
+use times::{Calendar, Day};
 
 // How many bytes the longest line has: a time of 19, and 21 numbers of at most twenty digits behind a tab each.
 pub const LINE: usize = 512;
@@ -110,8 +110,8 @@ pub fn put_stamp(line: &mut [u8; 512], stamp: Stamp) -> usize
     ensures upper_bound { result ≤ 19 }
 {
     match times::date_of(Day(stamp.day)) {
-        Date::On(c) => put_dated(line, c, stamp.hours, stamp.minutes, stamp.seconds),
-        Date::Before => put_undated(line, stamp.hours, stamp.minutes, stamp.seconds),
+        Some(c) => put_dated(line, c, stamp.hours, stamp.minutes, stamp.seconds),
+        None => put_undated(line, stamp.hours, stamp.minutes, stamp.seconds),
     }
 }
 
@@ -132,10 +132,8 @@ fn put_numbers(line: &mut [u8], at: usize, numbers: &[u64]) -> usize
     ensures upper_bound { result ≤ at + 21 * length numbers.now }
 {
     let mut to = at;
-    let mut k = 0;
-    while k < numbers.len() {
+    for k in 0..numbers.len() {
         to = put_number(line, to, numbers[k]);
-        k += 1;
     }
     to
 }

@@ -79,8 +79,7 @@ pub fn collect_all<'a>(
     ensures { held (sets_memory.store result.sets heads.new slots.new cells.new) (eit_memory.store result.eit eit_heads.new eit_slots.new eit_cells.new schedule_heads.new units.new) tally.new ≡ collected_from places.now packet.now buffers.now pid count 0 (held (sets_memory.store c.sets heads.old slots.old cells.old) (eit_memory.store c.eit eit_heads.old eit_slots.old eit_cells.old schedule_heads.old units.old) tally.old) }
 {
     let mut held = c;
-    let mut k = 0;
-    while k < count {
+    for k in 0..count {
         held = collect_at(
             held,
             heads,
@@ -98,7 +97,6 @@ pub fn collect_all<'a>(
             packet,
             buffers,
         );
-        k += 1;
     }
     held
 }

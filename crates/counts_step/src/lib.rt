@@ -9,7 +9,6 @@ ghost use Rattle.counts_step.specs.Step.{no_buffer_counted};
 use alignment::Next;
 use counters::Counters;
 use counts_collect::Collectors;
-use counts_times::Last;
 use demux_state::Answer;
 use gate_state::Gate;
 use std::io;
@@ -24,7 +23,7 @@ pub struct Held {
     pub counters: Counters,
     pub streams: Streams,
     pub collectors: Collectors,
-    pub last: Last,
+    pub last: Option<u64>,
 }
 
 // What a turn leaves.
@@ -47,8 +46,7 @@ fn pid_of(packet: &[u8]) -> u16
 fn listed(answer: Answer) -> usize
     ensures { result ≤ 64 }
 {
-    let count = answer.finished();
-    if count < 64 { count } else { 64 }
+    answer.finished().min(64)
 }
 
 const NO_BUFFER: u8 = 43;
@@ -72,7 +70,7 @@ fn tell<'a>(
     count: usize,
     packet: &'a [u8],
     buffers: &'a [u8],
-) -> io::Result<Last>
+) -> io::Result<Option<u64>>
     requires { (count * 6 ≤ length places.now) × (188 ≡ length packet.now) }
 {
     let last = held.last;

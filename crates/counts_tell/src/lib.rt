@@ -4,8 +4,7 @@
 ghost use Rattle.std.specs.Prelude.{◌≡◌, ◌+◌, ◌*◌, ◌≤◌, ◌<◌, IfOk, length};
 ghost use Rattle.counts_tell.specs.Told.{last_told, last_read};
 
-use clocks::{Clock, Stamp};
-use counts_times::Last;
+use clocks::Stamp;
 use std::io;
 use std::io::Write;
 
@@ -41,11 +40,11 @@ pub fn say_end(stdout: &mut impl Write, numbers: &[u64; 21]) -> io::Result<()> {
 // A time that the stream tells: a line where one is due. What is left is the time of the last line.
 fn tell_time(
     stdout: &mut impl Write,
-    last: Last,
+    last: Option<u64>,
     interval: u64,
     numbers: &[u64; 21],
     stamp: Stamp,
-) -> io::Result<Last>
+) -> io::Result<Option<u64>>
     ensures { IfOk result (λ then. then ≡ last_told last interval stamp) }
 {
     let second = counts_times::moment(stamp);
@@ -59,30 +58,30 @@ fn tell_time(
 // A section that was emitted.
 fn tell_section(
     stdout: &mut impl Write,
-    last: Last,
+    last: Option<u64>,
     interval: u64,
     numbers: &[u64; 21],
     section: &[u8],
-) -> io::Result<Last>
+) -> io::Result<Option<u64>>
     ensures { IfOk result (λ then. then ≡ last_read last interval section.now) }
 {
     match clocks::read(section) {
-        Clock::None => Ok(last),
-        Clock::At(stamp) => tell_time(stdout, last, interval, numbers, stamp),
+        None => Ok(last),
+        Some(stamp) => tell_time(stdout, last, interval, numbers, stamp),
     }
 }
 
 // That of place k, where it was emitted.
 fn tell_at<'a>(
     stdout: &mut impl Write,
-    last: Last,
+    last: Option<u64>,
     interval: u64,
     numbers: &[u64; 21],
     places: &[u64],
     k: usize,
     packet: &'a [u8],
     buffers: &'a [u8],
-) -> io::Result<Last>
+) -> io::Result<Option<u64>>
     requires { k * 6 + 5 < length places.now }
 {
     if places[k * 6] == EMITTED {
@@ -101,21 +100,19 @@ fn tell_at<'a>(
 // Those of the first `count` places.
 pub fn tell<'a>(
     stdout: &mut impl Write,
-    last: Last,
+    last: Option<u64>,
     interval: u64,
     numbers: &[u64; 21],
     places: &[u64],
     count: usize,
     packet: &'a [u8],
     buffers: &'a [u8],
-) -> io::Result<Last>
+) -> io::Result<Option<u64>>
     requires { count * 6 ≤ length places.now }
 {
     let mut then = last;
-    let mut k = 0;
-    while k < count {
+    for k in 0..count {
         then = tell_at(stdout, then, interval, numbers, places, k, packet, buffers)?;
-        k += 1;
     }
     Ok(then)
 }

@@ -6,39 +6,28 @@ ghost use Rattle.std.specs.Prelude.{◌≡◌};
 ghost use Rattle.counts_times.specs.Due.{seconds_at, moment_of, no_line, last_at, is_due};
 
 use clocks::Stamp;
-use times::{Seconds, Time};
 
-// The second of the last line that a time had, where there was one.
-#[derive(Clone, Copy)]
-pub struct Last {
-    pub any: bool,
-    pub at: u64,
-}
-
-// No line yet.
-pub fn none() -> Last
+// The second of the last line that a time had: no line yet.
+pub fn none() -> Option<u64>
     ensures { result ≡ no_line }
 {
-    Last { any: false, at: 0 }
+    None
 }
 
-pub fn at(second: u64) -> Last
+pub fn at(second: u64) -> Option<u64>
     ensures { result ≡ last_at second }
 {
-    Last {
-        any: true,
-        at: second,
-    }
+    Some(second)
 }
 
 // The seconds of a day that six digits tell; 0 where one is above 9.
 fn seconds(hours: u8, minutes: u8, seconds: u8) -> u32
     ensures { result ≡ seconds_at hours minutes seconds }
 {
-    match times::time_of(hours, minutes, seconds) {
-        Time::At(s) => s.0,
-        Time::Undefined => 0,
-    }
+    let Some(s) = times::time_of(hours, minutes, seconds) else {
+        return 0;
+    };
+    s.0
 }
 
 // The second that a time is.
@@ -49,14 +38,14 @@ pub fn moment(stamp: Stamp) -> u64
 }
 
 // Whether a line is due at a second.
-pub fn is_due(last: Last, second: u64, interval: u64) -> bool
+pub fn is_due(last: Option<u64>, second: u64, interval: u64) -> bool
     ensures { result ≡ is_due last second interval }
 {
-    if last.any {
-        if second < last.at {
-            return true;
-        }
-        return interval <= second - last.at;
+    let Some(at) = last else {
+        return true;
+    };
+    if second < at {
+        return true;
     }
-    true
+    interval <= second - at
 }

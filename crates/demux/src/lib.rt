@@ -8,7 +8,6 @@ ghost use Rattle.gate_pats.specs.Store.{kept_of};
 ghost use Rattle.demux_store.specs.Store.{store_of, fed_by, planned_in, fed, TakesOk};
 
 use counters::Counters;
-use demux_judge::Verdict;
 use demux_packets::Plan;
 use demux_state::{Answer, Fed};
 use gate_state::Gate;
@@ -103,13 +102,13 @@ pub fn feed(
         packet,
         places.len(),
     ) {
-        Verdict::Refused(refusal) => Fed {
+        Err(refusal) => Fed {
             answer: Answer::Refused(refusal),
             gate,
             counters,
             streams,
         },
-        Verdict::Goes(plan) => take(
+        Ok(plan) => take(
             gate, counters, streams, keys, changes, words, pat_slots, pat_cells, pids, buffers,
             input, packet, places, plan,
         ),

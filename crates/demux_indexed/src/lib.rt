@@ -10,7 +10,6 @@ ghost use Rattle.demux_indexed_store.specs.Carried.{store_of, fed_by};
 ghost use Rattle.demux_indexed_store.specs.Store.{fed};
 
 use counters::Counters;
-use demux_judge::Verdict;
 use demux_state::{Answer, Fed};
 use gate_state::Gate;
 use streams::Streams;
@@ -53,13 +52,13 @@ pub fn feed(
         packet,
         places.len(),
     ) {
-        Verdict::Refused(refusal) => Fed {
+        Err(refusal) => Fed {
             answer: Answer::Refused(refusal),
             gate,
             counters,
             streams,
         },
-        Verdict::Goes(plan) => demux_indexed_carry::take(
+        Ok(plan) => demux_indexed_carry::take(
             gate, counters, streams, keys, changes, buckets, links, words, pat_slots, pat_cells,
             pids, buffers, input, packet, places, plan,
         ),

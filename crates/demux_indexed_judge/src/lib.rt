@@ -7,7 +7,7 @@ ghost use Rattle.demux_indexed_judge.specs.Verdicts.{verdict_by};
 
 use answers::Refusal;
 use counters::Counters;
-use demux_judge::Verdict;
+use demux_packets::Plan;
 use gate_state::Gate;
 use streams::Streams;
 
@@ -28,7 +28,7 @@ pub fn judge(
     input: u8,
     packet: &[u8],
     places: usize,
-) -> Verdict
+) -> Result<Plan, Refusal>
     ensures { result ≡ verdict_by gate counters streams keys changes buckets links (record_of words.now pat_slots.now pat_cells.now) pids.now buffers input packet.now places }
 {
     if gate_indexed::inner::is_whole(gate, keys, changes, buckets, links, words.len()) {
@@ -37,5 +37,5 @@ pub fn judge(
             input, packet, places,
         );
     }
-    Verdict::Refused(Refusal::NotWhole)
+    Err(Refusal::NotWhole)
 }

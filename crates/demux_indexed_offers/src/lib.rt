@@ -75,13 +75,11 @@ pub fn offers<'a>(
     ensures { held_by result keys.new changes.new (index_of buckets.new links.new) (record_of words.new pat_slots.new pat_cells.new) pids.new places.new ≡ offers_from packet.now buffers.now input pid count 0 (held_by held keys.old changes.old (index_of buckets.old links.old) (record_of words.old pat_slots.old pat_cells.old) pids.old places.old) }
 {
     let mut now = held;
-    let mut k = 0;
-    while k < count {
+    for k in 0..count {
         now = turn(
             now, keys, changes, buckets, links, words, pat_slots, pat_cells, pids, buffers, input,
             pid, packet, places, k,
         );
-        k += 1;
     }
     now
 }

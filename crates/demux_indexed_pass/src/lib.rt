@@ -9,7 +9,6 @@ ghost use Rattle.demux_indexed_store.specs.Carried.{store_of};
 ghost use Rattle.demux_indexed_pass.specs.Store.{passed_by, passing};
 
 use counters::Counters;
-use demux_judge::Verdict;
 use demux_pass::Passed;
 use gate_state::Gate;
 use streams::Streams;
@@ -52,7 +51,7 @@ pub fn pass(
         &packets[0..0],
         places.len(),
     ) {
-        Verdict::Refused(_) => Passed { number: 0, streams },
-        Verdict::Goes(_) => demux_pass::inner::pass(streams, words, pids, packets),
+        Err(_) => Passed { number: 0, streams },
+        Ok(_) => demux_pass::inner::pass(streams, words, pids, packets),
     }
 }

@@ -4,8 +4,8 @@ use mathlib.Core.Path.{◌≡◌}
 use mathlib.Core.List.{List}
 use Prim.Native.Nat.{ℕ}
 use Rattle.demux_state.specs.State.{number_of}
-use Rattle.demux_judge.specs.declared.Verdict.{Verdict}
-use Rattle.demux_judge.specs.declared.Verdict.TheVariants.{Refused, Goes}
+use Rattle.demux_judge.specs.Verdicts.{Verdict}
+use Rattle.std.specs.Prelude.{Err, Ok}
 use Rattle.demux_store.proofs.Before.{Before, refused_before, planned_before}
 use Rattle.demux_indexed_turns.specs.Acts.{words_by, tells_by, acts_by}
 use Rattle.demux_indexed_store.specs.Carried.{Store}
@@ -16,5 +16,5 @@ unfolding fed judged_in
 as_before_lem s input packet = go (verdict_in s input packet)
   where
     go : (v : Verdict) → (number_of (judged_in s input packet v).answer ≡ 29 → ⊥) → Before s (judged_in s input packet v)
-    go (Refused r) h = refused_before s r
-    go (Goes p) h = planned_before s words_by tells_by acts_by input packet p h
+    go (Err r) h = refused_before s r
+    go (Ok p) h = planned_before s words_by tells_by acts_by input packet p h

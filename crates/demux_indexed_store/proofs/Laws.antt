@@ -11,8 +11,8 @@ use Rattle.section.specs.Facts.{Bytes}
 use Rattle.gate_indexed.proofs.Laws.{fits_by}
 use Rattle.demux_state.specs.State.{plain}
 use Rattle.demux_packets.specs.declared.Plan.{Plan}
-use Rattle.demux_judge.specs.declared.Verdict.{Verdict}
-use Rattle.demux_judge.specs.declared.Verdict.TheVariants.{Refused, Goes}
+use Rattle.demux_judge.specs.Verdicts.{Verdict}
+use Rattle.std.specs.Prelude.{Err, Ok}
 use Rattle.demux_judge.proofs.Laws.{goings}
 use Rattle.demux_indexed_judge.proofs.Laws.{goes_by}
 use Rattle.demux_store.specs.Carried.{left}
@@ -25,15 +25,15 @@ use Rattle.demux_indexed_store.specs.Store.{judged_in, verdict_in, fed}
 -- ---- every packet
 
 module _ (s : Store) (input : ℕ) (packet : List ℕ) (v : Verdict) (e : v ≡ verdict_in s input packet) where
-  pub feed_refused : (r : Refusal) → v ≡ Refused r → left (plain (refusal_no r)) s ≡ fed s input packet
+  pub feed_refused : (r : Refusal) → v ≡ Err r → left (plain (refusal_no r)) s ≡ fed s input packet
   unfolding fed judged_in
   feed_refused r h = rw (← e, h) refl
 
-  pub feed_goes : (p : Plan) (l : Left) → v ≡ Goes p → l ≡ planned_in s input packet p → l ≡ fed s input packet
+  pub feed_goes : (p : Plan) (l : Left) → v ≡ Ok p → l ≡ planned_in s input packet p → l ≡ fed s input packet
   unfolding fed judged_in
   feed_goes p l h q = rw (← e, h) q
 
-  pub feed_takes : Bytes packet → (p : Plan) → v ≡ Goes p → TakesOk s packet p
+  pub feed_takes : Bytes packet → (p : Plan) → v ≡ Ok p → TakesOk s packet p
   feed_takes b p h =
       let k = s.gate.kept in
       let x = s.gate.index in

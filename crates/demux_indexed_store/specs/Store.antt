@@ -2,16 +2,16 @@
 use Rattle.std.specs.Prelude.{List, ℕ, length}
 use Rattle.answers.specs.Answers.{refusal_no}
 use Rattle.demux_state.specs.State.{plain}
-use Rattle.demux_judge.specs.declared.Verdict.{Verdict}
-use Rattle.demux_judge.specs.declared.Verdict.TheVariants.{Refused, Goes}
+use Rattle.demux_judge.specs.Verdicts.{Verdict}
+use Rattle.std.specs.Prelude.{Err, Ok}
 use Rattle.demux_indexed_judge.specs.Verdicts.{verdict_by}
 use Rattle.demux_store.specs.Carried.{left}
 use Rattle.demux_indexed_store.specs.Carried.{Store, Left, planned_in}
 
 -- a refusal leaves all as it was
 unfoldable pub judged_in : Store → (input : ℕ) → List ℕ → Verdict → Left
-judged_in s input packet (Refused r) = left (plain (refusal_no r)) s
-judged_in s input packet (Goes p) = planned_in s input packet p
+judged_in s input packet (Err r) = left (plain (refusal_no r)) s
+judged_in s input packet (Ok p) = planned_in s input packet p
 
 abbrev pub verdict_in : Store → (input : ℕ) → List ℕ → Verdict
 verdict_in s input packet =

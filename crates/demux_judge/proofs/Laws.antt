@@ -24,8 +24,8 @@ use Rattle.demux_state.specs.State.{near_end, Spares}
 use Rattle.demux_state.proofs.Laws.{spares}
 use Rattle.demux_packets.specs.declared.Plan.{Plan}
 use Rattle.demux_packets.specs.Plans.{plan_of, Lent}
-use Rattle.demux_judge.specs.declared.Verdict.{Verdict}
-use Rattle.demux_judge.specs.declared.Verdict.TheVariants.{Refused, Goes}
+use Rattle.demux_judge.specs.Verdicts.{Verdict}
+use Rattle.std.specs.Prelude.{Err, Ok}
 use Rattle.demux_judge.specs.Verdicts.{record_whole, lent_whole, whole_with, pat_count, verdict_of, Enough, Wholes, HasCount}
 
 -- ---- the record
@@ -88,7 +88,7 @@ module _ (g : Gate) (c : Counters) (s : Streams) (keys changes : ℕ) (r : Recor
   abbrev verdict : Verdict
   verdict = verdict_of g c s keys changes r pids buffers input packet places
 
-  pub not_whole_lem : not w ≡ true → Refused NotWhole ≡ verdict
+  pub not_whole_lem : not w ≡ true → Err NotWhole ≡ verdict
   unfolding verdict_of
   not_whole_lem h = rw (← e, not-true w h) refl
 
@@ -103,17 +103,17 @@ module _ (g : Gate) (c : Counters) (s : Streams) (keys changes : ℕ) (r : Recor
       same_near : b ≡ near_end c s (pat_count g.follow r.words)
       same_near = f ∙ ap (near_end c s) q
 
-      pub near_its_end : b ≡ true → Refused CounterFull ≡ verdict
+      pub near_its_end : b ≡ true → Err CounterFull ≡ verdict
       unfolding verdict_of
       near_its_end t = rw (← e, not-false w h, ← same_near, t) refl
 
-      pub bad_input_lem : b ≡ false → 16 ≤ input → Refused BadInput ≡ verdict
+      pub bad_input_lem : b ≡ false → 16 ≤ input → Err BadInput ≡ verdict
       unfolding verdict_of
       bad_input_lem t k = rw (← e, not-false w h, ← same_near, t, le-ltb input 16 k) refl
 
-      pub it_goes : (p : Plan) → b ≡ false → input < 16 → p ≡ plan_of r.words s.count pids packet → Goes p ≡ verdict
+      pub it_goes : (p : Plan) → b ≡ false → input < 16 → p ≡ plan_of r.words s.count pids packet → Ok p ≡ verdict
       unfolding verdict_of
-      it_goes p t k j = rw (← e, not-false w h, ← same_near, t, lt-ltb input 16 k) (ap Goes j)
+      it_goes p t k j = rw (← e, not-false w h, ← same_near, t, lt-ltb input 16 k) (ap Ok j)
 
     pub lends : Lent r.words pids s.count
     lends =
@@ -131,7 +131,7 @@ pub record Goings (g : Gate) (c : Counters) (s : Streams) (keys changes : ℕ) (
   pub plan : plan_of r.words s.count pids packet ≡ p
 
 pub goings : (g : Gate) (c : Counters) (s : Streams) (keys changes : ℕ) (r : Record) (pids : List ℕ) (buffers input : ℕ) (packet : List ℕ) (places : ℕ) (p : Plan)
-    → verdict_of g c s keys changes r pids buffers input packet places ≡ Goes p → Goings g c s keys changes r pids buffers input packet places p
+    → verdict_of g c s keys changes r pids buffers input packet places ≡ Ok p → Goings g c s keys changes r pids buffers input packet places p
 unfolding verdict_of
 goings g c s keys changes r pids buffers input packet places p = go (whole_with g s keys changes r (length pids) buffers places) (near_end c s (pat_count g.follow r.words)) (ltb input 16) refl refl refl
   where
@@ -139,7 +139,7 @@ goings g c s keys changes r pids buffers input packet places p = go (whole_with 
     plan = plan_of r.words s.count pids packet
 
     go : (a b d : Bool) → whole_with g s keys changes r (length pids) buffers places ≡ a → near_end c s (pat_count g.follow r.words) ≡ b → ltb input 16 ≡ d
-        → cond a (cond b (Refused CounterFull) (cond d (Goes plan) (Refused BadInput))) (Refused NotWhole) ≡ Goes p → Goings g c s keys changes r pids buffers input packet places p
+        → cond a (cond b (Err CounterFull) (cond d (Ok plan) (Err BadInput))) (Err NotWhole) ≡ Ok p → Goings g c s keys changes r pids buffers input packet places p
     go true false true x y z e = record {
       whole = wholes g s keys changes r (length pids) buffers places x;
       spares = spares c s (pat_count g.follow r.words) y;

@@ -12,8 +12,9 @@ use Rattle.streams.specs.Store.{are_enough}
 use Rattle.streams.specs.declared.Streams.{Streams}
 use Rattle.demux_state.specs.State.{near_end}
 use Rattle.demux_packets.specs.Plans.{plan_of}
-use Rattle.demux_judge.specs.declared.Verdict.{Verdict}
-use Rattle.demux_judge.specs.declared.Verdict.TheVariants.{Refused, Goes}
+use Rattle.std.specs.Prelude.{Result, Ok, Err}
+use Rattle.answers.specs.declared.Refusal.{Refusal}
+use Rattle.demux_packets.specs.declared.Plan.{Plan}
 
 -- where complete PATs are followed the record has a whole PAT store
 abbrev pub record_whole : Follow → Record → Bool
@@ -31,13 +32,17 @@ whole_with g s keys changes r pids buffers places = whole_of g keys changes (len
 abbrev pub pat_count : Follow → List ℕ → ℕ
 pat_count f words = cond (by_tables f) (pat_most words) 0
 
+-- a refusal that changes nothing, or what a packet that is counted comes to
+abbrev pub Verdict : Type 0
+Verdict = Result Plan Refusal
+
 -- 10, 11, 37, then what the packet comes to
 unfoldable pub verdict_of : Gate → Counters → Streams → (keys changes : ℕ) → Record → (pids : List ℕ) → (buffers input : ℕ) → (packet : List ℕ) → (places : ℕ) → Verdict
 verdict_of g c s keys changes r pids buffers input packet places =
     cond (whole_with g s keys changes r (length pids) buffers places)
-    (cond (near_end c s (pat_count g.follow r.words)) (Refused CounterFull)
-    (cond (ltb input 16) (Goes (plan_of r.words s.count pids packet)) (Refused BadInput)))
-    (Refused NotWhole)
+    (cond (near_end c s (pat_count g.follow r.words)) (Err CounterFull)
+    (cond (ltb input 16) (Ok (plan_of r.words s.count pids packet)) (Err BadInput)))
+    (Err NotWhole)
 
 -- ---- the same as orders of numbers
 

@@ -11,13 +11,6 @@ use demux_packets::Plan;
 use gate_state::{Follow, Gate};
 use streams::Streams;
 
-// A refusal that changes nothing, or a packet that is counted.
-#[derive(Clone, Copy)]
-pub enum Verdict {
-    Refused(Refusal),
-    Goes(Plan),
-}
-
 // How many words the places have: 64 places of 6.
 pub const PLACES_WORDS: usize = 384;
 
@@ -87,6 +80,7 @@ fn pat_count(follow: Follow, words: &[u64]) -> u64
 
 // ---- a packet
 
+// What a packet that is counted comes to; a refusal changes nothing.
 pub fn judge(
     gate: Gate,
     counters: Counters,
@@ -101,7 +95,7 @@ pub fn judge(
     input: u8,
     packet: &[u8],
     places: usize,
-) -> Verdict
+) -> Result<Plan, Refusal>
     ensures { result ≡ verdict_of gate counters streams keys changes (record_of words.now pat_slots.now pat_cells.now) pids.now buffers input packet.now places }
 {
     if !is_whole(
@@ -116,14 +110,14 @@ pub fn judge(
         buffers,
         places,
     ) {
-        return Verdict::Refused(Refusal::NotWhole);
+        return Err(Refusal::NotWhole);
     }
     let follow = gate.follow;
     if demux_state::near_end(counters, streams, pat_count(follow, words)) {
-        return Verdict::Refused(Refusal::CounterFull);
+        return Err(Refusal::CounterFull);
     }
     if input < INPUTS {
-        return Verdict::Goes(demux_packets::judge(packet, words, pids, streams.count));
+        return Ok(demux_packets::judge(packet, words, pids, streams.count));
     }
-    Verdict::Refused(Refusal::BadInput)
+    Err(Refusal::BadInput)
 }

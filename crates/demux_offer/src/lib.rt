@@ -17,11 +17,7 @@ pub fn copy_set(set: &mut [u64], words: &[u64])
     requires { (length set.old ≡ 128) × (128 ≤ length words.now) }
     ensures { set.new ≡ take 128 words.now }
 {
-    let mut i = 0;
-    while i < SET_WORDS {
-        set[i] = words[i];
-        i += 1;
-    }
+    set.copy_from_slice(&words[0..SET_WORDS]);
 }
 
 // A PAT: it may change the watch, so the PIDs watched before it are compared with those after it.

@@ -68,13 +68,11 @@ pub fn offers<'a>(
     ensures { held_of result keys.new changes.new (record_of words.new pat_slots.new pat_cells.new) pids.new places.new ≡ offers_from packet.now buffers.now input pid count 0 (held_of held keys.old changes.old (record_of words.old pat_slots.old pat_cells.old) pids.old places.old) }
 {
     let mut now = held;
-    let mut k = 0;
-    while k < count {
+    for k in 0..count {
         now = turn(
             now, keys, changes, words, pat_slots, pat_cells, pids, buffers, input, pid, packet,
             places, k,
         );
-        k += 1;
     }
     now
 }

@@ -21,8 +21,8 @@ use Rattle.demux_state.specs.State.{is_near}
 use Rattle.demux_packets.specs.declared.Plan.{Plan}
 use Rattle.demux_packets.specs.declared.Plan.TheVariants.{Nothing, Unwatched, NoBuffer, Read}
 use Rattle.demux_packets.specs.Plans.{reading, buffer_plan, load_plan, packet_plan, plan_of, no_words}
-use Rattle.demux_judge.specs.declared.Verdict.{Verdict}
-use Rattle.demux_judge.specs.declared.Verdict.TheVariants.{Goes}
+use Rattle.demux_judge.specs.Verdicts.{Verdict}
+use Rattle.std.specs.Prelude.{Ok}
 use Rattle.demux_store.specs.Carried.{StoreOf, LeftOf, store_of}
 use Rattle.demux_pass.specs.Passing.{plan_passes, is_passed, PassingOf, gone, one_more, passing_by, most_of}
 
@@ -115,24 +115,24 @@ module _ {S : Type 0} (verdict : StoreOf S → (input : ℕ) → List ℕ → Ve
   state_at n pids = store_of g (record { count = t.count; packets = n; malformed = t.malformed }) pids buffers places
 
   module _
-      (goes : (n : ℕ) (pids packet : List ℕ) → is_near n ≡ false → length pids ≡ size → verdict (state_at n pids) input packet ≡ Goes (plan_of watched t.count pids packet))
+      (goes : (n : ℕ) (pids packet : List ℕ) → is_near n ≡ false → length pids ≡ size → verdict (state_at n pids) input packet ≡ Ok (plan_of watched t.count pids packet))
       (ends : (n : ℕ) (pids packet : List ℕ) → is_near n ≡ true → is_passed (verdict (state_at n pids) input packet) ≡ false)
-      (feeds_nothing : (n : ℕ) (pids packet : List ℕ) → verdict (state_at n pids) input packet ≡ Goes Nothing → (feeds (state_at n pids) input packet).store ≡ state_at (n + 1) pids)
-      (feeds_other : (n : ℕ) (pids packet : List ℕ) (pid : Pid) → verdict (state_at n pids) input packet ≡ Goes (Unwatched pid) → (feeds (state_at n pids) input packet).store ≡ state_at (n + 1) (with_words pids pid no_words)) where
+      (feeds_nothing : (n : ℕ) (pids packet : List ℕ) → verdict (state_at n pids) input packet ≡ Ok Nothing → (feeds (state_at n pids) input packet).store ≡ state_at (n + 1) pids)
+      (feeds_other : (n : ℕ) (pids packet : List ℕ) (pid : Pid) → verdict (state_at n pids) input packet ≡ Ok (Unwatched pid) → (feeds (state_at n pids) input packet).store ≡ state_at (n + 1) (with_words pids pid no_words)) where
     fed_on : (n : ℕ) (pids packet : List ℕ) → is_near n ≡ false → length pids ≡ size → passes watched packet ≡ true → (feeds (state_at n pids) input packet).store ≡ state_at (n + 1) (pids_after watched packet pids)
     unfolding plan_of packet_plan load_plan passes_as pids_as
     fed_on n pids packet f k h = go (packet_of packet) refl h
       where
         go : (r : Packet) → packet_of packet ≡ r → passes_as watched r ≡ true → (feeds (state_at n pids) input packet).store ≡ state_at (n + 1) (pids_as watched r pids)
         go read.Malformed e h = absurd (true≢false (sym h))
-        go read.Nothing e h = feeds_nothing n pids packet (goes n pids packet f k ∙ ap (λ (r : Packet). Goes (packet_plan watched t.count pids r)) e)
+        go read.Nothing e h = feeds_nothing n pids packet (goes n pids packet f k ∙ ap (λ (r : Packet). Ok (packet_plan watched t.count pids r)) e)
         go (read.Payload l) e h = other (has_bit watched l.pid.0) refl h
           where
             other : (b : Bool) → has_bit watched l.pid.0 ≡ b → not b ≡ true → (feeds (state_at n pids) input packet).store ≡ state_at (n + 1) (cond b pids (with_words pids l.pid no_words))
             other true x y = absurd (true≢false (sym y))
             other false x y =
                 feeds_other n pids packet l.pid
-                (goes n pids packet f k ∙ ap (λ (r : Packet). Goes (packet_plan watched t.count pids r)) e ∙ ap (λ (b : Bool). Goes (cond b (buffer_plan t.count pids l) (Unwatched l.pid))) x)
+                (goes n pids packet f k ∙ ap (λ (r : Packet). Ok (packet_plan watched t.count pids r)) e ∙ ap (λ (b : Bool). Ok (cond b (buffer_plan t.count pids l) (Unwatched l.pid))) x)
 
     module _ (k m n : ℕ) (pids packets : List ℕ) (f : is_near n ≡ false) (s : length pids ≡ size) where
       abbrev packet : List ℕ

@@ -19,8 +19,8 @@ use Rattle.passing.specs.Passing.{Looks}
 use Rattle.demux_state.specs.State.{is_near, any_near, near_end}
 use Rattle.demux_packets.specs.declared.Plan.{Plan}
 use Rattle.demux_packets.specs.Plans.{plan_of}
-use Rattle.demux_judge.specs.declared.Verdict.{Verdict}
-use Rattle.demux_judge.specs.declared.Verdict.TheVariants.{Refused, Goes}
+use Rattle.demux_judge.specs.Verdicts.{Verdict}
+use Rattle.std.specs.Prelude.{Err, Ok}
 use Rattle.demux_judge.specs.Verdicts.{whole_with, pat_count, verdict_of}
 use Rattle.demux_judge.proofs.Laws.{lends}
 use Rattle.demux_pass.specs.Passing.{is_passed, CanPass}
@@ -37,23 +37,23 @@ module _ (g : Gate) (c : Counters) (keys changes : ℕ) (r : Record) (buffers in
     pub far : near_end c t pats ≡ false
     pub known : ltb input 16 ≡ true
 
-  pub ready : (t : Streams) (pids packet : List ℕ) (p : Plan) → verdict_at t pids packet ≡ Goes p → Ready t (length pids)
+  pub ready : (t : Streams) (pids packet : List ℕ) (p : Plan) → verdict_at t pids packet ≡ Ok p → Ready t (length pids)
   unfolding verdict_of
   ready t pids packet p = go (whole_with g t keys changes r (length pids) buffers places) (near_end c t pats) (ltb input 16) refl refl refl
     where
       go : (a b d : Bool) → whole_with g t keys changes r (length pids) buffers places ≡ a → near_end c t pats ≡ b → ltb input 16 ≡ d
-          → cond a (cond b (Refused CounterFull) (cond d (Goes (plan_of r.words t.count pids packet)) (Refused BadInput))) (Refused NotWhole) ≡ Goes p → Ready t (length pids)
+          → cond a (cond b (Err CounterFull) (cond d (Ok (plan_of r.words t.count pids packet)) (Err BadInput))) (Err NotWhole) ≡ Ok p → Ready t (length pids)
       go true false true x y z e = record { whole = x; far = y; known = z }
       go true false false x y z e = let q : ◌≡◌ {A = ℕ} 0 1 = cc in absurd (omega arith)
       go true true d x y z e = let q : ◌≡◌ {A = ℕ} 0 1 = cc in absurd (omega arith)
       go false b d x y z e = let q : ◌≡◌ {A = ℕ} 0 1 = cc in absurd (omega arith)
 
-  pub none_passes : (t : Streams) (pids p q : List ℕ) (x : Refusal) → verdict_at t pids p ≡ Refused x → is_passed (verdict_at t pids q) ≡ false
+  pub none_passes : (t : Streams) (pids p q : List ℕ) (x : Refusal) → verdict_at t pids p ≡ Err x → is_passed (verdict_at t pids q) ≡ false
   unfolding verdict_of is_passed
   none_passes t pids p q x = go (whole_with g t keys changes r (length pids) buffers places) (near_end c t pats) (ltb input 16)
     where
-      go : (a b d : Bool) → cond a (cond b (Refused CounterFull) (cond d (Goes (plan_of r.words t.count pids p)) (Refused BadInput))) (Refused NotWhole) ≡ Refused x
-          → is_passed (cond a (cond b (Refused CounterFull) (cond d (Goes (plan_of r.words t.count pids q)) (Refused BadInput))) (Refused NotWhole)) ≡ false
+      go : (a b d : Bool) → cond a (cond b (Err CounterFull) (cond d (Ok (plan_of r.words t.count pids p)) (Err BadInput))) (Err NotWhole) ≡ Err x
+          → is_passed (cond a (cond b (Err CounterFull) (cond d (Ok (plan_of r.words t.count pids q)) (Err BadInput))) (Err NotWhole)) ≡ false
       go true false true e = let q : ◌≡◌ {A = ℕ} 0 1 = cc in absurd (omega arith)
       go true false false e = refl
       go true true d e = refl
@@ -74,20 +74,20 @@ module _ (g : Gate) (c : Counters) (keys changes : ℕ) (r : Record) (buffers in
         go true = refl
         go false = refl
 
-    pub goes_at : (n : ℕ) (pids packet : List ℕ) → is_near n ≡ false → length pids ≡ size → verdict_at (at n) pids packet ≡ Goes (plan_of r.words t.count pids packet)
+    pub goes_at : (n : ℕ) (pids packet : List ℕ) → is_near n ≡ false → length pids ≡ size → verdict_at (at n) pids packet ≡ Ok (plan_of r.words t.count pids packet)
     unfolding verdict_of
     goes_at n pids packet f l =
         let w : whole_with g (at n) keys changes r (length pids) buffers places ≡ true = ap (λ (k : ℕ). whole_with g (at n) keys changes r k buffers places) l ∙ x.whole in
-        λ i. cond (w i) (cond (near_as n false f i) (Refused CounterFull) (cond (x.known i) (Goes (plan_of r.words t.count pids packet)) (Refused BadInput))) (Refused NotWhole)
+        λ i. cond (w i) (cond (near_as n false f i) (Err CounterFull) (cond (x.known i) (Ok (plan_of r.words t.count pids packet)) (Err BadInput))) (Err NotWhole)
 
     pub ends_at : (n : ℕ) (pids packet : List ℕ) → is_near n ≡ true → is_passed (verdict_at (at n) pids packet) ≡ false
     unfolding verdict_of is_passed
     ends_at n pids packet h =
-        ap (λ (b : Bool). is_passed (cond (whole_with g (at n) keys changes r (length pids) buffers places) (cond b (Refused CounterFull) (cond (ltb input 16) (Goes (plan_of r.words t.count pids packet)) (Refused BadInput))) (Refused NotWhole)))
+        ap (λ (b : Bool). is_passed (cond (whole_with g (at n) keys changes r (length pids) buffers places) (cond b (Err CounterFull) (cond (ltb input 16) (Ok (plan_of r.words t.count pids packet)) (Err BadInput))) (Err NotWhole)))
         (near_as n true h)
         ∙ go (whole_with g (at n) keys changes r (length pids) buffers places)
       where
-        go : (b : Bool) → is_passed (cond b (Refused CounterFull) (Refused NotWhole)) ≡ false
+        go : (b : Bool) → is_passed (cond b (Err CounterFull) (Err NotWhole)) ≡ false
         go true = refl
         go false = refl
 
@@ -98,7 +98,7 @@ module _ (g : Gate) (c : Counters) (keys changes : ℕ) (r : Record) (buffers in
         let e₁ = or_false (any_near c) (is_near t.packets) e₂.0 in
         leb-false 18446744073709551551 t.packets e₁.1
 
-  pub can_pass : (t : Streams) (pids packet : List ℕ) (p : Plan) (v : Verdict) → v ≡ verdict_at t pids packet → v ≡ Goes p → CanPass t r.words pids
+  pub can_pass : (t : Streams) (pids packet : List ℕ) (p : Plan) (v : Verdict) → v ≡ verdict_at t pids packet → v ≡ Ok p → CanPass t r.words pids
   can_pass t pids packet p v e h =
       let x = ready t pids packet p (sym e ∙ h) in
       let l = lends g c t keys changes r pids buffers input packet places true (sym x.whole) refl in

@@ -13,8 +13,8 @@ use Rattle.streams.specs.Store.{with_words}
 use Rattle.demux_packets.specs.declared.Plan.{Plan}
 use Rattle.demux_packets.specs.declared.Plan.TheVariants.{Nothing, Unwatched}
 use Rattle.demux_packets.specs.Plans.{no_words}
-use Rattle.demux_judge.specs.declared.Verdict.{Verdict}
-use Rattle.demux_judge.specs.declared.Verdict.TheVariants.{Refused, Goes}
+use Rattle.demux_judge.specs.Verdicts.{Verdict}
+use Rattle.std.specs.Prelude.{Err, Ok}
 use Rattle.demux_store.specs.Carried.{planned_by}
 use Rattle.demux_store.specs.Store.{Store, store_of, judged_in, verdict_in, fed}
 use Rattle.demux_pass.specs.declared.Passed.{Passed}
@@ -23,7 +23,7 @@ use Rattle.demux_pass.specs.Store.{Passing, passed_by, passing}
 use Rattle.demux_pass.proofs.Passing.{Most, most_is, one_by_one}
 use Rattle.demux_pass.proofs.Ready.{Ready, ready, none_passes, goes_at, ends_at, counts}
 
-pub pass_none : (k : ℕ) (s : Store) (input : ℕ) (p packets : List ℕ) (v : Verdict) (x : Refusal) → v ≡ verdict_in s input p → v ≡ Refused x → gone 0 s ≡ passing k s input packets
+pub pass_none : (k : ℕ) (s : Store) (input : ℕ) (p packets : List ℕ) (v : Verdict) (x : Refusal) → v ≡ verdict_in s input p → v ≡ Err x → gone 0 s ≡ passing k s input packets
 unfolding passing_by
 pass_none zero s input p packets v x e h = refl
 pass_none (suc k) s input p packets v x e h =
@@ -36,15 +36,15 @@ module _ (g : Kept) (t : Streams) (pids buffers places : List ℕ) (input : ℕ)
   abbrev state_at : ℕ → List ℕ → Store
   state_at n ps = store_of g (record { count = t.count; packets = n; malformed = t.malformed }) ps buffers places
 
-  feeds_nothing : (n : ℕ) (ps packet : List ℕ) → verdict_in (state_at n ps) input packet ≡ Goes Nothing → (fed (state_at n ps) input packet).store ≡ state_at (n + 1) ps
+  feeds_nothing : (n : ℕ) (ps packet : List ℕ) → verdict_in (state_at n ps) input packet ≡ Ok Nothing → (fed (state_at n ps) input packet).store ≡ state_at (n + 1) ps
   unfolding fed judged_in planned_by
   feeds_nothing n ps packet e = ap (λ (v : Verdict). (judged_in (state_at n ps) input packet v).store) e
 
-  feeds_other : (n : ℕ) (ps packet : List ℕ) (pid : Pid) → verdict_in (state_at n ps) input packet ≡ Goes (Unwatched pid) → (fed (state_at n ps) input packet).store ≡ state_at (n + 1) (with_words ps pid no_words)
+  feeds_other : (n : ℕ) (ps packet : List ℕ) (pid : Pid) → verdict_in (state_at n ps) input packet ≡ Ok (Unwatched pid) → (fed (state_at n ps) input packet).store ≡ state_at (n + 1) (with_words ps pid no_words)
   unfolding fed judged_in planned_by
   feeds_other n ps packet pid e = ap (λ (v : Verdict). (judged_in (state_at n ps) input packet v).store) e
 
-  pub pass_some : (p packets : List ℕ) (v : Verdict) (plan : Plan) (r : Passed) (pids' : List ℕ) → v ≡ verdict_in (store_of g t pids buffers places) input p → v ≡ Goes plan
+  pub pass_some : (p packets : List ℕ) (v : Verdict) (plan : Plan) (r : Passed) (pids' : List ℕ) → v ≡ verdict_in (store_of g t pids buffers places) input p → v ≡ Ok plan
       → went_by r pids' ≡ over_from t g.watch.words packets pids → passed_by r g pids' buffers places ≡ passing (length packets / 188) (store_of g t pids buffers places) input packets
   pass_some p packets v plan r pids' e h q =
       let x = ready g.gate g.counters (length g.keys) (length g.changes) g.watch (length buffers) input (length places) t pids p plan (sym e ∙ h) in

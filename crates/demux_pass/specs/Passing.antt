@@ -5,8 +5,8 @@ use Rattle.passing.specs.Passing as over
 use Rattle.passing.specs.Passing.{passed_from, Looks}
 use Rattle.demux_packets.specs.declared.Plan.{Plan}
 use Rattle.demux_packets.specs.declared.Plan.TheVariants.{Malformed, Nothing, Unwatched, NoBuffer, Read}
-use Rattle.demux_judge.specs.declared.Verdict.{Verdict}
-use Rattle.demux_judge.specs.declared.Verdict.TheVariants.{Refused, Goes}
+use Rattle.demux_judge.specs.Verdicts.{Verdict}
+use Rattle.std.specs.Prelude.{Err, Ok}
 use Rattle.demux_store.specs.Carried.{StoreOf, LeftOf}
 use Rattle.demux_pass.specs.declared.Passed.{Passed}
 
@@ -19,8 +19,8 @@ plan_passes NoBuffer = false
 plan_passes (Read r) = false
 
 unfoldable pub is_passed : Verdict → Bool
-is_passed (Refused r) = false
-is_passed (Goes p) = plan_passes p
+is_passed (Err r) = false
+is_passed (Ok p) = plan_passes p
 
 -- how many packets were passed over, and what is left
 pub record PassingOf (S : Type 0) : Type 0 where

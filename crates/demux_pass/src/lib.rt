@@ -9,7 +9,6 @@ ghost use Rattle.demux_store.specs.Store.{store_of};
 ghost use Rattle.demux_pass.specs.Store.{passed_by, passing};
 
 use counters::Counters;
-use demux_judge::Verdict;
 use gate_state::Gate;
 use streams::Streams;
 
@@ -56,7 +55,7 @@ pub fn pass(
         &packets[0..0],
         places.len(),
     ) {
-        Verdict::Refused(_) => Passed { number: 0, streams },
-        Verdict::Goes(_) => inner::pass(streams, words, pids, packets),
+        Err(_) => Passed { number: 0, streams },
+        Ok(_) => inner::pass(streams, words, pids, packets),
     }
 }

@@ -10,8 +10,8 @@ use Rattle.gate_state.specs.State.{Said}
 use Rattle.demux_state.specs.State.{plain, number_of}
 use Rattle.demux_packets.specs.declared.Plan.{Plan}
 use Rattle.demux_packets.specs.declared.Plan.TheVariants.{Malformed, Nothing, Unwatched, NoBuffer, Read}
-use Rattle.demux_judge.specs.declared.Verdict.{Verdict}
-use Rattle.demux_judge.specs.declared.Verdict.TheVariants.{Refused, Goes}
+use Rattle.demux_judge.specs.Verdicts.{Verdict}
+use Rattle.std.specs.Prelude.{Err, Ok}
 use Rattle.demux_store.specs.Carried.{StoreOf, LeftOf, left, read_by, planned_by, with_streams, counted_by}
 use Rattle.demux_store.specs.Store.{Store, judged_in, verdict_in, fed}
 use Rattle.demux_steady.specs.Steady.{words_in, tells, acts}
@@ -56,5 +56,5 @@ unfolding fed judged_in
 as_before_lem s input packet = go (verdict_in s input packet)
   where
     go : (v : Verdict) → (number_of (judged_in s input packet v).answer ≡ 29 → ⊥) → Before s (judged_in s input packet v)
-    go (Refused r) h = refused_before s r
-    go (Goes p) h = planned_before s words_in tells acts input packet p h
+    go (Err r) h = refused_before s r
+    go (Ok p) h = planned_before s words_in tells acts input packet p h

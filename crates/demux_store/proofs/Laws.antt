@@ -14,8 +14,8 @@ use Rattle.streams.specs.declared.Streams.{Streams}
 use Rattle.gate_pats.specs.Store.{Kept}
 use Rattle.demux_state.specs.State.{plain}
 use Rattle.demux_packets.specs.declared.Plan.{Plan}
-use Rattle.demux_judge.specs.declared.Verdict.{Verdict}
-use Rattle.demux_judge.specs.declared.Verdict.TheVariants.{Refused, Goes}
+use Rattle.demux_judge.specs.Verdicts.{Verdict}
+use Rattle.std.specs.Prelude.{Err, Ok}
 use Rattle.demux_judge.proofs.Laws.{Goings, goings}
 use Rattle.demux_steady.specs.Steady.{Steady}
 use Rattle.demux_store.specs.Carried.{left}
@@ -36,15 +36,15 @@ module _ (s : Kept) (t : Streams) (pids : List ℕ) (buffers input : ℕ) (packe
 -- ---- every packet
 
 module _ (s : Store) (input : ℕ) (packet : List ℕ) (v : Verdict) (e : v ≡ verdict_in s input packet) where
-  pub feed_refused : (r : Refusal) → v ≡ Refused r → left (plain (refusal_no r)) s ≡ fed s input packet
+  pub feed_refused : (r : Refusal) → v ≡ Err r → left (plain (refusal_no r)) s ≡ fed s input packet
   unfolding fed judged_in
   feed_refused r h = rw (← e, h) refl
 
-  pub feed_goes : (p : Plan) (l : Left) → v ≡ Goes p → l ≡ planned_in s input packet p → l ≡ fed s input packet
+  pub feed_goes : (p : Plan) (l : Left) → v ≡ Ok p → l ≡ planned_in s input packet p → l ≡ fed s input packet
   unfolding fed judged_in
   feed_goes p l h q = rw (← e, h) q
 
-  pub feed_takes : Bytes packet → (p : Plan) → v ≡ Goes p → TakesOk s packet p
+  pub feed_takes : Bytes packet → (p : Plan) → v ≡ Ok p → TakesOk s packet p
   feed_takes b p h =
       let x =
       goings s.gate.gate s.gate.counters s.streams (length s.gate.keys) (length s.gate.changes) s.gate.watch s.pids (length s.buffers) input packet (length s.places) p (sym e ∙ h) in

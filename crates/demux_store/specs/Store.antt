@@ -8,8 +8,8 @@ use Rattle.demux_state.specs.State.{plain, said_of}
 use Rattle.demux_state.specs.declared.Fed.{Fed}
 use Rattle.demux_packets.specs.declared.Reading.{Reading}
 use Rattle.demux_packets.specs.declared.Plan.{Plan}
-use Rattle.demux_judge.specs.declared.Verdict.{Verdict}
-use Rattle.demux_judge.specs.declared.Verdict.TheVariants.{Refused, Goes}
+use Rattle.demux_judge.specs.Verdicts.{Verdict}
+use Rattle.std.specs.Prelude.{Err, Ok}
 use Rattle.demux_judge.specs.Verdicts.{verdict_of}
 use Rattle.demux_steady.specs.Steady.{words_in, tells, acts, Steady}
 use Rattle.demux_store.specs.Carried.{StoreOf, LeftOf, left, read_by, planned_by, ReadsWith, TakesWith}
@@ -36,8 +36,8 @@ planned_in s input packet p = planned_by words_in tells acts s input packet p
 
 -- a refusal leaves all as it was
 unfoldable pub judged_in : Store → (input : ℕ) → List ℕ → Verdict → Left
-judged_in s input packet (Refused r) = left (plain (refusal_no r)) s
-judged_in s input packet (Goes p) = planned_in s input packet p
+judged_in s input packet (Err r) = left (plain (refusal_no r)) s
+judged_in s input packet (Ok p) = planned_in s input packet p
 
 abbrev pub verdict_in : Store → (input : ℕ) → List ℕ → Verdict
 verdict_in s input packet =

@@ -34,15 +34,6 @@ use Rattle.demux_turns.specs.declared.Held.{Held}
 use Rattle.demux_turns.specs.Offers.{Offers, held_of, turned, OfferOk, TurnOk}
 use Rattle.demux_turns.proofs.Turns.{section_told, one_more_lem}
 
--- ---- a set is copied
-
-pub copy_turn : (s words : List ℕ) (i : ℕ) → length s ≡ 128 → 128 ≤ length words → i < 128 → take i s ≡ take i words → take (i + 1) (set s i (get_or words i 0)) ≡ take (i + 1) words
-copy_turn s words i l m h e =
-    rw (add-one i) (take-suc-set s i (get_or words i 0) (omega arith) ∙ ap (λ (x : List ℕ). x ++ (get_or words i 0 ∷ [])) e ∙ sym (take-suc words i 0 (omega arith)))
-
-pub copy_end : (s words : List ℕ) (i : ℕ) → length s ≡ 128 → 128 ≤ i → i ≤ 128 → take i s ≡ take i words → s ≡ take 128 words
-copy_end s words i l h k e = let z : i ≡ 128 = omega arith in sym (take_all 128 s (omega arith)) ∙ rw z at e
-
 -- ---- a PAT
 
 module _ (words before words' pids : List ℕ) (e : before ≡ take 128 words) where

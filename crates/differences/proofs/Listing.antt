@@ -2,22 +2,21 @@
 -- Assumes nothing.
 use mathlib.Core.Path.{◌≡◌, refl, sym, ap, ◌∙◌}
 use mathlib.Core.Logic.{⊎_elim}
-use mathlib.Core.Bool.{Bool, true, false, cond, ◌||◌}
+use mathlib.Core.Bool.{Bool, true, false, ◌||◌}
 use mathlib.Core.List.{List, [], ◌∷◌, ◌++◌}
 use Prim.Native.Nat.{ℕ, suc, ◌+◌, ◌*◌, ◌/◌, ◌%◌, ◌≤◌, ◌<◌, min}
 use native.Mathlib.Nat.{add-zero, zero-add, add_assoc}
-use native.Mathlib.Numerals.{add-one}
 use native.Mathlib.Omega.{arith}
-use lib.ListN.{length, drop, set, length-append}
+use lib.ListN.{length, set, length-append}
 use lib.Seq.{sets, set_out}
-use lib.Dec.{ltb, eqb}
+use lib.Dec.{ltb}
 use borrow.Author.Tests.{eq-eqb, ne_eqb, ltb-true, ltb-false}
 use Rattle.laws.proofs.Tests.{lt_or_le, or_false}
 use Rattle.laws.proofs.Writes.{sets_append}
-use Rattle.laid.specs.Laid.{sections_in, laid_out, chain}
+use Rattle.laid.specs.Laid.{chain}
 use Rattle.laid.specs.Walk.{LaidFrom, from, head_rank, head_if, tail_if, RankAt}
 use Rattle.laid.proofs.Walks.{next_held, held_least, none_left}
-use Rattle.differences.specs.Rules.{Entry, kind_of, place_of, entry_by, entry_of}
+use Rattle.differences.specs.Rules.{Entry, entry_of}
 use Rattle.differences.specs.Walk.{difference_of, words_of, entry_words, rises, Ranked, all_differences, all_words}
 use Rattle.differences.specs.declared.Difference.{Difference}
 use Rattle.differences.proofs.Held.{all_turn, all_none, rest_rises}

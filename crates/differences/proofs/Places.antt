@@ -1,21 +1,19 @@
 -- The first place at which two sections differ, block by block and byte by byte.
 -- Assumes nothing.
 use mathlib.Core.Path.{◌≡◌, refl, sym, ap, ◌∙◌}
-use mathlib.Core.Logic.{⊎_elim}
 use mathlib.Core.Bool.{Bool, true, false, cond, not, ◌&&◌, true≢false}
 use mathlib.Core.List.{List, [], ◌∷◌, head-eq_of_cons-eq, tail-eq_of_cons-eq}
 use Prim.Native.Nat.{ℕ, zero, suc, ◌+◌, ◌-◌, ◌≤◌, ◌<◌, min}
 use native.Mathlib.Nat.{add-sub_cancel_left, zero-add, add-zero, suc-add, add_assoc}
 use native.Mathlib.Omega.{arith}
-use lib.ListN.{length, take, drop, get_or, length-drop, drop_of_length-le}
+use lib.ListN.{length, take, drop, get_or, length-drop}
 use lib.Seq.{drop-drop, get_or-drop}
-use lib.Dec.{eqb, leb}
-use borrow.Author.Tests.{eq-eqb, ne_eqb, eqb-true, eqb-false, not-true, not-false, leb-true, leb-false}
+use lib.Dec.{eqb}
+use borrow.Author.Tests.{eq-eqb, ne_eqb, eqb-true, eqb-false, not-false}
 use Rattle.laws.specs.Lists.{same_list}
-use Rattle.laws.proofs.Search.{same_true, same_refl}
+use Rattle.laws.proofs.Search.{same_true}
 use Rattle.laws.proofs.Tests.{and_true, eqb_sym}
-use Rattle.section.specs.Header.{byte_at}
-use Rattle.differences.specs.Rules.{first_place, is_none, kind_of, place_of}
+use Rattle.differences.specs.Rules.{first_place, kind_of, place_of}
 use Rattle.differences.specs.Walk.{SameTo, only_of, difference_of}
 use Rattle.differences.specs.declared.Difference.{Difference}
 
@@ -151,10 +149,11 @@ module _ (x y : List ℕ) where
         let q : get_or (drop i x) 0 0 ≡ get_or (drop i y) 0 0 → ⊥ = λ (z : get_or (drop i x) 0 0 ≡ get_or (drop i y) 0 0). e (rw (get_or-drop i x 0 0, get_or-drop i y 0 0, add-zero i) at z) in
         sym (s.place ∙ rw (place_off (drop i x) (drop i y) a b q) (add-zero i))
 
-    pub place_ends : (n : ℕ) → n ≡ min (length x) (length y) → n ≤ i → i ≡ first_place x y
+    pub place_ends : (n : ℕ) → n ≡ min (length x) (length y) → n ≤ i → n ≡ first_place x y
     place_ends n m h =
         let a : min (length (drop i x)) (length (drop i y)) ≤ 0 = simp length-drop (omega arith) in
-        sym (s.place ∙ rw (place_end (drop i x) (drop i y) a) (add-zero i))
+        let z : n ≡ i = omega (arith, s.first, s.second) in
+        z ∙ sym (s.place ∙ rw (place_end (drop i x) (drop i y) a) (add-zero i))
 
 -- ---- how two sections differ
 

@@ -1,21 +1,21 @@
 -- The loop over the tables of two schedules: the first section of each table, met in order on one walk.
 -- Assumes nothing.
 use mathlib.Core.Path.{◌≡◌, refl, sym, ap, ◌∙◌}
-use mathlib.Core.Bool.{Bool, true, false, cond, ◌&&◌}
+use mathlib.Core.Bool.{Bool, true, false, cond}
 use mathlib.Core.List.{List, [], ◌∷◌, ◌++◌, append-nil, append_assoc}
-use Prim.Native.Nat.{ℕ, zero, suc, ◌+◌, ◌-◌, ◌≤◌, ◌<◌}
+use Prim.Native.Nat.{ℕ, zero, suc, ◌+◌, ◌≤◌, ◌<◌}
 use native.Mathlib.Nat.{add-zero}
 use native.Mathlib.Numerals.{add-one}
 use native.Mathlib.Omega.{arith}
-use lib.ListN.{length, drop, set, length-append, drop_of_length-le}
+use lib.ListN.{length, drop, set, drop_of_length-le}
 use lib.Seq.{set_at, drop-cons}
-use lib.Dec.{leb, ltb, eqb}
-use borrow.Author.Tests.{eq-eqb, ne_eqb, leb-true, ltb-true, ltb-false, eqb-true, eqb-false}
+use lib.Dec.{ltb, eqb}
+use borrow.Author.Tests.{eq-eqb, ne_eqb, leb-true, ltb-true, ltb-false, eqb-false}
 use Rattle.laws.proofs.Tests.{and_true}
-use Rattle.section.specs.Header.{table_id_of, version_of, last_section_number}
-use Rattle.laid.specs.Laid.{sections_in, laid_out, chain, chain_from, of_table, same_version, same_last}
+use Rattle.section.specs.Header.{table_id_of}
+use Rattle.laid.specs.Laid.{sections_in, chain, chain_from, same_version, same_last}
 use Rattle.laid.specs.Walk.{LaidFrom, from, leads, following, below_table, Passed}
-use Rattle.differences.specs.Rules.{up_from, leader, is_none, table_word, table_words}
+use Rattle.differences.specs.Rules.{up_from, leader, table_word, table_words}
 use Rattle.differences.specs.Walk.{tables_rise, StartsAt, Tabled}
 use Rattle.differences.proofs.Upward.{up_append}
 

@@ -2,25 +2,25 @@
 -- rank; with the sides exchanged kinds 1 and 2 are.
 -- Assumes nothing.
 use mathlib.Core.Path.{◌≡◌, refl, sym, ap, ◌∙◌}
-use mathlib.Core.Logic.{⊎_elim, by_cases, ◌⊎◌, inl, inr}
+use mathlib.Core.Logic.{⊎_elim, by_cases}
 use mathlib.Core.Bool.{Bool, true, false, cond, ◌&&◌, true≢false}
 use mathlib.Core.List.{List, [], ◌∷◌, ◌++◌, map, append-nil}
-use Prim.Native.Nat.{ℕ, zero, suc, ◌+◌, ◌*◌, ◌/◌, ◌%◌, ◌-◌, ◌≤◌, ◌<◌}
+use Prim.Native.Nat.{ℕ, zero, suc, ◌+◌, ◌*◌, ◌/◌, ◌%◌, ◌≤◌, ◌<◌}
 use native.Mathlib.Decide.{ℕ_discrete}
 use native.Mathlib.Omega.{arith}
-use lib.ListN.{length, length-append}
+use lib.ListN.{length}
 use lib.Dec.{eqb, ltb, leb}
 use borrow.Author.Tests.{eq-eqb, ne_eqb, eqb-true, eqb-false, ltb-true, leb-true, le-leb}
 use Rattle.laws.specs.Lists.{every, same_list}
 use Rattle.laws.proofs.Search.{same_true, same_refl}
 use Rattle.laws.proofs.Tests.{and_true, lt_or_le, eqb_sym}
 use Rattle.laid.specs.Laid.{chain, chain_from}
-use Rattle.laid.specs.Walk.{rank_of, head_rank}
-use Rattle.differences.specs.Rules.{Entry, held_in, first_place, is_none, kind_of, place_of, entry_by, entry_of, entry_at, up_from, differences}
+use Rattle.laid.specs.Walk.{rank_of}
+use Rattle.differences.specs.Rules.{Entry, held_in, first_place, is_none, kind_of, place_of, entry_by, entry_of, entry_at, up_from}
 use Rattle.differences.specs.Walk.{rises, all_differences}
 use Rattle.differences.proofs.Held.{held_below, held_after_lem}
 use Rattle.differences.proofs.Places.{place_swap}
-use Rattle.differences.proofs.Upward.{up_none, up_same}
+use Rattle.differences.proofs.Upward.{up_none}
 
 -- ---- the kinds: 1 the first alone, 2 the second alone, 3 both with other bytes, 0 no difference
 

@@ -1,8 +1,7 @@
 -- Where two sides differ, with no memory (docs/RULES.md, "Compared guides"). A side is a list of sections, a section the list of its bytes; no bytes stand
 -- for a section that is not there. `cond test a b` is a where the test is true, else b.
-use Rattle.std.specs.Prelude.{ℕ, zero, suc, ◌+◌, ◌*◌, ◌/◌, ◌%◌, List, [], ◌∷◌, ◌++◌, Bool, true, cond, length, eqb}
+use Rattle.std.specs.Prelude.{ℕ, zero, suc, ◌+◌, ◌*◌, ◌/◌, ◌%◌, List, [], ◌∷◌, ◌++◌, Bool, cond, length, eqb}
 use Rattle.laws.specs.Lists.{every, same_list}
-use Rattle.section.specs.Header.{table_id_of}
 use Rattle.laid.specs.Laid.{same_version, same_last, of_table}
 use Rattle.laid.specs.Walk.{rank_of}
 

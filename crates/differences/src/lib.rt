@@ -40,15 +40,14 @@ fn shorter(n: usize, m: usize) -> usize
 fn same_blocks(x: &[u8], y: &[u8]) -> usize
     ensures { SameTo x.now y.now result }
 {
-    let n = shorter(x.len(), y.len());
-    let mut i = 0;
-    while BLOCK <= n - i {
+    let blocks = shorter(x.len(), y.len()) / BLOCK;
+    for block in 0..blocks {
+        let i = block * BLOCK;
         if !cells::same_bytes(&x[i..i + BLOCK], &y[i..i + BLOCK]) {
             return i;
         }
-        i += BLOCK;
     }
-    i
+    blocks * BLOCK
 }
 
 // The first byte at which the two differ, the shorter length where there is none.
@@ -56,14 +55,12 @@ fn first_place(x: &[u8], y: &[u8]) -> usize
     ensures { (result ≡ first_place x.now y.now) × (result ≤ length x.now) }
 {
     let n = shorter(x.len(), y.len());
-    let mut i = same_blocks(x, y);
-    while i < n {
+    for i in same_blocks(x, y)..n {
         if x[i] != y[i] {
             return i;
         }
-        i += 1;
     }
-    i
+    n
 }
 
 fn only(kind: u32) -> Difference
@@ -193,8 +190,7 @@ pub fn table_words(first: &[u8], second: &[u8], base: usize) -> [u32; 16]
     let mut words = [0u32; 16];
     let mut i = 0;
     let mut j = 0;
-    let mut t = 0;
-    while t < 16 {
+    for t in 0..16 {
         let table = base + t;
         words[t] = table_word(
             laid::table_at(first, i, table),
@@ -202,7 +198,6 @@ pub fn table_words(first: &[u8], second: &[u8], base: usize) -> [u32; 16]
         );
         i = laid::pass(first, i, table + 1);
         j = laid::pass(second, j, table + 1);
-        t += 1;
     }
     words
 }

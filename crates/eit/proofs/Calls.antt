@@ -7,12 +7,10 @@ use Prim.Native.Nat.{ℕ}
 use lib.ListN.{length}
 use Rattle.answers.specs.declared.Refusal.{Refusal}
 use Rattle.answers.specs.declared.Refusal.TheVariants as refusal
-use Rattle.section.specs.declared.ids.MaybePid.{MaybePid}
+use Rattle.std.specs.Prelude.{Option, Result, Ok, Err}
 use Rattle.filter.specs.declared.Fields.{Fields}
 use Rattle.arrivals.specs.Arrivals.{Numbered}
 use Rattle.arrivals.specs.declared.Arrival.{Arrival}
-use Rattle.arrivals.specs.declared.EitArrival.{EitArrival}
-use Rattle.arrivals.specs.declared.EitArrival.TheVariants as arrival
 use Rattle.eit_state.specs.declared.Eit.{Eit}
 use Rattle.eit_state.specs.declared.Pushed.{Pushed}
 use Rattle.eit_state.specs.State.{Store, store, Rows, rows, settings_fit, whole_of, Whole, RowsFit, CanCount, empty_eit, opened_as, cleared_as}
@@ -20,8 +18,6 @@ use Rattle.eit_state.proofs.Whole.{is_whole_room}
 use Rattle.eit_pids.specs.Rows.{any_without}
 use Rattle.eit_carry.specs.Carried.{step, pushed_whole}
 use Rattle.eit_drop.specs.declared.Filter.{Filter}
-use Rattle.eit_drop.specs.declared.Drop.{Drop}
-use Rattle.eit_drop.specs.declared.Drop.TheVariants as drop
 use Rattle.eit_drop.specs.Drop.{matching_gone}
 use Rattle.eit.specs.Store.{after, outcome_of, told_step, done, refused, opened_of, cleared_of, dropped_of, pushed_of, turned, pushed}
 use Rattle.eit_state.specs.declared.Turned.{Turned}
@@ -58,34 +54,34 @@ cleared_without e heads slots cells schedule_heads units b w p t o v = rw (← p
 
 -- ---- dropping
 
-module _ (e : Eit) (heads slots cells schedule_heads units : List ℕ) (f : Filter) (d : Drop) (q : d ≡ drop_of (store e heads slots cells schedule_heads units) f) where
-  pub dropped_refused : (r : Refusal) → d ≡ drop.Refuse r → after (refused r) (store e heads slots cells schedule_heads units) ≡ dropped_of (store e heads slots cells schedule_heads units) f
+module _ (e : Eit) (heads slots cells schedule_heads units : List ℕ) (f : Filter) (d : Result Fields Refusal) (q : d ≡ drop_of (store e heads slots cells schedule_heads units) f) where
+  pub dropped_refused : (r : Refusal) → d ≡ Err r → after (refused r) (store e heads slots cells schedule_heads units) ≡ dropped_of (store e heads slots cells schedule_heads units) f
   unfolding dropped_of
   dropped_refused r g = rw (← q, g)
 
-  pub dropped_matching : (x : Fields) (e' : Eit) (h l t u : List ℕ) → d ≡ drop.Matching x → rows e' h l t u ≡ matching_gone (rows e heads slots schedule_heads units) x
+  pub dropped_matching : (x : Fields) (e' : Eit) (h l t u : List ℕ) → d ≡ Ok x → rows e' h l t u ≡ matching_gone (rows e heads slots schedule_heads units) x
       → after done (store e' h l cells t u) ≡ dropped_of (store e heads slots cells schedule_heads units) f
   unfolding dropped_of
   dropped_matching x e' h l t u g k = ap (λ (r : Rows). after done (store r.eit r.heads r.slots cells r.schedule_heads r.units)) k ∙ rw (← q, g)
 
-pub dropping_may : (e : Eit) (heads slots cells schedule_heads units : List ℕ) (d : Drop) (x : Fields) → DropOk (store e heads slots cells schedule_heads units) d → d ≡ drop.Matching x
+pub dropping_may : (e : Eit) (heads slots cells schedule_heads units : List ℕ) (d : Result Fields Refusal) (x : Fields) → DropOk (store e heads slots cells schedule_heads units) d → d ≡ Ok x
     → RowsFit (rows e heads slots schedule_heads units)
 dropping_may e heads slots cells schedule_heads units d x o g = is_whole_room e heads slots cells schedule_heads units (rw g at o)
 
 -- ---- pushing
 
-module _ (e : Eit) (heads slots cells schedule_heads units : List ℕ) (input : ℕ) (pid : MaybePid) (bytes : List ℕ) (v : EitArrival) (q : v ≡ admitted (store e heads slots cells schedule_heads units) input pid bytes) where
-  pub pushed_refused : (r : Refusal) → v ≡ arrival.Refused r → after (refused r) (store e heads slots cells schedule_heads units) ≡ pushed_of (store e heads slots cells schedule_heads units) input pid bytes
+module _ (e : Eit) (heads slots cells schedule_heads units : List ℕ) (input : ℕ) (pid : Option ℕ) (bytes : List ℕ) (v : Result Arrival Refusal) (q : v ≡ admitted (store e heads slots cells schedule_heads units) input pid bytes) where
+  pub pushed_refused : (r : Refusal) → v ≡ Err r → after (refused r) (store e heads slots cells schedule_heads units) ≡ pushed_of (store e heads slots cells schedule_heads units) input pid bytes
   unfolding pushed_of
   pushed_refused r k = rw (← q, k)
 
-  pub pushed_done : (a : Arrival) (r : Pushed) (h l c t u : List ℕ) → v ≡ arrival.Arrived a → step r h l c t u ≡ pushed_whole (store e heads slots cells schedule_heads units) bytes a
+  pub pushed_done : (a : Arrival) (r : Pushed) (h l c t u : List ℕ) → v ≡ Ok a → step r h l c t u ≡ pushed_whole (store e heads slots cells schedule_heads units) bytes a
       → pushed r h l c t u ≡ pushed_of (store e heads slots cells schedule_heads units) input pid bytes
   unfolding pushed_of
   pushed_done a r h l c t u k f = ap told_step f ∙ rw (← q, k)
 
 -- what a section that was admitted may ask of the store
-module _ (e : Eit) (heads slots cells schedule_heads units : List ℕ) (v : EitArrival) (o : Admitted (store e heads slots cells schedule_heads units) v) (a : Arrival) (k : v ≡ arrival.Arrived a) where
+module _ (e : Eit) (heads slots cells schedule_heads units : List ℕ) (v : Result Arrival Refusal) (o : Admitted (store e heads slots cells schedule_heads units) v) (a : Arrival) (k : v ≡ Ok a) where
   admission : Admission (store e heads slots cells schedule_heads units) a
   admission = rw k at o
 

@@ -7,7 +7,7 @@ use Prim.Native.Nat.{ℕ, ◌*◌, ◌≤◌}
 use native.Mathlib.Omega.{arith}
 use lib.ListN.{length}
 use Rattle.answers.specs.declared.Refusal.TheVariants as refusal
-use Rattle.answers.specs.declared.Reply.TheVariants as reply
+use Rattle.std.specs.Prelude.{Err}
 use Rattle.readers.specs.Next.{no_section}
 use Rattle.readers.specs.declared.Next.{Next}
 use Rattle.eit_state.specs.declared.Eit.{Eit}
@@ -18,12 +18,12 @@ use Rattle.eit_next.specs.Following.{row_next, schedule_next}
 use Rattle.eit.specs.Store.{next_of, next_in_of}
 
 module _ (s : Store) (row from : ℕ) (b : Bool) (q : Next) (e : b ≡ whole_of s) where
-  pub next_broken : b ≡ false → q ≡ no_section (reply.Refused refusal.NotWhole) → q ≡ next_of s row from
+  pub next_broken : b ≡ false → q ≡ no_section (Err refusal.NotWhole) → q ≡ next_of s row from
   unfolding next_of
   next_broken t f = rw (← e, t) f
 
   module _ (t : b ≡ true) (w : Bool) (o : w ≡ any_without s.eit s.heads s.schedule_heads) where
-    pub next_without : w ≡ true → q ≡ no_section (reply.Refused refusal.NoPid) → q ≡ next_of s row from
+    pub next_without : w ≡ true → q ≡ no_section (Err refusal.NoPid) → q ≡ next_of s row from
     unfolding next_of
     next_without v f = rw (← e, t, ← o, v) f
 
@@ -32,12 +32,12 @@ module _ (s : Store) (row from : ℕ) (b : Bool) (q : Next) (e : b ≡ whole_of 
     next_in v f = rw (← e, t, ← o, v) f
 
   module _ (table : ℕ) where
-    pub in_broken : b ≡ false → q ≡ no_section (reply.Refused refusal.NotWhole) → q ≡ next_in_of s row table from
+    pub in_broken : b ≡ false → q ≡ no_section (Err refusal.NotWhole) → q ≡ next_in_of s row table from
     unfolding next_in_of
     in_broken t f = rw (← e, t) f
 
     module _ (t : b ≡ true) (w : Bool) (o : w ≡ any_without s.eit s.heads s.schedule_heads) where
-      pub in_without : w ≡ true → q ≡ no_section (reply.Refused refusal.NoPid) → q ≡ next_in_of s row table from
+      pub in_without : w ≡ true → q ≡ no_section (Err refusal.NoPid) → q ≡ next_in_of s row table from
       unfolding next_in_of
       in_without v f = rw (← e, t, ← o, v) f
 

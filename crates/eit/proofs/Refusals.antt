@@ -7,11 +7,10 @@ use mathlib.Core.Bool.{Bool, true, false, cond}
 use Prim.Native.Nat.{ℕ, ◌≤◌, ◌<◌}
 use native.Mathlib.Omega.{arith}
 use Rattle.answers.specs.declared.Refusal.TheVariants as refusal
-use Rattle.section.specs.declared.ids.MaybePid.{MaybePid}
+use Rattle.std.specs.Prelude.{Option, Result, Ok, Err}
+use Rattle.answers.specs.declared.Refusal.{Refusal}
 use Rattle.rows.specs.Rows.{touched}
 use Rattle.arrivals.specs.declared.Arrival.{Arrival}
-use Rattle.arrivals.specs.declared.EitArrival.{EitArrival}
-use Rattle.arrivals.specs.declared.EitArrival.TheVariants as arrival
 use Rattle.schedules.specs.Schedules.{room_of, scheduled_units, tables_there}
 use Rattle.schedules.specs.declared.ScheduleRoom.{ScheduleRoom}
 use Rattle.eit_state.specs.declared.PushAnswer.{PushAnswer}
@@ -28,8 +27,7 @@ use Rattle.eit_carry.specs.Carried.{Step, kept_and_settled, carried, pushed_whol
 use Rattle.eit_enter.specs.Entering.{schedule_entry, entered_answer, entered_in, entered}
 use Rattle.eit_pids.specs.Rows.{any_without}
 use Rattle.eit_drop.specs.declared.Filter.{Filter}
-use Rattle.eit_drop.specs.declared.Drop.{Drop}
-use Rattle.eit_drop.specs.declared.Drop.TheVariants as drop
+use Rattle.filter.specs.declared.Fields.{Fields}
 use Rattle.eit.specs.Store.{After, after, number, done, refused, answer_of, told_step, cleared_of, carried_drop, dropped_of, pushed_as, pushed_of}
 use Rattle.eit_admit.specs.Admitting.{drop_of, admitted}
 
@@ -78,19 +76,19 @@ step_keeps s x f h k l =
     let e = told_number x.answer x.store in
     f (rw e at h) (λ (q : push_number x.answer ≡ 22). k (e ∙ q)) (λ (q : push_number x.answer ≡ 23). l (e ∙ q))
 
-admitted_keeps : (s : Store) (bytes : List ℕ) (v : EitArrival) → 10 ≤ number (pushed_as s bytes v).told → number (pushed_as s bytes v).told ≢ 22 → number (pushed_as s bytes v).told ≢ 23 → (pushed_as s bytes v).store ≡ s
+admitted_keeps : (s : Store) (bytes : List ℕ) (v : Result Arrival Refusal) → 10 ≤ number (pushed_as s bytes v).told → number (pushed_as s bytes v).told ≢ 22 → number (pushed_as s bytes v).told ≢ 23 → (pushed_as s bytes v).store ≡ s
 unfolding pushed_whole
-admitted_keeps s bytes (arrival.Refused r) h k l = refl
-admitted_keeps s bytes (arrival.Arrived a) h k l = step_keeps s (carried s bytes (plan_of s bytes a)) (carried_keeps s bytes (plan_of s bytes a)) h k l
+admitted_keeps s bytes (Err r) h k l = refl
+admitted_keeps s bytes (Ok a) h k l = step_keeps s (carried s bytes (plan_of s bytes a)) (carried_keeps s bytes (plan_of s bytes a)) h k l
 
 -- every refusal but 22 and 23
-pub push_keeps : (s : Store) (input : ℕ) (pid : MaybePid) (bytes : List ℕ) → 10 ≤ number (pushed_of s input pid bytes).told → number (pushed_of s input pid bytes).told ≢ 22 → number (pushed_of s input pid bytes).told ≢ 23 → (pushed_of s input pid bytes).store ≡ s
+pub push_keeps : (s : Store) (input : ℕ) (pid : Option ℕ) (bytes : List ℕ) → 10 ≤ number (pushed_of s input pid bytes).told → number (pushed_of s input pid bytes).told ≢ 22 → number (pushed_of s input pid bytes).told ≢ 23 → (pushed_of s input pid bytes).store ≡ s
 unfolding pushed_of
 push_keeps s input pid bytes h k l = admitted_keeps s bytes (admitted s input pid bytes) h k l
 
-carried_drop_keeps : (s : Store) (d : Drop) → 10 ≤ number (carried_drop s d).told → (carried_drop s d).store ≡ s
-carried_drop_keeps s (drop.Refuse r) h = refl
-carried_drop_keeps s (drop.Matching f) h = absurd (omega arith)
+carried_drop_keeps : (s : Store) (d : Result Fields Refusal) → 10 ≤ number (carried_drop s d).told → (carried_drop s d).store ≡ s
+carried_drop_keeps s (Err r) h = refl
+carried_drop_keeps s (Ok f) h = absurd (omega arith)
 
 -- 10, 41, 12 and 37
 pub drop_keeps : (s : Store) (f : Filter) → 10 ≤ number (dropped_of s f).told → (dropped_of s f).store ≡ s

@@ -3,9 +3,8 @@
 use mathlib.Core.Path.{◌≡◌, refl, sym, ap, ◌∙◌}
 use mathlib.Core.List.{List}
 use Prim.Native.Nat.{ℕ}
-use Rattle.answers.specs.declared.Outcome.{Outcome}
-use Rattle.answers.specs.declared.Outcome.TheVariants as outcome
-use Rattle.section.specs.declared.ids.MaybePid.{MaybePid}
+use Rattle.answers.specs.Answers.{Outcome}
+use Rattle.std.specs.Prelude.{Option, Ok, Err}
 use Rattle.readers.specs.declared.Next.{Next}
 use Rattle.eit_state.specs.declared.Turned.{Turned}
 use Rattle.eit_state.specs.declared.Pushed.{Pushed}
@@ -31,15 +30,15 @@ answer_back (Schedule k) s = refl
 answer_back (Refused r) s = refl
 
 abbrev told_outcome : Told → Outcome
-told_outcome done = outcome.Done
-told_outcome nothing = outcome.Done
-told_outcome (a_set x) = outcome.Done
-told_outcome (a_schedule x) = outcome.Done
-told_outcome (refused r) = outcome.Refused r
+told_outcome done = Ok tt
+told_outcome nothing = Ok tt
+told_outcome (a_set x) = Ok tt
+told_outcome (a_schedule x) = Ok tt
+told_outcome (refused r) = Err r
 
 outcome_back : (a : Outcome) → told_outcome (outcome_of a) ≡ a
-outcome_back outcome.Done = refl
-outcome_back (outcome.Refused r) = refl
+outcome_back (Ok _) = refl
+outcome_back (Err r) = refl
 
 -- the five slices are the same
 pub record Same (h l c t u h' l' c' t' u' : List ℕ) : Type 0 where
@@ -68,7 +67,7 @@ module _ (h l c t u h' l' c' t' u' : List ℕ) where
   pub dropping : (s : Store) (f : Filter) (r r' : Turned) → turned r h l c t u ≡ dropped_of s f → turned r' h' l' c' t' u' ≡ dropped_of s f → (r ≡ r') × Same h l c t u h' l' c' t' u'
   dropping s f = turning (dropped_of s f)
 
-  pub pushing : (s : Store) (input : ℕ) (pid : MaybePid) (bytes : List ℕ) (r r' : Pushed) → pushed r h l c t u ≡ pushed_of s input pid bytes → pushed r' h' l' c' t' u' ≡ pushed_of s input pid bytes → (r ≡ r') × Same h l c t u h' l' c' t' u'
+  pub pushing : (s : Store) (input : ℕ) (pid : Option ℕ) (bytes : List ℕ) (r r' : Pushed) → pushed r h l c t u ≡ pushed_of s input pid bytes → pushed r' h' l' c' t' u' ≡ pushed_of s input pid bytes → (r ≡ r') × Same h l c t u h' l' c' t' u'
   pushing s input pid bytes r r' p p' =
       let q : pushed r h l c t u ≡ pushed r' h' l' c' t' u' = p ∙ sym p' in
       let e : r.eit ≡ r'.eit = ap (λ (x : After). x.store.eit) q in

@@ -1,20 +1,15 @@
 -- What each call of the EIT collector answers and leaves, for every content of the lent memory (docs/RULES.md, "Collectors", "Cells" and
 -- "Answers"). `cond test a b` is a where the test is true, else b.
-use Rattle.std.specs.Prelude.{ℕ, zero, suc, ◌*◌, List, [], ◌∷◌, map, cond, length}
-use Rattle.answers.specs.Answers.{refusal_no}
+use Rattle.std.specs.Prelude.{ℕ, zero, suc, ◌*◌, List, [], ◌∷◌, map, cond, length, Option, Result, Ok, Err}
+use Rattle.answers.specs.Answers.{refusal_no, Outcome}
 use Rattle.answers.specs.declared.Refusal.{Refusal}
 use Rattle.answers.specs.declared.Refusal.TheVariants as refusal
-use Rattle.answers.specs.declared.Outcome.{Outcome}
-use Rattle.answers.specs.declared.Outcome.TheVariants as outcome
-use Rattle.answers.specs.declared.Reply.TheVariants as reply
-use Rattle.section.specs.declared.ids.MaybePid.{MaybePid}
+use Rattle.arrivals.specs.declared.Arrival.{Arrival}
 use Rattle.cells.specs.Cells.{kept}
 use Rattle.rows.specs.Rows.{key_at, row_slots, last_of, version_of}
 use Rattle.rows.specs.declared.Key.{Key}
 use Rattle.readers.specs.Next.{filled_slots, no_section}
 use Rattle.readers.specs.declared.Next.{Next}
-use Rattle.arrivals.specs.declared.EitArrival.{EitArrival}
-use Rattle.arrivals.specs.declared.EitArrival.TheVariants as arrival
 use Rattle.segments.specs.Segments.{word_of}
 use Rattle.units.specs.Units.{unit_slots}
 use Rattle.schedules.specs.Schedules.{tables_of}
@@ -28,8 +23,7 @@ use Rattle.eit_next.specs.Following.{row_next, schedule_next}
 use Rattle.eit_admit.specs.Admitting.{drop_of, admitted}
 use Rattle.eit_pids.specs.Rows.{any_without}
 use Rattle.eit_drop.specs.declared.Filter.{Filter}
-use Rattle.eit_drop.specs.declared.Drop.{Drop}
-use Rattle.eit_drop.specs.declared.Drop.TheVariants as drop
+use Rattle.filter.specs.declared.Fields.{Fields}
 use Rattle.eit_drop.specs.Drop.{matching_gone}
 
 -- ---- what is answered
@@ -110,8 +104,8 @@ answer_of (Schedule k) s = a_schedule (schedule_out s k)
 answer_of (Refused r) s = refused r
 
 abbrev pub outcome_of : Outcome → Told
-outcome_of outcome.Done = done
-outcome_of (outcome.Refused r) = refused r
+outcome_of (Ok _) = done
+outcome_of (Err r) = refused r
 
 -- what a call told, and the store that it left
 pub record After : Type 0 where
@@ -150,20 +144,20 @@ cleared_of s =
 
 -- ---- dropping by a filter
 
-abbrev pub carried_drop : Store → Drop → After
-carried_drop s (drop.Refuse r) = after (refused r) s
-carried_drop s (drop.Matching f) = after done (store_with (matching_gone (rows_of s) f) s.cells)
+abbrev pub carried_drop : Store → Result Fields Refusal → After
+carried_drop s (Err r) = after (refused r) s
+carried_drop s (Ok f) = after done (store_with (matching_gone (rows_of s) f) s.cells)
 
 unfoldable pub dropped_of : Store → Filter → After
 dropped_of s f = carried_drop s (drop_of s f)
 
 -- ---- a section
 
-abbrev pub pushed_as : Store → (bytes : List ℕ) → EitArrival → After
-pushed_as s bytes (arrival.Refused r) = after (refused r) s
-pushed_as s bytes (arrival.Arrived a) = told_step (pushed_whole s bytes a)
+abbrev pub pushed_as : Store → (bytes : List ℕ) → Result Arrival Refusal → After
+pushed_as s bytes (Err r) = after (refused r) s
+pushed_as s bytes (Ok a) = told_step (pushed_whole s bytes a)
 
-unfoldable pub pushed_of : Store → (input : ℕ) → MaybePid → (bytes : List ℕ) → After
+unfoldable pub pushed_of : Store → (input : ℕ) → Option ℕ → (bytes : List ℕ) → After
 pushed_of s input pid bytes = pushed_as s bytes (admitted s input pid bytes)
 
 -- ---- the sections of a set and of a table of a schedule, one after another
@@ -172,14 +166,14 @@ pushed_of s input pid bytes = pushed_as s bytes (admitted s input pid bytes)
 unfoldable pub next_of : Store → (row from : ℕ) → Next
 next_of s row from =
     cond (whole_of s)
-    (cond (any_without s.eit s.heads s.schedule_heads) (no_section (reply.Refused refusal.NoPid))
+    (cond (any_without s.eit s.heads s.schedule_heads) (no_section (Err refusal.NoPid))
     (row_next s.heads s.slots s.eit.sets.used s.eit.sets.size row from))
-    (no_section (reply.Refused refusal.NotWhole))
+    (no_section (Err refusal.NotWhole))
 
 -- of a table of a schedule, by its number from the first of the kind on
 unfoldable pub next_in_of : Store → (row table from : ℕ) → Next
 next_in_of s row table from =
     cond (whole_of s)
-    (cond (any_without s.eit s.heads s.schedule_heads) (no_section (reply.Refused refusal.NoPid))
+    (cond (any_without s.eit s.heads s.schedule_heads) (no_section (Err refusal.NoPid))
     (schedule_next s.schedule_heads s.units s.eit.schedules s.eit.sets.size row table from))
-    (no_section (reply.Refused refusal.NotWhole))
+    (no_section (Err refusal.NotWhole))

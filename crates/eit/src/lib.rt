@@ -8,12 +8,10 @@ ghost use Rattle.std.specs.Prelude.{◌≡◌};
 ghost use Rattle.eit_state.specs.State.{store, asked};
 ghost use Rattle.eit.specs.Store.{turned, pushed, opened_of, cleared_of, dropped_of, pushed_of, next_of, next_in_of};
 
-use answers::{Outcome, Refusal, Reply};
-use arrivals::EitArrival;
-use eit_drop::{Drop, Filter};
+use answers::Refusal;
+use eit_drop::Filter;
 use eit_state::{Eit, PushAnswer, Pushed, Turned};
 use readers::Next;
-use section::ids::MaybePid;
 
 // Opens a collector: no rows, counts 0. Nothing lent is written; a refusal gives back the settings that were asked for.
 pub fn open(
@@ -49,7 +47,7 @@ pub fn push(
     schedule_heads: &mut [u64],
     units: &mut [u32],
     input: u8,
-    pid: MaybePid,
+    pid: Option<u16>,
     bytes: &[u8],
 ) -> Pushed
     ensures { pushed result heads.new slots.new cells.new schedule_heads.new units.new ≡ pushed_of (store eit heads.old slots.old cells.old schedule_heads.old units.old) input pid bytes.now }
@@ -65,11 +63,11 @@ pub fn push(
         pid,
         bytes,
     ) {
-        EitArrival::Refused(refusal) => Pushed {
+        Err(refusal) => Pushed {
             answer: PushAnswer::Refused(refusal),
             eit,
         },
-        EitArrival::Arrived(a) => {
+        Ok(a) => {
             eit_carry::push_whole(eit, heads, slots, cells, schedule_heads, units, bytes, a)
         }
     }
@@ -89,7 +87,7 @@ pub fn clear(
     if eit_state::is_whole(eit, heads, slots, cells, schedule_heads, units) {
         if eit_pids::any_row_without_pid(eit, heads, schedule_heads) {
             return Turned {
-                answer: Outcome::Refused(Refusal::NoPid),
+                answer: Err(Refusal::NoPid),
                 eit,
             };
         }
@@ -111,14 +109,14 @@ pub fn drop(
     ensures { turned result heads.new slots.new cells.now schedule_heads.new units.new ≡ dropped_of (store eit heads.old slots.old cells.now schedule_heads.old units.old) filter }
 {
     match eit_admit::admit_filter(eit, heads, slots, cells, schedule_heads, units, filter) {
-        Drop::Refuse(refusal) => Turned {
-            answer: Outcome::Refused(refusal),
+        Err(refusal) => Turned {
+            answer: Err(refusal),
             eit,
         },
-        Drop::Matching(f) => {
+        Ok(f) => {
             let then = eit_drop::drop_matching(eit, heads, slots, schedule_heads, units, f);
             Turned {
-                answer: Outcome::Done,
+                answer: Ok(()),
                 eit: then,
             }
         }
@@ -141,11 +139,11 @@ pub fn next_section(
     let sets = eit.sets;
     if eit_state::is_whole(eit, heads, slots, cells, schedule_heads, units) {
         if eit_pids::any_row_without_pid(eit, heads, schedule_heads) {
-            return readers::no_section(Reply::Refused(Refusal::NoPid));
+            return readers::no_section(Err(Refusal::NoPid));
         }
         return eit_next::in_row(heads, slots, sets.used, sets.size, row, from);
     }
-    readers::no_section(Reply::Refused(Refusal::NotWhole))
+    readers::no_section(Err(Refusal::NotWhole))
 }
 
 // Has that table of the schedule in a row another section? Tables count from the first of the kind, 0x50 or 0x60, on.
@@ -165,7 +163,7 @@ pub fn next_in_schedule(
     let sets = eit.sets;
     if eit_state::is_whole(eit, heads, slots, cells, schedule_heads, units) {
         if eit_pids::any_row_without_pid(eit, heads, schedule_heads) {
-            return readers::no_section(Reply::Refused(Refusal::NoPid));
+            return readers::no_section(Err(Refusal::NoPid));
         }
         return eit_next::in_schedule(
             schedule_heads,
@@ -177,5 +175,5 @@ pub fn next_in_schedule(
             from,
         );
     }
-    readers::no_section(Reply::Refused(Refusal::NotWhole))
+    readers::no_section(Err(Refusal::NotWhole))
 }

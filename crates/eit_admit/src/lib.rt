@@ -7,10 +7,10 @@ ghost use Rattle.eit_state.specs.State.{store};
 ghost use Rattle.eit_admit.specs.Admitting.{admitted, Admitted, drop_of, DropOk};
 
 use answers::Refusal;
-use arrivals::EitArrival;
-use eit_drop::{Drop, Filter};
+use arrivals::Arrival;
+use eit_drop::Filter;
 use eit_state::Eit;
-use section::ids::MaybePid;
+use filter::Fields;
 
 // 10, then 11, then 41 where a set or a schedule has no PID, then what the section's PID (41, 12, 37) and its bytes (14 to 19) say.
 pub fn admit(
@@ -21,23 +21,23 @@ pub fn admit(
     schedule_heads: &[u64],
     units: &[u32],
     input: u8,
-    pid: MaybePid,
+    pid: Option<u16>,
     bytes: &[u8],
-) -> EitArrival
+) -> Result<Arrival, Refusal>
     ensures value { result ≡ admitted (store eit heads.now slots.now cells.now schedule_heads.now units.now) input pid bytes.now }
     ensures admitted { Admitted (store eit heads.now slots.now cells.now schedule_heads.now units.now) result }
 {
     let seen = eit_state::look(eit, heads, slots, cells, schedule_heads, units);
     if seen.whole {
         if eit_state::counters_full(eit) {
-            return EitArrival::Refused(Refusal::CounterFull);
+            return Err(Refusal::CounterFull);
         }
         if seen.without | without_pid::any_without_pid(schedule_heads, eit.schedules) {
-            return EitArrival::Refused(Refusal::NoPid);
+            return Err(Refusal::NoPid);
         }
         return arrivals::eit_arrival(input, pid, bytes);
     }
-    EitArrival::Refused(Refusal::NotWhole)
+    Err(Refusal::NotWhole)
 }
 
 // 10, then 41 where a set or a schedule has no PID, then what the filter is refused with (41, 12, 37), or what is to leave.
@@ -49,15 +49,15 @@ pub fn admit_filter(
     schedule_heads: &[u64],
     units: &[u32],
     filter: Filter,
-) -> Drop
+) -> Result<Fields, Refusal>
     ensures value { result ≡ drop_of (store eit heads.now slots.now cells.now schedule_heads.now units.now) filter }
     ensures drop_ok { DropOk (store eit heads.now slots.now cells.now schedule_heads.now units.now) result }
 {
     if eit_state::is_whole(eit, heads, slots, cells, schedule_heads, units) {
         if eit_pids::any_row_without_pid(eit, heads, schedule_heads) {
-            return Drop::Refuse(Refusal::NoPid);
+            return Err(Refusal::NoPid);
         }
         return eit_drop::read_filter(filter);
     }
-    Drop::Refuse(Refusal::NotWhole)
+    Err(Refusal::NotWhole)
 }

@@ -8,7 +8,7 @@ use Prim.Native.Nat.{ℕ, suc, ◌+◌, ◌<◌}
 use native.Mathlib.Omega.{arith}
 use lib.ListN.{length, get_or, take}
 use Rattle.answers.specs.declared.Refusal.TheVariants.{NotWhole}
-use Rattle.section.specs.declared.ids.MaybePid.TheVariants as maybe
+use Rattle.std.specs.Prelude.{Some}
 use Rattle.eit_state.specs.State.{Store}
 use Rattle.eit.specs.Store.{refused, pushed_of}
 use Rattle.eit_keeps.specs.Keeps.{WholeStore, HasPids}
@@ -20,7 +20,7 @@ use Rattle.eit_each.specs.Each.{of, AllAfter, all_after, is_nothing, pushed_give
 -- the store after each of those sections was pushed in a call of its own
 unfoldable pub singly : Store → List Given → Store
 singly s [] = s
-singly s (g ∷ gs) = singly (pushed_of s g.input (maybe.Some g.pid) g.section).store gs
+singly s (g ∷ gs) = singly (pushed_of s g.input (Some g.pid) g.section).store gs
 
 -- how many sections were pushed
 unfoldable pub count_each : Store → List Given → ℕ
@@ -61,13 +61,13 @@ all_sound n s (g ∷ gs) b w p = go (is_nothing (pushed_given s g).told) (all_so
     m = n + (5 + length g.section)
 
     stays : WholeStore (pushed_given s g).store
-    stays = push_stays s g.input (maybe.Some g.pid) g.section b.0 w
+    stays = push_stays s g.input (Some g.pid) g.section b.0 w
 
     has : HasPids (pushed_given s g).store
-    has = push_pids s g.input (maybe.Some g.pid) g.section b.0 p
+    has = push_pids s g.input (Some g.pid) g.section b.0 p
 
     no : of (pushed_given s g).told ≢ of (refused NotWhole)
-    no q = push_not_ten s g.input (maybe.Some g.pid) g.section w cc
+    no q = push_not_ten s g.input (Some g.pid) g.section w cc
 
     go : (f : Bool) → Sound (pushed_each m (pushed_given s g).store gs) → Sound (cond f (pushed_each m (pushed_given s g).store gs) (all_after (of (pushed_given s g).told) (pushed_given s g).store m))
     go true r = r

@@ -17,8 +17,9 @@ use Rattle.eit_ready.specs.Ready.{Pushable}
 use Rattle.rules_logs.specs.Records.{Bytes}
 use Rattle.rules_logs.specs.Sections.{Given, Listed, too_long, cut, sections, sections_in}
 use Rattle.log_list.specs.List.{judged_of, givens_of, givens_from, WholeFrom}
-use Rattle.log_list.specs.declared.Judged.{Judged}
-use Rattle.log_list.specs.declared.Judged.TheVariants as judged
+use Rattle.std.specs.Prelude.{Result, Ok, Err}
+use Rattle.log_list.specs.declared.ListError.{ListError}
+use Rattle.log_list.specs.declared.ListError.TheVariants as error
 use Rattle.log_list.proofs.Laws.{from_start}
 use Rattle.eit_each.specs.declared.AllAnswer.TheVariants as answer
 use Rattle.eit_each.specs.declared.AllPushed.{AllPushed}
@@ -62,36 +63,36 @@ pub looked : (e : Eit) (heads slots cells schedule_heads units : List ℕ) (w n 
     → Pushable (store e heads slots cells schedule_heads units)
 looked e heads slots cells schedule_heads units w n q t o y = record { whole = means_store (store e heads slots cells schedule_heads units) (sym q ∙ t); pids = sym o ∙ y }
 
-module _ (e : Eit) (heads slots cells schedule_heads units : List ℕ) (list : Bytes) (j : Judged) (q : j ≡ judged_of (sections_in list)) where
+module _ (e : Eit) (heads slots cells schedule_heads units : List ℕ) (list : Bytes) (j : Result Unit ListError) (q : j ≡ judged_of (sections_in list)) where
   abbrev s : Store
   s = store e heads slots cells schedule_heads units
 
-  pub all_pushed : (k : AllAfter) → j ≡ judged.Whole → k ≡ pushed_sections s (givens_from list 0) → k ≡ pushed_all s list
+  pub all_pushed : (k : AllAfter) → j ≡ Ok tt → k ≡ pushed_sections s (givens_from list 0) → k ≡ pushed_all s list
   unfolding pushed_all
   all_pushed k t f = go (sections_in list) (sym q ∙ t) f
     where
-      go : (l : Listed) → judged_of l ≡ judged.Whole → k ≡ pushed_sections s (givens_of l) → k ≡ pushed_list s l
+      go : (l : Listed) → judged_of l ≡ Ok tt → k ≡ pushed_sections s (givens_of l) → k ≡ pushed_list s l
       go too_long w g = absurd (let z : ◌≡◌ {A = ℕ} 0 1 = cc in omega arith)
       go cut w g = absurd (let z : ◌≡◌ {A = ℕ} 0 1 = cc in omega arith)
       go (sections gs) w g = g
 
-  pub all_cut : (r : AllPushed) → j ≡ judged.Cut → r ≡ none NotWhole e → after_all r heads slots cells schedule_heads units ≡ pushed_all s list
+  pub all_cut : (r : AllPushed) → j ≡ Err error.Cut → r ≡ none NotWhole e → after_all r heads slots cells schedule_heads units ≡ pushed_all s list
   unfolding pushed_all
   all_cut r t f = rw f (go (sections_in list) (sym q ∙ t))
     where
-      go : (l : Listed) → judged_of l ≡ judged.Cut → all_after (of (refused NotWhole)) s 0 ≡ pushed_list s l
+      go : (l : Listed) → judged_of l ≡ Err error.Cut → all_after (of (refused NotWhole)) s 0 ≡ pushed_list s l
       go too_long w = absurd (let z : ◌≡◌ {A = ℕ} 0 1 = cc in omega arith)
       go cut w = refl
       go (sections gs) w = absurd (let z : ◌≡◌ {A = ℕ} 0 1 = cc in omega arith)
 
-  pub all_long : (r : AllPushed) → j ≡ judged.TooLong → r ≡ record { answer = answer.TooLong; eit = e; taken = 0 } → after_all r heads slots cells schedule_heads units ≡ pushed_all s list
+  pub all_long : (r : AllPushed) → j ≡ Err error.TooLong → r ≡ record { answer = answer.TooLong; eit = e; taken = 0 } → after_all r heads slots cells schedule_heads units ≡ pushed_all s list
   unfolding pushed_all
   all_long r t f = rw f (go (sections_in list) (sym q ∙ t))
     where
-      go : (l : Listed) → judged_of l ≡ judged.TooLong → all_after overlong s 0 ≡ pushed_list s l
+      go : (l : Listed) → judged_of l ≡ Err error.TooLong → all_after overlong s 0 ≡ pushed_list s l
       go too_long w = refl
       go cut w = absurd (let z : ◌≡◌ {A = ℕ} 0 1 = cc in omega arith)
       go (sections gs) w = absurd (let z : ◌≡◌ {A = ℕ} 0 1 = cc in omega arith)
 
-  pub all_whole_lem : j ≡ judged.Whole → WholeFrom list 0
+  pub all_whole_lem : j ≡ Ok tt → WholeFrom list 0
   all_whole_lem t = from_start list (sym q ∙ t)

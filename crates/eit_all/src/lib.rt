@@ -11,7 +11,7 @@ ghost use Rattle.eit_all.specs.All.{pushed_all, pushed_sections};
 use answers::Refusal;
 use eit_each::{AllAnswer, AllPushed};
 use eit_state::{Eit, PushAnswer};
-use log_list::Judged;
+use log_list::ListError;
 
 // Nothing is pushed.
 fn refuse(answer: AllAnswer, eit: Eit) -> AllPushed
@@ -80,11 +80,11 @@ pub fn push_all(
     ensures { after_all result heads.new slots.new cells.new schedule_heads.new units.new ≡ pushed_all (store eit heads.old slots.old cells.old schedule_heads.old units.old) list.now }
 {
     match log_list::judge(list) {
-        Judged::Whole => push_listed(eit, heads, slots, cells, schedule_heads, units, list),
-        Judged::Cut => refuse(
+        Ok(()) => push_listed(eit, heads, slots, cells, schedule_heads, units, list),
+        Err(ListError::Cut) => refuse(
             AllAnswer::Pushed(PushAnswer::Refused(Refusal::NotWhole)),
             eit,
         ),
-        Judged::TooLong => refuse(AllAnswer::TooLong, eit),
+        Err(ListError::TooLong) => refuse(AllAnswer::TooLong, eit),
     }
 }

@@ -10,10 +10,7 @@ use Rattle.answers.specs.declared.Refusal.{Refusal}
 use Rattle.answers.specs.declared.Refusal.TheVariants as refusal
 use Rattle.section.specs.Ids.{pid_made}
 use Rattle.section.specs.declared.ids.Pid.{Pid}
-use Rattle.section.specs.declared.ids.Made.{Made}
-use Rattle.section.specs.declared.ids.Made.TheVariants as made
-use Rattle.filter.specs.declared.Wanted.{Wanted}
-use Rattle.filter.specs.declared.Wanted.TheVariants as wanted
+use Rattle.std.specs.Prelude.{Result, Ok, Err, Option, Some, None}
 use Rattle.filter.specs.declared.WantedOrigin.{WantedOrigin}
 use Rattle.filter.specs.declared.Fields.{Fields}
 use Rattle.filter.specs.declared.Of.TheVariants as of
@@ -23,43 +20,39 @@ use Rattle.eit_state.specs.State.{Rows, rows, with_sets, with_schedules, RowsFit
 use Rattle.eit_drop.specs.declared.WantedPid.{WantedPid}
 use Rattle.eit_drop.specs.declared.WantedPid.TheVariants as wanted_pid
 use Rattle.eit_drop.specs.declared.Filter.{Filter}
-use Rattle.eit_drop.specs.declared.OriginWanted.{OriginWanted}
-use Rattle.eit_drop.specs.declared.OriginWanted.TheVariants as origin_wanted
-use Rattle.eit_drop.specs.declared.Drop.{Drop}
-use Rattle.eit_drop.specs.declared.Drop.TheVariants as drop
 use Rattle.eit_drop.specs.Drop.{input_wanted, made_wanted, wanted_origin, fields_of, drop_from, drop_wanted, matching_gone}
 
-module _ (input pid : Wanted) where
-  pub input_any : input ≡ wanted.Any → origin_wanted.Is (record { input = input; pid = pid }) ≡ input_wanted input pid
+module _ (input pid : Option ℕ) where
+  pub input_any : input ≡ None → Ok (record { input = input; pid = pid }) ≡ input_wanted input pid
   input_any e = rw e
 
-  pub input_exact : (v : ℕ) → input ≡ wanted.Exactly v → v < 16 → origin_wanted.Is (record { input = wanted.Exactly v; pid = pid }) ≡ input_wanted input pid
+  pub input_exact : (v : ℕ) → input ≡ Some v → v < 16 → Ok (record { input = Some v; pid = pid }) ≡ input_wanted input pid
   input_exact v e h = rw (e, lt-ltb v 16 h)
 
-  pub input_large : (v : ℕ) → input ≡ wanted.Exactly v → 16 ≤ v → origin_wanted.Refused refusal.BadInput ≡ input_wanted input pid
+  pub input_large : (v : ℕ) → input ≡ Some v → 16 ≤ v → Err refusal.BadInput ≡ input_wanted input pid
   input_large v e h = rw (e, le-ltb v 16 h)
 
-pub wanted_one : (input : Wanted) (m : Made) (p : Pid) (r : OriginWanted) → m ≡ made.One p → r ≡ input_wanted input (wanted.Exactly p.0) → r ≡ made_wanted input m
+pub wanted_one : (input : Option ℕ) (m : Result Pid Refusal) (p : Pid) (r : Result WantedOrigin Refusal) → m ≡ Ok p → r ≡ input_wanted input (Some p.0) → r ≡ made_wanted input m
 wanted_one input m p r e g = rw e g
 
-pub wanted_large : (input : Wanted) (m : Made) → m ≡ made.TooLarge → origin_wanted.Refused refusal.BadPid ≡ made_wanted input m
+pub wanted_large : (input : Option ℕ) (m : Result Pid Refusal) → m ≡ Err refusal.BadPid → Err refusal.BadPid ≡ made_wanted input m
 wanted_large input m e = rw e
 
-pub wanted_without : (input : Wanted) (pid : WantedPid) → pid ≡ wanted_pid.Without → origin_wanted.Refused refusal.NoPid ≡ wanted_origin input pid
+pub wanted_without : (input : Option ℕ) (pid : WantedPid) → pid ≡ wanted_pid.Without → Err refusal.NoPid ≡ wanted_origin input pid
 wanted_without input pid e = rw e
 
-module _ (input : Wanted) (pid : WantedPid) (r : OriginWanted) where
-  pub wanted_any : pid ≡ wanted_pid.Any → r ≡ input_wanted input wanted.Any → r ≡ wanted_origin input pid
+module _ (input : Option ℕ) (pid : WantedPid) (r : Result WantedOrigin Refusal) where
+  pub wanted_any : pid ≡ wanted_pid.Any → r ≡ input_wanted input None → r ≡ wanted_origin input pid
   wanted_any e g = rw e g
 
-  pub wanted_exactly : (v : ℕ) (m : Made) → pid ≡ wanted_pid.Exactly v → m ≡ pid_made v → r ≡ made_wanted input m → r ≡ wanted_origin input pid
+  pub wanted_exactly : (v : ℕ) (m : Result Pid Refusal) → pid ≡ wanted_pid.Exactly v → m ≡ pid_made v → r ≡ made_wanted input m → r ≡ wanted_origin input pid
   wanted_exactly v m e f g = rw (e, ← f) g
 
-module _ (f : Filter) (p : OriginWanted) (e : p ≡ wanted_origin f.input f.pid) where
-  pub filter_refused : (r : Refusal) → p ≡ origin_wanted.Refused r → drop.Refuse r ≡ drop_wanted f
+module _ (f : Filter) (p : Result WantedOrigin Refusal) (e : p ≡ wanted_origin f.input f.pid) where
+  pub filter_refused : (r : Refusal) → p ≡ Err r → Err r ≡ drop_wanted f
   filter_refused r k = rw (← e, k)
 
-  pub filter_matching : (w : WantedOrigin) (x : Fields) → p ≡ origin_wanted.Is w → x ≡ fields_of w f → drop.Matching x ≡ drop_wanted f
+  pub filter_matching : (w : WantedOrigin) (x : Fields) → p ≡ Ok w → x ≡ fields_of w f → Ok x ≡ drop_wanted f
   filter_matching w x k m = rw (← e, k, ← m)
 
 module _ (e : Eit) (h l t u : List ℕ) (o : RowsFit (rows e h l t u)) where

@@ -1,11 +1,9 @@
 -- A drop by filter (docs/RULES.md, "Collectors"), for every content of the lent memory.
-use Rattle.std.specs.Prelude.{ℕ, ◌*◌, ◌≤◌, List, cond, ltb}
+use Rattle.std.specs.Prelude.{ℕ, ◌*◌, ◌≤◌, List, cond, ltb, Result, Ok, Err, Option, Some, None}
 use Rattle.answers.specs.declared.Refusal.TheVariants as refusal
 use Rattle.section.specs.Ids.{pid_made}
-use Rattle.section.specs.declared.ids.Made.{Made}
-use Rattle.section.specs.declared.ids.Made.TheVariants as made
-use Rattle.filter.specs.declared.Wanted.{Wanted}
-use Rattle.filter.specs.declared.Wanted.TheVariants as wanted
+use Rattle.section.specs.declared.ids.Pid.{Pid}
+use Rattle.answers.specs.declared.Refusal.{Refusal}
 use Rattle.filter.specs.declared.WantedOrigin.{WantedOrigin}
 use Rattle.filter.specs.declared.Fields.{Fields}
 use Rattle.filter.specs.declared.Of.TheVariants as of
@@ -14,25 +12,21 @@ use Rattle.eit_state.specs.State.{Rows, rows, with_sets, with_schedules}
 use Rattle.eit_drop.specs.declared.WantedPid.{WantedPid}
 use Rattle.eit_drop.specs.declared.WantedPid.TheVariants as wanted_pid
 use Rattle.eit_drop.specs.declared.Filter.{Filter}
-use Rattle.eit_drop.specs.declared.OriginWanted.{OriginWanted}
-use Rattle.eit_drop.specs.declared.OriginWanted.TheVariants as origin_wanted
-use Rattle.eit_drop.specs.declared.Drop.{Drop}
-use Rattle.eit_drop.specs.declared.Drop.TheVariants as drop
 
 -- an exact input of 16 or more is refused (37)
-abbrev pub input_wanted : (input pid : Wanted) → OriginWanted
-input_wanted wanted.Any pid = origin_wanted.Is (record { input = wanted.Any; pid = pid })
-input_wanted (wanted.Exactly v) pid = cond (ltb v 16) (origin_wanted.Is (record { input = wanted.Exactly v; pid = pid })) (origin_wanted.Refused refusal.BadInput)
+abbrev pub input_wanted : (input pid : Option ℕ) → Result WantedOrigin Refusal
+input_wanted None pid = Ok (record { input = None; pid = pid })
+input_wanted (Some v) pid = cond (ltb v 16) (Ok (record { input = Some v; pid = pid })) (Err refusal.BadInput)
 
 -- "an exact PID of 8192 or more" is refused (12)
-abbrev pub made_wanted : (input : Wanted) → Made → OriginWanted
-made_wanted input (made.One p) = input_wanted input (wanted.Exactly p.0)
-made_wanted input made.TooLarge = origin_wanted.Refused refusal.BadPid
+abbrev pub made_wanted : (input : Option ℕ) → Result Pid Refusal → Result WantedOrigin Refusal
+made_wanted input (Ok p) = input_wanted input (Some p.0)
+made_wanted input (Err r) = Err r
 
 -- the PID is free or exactly p; exactly none is refused (41)
-abbrev pub wanted_origin : (input : Wanted) → WantedPid → OriginWanted
-wanted_origin input wanted_pid.Any = input_wanted input wanted.Any
-wanted_origin input wanted_pid.Without = origin_wanted.Refused refusal.NoPid
+abbrev pub wanted_origin : (input : Option ℕ) → WantedPid → Result WantedOrigin Refusal
+wanted_origin input wanted_pid.Any = input_wanted input None
+wanted_origin input wanted_pid.Without = Err refusal.NoPid
 wanted_origin input (wanted_pid.Exactly v) = made_wanted input (pid_made v)
 
 -- the filter in the words of a head
@@ -47,11 +41,11 @@ fields_of from f = record {
 }
 
 -- 41, then 12, then 37
-abbrev pub drop_from : Filter → OriginWanted → Drop
-drop_from f (origin_wanted.Refused r) = drop.Refuse r
-drop_from f (origin_wanted.Is w) = drop.Matching (fields_of w f)
+abbrev pub drop_from : Filter → Result WantedOrigin Refusal → Result Fields Refusal
+drop_from f (Err r) = Err r
+drop_from f (Ok w) = Ok (fields_of w f)
 
-abbrev pub drop_wanted : Filter → Drop
+abbrev pub drop_wanted : Filter → Result Fields Refusal
 drop_wanted f = drop_from f (wanted_origin f.input f.pid)
 
 -- "sets and schedules that match go"; no eviction is counted

@@ -7,8 +7,8 @@ ghost use Rattle.eit_drop.specs.Drop.{input_wanted, made_wanted, wanted_origin, 
 
 use answers::Refusal;
 use eit_state::Eit;
-use filter::{Fields, Of, Wanted, WantedOrigin};
-use section::ids::{Input, Made, Pid};
+use filter::{Fields, Of, WantedOrigin};
+use section::ids::{Input, Pid};
 
 // The PID that a filter wants: free, exactly none, which is refused, or exactly a number.
 #[derive(Clone, Copy)]
@@ -18,65 +18,40 @@ pub enum WantedPid {
     Exactly(u16),
 }
 
-// Which sets and schedules a drop takes: each field is free or exact. Kinds are 0 and 1 for present/following actual and other, 2 and 3 for
+// Which sets and schedules a drop takes: each field is free (none) or exact. Kinds are 0 and 1 for present/following actual and other, 2 and 3 for
 // schedule actual and other; current_next is 0 or 1.
 #[derive(Clone, Copy)]
 pub struct Filter {
     pub pid: WantedPid,
-    pub kind: Wanted,
-    pub service_id: Wanted,
-    pub transport_stream_id: Wanted,
-    pub original_network_id: Wanted,
-    pub current_next: Wanted,
-    pub input: Wanted,
-}
-
-// What a filter wants of where sections came from, in the words of a head, or why none comes from there.
-#[derive(Clone, Copy)]
-pub enum OriginWanted {
-    Is(WantedOrigin),
-    Refused(Refusal),
-}
-
-// What a drop does: it is refused, or all that matches leaves.
-#[derive(Clone, Copy)]
-pub enum Drop {
-    Refuse(Refusal),
-    Matching(Fields),
+    pub kind: Option<u64>,
+    pub service_id: Option<u64>,
+    pub transport_stream_id: Option<u64>,
+    pub original_network_id: Option<u64>,
+    pub current_next: Option<u64>,
+    pub input: Option<u64>,
 }
 
 // What a filter wants of the input: an input of 16 or more is refused (37).
-fn input_wanted(input: Wanted, pid: Wanted) -> OriginWanted
+fn input_wanted(input: Option<u64>, pid: Option<u64>) -> Result<WantedOrigin, Refusal>
     ensures { result ≡ input_wanted input pid }
 {
     match input {
-        Wanted::Any => OriginWanted::Is(WantedOrigin { input, pid }),
-        Wanted::Exactly(v) => {
-            if v < Input::COUNT as u64 {
-                return OriginWanted::Is(WantedOrigin { input, pid });
-            }
-            OriginWanted::Refused(Refusal::BadInput)
-        }
-    }
-}
-
-fn made_wanted(input: Wanted, m: Made) -> OriginWanted
-    ensures { result ≡ made_wanted input m }
-{
-    match m {
-        Made::One(p) => input_wanted(input, Wanted::Exactly(p.0 as u64)),
-        Made::TooLarge => OriginWanted::Refused(Refusal::BadPid),
+        Some(v) if Input::COUNT as u64 <= v => Err(Refusal::BadInput),
+        _ => Ok(WantedOrigin { input, pid }),
     }
 }
 
 // What a filter wants of where sections came from: exactly none is refused (41), then a PID of 8192 or more (12), then an input of 16 or more (37).
-fn wanted_origin(input: Wanted, pid: WantedPid) -> OriginWanted
+fn wanted_origin(input: Option<u64>, pid: WantedPid) -> Result<WantedOrigin, Refusal>
     ensures { result ≡ wanted_origin input pid }
 {
     match pid {
-        WantedPid::Any => input_wanted(input, Wanted::Any),
-        WantedPid::Without => OriginWanted::Refused(Refusal::NoPid),
-        WantedPid::Exactly(v) => made_wanted(input, Pid::make(v)),
+        WantedPid::Any => input_wanted(input, None),
+        WantedPid::Without => Err(Refusal::NoPid),
+        WantedPid::Exactly(v) => {
+            let pid = Pid::make(v)?;
+            input_wanted(input, Some(pid.0 as u64))
+        }
     }
 }
 
@@ -99,16 +74,14 @@ fn fields_of(from: WantedOrigin, filter: Filter) -> Fields
     }
 }
 
-// 41, then 12, then 37, then what is to leave.
-pub fn read_filter(filter: Filter) -> Drop
+// What a drop takes: 41, then 12, then 37, then what is to leave.
+pub fn read_filter(filter: Filter) -> Result<Fields, Refusal>
     ensures { result ≡ drop_wanted filter }
 {
     let input = filter.input;
     let pid = filter.pid;
-    match wanted_origin(input, pid) {
-        OriginWanted::Refused(refusal) => Drop::Refuse(refusal),
-        OriginWanted::Is(from) => Drop::Matching(fields_of(from, filter)),
-    }
+    let from = wanted_origin(input, pid)?;
+    Ok(fields_of(from, filter))
 }
 
 // Every set and every schedule that matches leaves; no eviction is counted.

@@ -10,7 +10,7 @@ use lib.ListN.{length, take, drop, length-drop}
 use lib.Seq.{length-take-le}
 use Rattle.answers.specs.Answers.{refusal_no}
 use Rattle.answers.proofs.Laws.{refused_from_10}
-use Rattle.section.specs.declared.ids.MaybePid.TheVariants as maybe
+use Rattle.std.specs.Prelude.{Some}
 use Rattle.eit_state.specs.State.{Store, push_number}
 use Rattle.eit_state.specs.declared.PushAnswer.{PushAnswer}
 use Rattle.eit_state.specs.declared.PushAnswer.TheVariants as push_answer
@@ -57,5 +57,5 @@ module _ (list : Bytes) (p : ℕ) (s : Store) where
     each_stop t = first ∙ rw t
 
 -- the part of the list that a place tells of
-pub at_pushed : (s : Store) (list : Bytes) (r : Place) (k : After) → k ≡ pushed_of s r.input (maybe.Some r.pid) (take (r.start + r.length - r.start) (drop r.start list)) → k ≡ pushed_given s (given_at list r)
+pub at_pushed : (s : Store) (list : Bytes) (r : Place) (k : After) → k ≡ pushed_of s r.input (Some r.pid) (take (r.start + r.length - r.start) (drop r.start list)) → k ≡ pushed_given s (given_at list r)
 at_pushed s list r k e = let z : r.start + r.length - r.start ≡ r.length = omega arith in e ∙ rw z

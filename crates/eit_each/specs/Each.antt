@@ -1,8 +1,7 @@
 -- Many sections pushed to the EIT collector: what it answers and leaves is what pushing them one by one does, until one answers something else than 4
 -- (docs/RULES.md, "Collectors", and "Logs" for a section list). `cond test a b` is a where the test is true, else b.
 -- Assumes nothing.
-use Rattle.std.specs.Prelude.{ℕ, ◌+◌, List, [], ◌∷◌, Bool, true, false, cond, length}
-use Rattle.section.specs.declared.ids.MaybePid.TheVariants as maybe
+use Rattle.std.specs.Prelude.{ℕ, ◌+◌, List, [], ◌∷◌, Bool, true, false, cond, length, Some}
 use Rattle.eit_state.specs.State.{Store, store, push_number}
 use Rattle.eit.specs.Store.{Told, done, nothing, a_set, a_schedule, refused, After, answer_of, pushed_of}
 use Rattle.rules_logs.specs.Sections.{Given}
@@ -38,7 +37,7 @@ is_nothing (refused r) = false
 
 -- one section of a list is pushed, with its PID
 abbrev pub pushed_given : Store → Given → After
-pushed_given s g = pushed_of s g.input (maybe.Some g.pid) g.section
+pushed_given s g = pushed_of s g.input (Some g.pid) g.section
 
 -- one by one, until one answers something else than 4; n bytes of the list were taken before
 unfoldable pub pushed_each : (n : ℕ) → Store → List Given → AllAfter

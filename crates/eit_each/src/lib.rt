@@ -10,8 +10,7 @@ ghost use Rattle.log_list.specs.List.{given_at, givens_from, WholeFrom};
 ghost use Rattle.eit_each.specs.Each.{all_no, after_all, pushed_given, pushed_each};
 
 use eit_state::{Eit, PushAnswer, Pushed};
-use log_list::Place;
-use section::ids::MaybePid;
+use log_list::{Place, Sections};
 
 // What the section answered that was pushed last: 4 where all of them did, and where there is none. Or a section of more than 4,098 bytes (42).
 #[derive(Clone, Copy)]
@@ -65,7 +64,7 @@ fn push_at(
         schedule_heads,
         units,
         place.input,
-        MaybePid::Some(place.pid),
+        Some(place.pid),
         &list[start..end],
     )
 }
@@ -87,8 +86,7 @@ pub fn push_each(
 {
     let mut held = eit;
     let mut at = from;
-    while at < list.len() {
-        let place = log_list::section_at(list, at);
+    for place in Sections::new(list, from) {
         let pushed = push_at(
             held,
             heads,

@@ -11,17 +11,13 @@ use borrow.Author.Tests.{ltb-true}
 use lib.Dec.{ltb, eqb}
 use lib.ListN.{length, get_or}
 use Rattle.answers.specs.declared.Refusal.TheVariants as refusal
-use Rattle.section.specs.declared.ids.MaybePid.{MaybePid}
-use Rattle.section.specs.declared.ids.MaybePid.TheVariants as maybe
-use Rattle.section.specs.declared.ids.OriginMade.TheVariants as made
+use Rattle.std.specs.Prelude.{Option, Some, None, Result, Ok, Err}
+use Rattle.answers.specs.declared.Refusal.{Refusal}
+use Rattle.eit_section.specs.declared.Eit.{Eit}
 use Rattle.section.specs.Ids.{origin_of}
 use Rattle.section.specs.Judged.{collected_of}
 use Rattle.section.specs.declared.header.Header.{Header}
-use Rattle.section.specs.declared.header.Collected.{Collected}
-use Rattle.section.specs.declared.header.Collected.TheVariants as collected
 use Rattle.eit_section.specs.Eit.{eit_of}
-use Rattle.eit_section.specs.declared.Reading.{Reading}
-use Rattle.eit_section.specs.declared.Reading.TheVariants as reading
 use Rattle.laws.proofs.Tests.{or_false}
 use Rattle.rows.specs.Rows.{word, touched, kept_heads}
 use Rattle.rows.specs.declared.Entry.{Entry}
@@ -32,8 +28,6 @@ use Rattle.without_pid.proofs.Rows.{one_without}
 use Rattle.arrivals.specs.Arrivals.{Numbered, made_words, arrival_of, eit_fields, eit_read, eit_judged, eit_arrival, EitTaken}
 use Rattle.arrivals.proofs.Facts.{eit_taken}
 use Rattle.arrivals.specs.declared.Arrival.{Arrival}
-use Rattle.arrivals.specs.declared.EitArrival.{EitArrival}
-use Rattle.arrivals.specs.declared.EitArrival.TheVariants as arrival
 use Rattle.placing.specs.Places.{place_of}
 use Rattle.placing.specs.declared.Place.{Place}
 use Rattle.placing.specs.declared.Place.TheVariants as place
@@ -191,41 +185,37 @@ arrived_pids s bytes w h a l m n = carried_pids s bytes w h l (plan_of s bytes a
 -- ---- a call
 
 -- a section that arrived has a PID
-arrived_pid : (input : ℕ) (pid : MaybePid) (bytes : List ℕ) (a : Arrival) → eit_arrival input pid bytes ≡ arrival.Arrived a → a.entry.key.from.pid ≢ 8192
+arrived_pid : (input : ℕ) (pid : Option ℕ) (bytes : List ℕ) (a : Arrival) → eit_arrival input pid bytes ≡ Ok a → a.entry.key.from.pid ≢ 8192
 unfolding eit_arrival
-arrived_pid input maybe.None bytes a q z = let y : ◌≡◌ {A = ℕ} 0 1 = cc in omega arith
-arrived_pid input (maybe.Some v) bytes a q z = go (ltb v 8192) (ltb input 16) refl q
+arrived_pid input None bytes a q z = let y : ◌≡◌ {A = ℕ} 0 1 = cc in omega arith
+arrived_pid input (Some v) bytes a q z = go (ltb v 8192) (ltb input 16) refl q
   where
-    fields : (h : Header) (c : Reading) → v < 8192 → eit_fields (record { input = input; pid = v }) h c ≡ arrival.Arrived a → ⊥
-    fields h reading.NotEit l f = let y : ◌≡◌ {A = ℕ} 0 1 = cc in omega arith
-    fields h reading.Broken l f = let y : ◌≡◌ {A = ℕ} 0 1 = cc in omega arith
-    fields h (reading.Good g) l f =
+    fields : (h : Header) (c : Result Eit Refusal) → v < 8192 → eit_fields (record { input = input; pid = v }) h c ≡ Ok a → ⊥
+    fields h (Err r) l f = let y : ◌≡◌ {A = ℕ} 0 1 = cc in omega arith
+    fields h (Ok g) l f =
         let x : arrival_of (record { input = input; pid = v }) h g ≡ a = cc in
         let y : v ≡ a.entry.key.from.pid = ap (λ (t : Arrival). t.entry.key.from.pid) x in
         omega (arith, l, y, z)
 
-    read : (c : Collected) → v < 8192 → eit_read (record { input = input; pid = v }) bytes c ≡ arrival.Arrived a → ⊥
-    read collected.Malformed l f = let y : ◌≡◌ {A = ℕ} 0 1 = cc in omega arith
-    read collected.ShortForm l f = let y : ◌≡◌ {A = ℕ} 0 1 = cc in omega arith
-    read collected.BadNumber l f = let y : ◌≡◌ {A = ℕ} 0 1 = cc in omega arith
-    read collected.BadCrc l f = let y : ◌≡◌ {A = ℕ} 0 1 = cc in omega arith
-    read (collected.Good h) l f = fields h (eit_of bytes) l f
+    read : (c : Result Header Refusal) → v < 8192 → eit_read (record { input = input; pid = v }) bytes c ≡ Ok a → ⊥
+    read (Err r) l f = let y : ◌≡◌ {A = ℕ} 0 1 = cc in omega arith
+    read (Ok h) l f = fields h (eit_of bytes) l f
 
-    go : (b c : Bool) → ltb v 8192 ≡ b → eit_judged (made_words (cond b (cond c (made.One (origin_of input v)) made.BadInput) made.BadPid)) bytes ≡ arrival.Arrived a → ⊥
+    go : (b c : Bool) → ltb v 8192 ≡ b → eit_judged (made_words (cond b (cond c (Ok (origin_of input v)) (Err refusal.BadInput)) (Err refusal.BadPid))) bytes ≡ Ok a → ⊥
     go true true l f = read (collected_of bytes) (ltb-true v 8192 l) f
     go true false l f = let y : ◌≡◌ {A = ℕ} 0 1 = cc in omega arith
     go false c l f = let y : ◌≡◌ {A = ℕ} 0 1 = cc in omega arith
 
 -- of every store, whole or not
-pub push_pids : (s : Store) (input : ℕ) (pid : MaybePid) (bytes : List ℕ) → get_or bytes 7 0 < 256 → HasPids s → HasPids (pushed_of s input pid bytes).store
+pub push_pids : (s : Store) (input : ℕ) (pid : Option ℕ) (bytes : List ℕ) → get_or bytes 7 0 < 256 → HasPids s → HasPids (pushed_of s input pid bytes).store
 unfolding pushed_of admitted
 push_pids s input pid bytes b h = rw (none_without s h) (go (whole_of s) (counters_full s.eit) refl)
   where
-    arrived : WholeStore s → (v : EitArrival) → eit_arrival input pid bytes ≡ v → EitTaken bytes v → HasPids (pushed_as s bytes v).store
-    arrived w (arrival.Refused r) q o = h
-    arrived w (arrival.Arrived a) q o = arrived_pids s bytes w h a o.long o.numbered (arrived_pid input pid bytes a q)
+    arrived : WholeStore s → (v : Result Arrival Refusal) → eit_arrival input pid bytes ≡ v → EitTaken bytes v → HasPids (pushed_as s bytes v).store
+    arrived w (Err r) q o = h
+    arrived w (Ok a) q o = arrived_pids s bytes w h a o.long o.numbered (arrived_pid input pid bytes a q)
 
-    go : (w f : Bool) → whole_of s ≡ w → HasPids (pushed_as s bytes (cond w (cond f (arrival.Refused refusal.CounterFull) (eit_arrival input pid bytes)) (arrival.Refused refusal.NotWhole))).store
+    go : (w f : Bool) → whole_of s ≡ w → HasPids (pushed_as s bytes (cond w (cond f (Err refusal.CounterFull) (eit_arrival input pid bytes)) (Err refusal.NotWhole))).store
     go false f q = h
     go true true q = h
     go true false q = arrived (means_store s q) (eit_arrival input pid bytes) refl (eit_taken bytes b input pid)

@@ -14,24 +14,19 @@ use Rattle.answers.specs.declared.Refusal.{Refusal}
 use Rattle.answers.specs.declared.Refusal.TheVariants as refusal
 use Rattle.section.specs.Judged.{collected_of}
 use Rattle.section.specs.declared.header.Header.{Header}
-use Rattle.section.specs.declared.header.Collected.{Collected}
-use Rattle.section.specs.declared.header.Collected.TheVariants as collected
+use Rattle.std.specs.Prelude.{Option, Some, None, Result, Ok, Err}
+use Rattle.section.specs.declared.ids.Origin as section_origin
+use Rattle.eit_section.specs.declared.Eit.{Eit}
 use Rattle.section.specs.Ids.{origin_made}
-use Rattle.section.specs.declared.ids.OriginMade.{OriginMade}
-use Rattle.section.specs.declared.ids.OriginMade.TheVariants as made
-use Rattle.section.specs.declared.ids.MaybePid.{MaybePid}
-use Rattle.section.specs.declared.ids.MaybePid.TheVariants as maybe
 use Rattle.eit_section.specs.Eit.{eit_of}
-use Rattle.eit_section.specs.declared.Reading.{Reading}
-use Rattle.eit_section.specs.declared.Reading.TheVariants as reading
+use Rattle.eit_section.proofs.Laws.{eit_refused_by}
+use Rattle.section.proofs.Refused.{origin_refused_by, collect_refused_by}
 use Rattle.rows.specs.Rows.{touched}
 use Rattle.rows.specs.declared.Origin.{Origin}
 use Rattle.rows.specs.declared.Room.{Room}
 use Rattle.arrivals.specs.Arrivals.{made_words, eit_fields, eit_read, eit_judged, eit_arrival, EitTaken}
 use Rattle.arrivals.proofs.Facts.{eit_taken}
 use Rattle.arrivals.specs.declared.Arrival.{Arrival}
-use Rattle.arrivals.specs.declared.EitArrival.{EitArrival}
-use Rattle.arrivals.specs.declared.EitArrival.TheVariants as arrival
 use Rattle.placing.specs.Places.{place_of}
 use Rattle.placing.specs.declared.Place.{Place}
 use Rattle.placing.specs.declared.Place.TheVariants as place
@@ -55,15 +50,15 @@ use Rattle.eit_keeps.proofs.Stays.{store_means, room_for, whole_stays}
 
 -- ---- it stays whole
 
-as_stays : (s : Store) (bytes : List ℕ) → WholeStore s → (v : EitArrival) → EitTaken bytes v → WholeStore (pushed_as s bytes v).store
-as_stays s bytes w (arrival.Refused r) o = w
-as_stays s bytes w (arrival.Arrived a) o = whole_stays s bytes w o.long a o.numbered
+as_stays : (s : Store) (bytes : List ℕ) → WholeStore s → (v : Result Arrival Refusal) → EitTaken bytes v → WholeStore (pushed_as s bytes v).store
+as_stays s bytes w (Err r) o = w
+as_stays s bytes w (Ok a) o = whole_stays s bytes w o.long a o.numbered
 
-pub push_stays : (s : Store) (input : ℕ) (pid : MaybePid) (bytes : List ℕ) → get_or bytes 7 0 < 256 → WholeStore s → WholeStore (pushed_of s input pid bytes).store
+pub push_stays : (s : Store) (input : ℕ) (pid : Option ℕ) (bytes : List ℕ) → get_or bytes 7 0 < 256 → WholeStore s → WholeStore (pushed_of s input pid bytes).store
 unfolding pushed_of admitted
 push_stays s input pid bytes b w = rw (store_means s w) (go (counters_full s.eit) (any_without s.eit s.heads s.schedule_heads))
   where
-    go : (f n : Bool) → WholeStore (pushed_as s bytes (cond f (arrival.Refused refusal.CounterFull) (cond n (arrival.Refused refusal.NoPid) (eit_arrival input pid bytes)))).store
+    go : (f n : Bool) → WholeStore (pushed_as s bytes (cond f (Err refusal.CounterFull) (cond n (Err refusal.NoPid) (eit_arrival input pid bytes)))).store
     go true n = w
     go false true = w
     go false false = as_stays s bytes w (eit_arrival input pid bytes) (eit_taken bytes b input pid)
@@ -72,27 +67,22 @@ push_stays s input pid bytes b w = rw (store_means s w) (go (counters_full s.eit
 
 module _ (s : List ℕ) (P : Refusal → Type 0) (no_pid_lem : P refusal.NoPid) (pid : P refusal.BadPid) (input : P refusal.BadInput) (malformed : P refusal.Malformed) (short : P refusal.ShortForm) (number : P refusal.BadNumber) (crc : P refusal.BadCrc)
     (not_eit : P refusal.NotEit) (broken : P refusal.Broken) where
-  fields_by : (p : Origin) (h : Header) (c : Reading) (r : Refusal) → eit_fields p h c ≡ arrival.Refused r → P r
-  fields_by p h reading.NotEit r q = let z : refusal.NotEit ≡ r = cc in subst P z not_eit
-  fields_by p h reading.Broken r q = let z : refusal.Broken ≡ r = cc in subst P z broken
-  fields_by p h (reading.Good f) r q = let z : ◌≡◌ {A = ℕ} 0 1 = cc in absurd (omega arith)
+  fields_by : (p : Origin) (h : Header) (c : Result Eit Refusal) (r : Refusal) → eit_of s ≡ c → eit_fields p h c ≡ Err r → P r
+  fields_by p h (Err w) r e q = let z : w ≡ r = cc in subst P z (eit_refused_by P not_eit broken s w e)
+  fields_by p h (Ok f) r e q = let z : ◌≡◌ {A = ℕ} 0 1 = cc in absurd (omega arith)
 
-  read_by : (p : Origin) (c : Collected) (r : Refusal) → eit_read p s c ≡ arrival.Refused r → P r
-  read_by p collected.Malformed r q = let z : refusal.Malformed ≡ r = cc in subst P z malformed
-  read_by p collected.ShortForm r q = let z : refusal.ShortForm ≡ r = cc in subst P z short
-  read_by p collected.BadNumber r q = let z : refusal.BadNumber ≡ r = cc in subst P z number
-  read_by p collected.BadCrc r q = let z : refusal.BadCrc ≡ r = cc in subst P z crc
-  read_by p (collected.Good h) r q = fields_by p h (eit_of s) r q
+  read_by : (p : Origin) (c : Result Header Refusal) (r : Refusal) → collected_of s ≡ c → eit_read p s c ≡ Err r → P r
+  read_by p (Err w) r e q = let z : w ≡ r = cc in subst P z (collect_refused_by P short malformed number crc s w e)
+  read_by p (Ok h) r e q = fields_by p h (eit_of s) r refl q
 
-  made_by : (m : OriginMade) (r : Refusal) → eit_judged (made_words m) s ≡ arrival.Refused r → P r
-  made_by (made.One o) r q = read_by (record { input = o.input.0; pid = o.pid.0 }) (collected_of s) r q
-  made_by made.BadPid r q = let z : refusal.BadPid ≡ r = cc in subst P z pid
-  made_by made.BadInput r q = let z : refusal.BadInput ≡ r = cc in subst P z input
+  made_by : (i v : ℕ) (m : Result section_origin.Origin Refusal) (r : Refusal) → origin_made i v ≡ m → eit_judged (made_words m) s ≡ Err r → P r
+  made_by i v (Ok o) r e q = read_by (record { input = o.input.0; pid = o.pid.0 }) (collected_of s) r refl q
+  made_by i v (Err w) r e q = let z : w ≡ r = cc in subst P z (origin_refused_by P pid input i v w e)
 
-  pub eit_refused_by : (i : ℕ) (m : MaybePid) (r : Refusal) → eit_arrival i m s ≡ arrival.Refused r → P r
+  pub arrival_refused_by : (i : ℕ) (m : Option ℕ) (r : Refusal) → eit_arrival i m s ≡ Err r → P r
   unfolding eit_arrival
-  eit_refused_by i maybe.None r q = let z : refusal.NoPid ≡ r = cc in subst P z no_pid_lem
-  eit_refused_by i (maybe.Some v) r q = made_by (origin_made i v) r q
+  arrival_refused_by i None r q = let z : refusal.NoPid ≡ r = cc in subst P z no_pid_lem
+  arrival_refused_by i (Some v) r q = made_by i v (origin_made i v) r refl q
 
 -- ---- 10 is not told
 
@@ -159,15 +149,15 @@ ten_planned s bytes a = go (ltb s.eit.sets.size (length bytes)) (eqb s.eit.sets.
 refused_not : (r : Refusal) (s : Store) → eqb (refusal_no r) 10 ≡ false → refused r ≢ refused refusal.NotWhole
 refused_not r s e q = let z : r ≡ refusal.NotWhole = cc in eqb-false (refusal_no r) 10 e (ap refusal_no z)
 
-pub push_not_ten : (s : Store) (input : ℕ) (pid : MaybePid) (bytes : List ℕ) → WholeStore s → (pushed_of s input pid bytes).told ≢ refused refusal.NotWhole
+pub push_not_ten : (s : Store) (input : ℕ) (pid : Option ℕ) (bytes : List ℕ) → WholeStore s → (pushed_of s input pid bytes).told ≢ refused refusal.NotWhole
 unfolding pushed_of admitted
 push_not_ten s input pid bytes w = rw (store_means s w) (go (counters_full s.eit) (any_without s.eit s.heads s.schedule_heads))
   where
-    arrived : (v : EitArrival) → eit_arrival input pid bytes ≡ v → (pushed_as s bytes v).told ≢ refused refusal.NotWhole
-    arrived (arrival.Refused r) q = refused_not r s (eit_refused_by bytes (λ r. eqb (refusal_no r) 10 ≡ false) refl refl refl refl refl refl refl refl refl input pid r q)
-    arrived (arrival.Arrived a) q = not_ten (pushed_whole s bytes a).answer (pushed_whole s bytes a).store (ten_planned s bytes a)
+    arrived : (v : Result Arrival Refusal) → eit_arrival input pid bytes ≡ v → (pushed_as s bytes v).told ≢ refused refusal.NotWhole
+    arrived (Err r) q = refused_not r s (arrival_refused_by bytes (λ r. eqb (refusal_no r) 10 ≡ false) refl refl refl refl refl refl refl refl refl input pid r q)
+    arrived (Ok a) q = not_ten (pushed_whole s bytes a).answer (pushed_whole s bytes a).store (ten_planned s bytes a)
 
-    go : (f n : Bool) → (pushed_as s bytes (cond f (arrival.Refused refusal.CounterFull) (cond n (arrival.Refused refusal.NoPid) (eit_arrival input pid bytes)))).told ≢ refused refusal.NotWhole
+    go : (f n : Bool) → (pushed_as s bytes (cond f (Err refusal.CounterFull) (cond n (Err refusal.NoPid) (eit_arrival input pid bytes)))).told ≢ refused refusal.NotWhole
     go true n = refused_not refusal.CounterFull s refl
     go false true = refused_not refusal.NoPid s refl
     go false false = arrived (eit_arrival input pid bytes) refl

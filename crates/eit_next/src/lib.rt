@@ -4,7 +4,6 @@
 ghost use Rattle.std.specs.Prelude.{◌≡◌, ◌+◌, ◌*◌, ◌≤◌, length};
 ghost use Rattle.eit_next.specs.Following.{row_next, unit_next, schedule_next};
 
-use answers::Reply;
 use readers::Next;
 
 // The first filled slot at or after `from` of the set in a row.
@@ -22,7 +21,7 @@ pub fn in_row(
     if row < used {
         return readers::next_slot(rows::row_slots(heads, slots, row), size, from);
     }
-    readers::no_section(Reply::No)
+    readers::no_section(Ok(false))
 }
 
 // The same of a table of the schedule in a row. Tables count from the first of the kind, 0x50 or 0x60, on.
@@ -39,10 +38,10 @@ pub fn in_schedule(
     ensures { result ≡ schedule_next schedule_heads.now units.now schedules size row table from }
 {
     if schedules <= row {
-        return readers::no_section(Reply::No);
+        return readers::no_section(Ok(false));
     }
     if schedules::tables_of(schedule_heads, row) <= table {
-        return readers::no_section(Reply::No);
+        return readers::no_section(Ok(false));
     }
     in_unit(units, size, row * schedules::TABLES + table, from)
 }
@@ -55,5 +54,5 @@ fn in_unit(units: &[u32], size: usize, u: usize, from: usize) -> Next
     if units::is_present(units, u) {
         return readers::next_slot(units::unit_slots(units, u), size, from);
     }
-    readers::no_section(Reply::No)
+    readers::no_section(Ok(false))
 }

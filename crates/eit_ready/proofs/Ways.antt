@@ -7,11 +7,9 @@ use Prim.Native.Nat.{ℕ, ◌<◌}
 use lib.ListN.{get_or}
 use Rattle.answers.specs.declared.Refusal.{Refusal}
 use Rattle.answers.specs.declared.Refusal.TheVariants as refusal
-use Rattle.section.specs.declared.ids.MaybePid.{MaybePid}
+use Rattle.std.specs.Prelude.{Option, Result, Ok, Err}
 use Rattle.arrivals.specs.Arrivals.{Numbered, eit_arrival, EitTaken}
 use Rattle.arrivals.specs.declared.Arrival.{Arrival}
-use Rattle.arrivals.specs.declared.EitArrival.{EitArrival}
-use Rattle.arrivals.specs.declared.EitArrival.TheVariants as arrival
 use Rattle.eit_state.specs.declared.Eit.{Eit}
 use Rattle.eit_state.specs.declared.Pushed.{Pushed}
 use Rattle.eit_state.specs.declared.PushAnswer.TheVariants as answer
@@ -25,7 +23,7 @@ use Rattle.eit_keeps.proofs.Pushes.{push_stays}
 use Rattle.eit_keeps.proofs.Pids.{has_pids, none_without, push_pids}
 use Rattle.eit_ready.specs.Ready.{Pushable}
 
-module _ (e : Eit) (heads slots cells schedule_heads units : List ℕ) (w : Pushable (store e heads slots cells schedule_heads units)) (input : ℕ) (pid : MaybePid) (bytes : List ℕ) where
+module _ (e : Eit) (heads slots cells schedule_heads units : List ℕ) (w : Pushable (store e heads slots cells schedule_heads units)) (input : ℕ) (pid : Option ℕ) (bytes : List ℕ) where
   abbrev here : Store
   here = store e heads slots cells schedule_heads units
 
@@ -44,17 +42,17 @@ module _ (e : Eit) (heads slots cells schedule_heads units : List ℕ) (w : Push
   module _ (full : Bool) (g : full ≡ counters_full e) where
     pub ready_full : full ≡ true → pushed (record { answer = answer.Refused refusal.CounterFull; eit = e }) heads slots cells schedule_heads units ≡ pushed_of here input pid bytes
     ready_full t =
-        pushed_refused e heads slots cells schedule_heads units input pid bytes (arrival.Refused refusal.CounterFull) (admit_full e heads slots cells schedule_heads units input pid bytes true whole refl full g t) refusal.CounterFull refl
+        pushed_refused e heads slots cells schedule_heads units input pid bytes (Err refusal.CounterFull) (admit_full e heads slots cells schedule_heads units input pid bytes true whole refl full g t) refusal.CounterFull refl
 
-    module _ (h : full ≡ false) (v : EitArrival) (q : v ≡ eit_arrival input pid bytes) where
-      pub ready_refused : (r : Refusal) → v ≡ arrival.Refused r → pushed (record { answer = answer.Refused r; eit = e }) heads slots cells schedule_heads units ≡ pushed_of here input pid bytes
+    module _ (h : full ≡ false) (v : Result Arrival Refusal) (q : v ≡ eit_arrival input pid bytes) where
+      pub ready_refused : (r : Refusal) → v ≡ Err r → pushed (record { answer = answer.Refused r; eit = e }) heads slots cells schedule_heads units ≡ pushed_of here input pid bytes
       ready_refused r k =
           pushed_refused e heads slots cells schedule_heads units input pid bytes v (admit_read e heads slots cells schedule_heads units input pid bytes true whole refl full g h false (sym w.pids) v refl q) r k
 
-      pub ready_arrived : (a : Arrival) → v ≡ arrival.Arrived a → (r : Pushed) (h l c t u : List ℕ) → step r h l c t u ≡ pushed_whole here bytes a → pushed r h l c t u ≡ pushed_of here input pid bytes
+      pub ready_arrived : (a : Arrival) → v ≡ Ok a → (r : Pushed) (h l c t u : List ℕ) → step r h l c t u ≡ pushed_whole here bytes a → pushed r h l c t u ≡ pushed_of here input pid bytes
       ready_arrived a k r h' l c t u f =
           pushed_done e heads slots cells schedule_heads units input pid bytes v (admit_read e heads slots cells schedule_heads units input pid bytes true whole refl full g h false (sym w.pids) v refl q) a r h' l c t u k f
 
 -- what the part behind asks of a section that arrived
-pub arrived_numbered : (bytes : List ℕ) (v : EitArrival) → EitTaken bytes v → (a : Arrival) → v ≡ arrival.Arrived a → Numbered a.entry
-arrived_numbered bytes v t a k = let o : EitTaken bytes (arrival.Arrived a) = subst (EitTaken bytes) k t in o.numbered
+pub arrived_numbered : (bytes : List ℕ) (v : Result Arrival Refusal) → EitTaken bytes v → (a : Arrival) → v ≡ Ok a → Numbered a.entry
+arrived_numbered bytes v t a k = let o : EitTaken bytes (Ok a) = subst (EitTaken bytes) k t in o.numbered

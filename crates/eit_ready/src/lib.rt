@@ -8,9 +8,7 @@ ghost use Rattle.eit.specs.Store.{pushed, pushed_of};
 ghost use Rattle.eit_ready.specs.Ready.{Pushable};
 
 use answers::Refusal;
-use arrivals::EitArrival;
 use eit_state::{Eit, PushAnswer, Pushed};
-use section::ids::MaybePid;
 
 // As `eit::push`: 11, then what the section's PID and its bytes say. The store stays so.
 pub fn push_ready(
@@ -21,7 +19,7 @@ pub fn push_ready(
     schedule_heads: &mut [u64],
     units: &mut [u32],
     input: u8,
-    pid: MaybePid,
+    pid: Option<u16>,
     bytes: &[u8],
 ) -> Pushed
     requires { Pushable (store eit heads.old slots.old cells.old schedule_heads.old units.old) }
@@ -35,11 +33,11 @@ pub fn push_ready(
         };
     }
     match arrivals::eit_arrival(input, pid, bytes) {
-        EitArrival::Refused(refusal) => Pushed {
+        Err(refusal) => Pushed {
             answer: PushAnswer::Refused(refusal),
             eit,
         },
-        EitArrival::Arrived(a) => {
+        Ok(a) => {
             eit_carry::push_whole(eit, heads, slots, cells, schedule_heads, units, bytes, a)
         }
     }

@@ -9,8 +9,8 @@ use native.Mathlib.Omega.{arith}
 use lib.Dec.{eqb, leb, ltb}
 use lib.ListN.{length, take, drop, get_or}
 use Rattle.laws.proofs.Tests.{or_false}
-use Rattle.section.specs.declared.ids.MaybePid.{MaybePid}
-use Rattle.section.specs.declared.ids.MaybePid.TheVariants as maybe
+use Rattle.std.specs.Prelude.{Option, Some, Result, Ok}
+use Rattle.answers.specs.declared.Refusal.{Refusal}
 use Rattle.rows.specs.Rows.{row_of, touched}
 use Rattle.rows.proofs.Words.{length_touched, touched_not}
 use Rattle.columns.proofs.Ways.{tells_touched, pays_room}
@@ -19,8 +19,6 @@ use Rattle.store.specs.declared.Sets.{Sets}
 use Rattle.store.proofs.Whole.{clock_goes_on}
 use Rattle.arrivals.specs.Arrivals.{eit_arrival}
 use Rattle.arrivals.specs.declared.Arrival.{Arrival}
-use Rattle.arrivals.specs.declared.EitArrival.{EitArrival}
-use Rattle.arrivals.specs.declared.EitArrival.TheVariants as arrival
 use Rattle.placing.specs.Places.{place_known, place_of, PlaceOk}
 use Rattle.placing.specs.declared.Place.{Place}
 use Rattle.placing.specs.declared.Place.TheVariants as place
@@ -97,12 +95,12 @@ module _ (s : Sets) (heads slots cells tags bytes : List ℕ) (a : Arrival) (o :
 
 -- ---- a section of a list
 
-pub repeat_arrived : (e : Eit) (heads slots cells : List ℕ) (input : ℕ) (pid : MaybePid) (bytes : List ℕ) (full : Bool) (v : EitArrival) (a : Arrival) (i : ℕ) → full ≡ counters_full e → full ≡ false → v ≡ eit_arrival input pid bytes
-    → v ≡ arrival.Arrived a → get_or bytes 7 0 < 256 → Known e.sets heads slots cells bytes a i → Repeat e heads slots cells input pid bytes i
+pub repeat_arrived : (e : Eit) (heads slots cells : List ℕ) (input : ℕ) (pid : Option ℕ) (bytes : List ℕ) (full : Bool) (v : Result Arrival Refusal) (a : Arrival) (i : ℕ) → full ≡ counters_full e → full ≡ false → v ≡ eit_arrival input pid bytes
+    → v ≡ Ok a → get_or bytes 7 0 < 256 → Known e.sets heads slots cells bytes a i → Repeat e heads slots cells input pid bytes i
 repeat_arrived e heads slots cells input pid bytes full v a i g h q k b o = record { counts = sym g ∙ h; a = a; arrived = sym q ∙ k; byte = b; known = o }
 
 -- the part of the list that a place tells of
-pub repeat_at : (e : Eit) (heads slots cells : List ℕ) (list : Bytes) (r : Listed) (i : ℕ) → Repeat e heads slots cells r.input (maybe.Some r.pid) (take (r.start + r.length - r.start) (drop r.start list)) i
+pub repeat_at : (e : Eit) (heads slots cells : List ℕ) (list : Bytes) (r : Listed) (i : ℕ) → Repeat e heads slots cells r.input (Some r.pid) (take (r.start + r.length - r.start) (drop r.start list)) i
     → RepeatGiven e heads slots cells (given_at list r) i
 repeat_at e heads slots cells list r i o = let z : r.start + r.length - r.start ≡ r.length = omega arith in rw z at o
 
@@ -124,12 +122,12 @@ module _ (e : Eit) (heads slots cells : List ℕ) (g : Given) (i : ℕ) (o : Rep
     pub repeat_pushed : after nothing (store e' heads' slots cells t u) ≡ pushed_given (store e heads slots cells t u) g
     repeat_pushed =
         let r : Pushed = record { answer = answer.Nothing; eit = e' } in
-        ready_arrived e heads slots cells t u w g.input (maybe.Some g.pid) g.section (counters_full e) refl o.counts (eit_arrival g.input (maybe.Some g.pid) g.section) refl o.a o.arrived r heads' slots cells t u
+        ready_arrived e heads slots cells t u w g.input (Some g.pid) g.section (counters_full e) refl o.counts (eit_arrival g.input (Some g.pid) g.section) refl o.a o.arrived r heads' slots cells t u
         (whole_done e heads slots cells t u g.section o.a (plan_of (store e heads slots cells t u) g.section o.a) refl (step r heads' slots cells t u)
         (carried_repeat e heads slots cells t u g.section (plan_of (store e heads slots cells t u) g.section o.a) (record { arrival = o.a; row = i }) e' r heads' t u (sym planned) q touched_settled))
 
     pub repeat_stays : Pushable (store e' heads' slots cells t u)
-    repeat_stays = ready_stays e heads slots cells t u w g.input (maybe.Some g.pid) g.section o.byte (after nothing (store e' heads' slots cells t u)) repeat_pushed
+    repeat_stays = ready_stays e heads slots cells t u w g.input (Some g.pid) g.section o.byte (after nothing (store e' heads' slots cells t u)) repeat_pushed
 
 -- ---- one after another
 

@@ -1,14 +1,11 @@
 -- Sections that are there already and only make their sets the newest: 4, and nothing but a tick and the clock changes (docs/RULES.md, "Collectors").
 -- Assumes nothing.
-use Rattle.std.specs.Prelude.{ℕ, ◌≤◌, ◌<◌, ◌≡◌, false, List, length, get_or}
-use Rattle.section.specs.declared.ids.MaybePid.{MaybePid}
-use Rattle.section.specs.declared.ids.MaybePid.TheVariants as maybe
+use Rattle.std.specs.Prelude.{ℕ, ◌≤◌, ◌<◌, ◌≡◌, false, List, length, get_or, Option, Some, Ok}
 use Rattle.columns.specs.Columns.{Tells}
 use Rattle.store.specs.Store as sets
 use Rattle.store.specs.declared.Sets.{Sets}
 use Rattle.arrivals.specs.Arrivals.{eit_arrival}
 use Rattle.arrivals.specs.declared.Arrival.{Arrival}
-use Rattle.arrivals.specs.declared.EitArrival.TheVariants as arrival
 use Rattle.placing.specs.Places.{place_of}
 use Rattle.placing.specs.declared.Place.TheVariants as place
 use Rattle.eit_becomes.specs.Becoming.{becomes_of}
@@ -35,16 +32,16 @@ pub record Known (s : Sets) (heads slots cells bytes : List ℕ) (a : Arrival) (
   pub stays : becomes.Stays ≡ becomes_of heads slots a i
 
 -- a section as it is offered only touches row i
-pub record Repeat (e : Eit) (heads slots cells : List ℕ) (input : ℕ) (pid : MaybePid) (bytes : List ℕ) (i : ℕ) : Type 0 where
+pub record Repeat (e : Eit) (heads slots cells : List ℕ) (input : ℕ) (pid : Option ℕ) (bytes : List ℕ) (i : ℕ) : Type 0 where
   pub counts : counters_full e ≡ false
   pub a : Arrival
-  pub arrived : eit_arrival input pid bytes ≡ arrival.Arrived a
+  pub arrived : eit_arrival input pid bytes ≡ Ok a
   pub byte : get_or bytes 7 0 < 256
   pub known : Known e.sets heads slots cells bytes a i
 
 -- so a section of a list
 abbrev pub RepeatGiven : Eit → (heads slots cells : List ℕ) → Given → ℕ → Type 0
-RepeatGiven e heads slots cells g i = Repeat e heads slots cells g.input (maybe.Some g.pid) g.section i
+RepeatGiven e heads slots cells g i = Repeat e heads slots cells g.input (Some g.pid) g.section i
 
 -- the sections before place p are pushed: what is left gives what the whole list gives, whatever the schedules are
 pub record Passed (list : Bytes) (slots cells : List ℕ) (e : Eit) (heads : List ℕ) (e' : Eit) (heads' : List ℕ) (p : ℕ) : Type 0 where

@@ -2,18 +2,17 @@
 // rows are found by a column of tags that is made once, and of the lent memory the heads alone are written. Answer and memory are those of pushing them one by one.
 #![tactic(auto)]
 
-ghost use Rattle.std.specs.Prelude.{◌≡◌, ◌+◌, ◌≤◌, ◌<◌, length};
+ghost use Rattle.std.specs.Prelude.{◌≡◌, ◌+◌, ◌≤◌, length, IfSome};
 ghost use Rattle.arrivals.specs.Arrivals.{Numbered};
 ghost use Rattle.store.specs.Store.{Whole};
 ghost use Rattle.log_list.specs.List.{given_at, WholeFrom};
 ghost use Rattle.eit_repeats.specs.Repeats.{Searchable, Known, Repeat, RepeatGiven, Passed};
 
-use arrivals::{Arrival, EitArrival};
+use arrivals::Arrival;
 use eit_becomes::Becomes;
 use eit_state::Eit;
-use log_list::Place;
+use log_list::{Place, Sections};
 use placing::Place as Placed;
-use section::ids::MaybePid;
 use store::Sets;
 
 // The sections before `at` are pushed.
@@ -23,7 +22,7 @@ pub struct Repeats {
     pub at: usize,
 }
 
-// The row that a section which arrived only makes the newest; `used` where it does anything else.
+// The row that a section which arrived only makes the newest; none where it does anything else.
 fn row_known(
     sets: Sets,
     heads: &[u64],
@@ -32,28 +31,28 @@ fn row_known(
     tags: &[u16],
     bytes: &[u8],
     a: Arrival,
-) -> usize
+) -> Option<usize>
     requires searchable { Searchable sets heads.now slots.now cells.now tags.now }
     requires numbered { Numbered a.entry }
-    ensures { result < sets.used → Known sets heads.now slots.now cells.now bytes.now a result }
+    ensures { IfSome result (Known sets heads.now slots.now cells.now bytes.now a) }
 {
     let used = sets.used;
     if sets.size < bytes.len() {
-        return used;
+        return None;
     }
     let entry = a.entry;
     let i = columns::find(tags, heads, entry.key, used);
     if used <= i {
-        return used;
+        return None;
     }
     match placing::place_known(sets, heads, slots, cells, entry, bytes, i) {
-        Placed::Conflict(_) => used,
-        Placed::Goes(_) => used,
+        Placed::Conflict(_) => None,
+        Placed::Goes(_) => None,
         Placed::Repeat(row) => match eit_becomes::becomes_of(heads, slots, a, row) {
-            Becomes::Stays => row,
-            Becomes::GoesOut => used,
-            Becomes::OutOfRange => used,
-            Becomes::Enters => used,
+            Becomes::Stays => Some(row),
+            Becomes::GoesOut => None,
+            Becomes::OutOfRange => None,
+            Becomes::Enters => None,
         },
     }
 }
@@ -66,19 +65,19 @@ fn row_repeated(
     cells: &[u8],
     tags: &[u16],
     input: u8,
-    pid: MaybePid,
+    pid: Option<u16>,
     bytes: &[u8],
-) -> usize
+) -> Option<usize>
     requires { Searchable eit.sets heads.now slots.now cells.now tags.now }
-    ensures { result < eit.sets.used → Repeat eit heads.now slots.now cells.now input pid bytes.now result }
+    ensures { IfSome result (Repeat eit heads.now slots.now cells.now input pid bytes.now) }
 {
-    let sets = eit.sets;
     if eit_state::counters_full(eit) {
-        return sets.used;
+        return None;
     }
+    let sets = eit.sets;
     match arrivals::eit_arrival(input, pid, bytes) {
-        EitArrival::Refused(_) => sets.used,
-        EitArrival::Arrived(a) => row_known(sets, heads, slots, cells, tags, bytes, a),
+        Err(_) => None,
+        Ok(a) => row_known(sets, heads, slots, cells, tags, bytes, a),
     }
 }
 
@@ -91,10 +90,10 @@ fn row_at(
     tags: &[u16],
     list: &[u8],
     place: Place,
-) -> usize
+) -> Option<usize>
     requires searchable { Searchable eit.sets heads.now slots.now cells.now tags.now }
     requires length_in_bounds { place.start + place.length ≤ length list.now }
-    ensures { result < eit.sets.used → RepeatGiven eit heads.now slots.now cells.now (given_at list.now place) result }
+    ensures { IfSome result (RepeatGiven eit heads.now slots.now cells.now (given_at list.now place)) }
 {
     let start = place.start;
     let end = start + place.length;
@@ -105,7 +104,7 @@ fn row_at(
         cells,
         tags,
         place.input,
-        MaybePid::Some(place.pid),
+        Some(place.pid),
         &list[start..end],
     )
 }
@@ -125,13 +124,10 @@ fn push_repeats(
 {
     let mut held = eit;
     let mut at = 0;
-    while at < list.len() {
-        let place = log_list::section_at(list, at);
-        let i = row_at(held, heads, slots, cells, tags, list, place);
-        let sets = held.sets;
-        if sets.used <= i {
+    for place in Sections::new(list, 0) {
+        let Some(i) = row_at(held, heads, slots, cells, tags, list, place) else {
             return Repeats { eit: held, at };
-        }
+        };
         held = eit_state::risen(held);
         let then = held.sets;
         rows::touch(heads, i, then.clock);

@@ -1,27 +1,25 @@
 -- The event information section, EN 300 468 5.2.4: byte 0 table_id, 3 and 4 service_id (the table_id_extension), 8 and 9 transport_stream_id,
 -- 10 and 11 original_network_id, 12 segment_last_section_number, 13 last_table_id, then events to the CRC, the last four bytes.
-use Rattle.std.specs.Prelude.{ℕ, ◌-◌, List, Bool, cond, ◌&&◌, length, take, drop, leb, eqb}
+use Rattle.std.specs.Prelude.{ℕ, ◌-◌, List, Bool, cond, ◌&&◌, length, take, drop, leb, eqb, Option, Some, None, Result, Ok, Err}
 use Rattle.laws.specs.Entries.{whole_entries}
 use Rattle.section.specs.Header.{byte_at, word16}
 use Rattle.eit_section.specs.declared.Kind.{Kind}
 use Rattle.eit_section.specs.declared.Kind.TheVariants.{PresentFollowingActual, PresentFollowingOther, ScheduleActual, ScheduleOther}
-use Rattle.eit_section.specs.declared.MaybeKind.{MaybeKind}
-use Rattle.eit_section.specs.declared.MaybeKind.TheVariants as maybe
+use Rattle.answers.specs.declared.Refusal.{Refusal}
+use Rattle.answers.specs.declared.Refusal.TheVariants as refusal
 use Rattle.eit_section.specs.declared.Eit.{Eit}
-use Rattle.eit_section.specs.declared.Reading.{Reading}
-use Rattle.eit_section.specs.declared.Reading.TheVariants.{NotEit, Broken, Good}
 
 abbrev pub within : ℕ → ℕ → ℕ → Bool
 within low high t = leb low t && leb t high
 
 -- the kind by table_id (EN 300 468 table 2)
-abbrev pub kind_of : ℕ → MaybeKind
+abbrev pub kind_of : ℕ → Option Kind
 kind_of t =
-    cond (eqb t 0x4E) (maybe.Some PresentFollowingActual)
-    (cond (eqb t 0x4F) (maybe.Some PresentFollowingOther)
-    (cond (within 0x50 0x5F t) (maybe.Some ScheduleActual)
-    (cond (within 0x60 0x6F t) (maybe.Some ScheduleOther)
-    maybe.None)))
+    cond (eqb t 0x4E) (Some PresentFollowingActual)
+    (cond (eqb t 0x4F) (Some PresentFollowingOther)
+    (cond (within 0x50 0x5F t) (Some ScheduleActual)
+    (cond (within 0x60 0x6F t) (Some ScheduleOther)
+    None)))
 
 -- the fields before the events
 abbrev pub fields_of : List ℕ → Kind → Eit
@@ -40,13 +38,13 @@ abbrev pub layout_good : List ℕ → Bool
 layout_good s = leb 18 (length s) && whole_entries 12 (take (length s - 18) (drop 14 s))
 
 -- a section of this kind, read as an EIT
-unfoldable pub eit_as : List ℕ → Kind → Reading
-eit_as s kind = cond (layout_good s) (Good (fields_of s kind)) Broken
+unfoldable pub eit_as : List ℕ → Kind → Result Eit Refusal
+eit_as s kind = cond (layout_good s) (Ok (fields_of s kind)) (Err refusal.Broken)
 
-abbrev pub eit_by : List ℕ → MaybeKind → Reading
-eit_by s (maybe.Some kind) = eit_as s kind
-eit_by s maybe.None = NotEit
+abbrev pub eit_by : List ℕ → Option Kind → Result Eit Refusal
+eit_by s (Some kind) = eit_as s kind
+eit_by s None = Err refusal.NotEit
 
 -- a section read as an EIT
-unfoldable pub eit_of : List ℕ → Reading
+unfoldable pub eit_of : List ℕ → Result Eit Refusal
 eit_of s = eit_by s (kind_of (byte_at s 0))

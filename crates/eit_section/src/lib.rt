@@ -7,6 +7,7 @@ ghost use Rattle.section.specs.Header.{byte_at};
 ghost use Rattle.eit_section.specs.Eit.{kind_of, fields_of, layout_good, eit_as, eit_of};
 ghost use Rattle.eit_section.specs.Segment.{segment_end};
 
+use answers::Refusal;
 use section::bytes::{wide, word};
 use section::ids::ServiceId;
 
@@ -19,24 +20,17 @@ pub enum Kind {
     ScheduleOther,
 }
 
-// What a table_id says of an EIT: its kind, or that the section is none.
-#[derive(Clone, Copy)]
-pub enum MaybeKind {
-    Some(Kind),
-    None,
-}
-
 impl Kind {
-    // The kind by table_id, EN 300 468 table 2.
-    pub fn from_table_id(table_id: u8) -> MaybeKind
+    // The kind by table_id, EN 300 468 table 2, or none where the section is no EIT.
+    pub fn from_table_id(table_id: u8) -> Option<Kind>
         ensures { result ≡ kind_of table_id }
     {
         match table_id {
-            0x4E => MaybeKind::Some(Kind::PresentFollowingActual),
-            0x4F => MaybeKind::Some(Kind::PresentFollowingOther),
-            0x50..=0x5F => MaybeKind::Some(Kind::ScheduleActual),
-            0x60..=0x6F => MaybeKind::Some(Kind::ScheduleOther),
-            _ => MaybeKind::None,
+            0x4E => Some(Kind::PresentFollowingActual),
+            0x4F => Some(Kind::PresentFollowingOther),
+            0x50..=0x5F => Some(Kind::ScheduleActual),
+            0x60..=0x6F => Some(Kind::ScheduleOther),
+            _ => None,
         }
     }
 }
@@ -52,32 +46,25 @@ pub struct Eit {
     pub last_table_id: u8,
 }
 
-// What reading a section as an EIT gives: 18, the table_id is no EIT's; 19, the layout is broken; or the fields.
-#[derive(Clone, Copy)]
-pub enum Reading {
-    NotEit,
-    Broken,
-    Good(Eit),
-}
-
-// Reads a section as an EIT. Its length, form and CRC are judged elsewhere: any bytes get an answer here.
-pub fn read(s: &[u8]) -> Reading
+// Reads a section as an EIT: its fields; or 18, the table_id is no EIT's; or 19, the layout is broken. Its length, form and CRC are judged elsewhere: any bytes get
+// an answer here.
+pub fn read(s: &[u8]) -> Result<Eit, Refusal>
     ensures { result ≡ eit_of s.now }
 {
-    match Kind::from_table_id(table_id(s)) {
-        MaybeKind::None => Reading::NotEit,
-        MaybeKind::Some(kind) => read_as(s, kind),
-    }
+    let Some(kind) = Kind::from_table_id(table_id(s)) else {
+        return Err(Refusal::NotEit);
+    };
+    read_as(s, kind)
 }
 
 // The same of a section whose table_id is one of this kind.
-fn read_as(s: &[u8], kind: Kind) -> Reading
+fn read_as(s: &[u8], kind: Kind) -> Result<Eit, Refusal>
     ensures { result ≡ eit_as s.now kind }
 {
     if !is_laid_out(s) {
-        return Reading::Broken;
+        return Err(Refusal::Broken);
     }
-    Reading::Good(fields(s, kind))
+    Ok(fields(s, kind))
 }
 
 // Sections of a sub_table come in segments of eight (EN 300 468, 5.2.4): section_number 0 to 7, 8 to 15, .. 248 to 255.

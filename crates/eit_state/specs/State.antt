@@ -1,9 +1,8 @@
 -- The EIT collector's settings and counts with the content of the five lent slices, and when they are whole (docs/RULES.md, "Layouts" and "Answers").
 -- `cond test a b` is a where the test is true, else b.
-use Rattle.std.specs.Prelude.{ℕ, ◌*◌, ◌≤◌, ◌<◌, ◌≡◌, ◌≢◌, List, Bool, true, cond, ◌&&◌, ◌||◌, length, leb, eqb}
+use Rattle.std.specs.Prelude.{ℕ, ◌*◌, ◌≤◌, ◌<◌, ◌≡◌, ◌≢◌, List, Bool, true, cond, ◌&&◌, ◌||◌, length, leb, eqb, Ok, Err}
 use Rattle.answers.specs.Answers.{refusal_no}
 use Rattle.answers.specs.declared.Refusal.TheVariants as refusal
-use Rattle.answers.specs.declared.Outcome.TheVariants as outcome
 use Rattle.store.specs.Store as sets
 use Rattle.store.specs.declared.Sets.{Sets}
 use Rattle.schedules.specs.Schedules.{schedules_whole}
@@ -85,10 +84,10 @@ empty_eit e = with_schedules (with_sets e 0 e.sets.evictions) 0 e.schedule_evict
 
 -- what opening hands back, 7 or 13, and what clearing does, 7 or 10
 abbrev pub opened_as : (fits : Bool) → Eit → Turned
-opened_as fits e = record { answer = cond fits outcome.Done (outcome.Refused refusal.TooLittle); eit = e }
+opened_as fits e = record { answer = cond fits (Ok tt) (Err refusal.TooLittle); eit = e }
 
 abbrev pub cleared_as : (whole : Bool) → Eit → Turned
-cleared_as whole e = cond whole (record { answer = outcome.Done; eit = empty_eit e }) (record { answer = outcome.Refused refusal.NotWhole; eit = e })
+cleared_as whole e = cond whole (record { answer = Ok tt; eit = empty_eit e }) (record { answer = Err refusal.NotWhole; eit = e })
 
 -- 11 looks at both eviction counts and at the clock
 abbrev pub counters_full : Eit → Bool

@@ -215,12 +215,12 @@ pub fn opened(
     };
     if settings_fit(eit, heads, slots, cells, schedule_heads, units) {
         return Turned {
-            answer: Outcome::Done,
+            answer: Ok(()),
             eit,
         };
     }
     Turned {
-        answer: Outcome::Refused(Refusal::TooLittle),
+        answer: Err(Refusal::TooLittle),
         eit,
     }
 }
@@ -233,12 +233,12 @@ pub fn cleared(eit: Eit, whole: bool) -> Turned
         let sets = eit.sets;
         let then = with_sets(eit, 0, sets.evictions);
         return Turned {
-            answer: Outcome::Done,
+            answer: Ok(()),
             eit: with_schedules(then, 0, eit.schedule_evictions),
         };
     }
     Turned {
-        answer: Outcome::Refused(Refusal::NotWhole),
+        answer: Err(Refusal::NotWhole),
         eit,
     }
 }

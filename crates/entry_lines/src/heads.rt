@@ -7,7 +7,7 @@ use std::io;
 use std::io::Write;
 
 // What a run read and printed.
-#[derive(Clone, Copy)]
+#[derive(Clone, Copy, Default)]
 pub struct Totals {
     pub sections: u64,
     pub sets: u64,

@@ -3,7 +3,7 @@
 
 use std::io;
 use std::io::Write;
-use times::{Date, Day};
+use times::Day;
 
 pub mod heads;
 
@@ -73,13 +73,13 @@ fn bcd(v: u16) -> u8 {
 // The date of a modified Julian day, or a stroke for a day before 1900-03-01.
 fn say_date(stdout: &mut impl Write, day: u32) -> io::Result<()> {
     match times::date_of(Day((day % 65536) as u16)) {
-        Date::On(c) => {
+        Some(c) => {
             say_hex2(stdout, b" ", bcd(c.year / 100))?;
             say_hex2(stdout, b"", bcd(c.year))?;
             say_hex2(stdout, b"-", bcd(c.month as u16))?;
             say_hex2(stdout, b"-", bcd(c.day as u16))
         }
-        Date::Before => say(stdout, b" -"),
+        None => say(stdout, b" -"),
     }
 }
 
@@ -152,12 +152,10 @@ fn put_bytes(line: &mut [u8], at: usize, bytes: &[u8]) -> usize
     requires { at + 2 * length bytes.now ≤ length line.old }
     ensures { result ≡ at + 2 * length bytes.now }
 {
-    let mut i = 0;
-    while i < bytes.len() {
-        text::put_hex2(line, at + 2 * i, bytes[i]);
-        i += 1;
+    for (i, b) in bytes.iter().enumerate() {
+        text::put_hex2(line, at + 2 * i, *b);
     }
-    at + 2 * i
+    at + 2 * bytes.len()
 }
 
 // The line of a descriptor: its tag and its bytes, of which no descriptor has more than 255.

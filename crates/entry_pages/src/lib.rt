@@ -1,7 +1,7 @@
 // The entries of sets and schedules that go out, printed page by page, and the sections that are refused: what `events` and `tables` share.
 #![tactic(auto)]
 
-ghost use Rattle.std.specs.Prelude.{◌≡◌, ◌≤◌, ◌<◌, length};
+ghost use Rattle.std.specs.Prelude.{◌≡◌, ◌≤◌, ◌<◌, length, ◌+◌, min};
 
 use answers::Refusal;
 use entry_lines::heads;
@@ -10,34 +10,24 @@ use std::io;
 use std::io::Write;
 
 // The entries of a page, and the pages that the largest set takes: 256 sections of at most 2,040 entries.
-pub const PAGE: usize = 2048;
+const PAGE: usize = 2048;
 
-pub const PAGES: usize = 256;
+const PAGES: usize = 256;
 
-// Nothing read and nothing printed.
-pub fn no_totals() -> Totals {
-    Totals {
-        sections: 0,
-        sets: 0,
-        schedules: 0,
-        events: 0,
-        streams: 0,
-        services: 0,
-        descriptors: 0,
-        refused: 0,
-        other: 0,
-    }
+// What listing a page told: how many entries there are in all, the answer's number, and where the listing ended early.
+#[derive(Clone, Copy)]
+pub struct Page {
+    pub count: usize,
+    pub answer: u8,
+    pub section: usize,
+    pub place: usize,
 }
 
 // One more; a count at its end stays.
-pub fn one_more(n: u64) -> u64 {
-    if n < u64::MAX { n + 1 } else { n }
-}
-
-pub fn one_section(totals: Totals) -> Totals {
-    let mut t = totals;
-    t.sections = one_more(t.sections);
-    t
+pub fn count(n: &mut u64)
+    ensures { n.new ≡ min (n.old + 1) 18446744073709551615 }
+{
+    *n = n.saturating_add(1);
 }
 
 fn wide(x: u32) -> usize
@@ -69,54 +59,49 @@ fn say_entry(
     stdout: &mut impl Write,
     words: &[u32],
     cells: &[u8],
-    totals: Totals,
-) -> io::Result<Totals>
+    totals: &mut Totals,
+) -> io::Result<()>
     requires { length words.now ≡ 12 }
 {
-    let mut t = totals;
     match words[0] {
         1 => {
             say_event(stdout, words, cells)?;
-            t.events = one_more(t.events);
+            count(&mut totals.events);
         }
         3 => {
             entry_lines::say_stream(stdout, words)?;
-            t.streams = one_more(t.streams);
+            count(&mut totals.streams);
         }
         4 => {
             entry_lines::say_service(stdout, words)?;
-            t.services = one_more(t.services);
+            count(&mut totals.services);
         }
         _ => {
             say_descriptor(stdout, words, cells)?;
-            t.descriptors = one_more(t.descriptors);
+            count(&mut totals.descriptors);
         }
     }
-    Ok(t)
+    Ok(())
 }
 
 // The first n entries of the list.
-pub fn say_page(
+fn say_page(
     stdout: &mut impl Write,
     list: &[u32],
     n: usize,
     cells: &[u8],
-    totals: Totals,
-) -> io::Result<Totals>
+    totals: &mut Totals,
+) -> io::Result<()>
     requires { (length list.now ≡ 24576) × (n ≤ 2048) }
 {
-    let mut t = totals;
-    let mut i = 0;
-    while i < n {
-        let at = i * entry_words::WORDS;
-        t = say_entry(stdout, &list[at..at + entry_words::WORDS], cells, t)?;
-        i += 1;
+    for words in list[..n * entry_words::WORDS].chunks_exact(entry_words::WORDS) {
+        say_entry(stdout, words, cells, totals)?;
     }
-    Ok(t)
+    Ok(())
 }
 
 // How many entries of `count` stand on the page that passes over `skip`.
-pub fn on_page(count: usize, skip: usize) -> usize
+fn on_page(count: usize, skip: usize) -> usize
     ensures { result ≤ 2048 }
 {
     if count <= skip {
@@ -129,28 +114,33 @@ pub fn on_page(count: usize, skip: usize) -> usize
 }
 
 // The line of a listing that ended early: any answer but 8 and 9.
-pub fn say_end(
-    stdout: &mut impl Write,
-    number: u8,
-    section: usize,
-    place: usize,
-) -> io::Result<()> {
-    if 9 < number {
-        heads::say_broken(stdout, number, section, place)?;
+fn say_end(stdout: &mut impl Write, page: Page) -> io::Result<()> {
+    if 9 < page.answer {
+        heads::say_broken(stdout, page.answer, page.section, page.place)?;
     }
     Ok(())
 }
 
-fn refuse(totals: Totals) -> Totals {
-    let mut t = totals;
-    t.refused = one_more(t.refused);
-    t
-}
-
-fn pass(totals: Totals) -> Totals {
-    let mut t = totals;
-    t.other = one_more(t.other);
-    t
+// All entries of a listing, page by page. `show` puts those behind the first so many into the list.
+pub fn say_pages<F: Fn(usize, &mut [u32]) -> Page>(
+    stdout: &mut impl Write,
+    list: &mut [u32],
+    cells: &[u8],
+    totals: &mut Totals,
+    show: F,
+) -> io::Result<()>
+    requires listed { length list.old ≡ 24576 }
+    requires shown { F.IsAlwaysCallable show }
+{
+    for number in 0..PAGES {
+        let skip = number * PAGE;
+        let page = show(skip, list);
+        say_page(stdout, list, on_page(page.count, skip), cells, totals)?;
+        if page.count <= skip + PAGE {
+            return say_end(stdout, page);
+        }
+    }
+    Ok(())
 }
 
 // A section that is refused: its line, unless it is one that other tables have.
@@ -159,20 +149,18 @@ pub fn tell_refused(
     refusal: Refusal,
     pid: u16,
     section: &[u8],
-    totals: Totals,
-) -> io::Result<Totals>
+    totals: &mut Totals,
+) -> io::Result<()>
     requires { 3 ≤ length section.now }
 {
     match refusal {
-        Refusal::BadPid => {
-            heads::say_bad_pid(stdout, pid)?;
-            Ok(refuse(totals))
+        Refusal::ShortForm | Refusal::NotEit => {
+            count(&mut totals.other);
+            return Ok(());
         }
-        Refusal::ShortForm => Ok(pass(totals)),
-        Refusal::NotEit => Ok(pass(totals)),
-        _ => {
-            heads::say_refused(stdout, refusal.number(), pid, section[0], section.len())?;
-            Ok(refuse(totals))
-        }
+        Refusal::BadPid => heads::say_bad_pid(stdout, pid)?,
+        _ => heads::say_refused(stdout, refusal.number(), pid, section[0], section.len())?,
     }
+    count(&mut totals.refused);
+    Ok(())
 }

@@ -1,5 +1,6 @@
 -- An event and the words of an entry, from the parts that are read; one law for each way out.
 -- Assumes nothing.
+use Rattle.std.specs.Prelude.{Option}
 use mathlib.Core.Path.{◌≡◌, refl}
 use mathlib.Core.Bool.{Bool}
 use mathlib.Core.List.{List, [], ◌∷◌}
@@ -11,11 +12,11 @@ use Rattle.laws.specs.Entries.{counted}
 use Rattle.section.specs.Header.{byte_at, word16}
 use Rattle.times.specs.Times.{time_of, day_of}
 use Rattle.times.specs.declared.Day.{Day}
-use Rattle.times.specs.declared.Time.{Time}
+use Rattle.times.specs.declared.Seconds.{Seconds}
 use Rattle.entry_words.specs.declared.Event.{Event}
 use Rattle.entry_words.specs.Words.{event_of, seconds_word, flag_word, event_words, plain_words, stream_words, service_words, entry_words}
 
-pub event_read : (h : List ℕ) (id : ℕ) (day : Day) (time duration : Time) (n : ℕ) → length h ≡ 12 → id ≡ word16 (byte_at h 0) (byte_at h 1) → day ≡ day_of (byte_at h 2) (byte_at h 3)
+pub event_read : (h : List ℕ) (id : ℕ) (day : Day) (time duration : Option Seconds) (n : ℕ) → length h ≡ 12 → id ≡ word16 (byte_at h 0) (byte_at h 1) → day ≡ day_of (byte_at h 2) (byte_at h 3)
     → time ≡ time_of (byte_at h 4) (byte_at h 5) (byte_at h 6) → duration ≡ time_of (byte_at h 7) (byte_at h 8) (byte_at h 9) → n ≡ counted (length h) h
     → record {
       event_id = id;

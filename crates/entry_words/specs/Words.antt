@@ -1,12 +1,11 @@
 -- The words of an entry (docs/RULES.md, "Entries"): 0 kind (1 an event, 2 a descriptor, 3 a transport stream, 4 a service), 1 the section's number, 2 the place of its first
 -- byte, 3 event_id, descriptor_tag, transport_stream_id or service_id, 4 how many bytes follow, 5 original_network_id, 6 the day, 7 the time, 8 the duration, 9 running_status, 10 free_CA_mode, 11 the EIT flags.
 -- A word that a kind does not use is 0.
-use Rattle.std.specs.Prelude.{ℕ, ◌/◌, ◌%◌, List, [], ◌∷◌, Bool, cond, length, eqb}
+use Rattle.std.specs.Prelude.{ℕ, ◌/◌, ◌%◌, List, [], ◌∷◌, Bool, cond, length, eqb, Option, Some, None}
 use Rattle.laws.specs.Entries.{counted}
 use Rattle.section.specs.Header.{byte_at, word16}
 use Rattle.times.specs.Times.{time_of, day_of}
-use Rattle.times.specs.declared.Time.{Time}
-use Rattle.times.specs.declared.Time.TheVariants.{At, Undefined}
+use Rattle.times.specs.declared.Seconds.{Seconds}
 use Rattle.entry_words.specs.declared.Event.{Event}
 
 -- the twelve bytes of an event's header (EN 300 468, 5.2.4): 0 and 1 event_id, 2 and 3 the day and 4 to 6 the time of start_time, 7 to 9 duration, then 3 bits
@@ -23,9 +22,9 @@ event_of header = record {
 }
 
 -- a second count; 2^32 - 1 where the time is undefined
-abbrev pub seconds_word : Time → ℕ
-seconds_word (At seconds) = seconds.0
-seconds_word Undefined = 4294967295
+abbrev pub seconds_word : Option Seconds → ℕ
+seconds_word (Some seconds) = seconds.0
+seconds_word None = 4294967295
 
 abbrev pub flag_word : Bool → ℕ
 flag_word flag = cond flag 1 0

@@ -7,7 +7,7 @@ ghost use Rattle.laws.specs.Entries.{counted};
 ghost use Rattle.entry_words.specs.Words.{event_of, seconds_word, flag_word, event_words, plain_words, stream_words, service_words, entry_words, descriptor_words};
 
 use section::bytes::{wide, word};
-use times::{Day, Time};
+use times::{Day, Seconds};
 
 // The words of an entry.
 pub const WORDS: usize = 12;
@@ -28,8 +28,8 @@ pub const UNDEFINED: u32 = 4294967295;
 pub struct Event {
     pub event_id: u16,
     pub day: Day,
-    pub time: Time,
-    pub duration: Time,
+    pub time: Option<Seconds>,
+    pub duration: Option<Seconds>,
     pub running_status: u8,
     pub free_ca_mode: bool,
     pub descriptors: usize,
@@ -60,12 +60,12 @@ pub fn event_of(header: &[u8]) -> Event
     }
 }
 
-fn seconds_word(time: Time) -> u32
+fn seconds_word(time: Option<Seconds>) -> u32
     ensures { result ≡ seconds_word time }
 {
     match time {
-        Time::At(seconds) => seconds.0,
-        Time::Undefined => UNDEFINED,
+        Some(seconds) => seconds.0,
+        None => UNDEFINED,
     }
 }
 

@@ -5,94 +5,19 @@ ghost use Rattle.std.specs.Prelude.{◌≡◌, ◌*◌, ◌≤◌, ◌<◌, leng
 
 use eit_state::{Eit, PushAnswer};
 use entry_lines::heads::Totals;
-use entry_pages::{PAGE, PAGES};
+use entry_pages::{Page, count};
+use shown_sections::Shown;
 use std::io;
 use std::io::Write;
 
-// All entries of the set in a row.
-fn list_set(
-    stdout: &mut impl Write,
-    eit: Eit,
-    heads: &[u64],
-    slots: &[u32],
-    cells: &[u8],
-    schedule_heads: &[u64],
-    units: &[u32],
-    row: usize,
-    list: &mut [u32],
-    totals: Totals,
-) -> io::Result<Totals>
-    requires { length list.old ≡ 24576 }
-{
-    let mut t = totals;
-    let mut page = 0;
-    while page < PAGES {
-        let skip = page * PAGE;
-        let shown = showing::events_of_set(
-            eit,
-            heads,
-            slots,
-            cells,
-            schedule_heads,
-            units,
-            row,
-            skip,
-            list,
-        );
-        let count = shown.count;
-        t = entry_pages::say_page(stdout, list, entry_pages::on_page(count, skip), cells, t)?;
-        if count <= skip + PAGE {
-            let answer = shown.answer;
-            entry_pages::say_end(stdout, answer.number(), shown.section, shown.place)?;
-            return Ok(t);
-        }
-        page += 1;
+fn page_of(shown: Shown) -> Page {
+    let answer = shown.answer;
+    Page {
+        count: shown.count,
+        answer: answer.number(),
+        section: shown.section,
+        place: shown.place,
     }
-    Ok(t)
-}
-
-// All entries of a table of the schedule in a row.
-fn list_table(
-    stdout: &mut impl Write,
-    eit: Eit,
-    heads: &[u64],
-    slots: &[u32],
-    cells: &[u8],
-    schedule_heads: &[u64],
-    units: &[u32],
-    row: usize,
-    table: usize,
-    list: &mut [u32],
-    totals: Totals,
-) -> io::Result<Totals>
-    requires { length list.old ≡ 24576 }
-{
-    let mut t = totals;
-    let mut page = 0;
-    while page < PAGES {
-        let skip = page * PAGE;
-        let shown = showing::events_of_table(
-            eit,
-            heads,
-            slots,
-            cells,
-            schedule_heads,
-            units,
-            row,
-            table,
-            skip,
-            list,
-        );
-        let count = shown.count;
-        t = entry_pages::say_page(stdout, list, entry_pages::on_page(count, skip), cells, t)?;
-        if count <= skip + PAGE {
-            let answer = shown.answer;
-            entry_pages::say_end(stdout, answer.number(), shown.section, shown.place)?;
-            return Ok(t);
-        }
-        page += 1;
-    }
-    Ok(t)
 }
 
 // The line of a set that went out.
@@ -146,7 +71,7 @@ fn say_table(
 }
 
 // The events of the set in a row that went out.
-pub fn tell_set(
+fn tell_set(
     stdout: &mut impl Write,
     eit: Eit,
     heads: &[u64],
@@ -156,50 +81,13 @@ pub fn tell_set(
     units: &[u32],
     row: usize,
     list: &mut [u32],
-    totals: Totals,
-) -> io::Result<Totals>
+    totals: &mut Totals,
+) -> io::Result<()>
     requires { length list.old ≡ 24576 }
 {
     say_set(stdout, heads, row)?;
-    let mut t = list_set(
-        stdout,
-        eit,
-        heads,
-        slots,
-        cells,
-        schedule_heads,
-        units,
-        row,
-        list,
-        totals,
-    )?;
-    t.sets = entry_pages::one_more(t.sets);
-    Ok(t)
-}
-
-// The events of the schedule in a row that went out, table by table.
-pub fn tell_schedule(
-    stdout: &mut impl Write,
-    eit: Eit,
-    heads: &[u64],
-    slots: &[u32],
-    cells: &[u8],
-    schedule_heads: &[u64],
-    units: &[u32],
-    row: usize,
-    list: &mut [u32],
-    totals: Totals,
-) -> io::Result<Totals>
-    requires { length list.old ≡ 24576 }
-{
-    let tables = say_schedule(stdout, schedule_heads, row)?;
-    let mut t = totals;
-    t.schedules = entry_pages::one_more(t.schedules);
-    let mut table = 0;
-    while table < tables {
-        say_table(stdout, schedule_heads, units, row, table)?;
-        t = list_table(
-            stdout,
+    entry_pages::say_pages(stdout, list, cells, totals, |skip, list| {
+        page_of(showing::events_of_set(
             eit,
             heads,
             slots,
@@ -207,13 +95,49 @@ pub fn tell_schedule(
             schedule_heads,
             units,
             row,
-            table,
+            skip,
             list,
-            t,
-        )?;
-        table += 1;
+        ))
+    })?;
+    count(&mut totals.sets);
+    Ok(())
+}
+
+// The events of the schedule in a row that went out, table by table.
+fn tell_schedule(
+    stdout: &mut impl Write,
+    eit: Eit,
+    heads: &[u64],
+    slots: &[u32],
+    cells: &[u8],
+    schedule_heads: &[u64],
+    units: &[u32],
+    row: usize,
+    list: &mut [u32],
+    totals: &mut Totals,
+) -> io::Result<()>
+    requires { length list.old ≡ 24576 }
+{
+    let tables = say_schedule(stdout, schedule_heads, row)?;
+    count(&mut totals.schedules);
+    for table in 0..tables {
+        say_table(stdout, schedule_heads, units, row, table)?;
+        entry_pages::say_pages(stdout, list, cells, totals, |skip, list| {
+            page_of(showing::events_of_table(
+                eit,
+                heads,
+                slots,
+                cells,
+                schedule_heads,
+                units,
+                row,
+                table,
+                skip,
+                list,
+            ))
+        })?;
     }
-    Ok(t)
+    Ok(())
 }
 
 // What a section led to.
@@ -229,12 +153,12 @@ pub fn tell(
     list: &mut [u32],
     pid: u16,
     section: &[u8],
-    totals: Totals,
-) -> io::Result<Totals>
+    totals: &mut Totals,
+) -> io::Result<()>
     requires { (length list.old ≡ 24576) × (3 ≤ length section.now) }
 {
     match answer {
-        PushAnswer::Nothing => Ok(totals),
+        PushAnswer::Nothing => Ok(()),
         PushAnswer::Set(row) => tell_set(
             stdout,
             eit,

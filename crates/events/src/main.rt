@@ -6,37 +6,16 @@ ghost use Rattle.std.specs.Prelude.{◌≡◌, ◌≤◌, ◌<◌, length};
 
 use eit_state::Eit;
 use entry_lines::heads::Totals;
+use entry_pages::count;
 use records::Next;
-use section::ids::MaybePid;
+use section::bytes::word;
 use std::io;
 use std::io::{Read, Write};
-
-// The collector and the totals between two records, and whether there may be another.
-#[derive(Clone, Copy)]
-struct Between {
-    more: bool,
-    eit: Eit,
-    totals: Totals,
-}
-
-fn leave(more: bool, eit: Eit, totals: Totals) -> Between {
-    Between {
-        more: more,
-        eit: eit,
-        totals: totals,
-    }
-}
-
-fn wide16(x: u8) -> u16
-    ensures { (result ≡ x) × (result < 256) }
-{
-    x as u16
-}
 
 // A section on a PID goes to the collector, and what it led to is printed.
 fn offer(
     stdout: &mut impl Write,
-    eit: Eit,
+    eit: &mut Eit,
     heads: &mut [u64; 768],
     slots: &mut [u32; 18432],
     cells: &mut [u8; 2097152],
@@ -45,27 +24,27 @@ fn offer(
     list: &mut [u32; 24576],
     pid: u16,
     section: &[u8],
-    totals: Totals,
-) -> io::Result<Between>
+    totals: &mut Totals,
+) -> io::Result<()>
     requires { 3 ≤ length section.now }
 {
     let pushed = eit::push(
-        eit,
+        *eit,
         heads,
         slots,
         cells,
         schedule_heads,
         units,
         0,
-        MaybePid::Some(pid),
+        Some(pid),
         section,
     );
     let answer = pushed.answer;
-    let then = pushed.eit;
-    let told = event_sets::tell(
+    *eit = pushed.eit;
+    event_sets::tell(
         stdout,
         answer,
-        then,
+        *eit,
         heads,
         slots,
         cells,
@@ -75,20 +54,13 @@ fn offer(
         pid,
         section,
         totals,
-    )?;
-    Ok(leave(true, then, told))
-}
-
-fn pid_of(buf: &[u8]) -> u16
-    requires { 2 ≤ length buf.now }
-{
-    wide16(buf[0]) * 256 + wide16(buf[1])
+    )
 }
 
 // One record of n bytes.
 fn push(
     stdout: &mut impl Write,
-    eit: Eit,
+    eit: &mut Eit,
     heads: &mut [u64; 768],
     slots: &mut [u32; 18432],
     cells: &mut [u8; 2097152],
@@ -97,10 +69,11 @@ fn push(
     list: &mut [u32; 24576],
     buf: &[u8],
     n: usize,
-    totals: Totals,
-) -> io::Result<Between>
+    totals: &mut Totals,
+) -> io::Result<()>
     requires { (5 ≤ n) × (n ≤ 4100) × (4100 ≡ length buf.now) }
 {
+    count(&mut totals.sections);
     offer(
         stdout,
         eit,
@@ -110,49 +83,13 @@ fn push(
         schedule_heads,
         units,
         list,
-        pid_of(buf),
+        word(buf, 0),
         &buf[2..n],
-        entry_pages::one_section(totals),
+        totals,
     )
 }
 
-// Reads a record into the buffer and pushes its section.
-fn turn(
-    stdin: &mut impl Read,
-    stdout: &mut impl Write,
-    eit: Eit,
-    heads: &mut [u64; 768],
-    slots: &mut [u32; 18432],
-    cells: &mut [u8; 2097152],
-    schedule_heads: &mut [u64; 768],
-    units: &mut [u32; 294912],
-    list: &mut [u32; 24576],
-    buf: &mut [u8; 4100],
-    totals: Totals,
-) -> io::Result<Between> {
-    match records::read_record(stdin, buf)? {
-        Next::Record(n) => push(
-            stdout,
-            eit,
-            heads,
-            slots,
-            cells,
-            schedule_heads,
-            units,
-            list,
-            buf,
-            n,
-            totals,
-        ),
-        Next::End => Ok(leave(false, eit, totals)),
-        Next::Cut => {
-            stdout.write_all(b"cut\n")?;
-            Ok(leave(false, eit, totals))
-        }
-    }
-}
-
-// A proved loop has to end, and nothing says that an input does: the turns are counted, up to a number that no run uses up.
+// Every record to the end of the input. A proved loop has to end, and nothing says that an input does: the turns are counted, up to a number that no run uses up.
 fn run(
     stdin: &mut impl Read,
     stdout: &mut impl Write,
@@ -166,25 +103,27 @@ fn run(
 ) -> io::Result<()> {
     let opened = eit::open(64, 4096, 512, heads, slots, cells, schedule_heads, units);
     let mut eit = opened.eit;
-    let mut totals = entry_pages::no_totals();
+    let mut totals = Totals::default();
     for _ in 0..u64::MAX {
-        let t = turn(
-            stdin,
-            stdout,
-            eit,
-            heads,
-            slots,
-            cells,
-            schedule_heads,
-            units,
-            list,
-            buf,
-            totals,
-        )?;
-        eit = t.eit;
-        totals = t.totals;
-        if !t.more {
-            break;
+        match records::read_record(stdin, buf)? {
+            Next::Record(n) => push(
+                stdout,
+                &mut eit,
+                heads,
+                slots,
+                cells,
+                schedule_heads,
+                units,
+                list,
+                buf,
+                n,
+                &mut totals,
+            )?,
+            Next::End => break,
+            Next::Cut => {
+                stdout.write_all(b"cut\n")?;
+                break;
+            }
         }
     }
     entry_lines::heads::say_event_totals(stdout, totals)

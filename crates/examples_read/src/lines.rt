@@ -33,10 +33,8 @@ pub fn say_line(stdout: &mut impl Write, word: &[u8], v: u64) -> io::Result<()>
 fn put_section(line: &mut [u8], section: &[u8])
     requires { (128 ≡ length line.old) × (length section.now ≤ 64) }
 {
-    let mut i = 0;
-    while i < section.len() {
-        text::put_hex2(line, 2 * i, section[i]);
-        i += 1;
+    for (i, b) in section.iter().enumerate() {
+        text::put_hex2(line, 2 * i, *b);
     }
 }
 
@@ -56,10 +54,8 @@ pub fn say_section(stdout: &mut impl Write, v: usize, section: &[u8]) -> io::Res
 
 // The line of a section that a reader handed out, which stands behind it at slot `behind`. Nothing where it is empty: there was no further one.
 pub fn say_part(stdout: &mut impl Write, behind: usize, part: &[u8]) -> io::Result<()> {
-    if part.len() > 0 {
-        if behind > 0 {
-            say_section(stdout, behind - 1, part)?;
-        }
+    if !part.is_empty() & (behind > 0) {
+        say_section(stdout, behind - 1, part)?;
     }
     Ok(())
 }

@@ -5,8 +5,8 @@
 
 ghost use Rattle.std.specs.Prelude.{◌≤◌, length};
 
+use answers::Numbered;
 use eit_state::Eit;
-use section::ids::MaybePid;
 use std::io;
 use std::io::Write;
 use store::Sets;
@@ -21,15 +21,7 @@ fn collect(
     cells: &mut [u8],
     section: &[u8],
 ) -> io::Result<Sets> {
-    let pushed = sets::push(
-        sets,
-        heads,
-        slots,
-        cells,
-        0,
-        MaybePid::Some(0x0011),
-        section,
-    );
+    let pushed = sets::push(sets, heads, slots, cells, 0, Some(0x0011), section);
     let answer = pushed.answer;
     let then = pushed.sets;
     examples_read::lines::say_line(stdout, b"sets ", answer.number() as u64)?;
@@ -59,7 +51,7 @@ fn set_of_two(
 
 // ---- the EIT collector
 
-// At most five sections of 18 bytes each, one after another, to a collector of three sets, three schedules and eight cells.
+// Sections of 18 bytes each, one after another, to a collector of three sets, three schedules and eight cells.
 fn collect_all(
     stdout: &mut impl Write,
     heads: &mut [u64],
@@ -75,9 +67,7 @@ fn collect_all(
     let answer = opened.answer;
     examples_read::lines::say_line(stdout, b"eit ", answer.number() as u64)?;
     let mut eit = opened.eit;
-    let mut at = 0;
-    while sections.len() - at >= 18 {
-        let section = &sections[at..at + 18];
+    for section in sections.chunks_exact(18) {
         let pushed = eit::push(
             eit,
             heads,
@@ -86,7 +76,7 @@ fn collect_all(
             schedule_heads,
             units,
             0,
-            MaybePid::Some(0x0012),
+            Some(0x0012),
             section,
         );
         let answer = pushed.answer;
@@ -102,7 +92,6 @@ fn collect_all(
             units,
         )?;
         eit = then;
-        at += 18;
     }
     Ok(())
 }

@@ -1,16 +1,13 @@
 -- A drop by filter, of the rows of a collector: which rows match, and the heads and words that are left, for every content of the two lent slices.
 -- Row i of sets has 288 words, row i of schedules 16 * 288; both have a head of 12 words.
-use Rattle.std.specs.Prelude.{ℕ, zero, suc, ◌-◌, ◌*◌, ◌≤◌, List, Bool, true, cond, ◌&&◌, length, take, drop, eqb}
+use Rattle.std.specs.Prelude.{ℕ, zero, suc, ◌-◌, ◌*◌, ◌≤◌, List, Bool, true, cond, ◌&&◌, length, take, drop, eqb, Option, Some, None}
 use Rattle.std.proofs.Math.Seq.{paste}
 use Rattle.eit_section.specs.Eit.{kind_of}
-use Rattle.eit_section.specs.declared.MaybeKind.{MaybeKind}
-use Rattle.eit_section.specs.declared.MaybeKind.TheVariants as maybe
+use Rattle.eit_section.specs.declared.Kind.{Kind}
 use Rattle.arrivals.specs.Arrivals.{kind_number}
 use Rattle.rows.specs.declared.Origin.{Origin}
 use Rattle.rows.specs.declared.Key.{Key}
 use Rattle.rows.specs.Rows.{key_at}
-use Rattle.filter.specs.declared.Wanted.{Wanted}
-use Rattle.filter.specs.declared.Wanted.TheVariants as wanted
 use Rattle.filter.specs.declared.WantedOrigin.{WantedOrigin}
 use Rattle.filter.specs.declared.Fields.{Fields}
 use Rattle.filter.specs.declared.Of.{Of}
@@ -19,17 +16,17 @@ use Rattle.filter.specs.declared.Of.TheVariants as of
 -- ---- which rows match
 
 -- "each exact or free"
-abbrev pub wants : Wanted → ℕ → Bool
-wants wanted.Any v = true
-wants (wanted.Exactly x) v = eqb v x
+abbrev pub wants : Option ℕ → ℕ → Bool
+wants None v = true
+wants (Some x) v = eqb v x
 
 abbrev pub wants_origin : WantedOrigin → Origin → Bool
 wants_origin w o = wants w.input o.input && wants w.pid o.pid
 
 -- the number of what a table_id says: 4 is no kind's
-abbrev pub kind_told : MaybeKind → ℕ
-kind_told (maybe.Some k) = kind_number k
-kind_told maybe.None = 4
+abbrev pub kind_told : Option Kind → ℕ
+kind_told (Some k) = kind_number k
+kind_told None = 4
 
 -- the kind's number, by the table_id word in a set's head
 abbrev pub kind_word : ℕ → ℕ

@@ -7,32 +7,25 @@ ghost use Rattle.std.specs.Prelude.{◌≡◌, Bool, true, false, ℕ, ◌+◌, 
 ghost use Rattle.filter.specs.Drops.{wants, wants_origin, kind_told, kind_word, kind_in, matches, width_of, moved_to, removed_heads, removed_words};
 ghost use Rattle.filter.specs.Drops.{Fits, rest, dropped_row, dropped_rows};
 
-use eit_section::{Kind, MaybeKind};
+use eit_section::Kind;
 use rows::{Key, Origin};
 
-// A field of a filter: free, or exactly a word.
-#[derive(Clone, Copy)]
-pub enum Wanted {
-    Any,
-    Exactly(u64),
-}
-
-// What a filter wants of where a row's sections came from, in the words of a head.
+// What a filter wants of where a row's sections came from, in the words of a head: a field is free (none), or exactly a word.
 #[derive(Clone, Copy)]
 pub struct WantedOrigin {
-    pub input: Wanted,
-    pub pid: Wanted,
+    pub input: Option<u64>,
+    pub pid: Option<u64>,
 }
 
 // What a filter wants of each field, in the words of a head: the kinds are 0 to 3 as in a schedule's head.
 #[derive(Clone, Copy)]
 pub struct Fields {
     pub from: WantedOrigin,
-    pub kind: Wanted,
-    pub service_id: Wanted,
-    pub transport_stream_id: Wanted,
-    pub original_network_id: Wanted,
-    pub current_next: Wanted,
+    pub kind: Option<u64>,
+    pub service_id: Option<u64>,
+    pub transport_stream_id: Option<u64>,
+    pub original_network_id: Option<u64>,
+    pub current_next: Option<u64>,
 }
 
 // Whose rows: a set's row has 288 words and the table_id in its head, a schedule's 16 units of 288 words and the kind in the table_id's place.
@@ -47,12 +40,12 @@ const NO_KIND: u64 = 4;
 
 // ---- which rows match
 
-fn fits(w: Wanted, v: u64) -> bool
+fn fits(w: Option<u64>, v: u64) -> bool
     ensures { result ≡ wants w v }
 {
     match w {
-        Wanted::Any => true,
-        Wanted::Exactly(x) => v == x,
+        None => true,
+        Some(x) => v == x,
     }
 }
 
@@ -74,12 +67,12 @@ fn kind_word(table_id: u64) -> u64
     NO_KIND
 }
 
-fn kind_told(kind: MaybeKind) -> u64
+fn kind_told(kind: Option<Kind>) -> u64
     ensures { result ≡ kind_told kind }
 {
     match kind {
-        MaybeKind::Some(k) => arrivals::kind_number(k),
-        MaybeKind::None => NO_KIND,
+        Some(k) => arrivals::kind_number(k),
+        None => NO_KIND,
     }
 }
 
@@ -122,37 +115,13 @@ fn width(of: Of) -> usize
     }
 }
 
-// The 12 words from `from` on go in at `to`, which is not behind them.
-fn move_head(heads: &mut [u64], to: usize, from: usize)
-    requires { (to ≤ from) × (from + 12 ≤ length heads.old) }
-    ensures { heads.new ≡ moved_to to from 12 heads.old }
-{
-    let mut k = 0;
-    while k < rows::HEAD_WORDS {
-        heads[to + k] = heads[from + k];
-        k += 1;
-    }
-}
-
-// The same for the n words of a row.
-fn move_words(words: &mut [u32], to: usize, from: usize, n: usize)
-    requires { (to ≤ from) × (from + n ≤ length words.old) }
-    ensures { words.new ≡ moved_to to from n words.old }
-{
-    let mut k = 0;
-    while k < n {
-        words[to + k] = words[from + k];
-        k += 1;
-    }
-}
-
 // The head of row i leaves: the last row in use takes its place.
 fn remove_head(heads: &mut [u64], used: usize, i: usize)
     requires { (i < used) × (used * 12 ≤ length heads.old) }
     ensures { heads.new ≡ removed_heads used i heads.old }
 {
-    let last = used - 1;
-    move_head(heads, i * rows::HEAD_WORDS, last * rows::HEAD_WORDS);
+    let last = (used - 1) * rows::HEAD_WORDS;
+    heads.copy_within(last..last + rows::HEAD_WORDS, i * rows::HEAD_WORDS);
 }
 
 // So the words of row i.
@@ -161,8 +130,8 @@ fn remove_words(of: Of, words: &mut [u32], used: usize, i: usize)
     ensures { words.new ≡ removed_words of used i words.old }
 {
     let w = width(of);
-    let last = used - 1;
-    move_words(words, i * w, last * w, w);
+    let last = (used - 1) * w;
+    words.copy_within(last..last + w, i * w);
 }
 
 // ---- all rows in use
@@ -186,9 +155,7 @@ pub fn drop_rows(of: Of, f: Fields, heads: &mut [u64], words: &mut [u32], used: 
     ensures { rest heads.new words.new result ≡ dropped_rows of f used (rest heads.old words.old used) }
 {
     let mut left = used;
-    let mut i = used;
-    while i > 0 {
-        i -= 1;
+    for i in (0..used).rev() {
         left = drop_row(of, f, heads, words, left, i);
     }
     left

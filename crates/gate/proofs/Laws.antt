@@ -34,7 +34,7 @@ use Rattle.gate_state.specs.declared.Settings.{Settings}
 use Rattle.gate_state.specs.declared.Opened.{Opened}
 use Rattle.answers.specs.declared.Refusal.{Refusal}
 use Rattle.answers.specs.declared.Refusal.TheVariants.{BadPid, TooLittle}
-use Rattle.answers.specs.declared.Outcome.TheVariants as outcome
+use Rattle.std.specs.Prelude.{Ok, Err}
 use Rattle.counters.specs.declared.Counters.{Counters}
 
 -- ---- 10
@@ -117,7 +117,7 @@ module _ (s : Store) (input pid : ℕ) (section : List ℕ) (w : Bool) (e : w �
 -- ---- opening
 
 module _ (s : Settings) (extra words : List ℕ) (keys changes : ℕ) (b : Bool) (e : b ≡ all_pids extra) where
-  pub opened_pid : (o : Opened) → not b ≡ true → o ≡ begun (outcome.Refused BadPid) s → begun_by o words ≡ opened s extra keys changes words
+  pub opened_pid : (o : Opened) → not b ≡ true → o ≡ begun (Err BadPid) s → begun_by o words ≡ opened s extra keys changes words
   unfolding opened
   opened_pid o h j = rw (← e, not-true b h, j)
 
@@ -125,12 +125,12 @@ module _ (s : Settings) (extra words : List ℕ) (keys changes : ℕ) (b : Bool)
   pids_good h = sym e ∙ not-false b h
 
   module _ (h : not b ≡ false) (r : Bool) (d : r ≡ can_open s keys changes (length words)) where
-    pub opened_little : (o : Opened) → not r ≡ true → o ≡ begun (outcome.Refused TooLittle) s → begun_by o words ≡ opened s extra keys changes words
+    pub opened_little : (o : Opened) → not r ≡ true → o ≡ begun (Err TooLittle) s → begun_by o words ≡ opened s extra keys changes words
     unfolding opened
     opened_little o k j = rw (← e, not-false b h, ← d, not-true r k, j)
 
     pub opened_yes :
-        (ws : List ℕ) (o : Opened) → not r ≡ false → ws ≡ filled words s.well_known extra → o ≡ begun outcome.Done s →
+        (ws : List ℕ) (o : Opened) → not r ≡ false → ws ≡ filled words s.well_known extra → o ≡ begun (Ok tt) s →
         begun_by o ws ≡ opened s extra keys changes words
     unfolding opened
     opened_yes ws o k f j = rw (← e, not-false b h, ← d, not-false r k, ← f, j)

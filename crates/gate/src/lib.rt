@@ -5,7 +5,7 @@
 ghost use Rattle.std.specs.Prelude.{◌≡◌, length};
 ghost use Rattle.gate.specs.Store.{begun_by, opened, store_of, left_by, offered};
 
-use answers::{Outcome, Refusal};
+use answers::Refusal;
 use counters::Counters;
 use gate_state::{Gate, Offered, Opened, Settings};
 use offers::Verdict;
@@ -24,13 +24,13 @@ pub fn open(
     ensures { begun_by result words.new ≡ opened settings extra.now (length keys.now) (length changes.now) words.old }
 {
     if !watched::inner::pids_good(extra) {
-        return gate_state::begin(Outcome::Refused(Refusal::BadPid), settings);
+        return gate_state::begin(Err(Refusal::BadPid), settings);
     }
     if !inner::can_open(settings, keys.len(), changes.len(), words.len()) {
-        return gate_state::begin(Outcome::Refused(Refusal::TooLittle), settings);
+        return gate_state::begin(Err(Refusal::TooLittle), settings);
     }
     watched::inner::fill(words, settings.well_known, extra);
-    gate_state::begin(Outcome::Done, settings)
+    gate_state::begin(Ok(()), settings)
 }
 
 // Offers a section that came on an input and a PID, watched or not. Every content of what is given has one answer: 10, 11, 12 and 37 change nothing at all.

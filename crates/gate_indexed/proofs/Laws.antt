@@ -19,7 +19,7 @@ use Rattle.offers.specs.declared.Verdict.TheVariants as verdict
 use Rattle.watched.specs.Store.{all_pids, filled}
 use Rattle.answers.specs.declared.Refusal.{Refusal}
 use Rattle.answers.specs.declared.Refusal.TheVariants.{BadPid, TooLittle}
-use Rattle.answers.specs.declared.Outcome.TheVariants as outcome
+use Rattle.std.specs.Prelude.{Ok, Err}
 use Rattle.counters.specs.declared.Counters.{Counters}
 use Rattle.gate_state.specs.State.{by_sections, begun, refused, failed_by}
 use Rattle.offers.specs.declared.Failure.{Failure}
@@ -82,7 +82,7 @@ module _ (s : Indexed) (input pid : ℕ) (section : List ℕ) (w : Bool) (e : w 
 -- ---- opening
 
 module _ (s : Settings) (extra buckets words : List ℕ) (keys changes links : ℕ) (b : Bool) (e : b ≡ all_pids extra) where
-  pub opened_pid : (o : Opened) → not b ≡ true → o ≡ begun (outcome.Refused BadPid) s → begun_by o buckets words ≡ opened_by s extra keys changes links buckets words
+  pub opened_pid : (o : Opened) → not b ≡ true → o ≡ begun (Err BadPid) s → begun_by o buckets words ≡ opened_by s extra keys changes links buckets words
   unfolding opened_by
   opened_pid o h j = rw (← e, not-true b h, j)
 
@@ -90,13 +90,13 @@ module _ (s : Settings) (extra buckets words : List ℕ) (keys changes links : �
   pids_good h = sym e ∙ not-false b h
 
   module _ (h : not b ≡ false) (r : Bool) (d : r ≡ can_open_by s keys changes (length buckets) links (length words)) where
-    pub opened_little : (o : Opened) → not r ≡ true → o ≡ begun (outcome.Refused TooLittle) s → begun_by o buckets words ≡ opened_by s extra keys changes links buckets words
+    pub opened_little : (o : Opened) → not r ≡ true → o ≡ begun (Err TooLittle) s → begun_by o buckets words ≡ opened_by s extra keys changes links buckets words
     unfolding opened_by
     opened_little o k j = rw (← e, not-false b h, ← d, not-true r k, j)
 
     pub opened_yes :
         (room : ℕ) (bs ws : List ℕ) (o : Opened) → not r ≡ false → room ≡ room_of s.capacity → bs ≡ cleared_by room buckets →
-        ws ≡ filled words s.well_known extra → o ≡ begun outcome.Done s → begun_by o bs ws ≡ opened_by s extra keys changes links buckets words
+        ws ≡ filled words s.well_known extra → o ≡ begun (Ok tt) s → begun_by o bs ws ≡ opened_by s extra keys changes links buckets words
     unfolding opened_by
     opened_yes room bs ws o k a z f j = rw (← e, not-false b h, ← d, not-false r k, ← f, ← a, ← z, j)
 

@@ -6,7 +6,7 @@ ghost use Rattle.std.specs.Prelude.{◌≡◌, length};
 ghost use Rattle.ring_index.specs.Store.{index_of};
 ghost use Rattle.gate_indexed.specs.Store.{begun_by, opened_by, indexed_of, left_by, offered_by};
 
-use answers::{Outcome, Refusal};
+use answers::Refusal;
 use counters::Counters;
 use gate_state::{Gate, Offered, Opened, Settings};
 use offers::Verdict;
@@ -27,7 +27,7 @@ pub fn open(
     ensures { begun_by result buckets.new words.new ≡ opened_by settings extra.now (length keys.now) (length changes.now) (length links.now) buckets.old words.old }
 {
     if !watched::inner::pids_good(extra) {
-        return gate_state::begin(Outcome::Refused(Refusal::BadPid), settings);
+        return gate_state::begin(Err(Refusal::BadPid), settings);
     }
     if !inner::can_open(
         settings,
@@ -37,11 +37,11 @@ pub fn open(
         links.len(),
         words.len(),
     ) {
-        return gate_state::begin(Outcome::Refused(Refusal::TooLittle), settings);
+        return gate_state::begin(Err(Refusal::TooLittle), settings);
     }
     ring_index::clear(buckets, ring::room(settings.capacity));
     watched::inner::fill(words, settings.well_known, extra);
-    gate_state::begin(Outcome::Done, settings)
+    gate_state::begin(Ok(()), settings)
 }
 
 // Offers a section that came on an input and a PID, watched or not. Every content of what is given has one answer: 10, 11, 12 and 37 change nothing at all.

@@ -8,12 +8,11 @@ use lib.ListN.{length}
 use lib.Dec.{eqb, ltb}
 use borrow.Author.Tests.{eq-eqb, ne_eqb, not-true, not-false}
 use Rattle.laws.proofs.Tests.{and_true}
-use Rattle.answers.specs.Answers.{refusal_no, outcome_no}
+use Rattle.answers.specs.Answers.{refusal_no, outcome_no, Outcome}
 use Rattle.answers.proofs.Laws.{refused_from_10}
 use Rattle.answers.specs.declared.Refusal.{Refusal}
 use Rattle.answers.specs.declared.Refusal.TheVariants as refusal
-use Rattle.answers.specs.declared.Outcome.{Outcome}
-use Rattle.answers.specs.declared.Outcome.TheVariants as outcome
+use Rattle.std.specs.Prelude.{Ok, Err, is_ok}
 use Rattle.counters.specs.Counters.{zeroes}
 use Rattle.counters.specs.declared.Counters.{Counters}
 use Rattle.offers.specs.Offers.{verdict_of}
@@ -50,21 +49,26 @@ room_tables f b r words slots cells e h j = rw (← e, h) j
 pub room_else : (f : Follow) (b : Bool) (words slots cells : ℕ) → b ≡ by_tables f → b ≡ false → true ≡ room_with f words slots cells
 room_else f b words slots cells e h = rw (← e, h)
 
-pub refused_little : (extra : List ℕ) (b : Bool) → b ≡ all_pids extra → b ≡ true → outcome_no (outcome.Refused refusal.TooLittle) ≡ refused_with extra
+pub refused_little : (extra : List ℕ) (b : Bool) → b ≡ all_pids extra → b ≡ true → outcome_no (Err refusal.TooLittle) ≡ refused_with extra
 refused_little extra b e h = rw (← e, h)
 
-pub refused_pid : (extra : List ℕ) (b : Bool) → b ≡ all_pids extra → b ≡ false → outcome_no (outcome.Refused refusal.BadPid) ≡ refused_with extra
+pub refused_pid : (extra : List ℕ) (b : Bool) → b ≡ all_pids extra → b ≡ false → outcome_no (Err refusal.BadPid) ≡ refused_with extra
 refused_pid extra b e h = rw (← e, h)
 
-module _ (f : Follow) (a : Outcome) (b : Bool) (n : ℕ) (e : b ≡ by_tables f) (q : n ≡ outcome_no a) where
-  pub begin_room : (words : ℕ) → BeginOk f words → (b && eqb n 7) ≡ true → 398 ≤ words
-  begin_room words k h = k.room (sym e ∙ (and_true b (eqb n 7) h).0)
+-- an opening that is done answers 7, and no refusal does
+ok_is_7 : (a : Outcome) → eqb (outcome_no a) 7 ≡ is_ok a
+ok_is_7 (Ok _) = refl
+ok_is_7 (Err r) = ne_eqb (refusal_no r) 7 (λ (e : refusal_no r ≡ 7). true≢false (sym (ap (λ (n : ℕ). ltb n 10) e) ∙ refused_from_10 r))
 
-  pub begun_yes : (words ws : List ℕ) → (b && eqb n 7) ≡ true → ws ≡ begun_words words → ws ≡ words_with f (outcome_no a) words
-  begun_yes words ws h j = rw (← e, ← q, h) j
+module _ (f : Follow) (a : Outcome) (b n : Bool) (e : b ≡ by_tables f) (q : n ≡ is_ok a) where
+  pub begin_room : (words : ℕ) → BeginOk f words → (b && n) ≡ true → 398 ≤ words
+  begin_room words k h = k.room (sym e ∙ (and_true b n h).0)
 
-  pub begun_no : (words : List ℕ) → (b && eqb n 7) ≡ false → words ≡ words_with f (outcome_no a) words
-  begun_no words h = rw (← e, ← q, h)
+  pub begun_yes : (words ws : List ℕ) → (b && n) ≡ true → ws ≡ begun_words words → ws ≡ words_with f (outcome_no a) words
+  begun_yes words ws h j = rw (ok_is_7 a, ← e, ← q, h) j
+
+  pub begun_no : (words : List ℕ) → (b && n) ≡ false → words ≡ words_with f (outcome_no a) words
+  begun_no words h = rw (ok_is_7 a, ← e, ← q, h)
 
 -- the words are as many as they were
 pub begin_ok : (f : Follow) (r : Bool) (words slots cells then : ℕ) → r ≡ room_with f words slots cells → r ≡ true → then ≡ words → BeginOk f then

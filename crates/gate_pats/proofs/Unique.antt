@@ -6,7 +6,7 @@ use mathlib.Core.Path.{◌≡◌, ap}
 use mathlib.Core.List.{List}
 use Rattle.laws.proofs.Unique.{one_result}
 use Rattle.answers.proofs.Laws.{outcome_apart}
-use Rattle.answers.specs.declared.Outcome.{Outcome}
+use Rattle.answers.specs.Answers.{Outcome}
 use Rattle.gate_state.proofs.Unique.{answer_one}
 use Rattle.gate_state.specs.declared.Settings.{Settings}
 use Rattle.gate_state.specs.declared.Opened.{Opened}

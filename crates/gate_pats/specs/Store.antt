@@ -2,9 +2,7 @@
 -- counters and every content of the lent slices: the gate of sections (crate gate), and, where complete PATs are followed, the PAT store (crate pats)
 -- behind it. `cond test a b` is a where the test is true, else b.
 use Rattle.std.specs.Prelude.{ℕ, ◌≤◌, ◌≡◌, List, Bool, true, false, cond, ◌&&◌, ◌||◌, length, eqb}
-use Rattle.answers.specs.Answers.{outcome_no}
-use Rattle.answers.specs.declared.Outcome.{Outcome}
-use Rattle.answers.specs.declared.Outcome.TheVariants as outcome
+use Rattle.answers.specs.Answers.{outcome_no, Outcome}
 use Rattle.counters.specs.Counters.{zeroes}
 use Rattle.counters.specs.declared.Counters.{Counters}
 use Rattle.watched.specs.Store.{all_pids}

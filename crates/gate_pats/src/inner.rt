@@ -32,9 +32,9 @@ pub fn refusal(extra: &[u16]) -> Outcome
     ensures { outcome_no result ≡ refused_with extra.now }
 {
     if watched::inner::pids_good(extra) {
-        return Outcome::Refused(Refusal::TooLittle);
+        return Err(Refusal::TooLittle);
     }
-    Outcome::Refused(Refusal::BadPid)
+    Err(Refusal::BadPid)
 }
 
 // The PAT store of a record that was opened: no row, no eviction. A refused opening writes nothing.
@@ -42,7 +42,7 @@ pub fn begin(follow: Follow, answer: Outcome, words: &mut [u64])
     requires { BeginOk follow (length words.old) }
     ensures { words.new ≡ words_with follow (outcome_no answer) words.old }
 {
-    if follow.by_tables() & (answer.number() == 7) {
+    if follow.by_tables() & answer.is_ok() {
         pats::begin(words);
     }
 }

@@ -5,10 +5,9 @@ use mathlib.Core.Path.{◌≡◌, refl, sym, ap, subst, ◌∙◌}
 use mathlib.Core.List.{List}
 use mathlib.Core.Bool.{Bool, true, false, cond, ◌&&◌}
 use lib.ListN.{length}
-use Rattle.answers.specs.Answers.{refusal_no, outcome_no}
+use Rattle.answers.specs.Answers.{refusal_no, outcome_no, Outcome}
 use Rattle.answers.specs.declared.Refusal.{Refusal}
 use Rattle.answers.specs.declared.Refusal.TheVariants as refusal
-use Rattle.answers.specs.declared.Outcome.{Outcome}
 use Rattle.counters.specs.declared.Counters.{Counters}
 use Rattle.offers.specs.Offers.{verdict_of}
 use Rattle.offers.specs.declared.Verdict.{Verdict}

@@ -3,9 +3,8 @@ use Rattle.std.specs.Prelude.{ℕ, Bool, true, false, cond, ◌||◌, eqb}
 use Rattle.ring.specs.Store.{empty_ring}
 use Rattle.ring.specs.declared.Ring.{Ring}
 use Rattle.ring.specs.declared.Seen.{Seen}
-use Rattle.answers.specs.Answers.{refusal_no}
+use Rattle.answers.specs.Answers.{refusal_no, Outcome}
 use Rattle.answers.specs.declared.Refusal.{Refusal}
-use Rattle.answers.specs.declared.Outcome.{Outcome}
 use Rattle.offers.specs.Offers.{is_short}
 use Rattle.offers.specs.declared.Failure.{Failure}
 use Rattle.offers.specs.declared.Failure.TheVariants.{TooShort, Mismatch}

@@ -32,40 +32,20 @@ fn say_hex4(stdout: &mut impl Write, v: u16) -> io::Result<()> {
 
 // The bytes of a section, two digits each.
 fn say_bytes(stdout: &mut impl Write, bytes: &[u8]) -> io::Result<()> {
-    let mut i = 0;
-    while i < bytes.len() {
-        i += say_row(stdout, bytes, i)?;
+    for row in bytes.chunks(ROW) {
+        say_row(stdout, row)?;
     }
     Ok(())
 }
 
-// The bytes from `at` on, as many as a row has; answers how many there were.
-fn say_row(stdout: &mut impl Write, bytes: &[u8], at: usize) -> io::Result<usize>
-    requires { at < length bytes.now }
-    ensures { IfOk result (λ n. (0 < n) × (at + n ≤ length bytes.now)) }
+fn say_row(stdout: &mut impl Write, row: &[u8]) -> io::Result<()>
+    requires { length row.now ≤ 32 }
 {
-    let mut digits = [0u8; 64];
-    let n = row_of(bytes.len() - at);
-    spell(bytes, at, n, &mut digits);
-    stdout.write_all(&digits[0..2 * n])?;
-    Ok(n)
-}
-
-fn row_of(left: usize) -> usize
-    requires { 0 < left }
-    ensures { (0 < result) × (result ≤ 32) × (result ≤ left) }
-{
-    if left < ROW { left } else { ROW }
-}
-
-fn spell(bytes: &[u8], at: usize, n: usize, digits: &mut [u8])
-    requires { (at + n ≤ length bytes.now) × (n ≤ 32) × (64 ≡ length digits.old) }
-{
-    let mut k = 0;
-    while k < n {
-        text::put_hex2(digits, 2 * k, bytes[at + k]);
-        k += 1;
+    let mut digits = [0u8; 2 * ROW];
+    for (k, b) in row.iter().enumerate() {
+        text::put_hex2(&mut digits, 2 * k, *b);
     }
+    stdout.write_all(&digits[..2 * row.len()])
 }
 
 // `stream TSID network ONID` of an EIT.

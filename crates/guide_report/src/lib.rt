@@ -7,20 +7,15 @@ use guide_lines::{
     say, say_count, say_entry, say_number, say_revisions, say_schedule, say_set, say_table,
 };
 use guides::{CompareAnswer, Compared};
-use section::bytes::wide;
-use section::ids::MaybePid;
+use section::bytes::word;
 use std::io;
 use std::io::Write;
 
-fn number_of(high: u8, low: u8) -> u16 {
-    (wide(high) * 256 + wide(low)) as u16
-}
-
-fn pid_of(pid: u16) -> MaybePid {
+fn pid_of(pid: u16) -> Option<u16> {
     if pid == 0xFFFF {
-        return MaybePid::None;
+        return None;
     }
-    MaybePid::Some(pid)
+    Some(pid)
 }
 
 fn word_of(x: u8) -> u32 {
@@ -47,8 +42,7 @@ fn say_entries<'a>(
     requires { (4 * n ≤ length list.now) × (k ≤ n) }
     ensures { IfOk result (λ i. (k ≤ i) × (i ≤ n)) }
 {
-    let mut i = k;
-    while i < n {
+    for i in k..n {
         if list[4 * i] != table_id {
             return Ok(i);
         }
@@ -60,9 +54,8 @@ fn say_entries<'a>(
             list[4 * i + 2],
             list[4 * i + 3],
         )?;
-        i += 1;
     }
-    Ok(i)
+    Ok(n)
 }
 
 fn say_refused(stdout: &mut impl Write, number: u8) -> io::Result<()> {
@@ -109,8 +102,9 @@ fn compare_sets<'a>(
     let compared = guides::compare(first, p, second, q, list);
     let answer = compared.answer;
     match answer {
-        CompareAnswer::Differ => say_sets(stdout, first, first_pid, second, compared, list),
-        CompareAnswer::Same => say_sets(stdout, first, first_pid, second, compared, list),
+        CompareAnswer::Differ | CompareAnswer::Same => {
+            say_sets(stdout, first, first_pid, second, compared, list)
+        }
         CompareAnswer::NoRoom => say_no_room(stdout, compared.count),
         _ => say_refused(stdout, answer.number()),
     }
@@ -129,11 +123,9 @@ fn say_tables<'a>(
     requires { (4 * n ≤ length list.now) × (base ≤ 240) }
 {
     let mut k = 0;
-    let mut t = 0u8;
-    while t < 16 {
-        let i = t as usize;
+    for t in 0..16u8 {
         let table_id = base + t;
-        say_table(stdout, table_id, tables[i])?;
+        say_table(stdout, table_id, tables[t as usize])?;
         k = say_entries(
             stdout,
             guides::table_part(first, table_id),
@@ -143,7 +135,6 @@ fn say_tables<'a>(
             k,
             n,
         )?;
-        t += 1;
     }
     Ok(())
 }
@@ -187,10 +178,7 @@ fn compare_schedules<'a>(
     let compared = guides::compare_schedules(first, p, second, q, &mut tables, list);
     let answer = compared.answer;
     match answer {
-        CompareAnswer::Differ => say_schedules(
-            stdout, first, first_pid, second, compared, &tables, list,
-        ),
-        CompareAnswer::Same => say_schedules(
+        CompareAnswer::Differ | CompareAnswer::Same => say_schedules(
             stdout, first, first_pid, second, compared, &tables, list,
         ),
         CompareAnswer::NoRoom => say_no_room(stdout, compared.count),
@@ -206,14 +194,11 @@ pub fn compare_files<'a>(
     second: &'a [u8],
     list: &mut [u32],
 ) -> io::Result<()> {
-    if first.len() < 2 {
+    if (first.len() < 2) | (second.len() < 2) {
         return say_refused(stdout, 10);
     }
-    if second.len() < 2 {
-        return say_refused(stdout, 10);
-    }
-    let p = number_of(first[0], first[1]);
-    let q = number_of(second[0], second[1]);
+    let p = word(first, 0);
+    let q = word(second, 0);
     let a = &first[2..first.len()];
     let b = &second[2..second.len()];
     if schedules {

@@ -1,23 +1,21 @@
 -- The entries of all ranks are those of the tables that the sides have: a set's ranks lie in its table, a schedule's in the 16 tables of its kind.
 -- Assumes nothing.
-use mathlib.Core.Path.{◌≡◌, refl, sym, ap, ◌∙◌}
-use mathlib.Core.Logic.{⊎_elim}
-use mathlib.Core.Bool.{Bool, true, false, cond, ◌&&◌, ◌||◌}
-use mathlib.Core.List.{List, [], ◌∷◌, ◌++◌}
-use Prim.Native.Nat.{ℕ, ◌+◌, ◌*◌, ◌/◌, ◌≤◌, ◌<◌}
+use mathlib.Core.Path.{◌≡◌, refl, sym, ◌∙◌}
+use mathlib.Core.Bool.{Bool, true, ◌&&◌}
+use mathlib.Core.List.{List, [], ◌∷◌}
+use Prim.Native.Nat.{ℕ, ◌+◌, ◌*◌, ◌≤◌, ◌<◌}
 use native.Mathlib.Omega.{arith}
-use lib.ListN.{length, get_or}
 use lib.Dec.{leb, ltb, eqb}
-use borrow.Author.Tests.{eq-eqb, ne_eqb, lt-ltb, le-leb, ltb-true, leb-true, eqb-true}
+use borrow.Author.Tests.{ne_eqb, lt-ltb, le-leb, ltb-true, leb-true, eqb-true}
 use Rattle.laws.specs.Lists.{every}
 use Rattle.laws.proofs.Tests.{and_true, true_and}
 use Rattle.section.specs.Facts.{Bytes}
 use Rattle.section.specs.Header.{table_id_of, section_number}
-use Rattle.laid.specs.Laid.{sections_in, laid_out, kind_first, chain, chain_from, in_table, in_set, in_schedule, is_set, is_schedule, of_schedule, joined}
-use Rattle.laid.specs.Walk.{rank_of, LaidFrom}
+use Rattle.laid.specs.Laid.{sections_in, kind_first, is_set, is_schedule}
+use Rattle.laid.specs.Walk.{rank_of}
 use Rattle.laid.proofs.Agree.{set_pair_rank, schedule_pair_rank, small_number, small_numbers, set_run, schedule_run, set_tables, schedule_kinds, set_chain, schedule_chain, opens}
 use Rattle.laid.proofs.Tables.{never_falls}
-use Rattle.differences.specs.Rules.{Entry, held_in, entry_at, entry_of, up_from, differences, schedule_differences}
+use Rattle.differences.specs.Rules.{held_in, entry_at, up_from, differences, schedule_differences}
 use Rattle.differences.specs.Walk.{rises, tables_rise, Ranked, Tabled, StartsAt, all_differences}
 use Rattle.differences.proofs.Upward.{up_within, up_product}
 use Rattle.differences.proofs.Held.{entry_at_none}

@@ -4,14 +4,14 @@ use mathlib.Core.Path.{◌≡◌}
 use mathlib.Core.List.{List}
 use Prim.Native.Nat.{ℕ}
 use Rattle.laws.proofs.Unique.{one_result}
-use Rattle.section.specs.declared.ids.MaybePid.{MaybePid}
+use Rattle.std.specs.Prelude.{Option}
 use Rattle.guides.specs.Store.{compare_no, held_no, compared, listed, compared_schedules, listed_schedules, tables_of, held_by, section_of, table_part}
 use Rattle.guides.specs.declared.Compared.{Compared}
 use Rattle.guides.specs.declared.CompareAnswer.{CompareAnswer}
 use Rattle.guides.specs.declared.HeldAnswer.{HeldAnswer}
 use Rattle.guides.specs.declared.Holder.{Holder}
 
-module _ (a : List ℕ) (p : MaybePid) (b : List ℕ) (q : MaybePid) (room : ℕ) where
+module _ (a : List ℕ) (p : Option ℕ) (b : List ℕ) (q : Option ℕ) (room : ℕ) where
   pub unique_compare : (list : List ℕ) (r s : Compared) (l m : List ℕ) → r ≡ compared a p b q room → s ≡ compared a p b q room → l ≡ listed a p b q list → m ≡ listed a p b q list → (r ≡ s) × (l ≡ m)
   unique_compare list r s l m c d e f = (one_result (compared a p b q room) c d, one_result (listed a p b q list) e f)
 

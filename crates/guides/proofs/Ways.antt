@@ -3,38 +3,37 @@
 use mathlib.Core.Path.{◌≡◌, refl, sym, ap, ◌∙◌}
 use mathlib.Core.Bool.{Bool, true, false, cond, not, ◌&&◌, ◌||◌}
 use mathlib.Core.List.{List, [], ◌∷◌, ◌++◌, flatten}
-use Prim.Native.Nat.{ℕ, ◌+◌, ◌*◌, ◌-◌, ◌/◌, ◌≤◌, ◌<◌}
+use Prim.Native.Nat.{ℕ, ◌+◌, ◌-◌, ◌/◌, ◌≤◌, ◌<◌}
 use native.Mathlib.Nat.{add-sub_cancel_left, zero-add}
 use native.Mathlib.Omega.{arith}
 use lib.ListN.{length, take, drop, length-append}
 use lib.Seq.{sets, sets-eq, take-append_seam, drop-append-add}
-use lib.Dec.{leb, ltb, eqb}
-use borrow.Author.Tests.{eq-eqb, ne_eqb, lt-ltb, le-ltb, le-leb, eqb-true, eqb-false, not-true, not-false}
+use lib.Dec.{ltb, eqb}
+use borrow.Author.Tests.{eq-eqb, ne_eqb, lt-ltb, le-ltb, le-leb, eqb-true, not-true, not-false}
 use Rattle.laws.proofs.Tests.{and_true}
-use Rattle.section.specs.Facts.{Bytes}
 use Rattle.section.specs.Header.{table_id_of, section_number}
-use Rattle.section.specs.declared.ids.MaybePid.{MaybePid}
 use Rattle.cells.specs.Cells.{part_of}
 use Rattle.rows.specs.declared.Key.{Key}
 use Rattle.rows.specs.Rows.{same_key}
 use Rattle.laid.specs.Laid.{pid_word}
-use Rattle.laid.specs.declared.PidWord.{PidWord}
-use Rattle.laid.specs.declared.PidWord.TheVariants as pid
+use Rattle.std.specs.Prelude.{Result, Ok, Err, Option}
+use Rattle.laid.specs.declared.NoWord.{NoWord}
+use Rattle.laid.specs.declared.NoWord.TheVariants as no_word
 use Rattle.laid.specs.Laid.{sections_in, laid_out, is_set, is_schedule, key_in, schedule_key_in, kind_first, same_version, same_last, table_in}
-use Rattle.laid.specs.Walk.{LaidFrom, from, head_of, EndAt, Placed, numbered, place_in}
+use Rattle.laid.specs.Walk.{EndAt, Placed, numbered, place_in}
 use Rattle.laid.proofs.Sections.{laid_empty, sections_all}
 use Rattle.laid.proofs.Agree.{set_run, schedule_run, opens, keys_table}
 use Rattle.differences.specs.Rules.{Entry, one_of, table_words, versions_agree, lasts_agree}
 use Rattle.differences.specs.Walk.{words_of, all_differences}
 use Rattle.differences.proofs.Listing.{words_four}
-use Rattle.guides.specs.Store.{beside_bad, same_sides, keyed, set_sides, schedule_sides, told, refused, told_of, compared_by, written, list_if, list_by, tables_if, tables_by, set_entries, schedule_entries, schedule_words, compared, listed, compared_schedules, listed_schedules, tables_of}
+use Rattle.guides.specs.Store.{same_sides, keyed, set_sides, schedule_sides, told, refused, told_of, list_if, tables_if, set_entries, schedule_entries, schedule_words, compared, listed, compared_schedules, listed_schedules, tables_of, Sides, alike, both_words, answer_of}
 use Rattle.guides.specs.Store.{set_or_empty, held_not, held_one, held_for, held_of, held_by, section_of, table_part, AlikeSets, AlikeSchedules, LaidSides}
 use Rattle.guides.specs.declared.CompareAnswer.TheVariants as answer
 use Rattle.guides.specs.declared.Compared.{Compared}
 use Rattle.guides.specs.declared.HeldAnswer.TheVariants as held_answer
 use Rattle.guides.specs.declared.Holder.{Holder}
-use Rattle.guides.specs.declared.Sides.{Sides}
-use Rattle.guides.specs.declared.Sides.TheVariants as sides
+use Rattle.guides.specs.declared.Amiss.{Amiss}
+use Rattle.guides.specs.declared.Amiss.TheVariants as amiss
 
 -- ---- the list, where there is room
 
@@ -65,15 +64,15 @@ words_out full tables words h = rw (not-true full h)
 
 -- ---- what is asked of both sides
 
-pub alike_keys : (j k : Key) (b : Bool) → b ≡ same_key j k → b ≡ true → sides.Alike ≡ same_sides j k
+pub alike_keys : (j k : Key) (b : Bool) → b ≡ same_key j k → b ≡ true → alike ≡ same_sides j k
 alike_keys j k b e h = rw (← e, h)
 
-pub other_keys : (j k : Key) (b : Bool) → b ≡ same_key j k → b ≡ false → sides.OtherKey ≡ same_sides j k
+pub other_keys : (j k : Key) (b : Bool) → b ≡ same_key j k → b ≡ false → Err amiss.OtherKey ≡ same_sides j k
 other_keys j k b e h = rw (← e, h)
 
-module _ (a b : List ℕ) (p q : MaybePid) where
+module _ (a b : List ℕ) (p q : Option ℕ) where
   module _ (x y : Bool) (ex : x ≡ is_set a) (ey : y ≡ is_set b) where
-    pub sets_not : not (x && y) ≡ true → sides.NotSets ≡ set_sides a p b q
+    pub sets_not : not (x && y) ≡ true → Err amiss.NotSets ≡ set_sides a p b q
     unfolding set_sides
     sets_not h = rw (← ex, ← ey, not-true (x && y) h)
 
@@ -86,30 +85,17 @@ module _ (a b : List ℕ) (p q : MaybePid) where
     pub second_room : not (x && y) ≡ false → 12 ≤ length b
     second_room h = let r = set_run b (and_true (is_set a) (is_set b) (sets_good h)).1 in (opens b r.laid r.some).room
 
-    module _ (h : not (x && y) ≡ false) (u : PidWord) (eu : u ≡ pid_word p) where
-      pub sets_none : u ≡ pid.NoPid → sides.NoPid ≡ set_sides a p b q
+    module _ (h : not (x && y) ≡ false) (w : Result (ℕ × ℕ) Amiss) (ew : w ≡ both_words (pid_word p) (pid_word q)) where
+      pub sets_amiss : (e : Amiss) (s : Sides) → w ≡ Err e → s ≡ Err e → s ≡ set_sides a p b q
       unfolding set_sides
-      sets_none z = rw (sets_good h, ← eu, z)
+      sets_amiss e s z es = rw (sets_good h, ← ew, z) es
 
-      pub sets_pid : u ≡ pid.TooLarge → (w : PidWord) (s : Sides) → w ≡ pid_word q → s ≡ beside_bad w → s ≡ set_sides a p b q
+      pub sets_keyed : (i j : ℕ) (k m : Key) (s : Sides) → w ≡ Ok (i, j) → k ≡ key_in i a → m ≡ key_in j b → s ≡ same_sides k m → s ≡ set_sides a p b q
       unfolding set_sides
-      sets_pid z w s ew es = rw (sets_good h, ← eu, z, ← ew) es
-
-      module _ (i : ℕ) (z : u ≡ pid.Is i) (w : PidWord) (ew : w ≡ pid_word q) where
-        pub sets_second_none : w ≡ pid.NoPid → sides.NoPid ≡ set_sides a p b q
-        unfolding set_sides
-        sets_second_none y = rw (sets_good h, ← eu, ← ew, z, y)
-
-        pub sets_second : w ≡ pid.TooLarge → sides.BadPid ≡ set_sides a p b q
-        unfolding set_sides
-        sets_second y = rw (sets_good h, ← eu, ← ew, z, y)
-
-        pub sets_keyed : (j : ℕ) (k m : Key) (s : Sides) → w ≡ pid.Is j → k ≡ key_in i a → m ≡ key_in j b → s ≡ same_sides k m → s ≡ set_sides a p b q
-        unfolding set_sides
-        sets_keyed j k m s y ek em es = rw (sets_good h, ← eu, ← ew, z, y, ← ek, ← em) es
+      sets_keyed i j k m s y ek em es = rw (sets_good h, ← ew, y, ← ek, ← em) es
 
   module _ (x y : Bool) (ex : x ≡ is_schedule a) (ey : y ≡ is_schedule b) where
-    pub schedules_not : not (x && y) ≡ true → sides.NotSets ≡ schedule_sides a p b q
+    pub schedules_not : not (x && y) ≡ true → Err amiss.NotSets ≡ schedule_sides a p b q
     unfolding schedule_sides
     schedules_not h = rw (← ex, ← ey, not-true (x && y) h)
 
@@ -122,27 +108,14 @@ module _ (a b : List ℕ) (p q : MaybePid) where
     pub second_long : not (x && y) ≡ false → 12 ≤ length b
     second_long h = let r = schedule_run b (and_true (is_schedule a) (is_schedule b) (schedules_good h)).1 in (opens b r.laid r.some).room
 
-    module _ (h : not (x && y) ≡ false) (u : PidWord) (eu : u ≡ pid_word p) where
-      pub schedules_none : u ≡ pid.NoPid → sides.NoPid ≡ schedule_sides a p b q
+    module _ (h : not (x && y) ≡ false) (w : Result (ℕ × ℕ) Amiss) (ew : w ≡ both_words (pid_word p) (pid_word q)) where
+      pub schedules_amiss : (e : Amiss) (s : Sides) → w ≡ Err e → s ≡ Err e → s ≡ schedule_sides a p b q
       unfolding schedule_sides
-      schedules_none z = rw (schedules_good h, ← eu, z)
+      schedules_amiss e s z es = rw (schedules_good h, ← ew, z) es
 
-      pub schedules_pid : u ≡ pid.TooLarge → (w : PidWord) (s : Sides) → w ≡ pid_word q → s ≡ beside_bad w → s ≡ schedule_sides a p b q
+      pub schedules_keyed : (i j : ℕ) (k m : Key) (s : Sides) → w ≡ Ok (i, j) → k ≡ schedule_key_in i a → m ≡ schedule_key_in j b → s ≡ same_sides k m → s ≡ schedule_sides a p b q
       unfolding schedule_sides
-      schedules_pid z w s ew es = rw (schedules_good h, ← eu, z, ← ew) es
-
-      module _ (i : ℕ) (z : u ≡ pid.Is i) (w : PidWord) (ew : w ≡ pid_word q) where
-        pub schedules_second_none : w ≡ pid.NoPid → sides.NoPid ≡ schedule_sides a p b q
-        unfolding schedule_sides
-        schedules_second_none y = rw (schedules_good h, ← eu, ← ew, z, y)
-
-        pub schedules_second : w ≡ pid.TooLarge → sides.BadPid ≡ schedule_sides a p b q
-        unfolding schedule_sides
-        schedules_second y = rw (schedules_good h, ← eu, ← ew, z, y)
-
-        pub schedules_keyed : (j : ℕ) (k m : Key) (s : Sides) → w ≡ pid.Is j → k ≡ schedule_key_in i a → m ≡ schedule_key_in j b → s ≡ same_sides k m → s ≡ schedule_sides a p b q
-        unfolding schedule_sides
-        schedules_keyed j k m s y ek em es = rw (schedules_good h, ← eu, ← ew, z, y, ← ek, ← em) es
+      schedules_keyed i j k m s y ek em es = rw (schedules_good h, ← ew, y, ← ek, ← em) es
 
 -- ---- one section
 
@@ -265,25 +238,25 @@ module _ (a b : List ℕ) (n : ℕ) (h : Holder) (e : h ≡ held_by a b n) (part
 -- ---- the comparisons
 
 -- what two alike sides are
-keyed_alike : (key : ℕ → List ℕ → Key) (u w : PidWord) (a b : List ℕ) → keyed key u w a b ≡ sides.Alike → (p : ℕ) × (q : ℕ) × (same_key (key p a) (key q b) ≡ true)
-keyed_alike key pid.NoPid w a b e = let z : ◌≡◌ {A = ℕ} 0 1 = cc in absurd (omega arith)
-keyed_alike key pid.TooLarge pid.NoPid a b e = let z : ◌≡◌ {A = ℕ} 0 1 = cc in absurd (omega arith)
-keyed_alike key pid.TooLarge pid.TooLarge a b e = let z : ◌≡◌ {A = ℕ} 0 1 = cc in absurd (omega arith)
-keyed_alike key pid.TooLarge (pid.Is q) a b e = let z : ◌≡◌ {A = ℕ} 0 1 = cc in absurd (omega arith)
-keyed_alike key (pid.Is p) pid.NoPid a b e = let z : ◌≡◌ {A = ℕ} 0 1 = cc in absurd (omega arith)
-keyed_alike key (pid.Is p) pid.TooLarge a b e = let z : ◌≡◌ {A = ℕ} 0 1 = cc in absurd (omega arith)
-keyed_alike key (pid.Is p) (pid.Is q) a b e = go (same_key (key p a) (key q b)) refl e
+keyed_alike : (key : ℕ → List ℕ → Key) (u w : Result ℕ NoWord) (a b : List ℕ) → keyed key u w a b ≡ alike → (p : ℕ) × (q : ℕ) × (same_key (key p a) (key q b) ≡ true)
+keyed_alike key (Err no_word.NoPid) w a b e = let z : ◌≡◌ {A = ℕ} 0 1 = cc in absurd (omega arith)
+keyed_alike key (Err no_word.TooLarge) (Err no_word.NoPid) a b e = let z : ◌≡◌ {A = ℕ} 0 1 = cc in absurd (omega arith)
+keyed_alike key (Err no_word.TooLarge) (Err no_word.TooLarge) a b e = let z : ◌≡◌ {A = ℕ} 0 1 = cc in absurd (omega arith)
+keyed_alike key (Err no_word.TooLarge) (Ok q) a b e = let z : ◌≡◌ {A = ℕ} 0 1 = cc in absurd (omega arith)
+keyed_alike key (Ok p) (Err no_word.NoPid) a b e = let z : ◌≡◌ {A = ℕ} 0 1 = cc in absurd (omega arith)
+keyed_alike key (Ok p) (Err no_word.TooLarge) a b e = let z : ◌≡◌ {A = ℕ} 0 1 = cc in absurd (omega arith)
+keyed_alike key (Ok p) (Ok q) a b e = go (same_key (key p a) (key q b)) refl e
   where
-    go : (t : Bool) → same_key (key p a) (key q b) ≡ t → cond t sides.Alike sides.OtherKey ≡ sides.Alike → (p : ℕ) × (q : ℕ) × (same_key (key p a) (key q b) ≡ true)
+    go : (t : Bool) → same_key (key p a) (key q b) ≡ t → cond t alike (Err amiss.OtherKey) ≡ alike → (p : ℕ) × (q : ℕ) × (same_key (key p a) (key q b) ≡ true)
     go true z f = (p, q, z)
     go false z f = let y : ◌≡◌ {A = ℕ} 0 1 = cc in absurd (omega arith)
 
-good_alike : (g : Bool) (s : Sides) → cond g s sides.NotSets ≡ sides.Alike → (g ≡ true) × (s ≡ sides.Alike)
+good_alike : (g : Bool) (s : Sides) → cond g s (Err amiss.NotSets) ≡ alike → (g ≡ true) × (s ≡ alike)
 good_alike true s e = (refl, e)
 good_alike false s e = let z : ◌≡◌ {A = ℕ} 0 1 = cc in absurd (omega arith)
 
-module _ (a b : List ℕ) (p q : MaybePid) where
-  pub alike_sets : (s : Sides) → s ≡ set_sides a p b q → s ≡ sides.Alike → AlikeSets a b
+module _ (a b : List ℕ) (p q : Option ℕ) where
+  pub alike_sets : (s : Sides) → s ≡ set_sides a p b q → s ≡ alike → AlikeSets a b
   unfolding set_sides
   alike_sets s e f =
       let g = good_alike (is_set a && is_set b) (keyed key_in (pid_word p) (pid_word q) a b) (sym e ∙ f) in
@@ -291,7 +264,7 @@ module _ (a b : List ℕ) (p q : MaybePid) where
       let k = keyed_alike key_in (pid_word p) (pid_word q) a b g.1 in
       record { first = c.0; second = c.1; table = keys_table (key_in k.0 a) (key_in k.1 b) k.2 }
 
-  pub alike_schedules : (s : Sides) → s ≡ schedule_sides a p b q → s ≡ sides.Alike → AlikeSchedules a b
+  pub alike_schedules : (s : Sides) → s ≡ schedule_sides a p b q → s ≡ alike → AlikeSchedules a b
   unfolding schedule_sides
   alike_schedules s e f =
       let g = good_alike (is_schedule a && is_schedule b) (keyed schedule_key_in (pid_word p) (pid_word q) a b) (sym e ∙ f) in
@@ -300,107 +273,47 @@ module _ (a b : List ℕ) (p q : MaybePid) where
       record { first = c.0; second = c.1; kind = keys_table (schedule_key_in k.0 a) (schedule_key_in k.1 b) k.2 }
 
   module _ (s : Sides) (e : s ≡ set_sides a p b q) (room : ℕ) (r : Compared) where
-    pub compare_not : s ≡ sides.NotSets → r ≡ refused answer.NotSets → r ≡ compared a p b q room
+    pub compare_amiss : (x : Amiss) → s ≡ Err x → r ≡ refused (answer_of x) → r ≡ compared a p b q room
     unfolding compared
-    compare_not z h = h ∙ rw (← e, z)
+    compare_amiss x z h = h ∙ rw (← e, z)
 
-    pub compare_none : s ≡ sides.NoPid → r ≡ refused answer.NoPid → r ≡ compared a p b q room
-    unfolding compared
-    compare_none z h = h ∙ rw (← e, z)
-
-    pub compare_pid : s ≡ sides.BadPid → r ≡ refused answer.BadPid → r ≡ compared a p b q room
-    unfolding compared
-    compare_pid z h = h ∙ rw (← e, z)
-
-    pub compare_key : s ≡ sides.OtherKey → r ≡ refused answer.OtherKey → r ≡ compared a p b q room
-    unfolding compared
-    compare_key z h = h ∙ rw (← e, z)
-
-    pub compare_alike : s ≡ sides.Alike → r ≡ told_of room (length (set_entries a b)) (same_version a b) (same_last a b) → r ≡ compared a p b q room
+    pub compare_alike : s ≡ alike → r ≡ told_of room (length (set_entries a b)) (same_version a b) (same_last a b) → r ≡ compared a p b q room
     unfolding compared
     compare_alike z h = h ∙ rw (← e, z)
 
-  pub listed_alike : (s : Sides) (list l : List ℕ) → s ≡ set_sides a p b q → s ≡ sides.Alike → l ≡ list_if (set_entries a b) list → l ≡ listed a p b q list
+  pub listed_alike : (s : Sides) (list l : List ℕ) → s ≡ set_sides a p b q → s ≡ alike → l ≡ list_if (set_entries a b) list → l ≡ listed a p b q list
   unfolding listed
   listed_alike s list l e z h = h ∙ rw (← e, z)
 
-  pub listed_not : (s : Sides) (list : List ℕ) → s ≡ set_sides a p b q → s ≡ sides.NotSets → list ≡ listed a p b q list
+  pub listed_amiss : (s : Sides) (list : List ℕ) (x : Amiss) → s ≡ set_sides a p b q → s ≡ Err x → list ≡ listed a p b q list
   unfolding listed
-  listed_not s list e z = rw (← e, z)
+  listed_amiss s list x e z = rw (← e, z)
 
-  pub listed_none : (s : Sides) (list : List ℕ) → s ≡ set_sides a p b q → s ≡ sides.NoPid → list ≡ listed a p b q list
-  unfolding listed
-  listed_none s list e z = rw (← e, z)
-
-  pub listed_pid : (s : Sides) (list : List ℕ) → s ≡ set_sides a p b q → s ≡ sides.BadPid → list ≡ listed a p b q list
-  unfolding listed
-  listed_pid s list e z = rw (← e, z)
-
-  pub listed_key : (s : Sides) (list : List ℕ) → s ≡ set_sides a p b q → s ≡ sides.OtherKey → list ≡ listed a p b q list
-  unfolding listed
-  listed_key s list e z = rw (← e, z)
-
-module _ (a b : List ℕ) (p q : MaybePid) where
+module _ (a b : List ℕ) (p q : Option ℕ) where
   module _ (s : Sides) (e : s ≡ schedule_sides a p b q) (room : ℕ) (r : Compared) where
-    pub schedules_no : s ≡ sides.NotSets → r ≡ refused answer.NotSets → r ≡ compared_schedules a p b q room
+    pub schedules_refused : (x : Amiss) → s ≡ Err x → r ≡ refused (answer_of x) → r ≡ compared_schedules a p b q room
     unfolding compared_schedules
-    schedules_no z h = h ∙ rw (← e, z)
+    schedules_refused x z h = h ∙ rw (← e, z)
 
-    pub schedules_without : s ≡ sides.NoPid → r ≡ refused answer.NoPid → r ≡ compared_schedules a p b q room
-    unfolding compared_schedules
-    schedules_without z h = h ∙ rw (← e, z)
-
-    pub schedules_bad : s ≡ sides.BadPid → r ≡ refused answer.BadPid → r ≡ compared_schedules a p b q room
-    unfolding compared_schedules
-    schedules_bad z h = h ∙ rw (← e, z)
-
-    pub schedules_other : s ≡ sides.OtherKey → r ≡ refused answer.OtherKey → r ≡ compared_schedules a p b q room
-    unfolding compared_schedules
-    schedules_other z h = h ∙ rw (← e, z)
-
-    pub schedules_alike : s ≡ sides.Alike → r ≡ told_of room (length (schedule_entries a b)) (versions_agree (schedule_words a b)) (lasts_agree (schedule_words a b)) → r ≡ compared_schedules a p b q room
+    pub schedules_alike : s ≡ alike → r ≡ told_of room (length (schedule_entries a b)) (versions_agree (schedule_words a b)) (lasts_agree (schedule_words a b)) → r ≡ compared_schedules a p b q room
     unfolding compared_schedules
     schedules_alike z h = h ∙ rw (← e, z)
 
   module _ (s : Sides) (e : s ≡ schedule_sides a p b q) (list : List ℕ) where
-    pub list_no : s ≡ sides.NotSets → list ≡ listed_schedules a p b q list
+    pub list_amiss : (x : Amiss) → s ≡ Err x → list ≡ listed_schedules a p b q list
     unfolding listed_schedules
-    list_no z = rw (← e, z)
+    list_amiss x z = rw (← e, z)
 
-    pub list_without : s ≡ sides.NoPid → list ≡ listed_schedules a p b q list
-    unfolding listed_schedules
-    list_without z = rw (← e, z)
-
-    pub list_bad : s ≡ sides.BadPid → list ≡ listed_schedules a p b q list
-    unfolding listed_schedules
-    list_bad z = rw (← e, z)
-
-    pub list_other : s ≡ sides.OtherKey → list ≡ listed_schedules a p b q list
-    unfolding listed_schedules
-    list_other z = rw (← e, z)
-
-    pub list_alike : (l : List ℕ) → s ≡ sides.Alike → l ≡ list_if (schedule_entries a b) list → l ≡ listed_schedules a p b q list
+    pub list_alike : (l : List ℕ) → s ≡ alike → l ≡ list_if (schedule_entries a b) list → l ≡ listed_schedules a p b q list
     unfolding listed_schedules
     list_alike l z h = h ∙ rw (← e, z)
 
   module _ (s : Sides) (e : s ≡ schedule_sides a p b q) (room : ℕ) (tables : List ℕ) where
-    pub tables_no : s ≡ sides.NotSets → tables ≡ tables_of a p b q room tables
+    pub tables_amiss : (x : Amiss) → s ≡ Err x → tables ≡ tables_of a p b q room tables
     unfolding tables_of
-    tables_no z = rw (← e, z)
+    tables_amiss x z = rw (← e, z)
 
-    pub tables_without : s ≡ sides.NoPid → tables ≡ tables_of a p b q room tables
-    unfolding tables_of
-    tables_without z = rw (← e, z)
-
-    pub tables_bad : s ≡ sides.BadPid → tables ≡ tables_of a p b q room tables
-    unfolding tables_of
-    tables_bad z = rw (← e, z)
-
-    pub tables_other : s ≡ sides.OtherKey → tables ≡ tables_of a p b q room tables
-    unfolding tables_of
-    tables_other z = rw (← e, z)
-
-    pub tables_alike : (l : List ℕ) → s ≡ sides.Alike → l ≡ tables_if room (schedule_entries a b) (schedule_words a b) tables → l ≡ tables_of a p b q room tables
+    pub tables_alike : (l : List ℕ) → s ≡ alike → l ≡ tables_if room (schedule_entries a b) (schedule_words a b) tables → l ≡ tables_of a p b q room tables
     unfolding tables_of
     tables_alike l z h = h ∙ rw (← e, z)
 

@@ -1,12 +1,11 @@
 -- The exact answer of each call and what it leaves in the lent list and words, for every content (docs/RULES.md, "Compared guides").
-use Rattle.std.specs.Prelude.{◌≡◌, ℕ, ◌/◌, List, [], ◌++◌, Bool, true, false, cond, ◌&&◌, ◌||◌, length, drop, ltb, eqb}
+use Rattle.std.specs.Prelude.{◌≡◌, ℕ, ◌/◌, List, [], ◌++◌, Bool, true, false, cond, ◌&&◌, ◌||◌, length, drop, ltb, eqb, Result, Ok, Err, Option}
 use Rattle.section.specs.Header.{table_id_of}
-use Rattle.section.specs.declared.ids.MaybePid.{MaybePid}
 use Rattle.rows.specs.declared.Key.{Key}
 use Rattle.rows.specs.Rows.{same_key}
 use Rattle.laid.specs.Laid.{pid_word}
-use Rattle.laid.specs.declared.PidWord.{PidWord}
-use Rattle.laid.specs.declared.PidWord.TheVariants as pid
+use Rattle.laid.specs.declared.NoWord.{NoWord}
+use Rattle.laid.specs.declared.NoWord.TheVariants as no_word
 use Rattle.laid.specs.Laid.{sections_in, laid_out, is_set, is_schedule, key_in, schedule_key_in, kind_first, same_version, same_last, table_in}
 use Rattle.laid.specs.Walk.{numbered, place_in}
 use Rattle.differences.specs.Rules.{Entry, differences, schedule_differences, table_words, versions_agree, lasts_agree, one_of}
@@ -17,8 +16,8 @@ use Rattle.guides.specs.declared.Compared.{Compared}
 use Rattle.guides.specs.declared.HeldAnswer.{HeldAnswer}
 use Rattle.guides.specs.declared.HeldAnswer.TheVariants as held_answer
 use Rattle.guides.specs.declared.Holder.{Holder}
-use Rattle.guides.specs.declared.Sides.{Sides}
-use Rattle.guides.specs.declared.Sides.TheVariants as sides
+use Rattle.guides.specs.declared.Amiss.{Amiss}
+use Rattle.guides.specs.declared.Amiss.TheVariants as amiss
 
 -- ---- numbers
 
@@ -48,29 +47,40 @@ held_no held_answer.NotSets = 10
 
 -- ---- what is asked of both sides
 
+-- two sides are alike, or something is amiss with them
+abbrev pub Sides : Type 0
+Sides = Result (Unit {0}) Amiss
+
+abbrev pub alike : Sides
+alike = Ok (tt {0})
+
 abbrev pub same_sides : Key → Key → Sides
-same_sides j k = cond (same_key j k) sides.Alike sides.OtherKey
+same_sides j k = cond (same_key j k) alike (Err amiss.OtherKey)
 
--- the first side has a number that is no PID: 41 where the second has no PID, else 12
-abbrev pub beside_bad : PidWord → Sides
-beside_bad pid.NoPid = sides.NoPid
-beside_bad pid.TooLarge = sides.BadPid
-beside_bad (pid.Is q) = sides.BadPid
+-- the PID words of both sides: 41 where one of them has no PID, whichever it is, then 12
+abbrev pub both_words : Result ℕ NoWord → Result ℕ NoWord → Result (ℕ × ℕ) Amiss
+both_words (Err no_word.NoPid) q = Err amiss.NoPid
+both_words (Err no_word.TooLarge) (Err no_word.NoPid) = Err amiss.NoPid
+both_words (Err no_word.TooLarge) (Err no_word.TooLarge) = Err amiss.BadPid
+both_words (Err no_word.TooLarge) (Ok q) = Err amiss.BadPid
+both_words (Ok p) (Err no_word.NoPid) = Err amiss.NoPid
+both_words (Ok p) (Err no_word.TooLarge) = Err amiss.BadPid
+both_words (Ok p) (Ok q) = Ok (p, q)
 
--- 41, then 12, then 33
-abbrev pub keyed : (ℕ → List ℕ → Key) → PidWord → PidWord → List ℕ → List ℕ → Sides
-keyed key pid.NoPid q a b = sides.NoPid
-keyed key pid.TooLarge q a b = beside_bad q
-keyed key (pid.Is p) pid.NoPid a b = sides.NoPid
-keyed key (pid.Is p) pid.TooLarge a b = sides.BadPid
-keyed key (pid.Is p) (pid.Is q) a b = same_sides (key p a) (key q b)
+-- then 33
+abbrev pub keyed_by : (ℕ → List ℕ → Key) → Result (ℕ × ℕ) Amiss → List ℕ → List ℕ → Sides
+keyed_by key (Err e) a b = Err e
+keyed_by key (Ok w) a b = same_sides (key w.0 a) (key w.1 b)
+
+abbrev pub keyed : (ℕ → List ℕ → Key) → Result ℕ NoWord → Result ℕ NoWord → List ℕ → List ℕ → Sides
+keyed key p q a b = keyed_by key (both_words p q) a b
 
 -- 10 before them
-unfoldable pub set_sides : List ℕ → MaybePid → List ℕ → MaybePid → Sides
-set_sides a p b q = cond (is_set a && is_set b) (keyed key_in (pid_word p) (pid_word q) a b) sides.NotSets
+unfoldable pub set_sides : List ℕ → Option ℕ → List ℕ → Option ℕ → Sides
+set_sides a p b q = cond (is_set a && is_set b) (keyed key_in (pid_word p) (pid_word q) a b) (Err amiss.NotSets)
 
-unfoldable pub schedule_sides : List ℕ → MaybePid → List ℕ → MaybePid → Sides
-schedule_sides a p b q = cond (is_schedule a && is_schedule b) (keyed schedule_key_in (pid_word p) (pid_word q) a b) sides.NotSets
+unfoldable pub schedule_sides : List ℕ → Option ℕ → List ℕ → Option ℕ → Sides
+schedule_sides a p b q = cond (is_schedule a && is_schedule b) (keyed schedule_key_in (pid_word p) (pid_word q) a b) (Err amiss.NotSets)
 
 -- ---- the comparisons
 
@@ -84,13 +94,16 @@ refused a = told a 0 false false
 abbrev pub told_of : ℕ → ℕ → Bool → Bool → Compared
 told_of room count versions lasts = told (cond (ltb room count) answer.NoRoom (cond (eqb count 0) answer.Same answer.Differ)) count versions lasts
 
+abbrev pub answer_of : Amiss → CompareAnswer
+answer_of amiss.NotSets = answer.NotSets
+answer_of amiss.NoPid = answer.NoPid
+answer_of amiss.BadPid = answer.BadPid
+answer_of amiss.OtherKey = answer.OtherKey
+
 -- the sides, the list's room in entries, the entries, and whether versions and last numbers agree
 abbrev pub compared_by : Sides → ℕ → List Entry → Bool → Bool → Compared
-compared_by sides.NotSets room es v l = refused answer.NotSets
-compared_by sides.NoPid room es v l = refused answer.NoPid
-compared_by sides.BadPid room es v l = refused answer.BadPid
-compared_by sides.OtherKey room es v l = refused answer.OtherKey
-compared_by sides.Alike room es v l = told_of room (length es) v l
+compared_by (Err e) room es v l = refused (answer_of e)
+compared_by (Ok u) room es v l = told_of room (length es) v l
 
 -- words go in from the front, where they have room; the others stay
 abbrev pub written : List ℕ → List ℕ → List ℕ
@@ -100,22 +113,16 @@ abbrev pub list_if : List Entry → List ℕ → List ℕ
 list_if es list = cond (ltb (length list / 4) (length es)) list (written list (words_of es))
 
 abbrev pub list_by : Sides → List Entry → List ℕ → List ℕ
-list_by sides.NotSets es list = list
-list_by sides.NoPid es list = list
-list_by sides.BadPid es list = list
-list_by sides.OtherKey es list = list
-list_by sides.Alike es list = list_if es list
+list_by (Err e) es list = list
+list_by (Ok u) es list = list_if es list
 
 -- all 16 words where there is room for the list
 abbrev pub tables_if : ℕ → List Entry → List ℕ → List ℕ → List ℕ
 tables_if room es words tables = cond (ltb room (length es)) tables words
 
 abbrev pub tables_by : Sides → List Entry → ℕ → List ℕ → List ℕ → List ℕ
-tables_by sides.NotSets es room words tables = tables
-tables_by sides.NoPid es room words tables = tables
-tables_by sides.BadPid es room words tables = tables
-tables_by sides.OtherKey es room words tables = tables
-tables_by sides.Alike es room words tables = tables_if room es words tables
+tables_by (Err e) es room words tables = tables
+tables_by (Ok u) es room words tables = tables_if room es words tables
 
 -- the entries of two sets, of two schedules
 unfoldable pub set_entries : List ℕ → List ℕ → List Entry
@@ -127,19 +134,19 @@ schedule_entries a b = schedule_differences (kind_first (table_id_of a)) (sectio
 abbrev pub schedule_words : List ℕ → List ℕ → List ℕ
 schedule_words a b = table_words (kind_first (table_id_of a)) (sections_in a) (sections_in b)
 
-unfoldable pub compared : List ℕ → MaybePid → List ℕ → MaybePid → ℕ → Compared
+unfoldable pub compared : List ℕ → Option ℕ → List ℕ → Option ℕ → ℕ → Compared
 compared a p b q room = compared_by (set_sides a p b q) room (set_entries a b) (same_version a b) (same_last a b)
 
-unfoldable pub listed : List ℕ → MaybePid → List ℕ → MaybePid → List ℕ → List ℕ
+unfoldable pub listed : List ℕ → Option ℕ → List ℕ → Option ℕ → List ℕ → List ℕ
 listed a p b q list = list_by (set_sides a p b q) (set_entries a b) list
 
-unfoldable pub compared_schedules : List ℕ → MaybePid → List ℕ → MaybePid → ℕ → Compared
+unfoldable pub compared_schedules : List ℕ → Option ℕ → List ℕ → Option ℕ → ℕ → Compared
 compared_schedules a p b q room = compared_by (schedule_sides a p b q) room (schedule_entries a b) (versions_agree (schedule_words a b)) (lasts_agree (schedule_words a b))
 
-unfoldable pub listed_schedules : List ℕ → MaybePid → List ℕ → MaybePid → List ℕ → List ℕ
+unfoldable pub listed_schedules : List ℕ → Option ℕ → List ℕ → Option ℕ → List ℕ → List ℕ
 listed_schedules a p b q list = list_by (schedule_sides a p b q) (schedule_entries a b) list
 
-unfoldable pub tables_of : List ℕ → MaybePid → List ℕ → MaybePid → ℕ → List ℕ → List ℕ
+unfoldable pub tables_of : List ℕ → Option ℕ → List ℕ → Option ℕ → ℕ → List ℕ → List ℕ
 tables_of a p b q room tables = tables_by (schedule_sides a p b q) (schedule_entries a b) room (schedule_words a b) tables
 
 -- ---- one section

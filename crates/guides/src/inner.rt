@@ -62,13 +62,7 @@ fn agree(words: &[u32], weight: u32) -> bool
     requires { 0 < weight }
     ensures { result ≡ every (λ (w : ℕ). eqb (w / weight % 2) 0) words.now }
 {
-    let mut ok = true;
-    let mut t = 0;
-    while t < words.len() {
-        ok = ok & (words[t] / weight % 2 == 0);
-        t += 1;
-    }
-    ok
+    words.iter().all(|word| *word / weight % 2 == 0)
 }
 
 // The words go out unless there was no room for the list.

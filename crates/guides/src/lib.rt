@@ -3,14 +3,14 @@
 // and has one answer for them; a refusal leaves the lent list and words as they were.
 #![tactic(auto)]
 
-use laid::PidWord;
+use laid::NoWord;
 use rows::Key;
-use section::ids::MaybePid;
 
 mod inner;
 
 ghost use Rattle.std.specs.Prelude.{◌≡◌, ◌/◌, length};
-ghost use Rattle.guides.specs.Store.{compare_no, held_no, beside_bad, same_sides, set_sides, schedule_sides, refused};
+ghost use Rattle.laid.specs.Laid.{pid_word};
+ghost use Rattle.guides.specs.Store.{compare_no, held_no, answer_of, both_words, same_sides, set_sides, schedule_sides, refused};
 ghost use Rattle.guides.specs.Store.{compared, listed, compared_schedules, listed_schedules, tables_of, set_or_empty, held_by, section_of, table_part};
 
 // The words of an entry of the list: table_id, section number, kind, place.
@@ -54,14 +54,26 @@ pub struct Holder {
     pub length: usize,
 }
 
-// What is asked of two sides before their sections are looked at: 10, 41, 12, 33, or nothing is amiss.
+// What may be amiss with two sides before their sections are looked at: 10, 41, 12, 33.
 #[derive(Clone, Copy)]
-pub enum Sides {
+pub enum Amiss {
     NotSets,
     NoPid,
     BadPid,
     OtherKey,
-    Alike,
+}
+
+impl Amiss {
+    fn answer(self) -> CompareAnswer
+        ensures { result ≡ answer_of self }
+    {
+        match self {
+            Amiss::NotSets => CompareAnswer::NotSets,
+            Amiss::NoPid => CompareAnswer::NoPid,
+            Amiss::BadPid => CompareAnswer::BadPid,
+            Amiss::OtherKey => CompareAnswer::OtherKey,
+        }
+    }
 }
 
 impl CompareAnswer {
@@ -97,20 +109,17 @@ impl HeldAnswer {
 // Compares two sets. The list has an entry for each number that one side alone holds, or both with other bytes, by rising number.
 pub fn compare(
     first: &[u8],
-    first_pid: MaybePid,
+    first_pid: Option<u16>,
     second: &[u8],
-    second_pid: MaybePid,
+    second_pid: Option<u16>,
     list: &mut [u32],
 ) -> Compared
     ensures value { result ≡ compared first.now first_pid second.now second_pid (length list.old / 4) }
     ensures list_after { list.new ≡ listed first.now first_pid second.now second_pid list.old }
 {
     match set_sides(first, first_pid, second, second_pid) {
-        Sides::NotSets => refused(CompareAnswer::NotSets),
-        Sides::NoPid => refused(CompareAnswer::NoPid),
-        Sides::BadPid => refused(CompareAnswer::BadPid),
-        Sides::OtherKey => refused(CompareAnswer::OtherKey),
-        Sides::Alike => inner::compare_sets(first, second, list),
+        Err(amiss) => refused(amiss),
+        Ok(()) => inner::compare_sets(first, second, list),
     }
 }
 
@@ -118,9 +127,9 @@ pub fn compare(
 // 4 more where both hold it and versions differ, 8 more where last numbers differ.
 pub fn compare_schedules(
     first: &[u8],
-    first_pid: MaybePid,
+    first_pid: Option<u16>,
     second: &[u8],
-    second_pid: MaybePid,
+    second_pid: Option<u16>,
     tables: &mut [u32; 16],
     list: &mut [u32],
 ) -> Compared
@@ -129,11 +138,8 @@ pub fn compare_schedules(
     ensures list_after { list.new ≡ listed_schedules first.now first_pid second.now second_pid list.old }
 {
     match schedule_sides(first, first_pid, second, second_pid) {
-        Sides::NotSets => refused(CompareAnswer::NotSets),
-        Sides::NoPid => refused(CompareAnswer::NoPid),
-        Sides::BadPid => refused(CompareAnswer::BadPid),
-        Sides::OtherKey => refused(CompareAnswer::OtherKey),
-        Sides::Alike => inner::compare_tables(first, second, tables, list),
+        Err(amiss) => refused(amiss),
+        Ok(()) => inner::compare_tables(first, second, tables, list),
     }
 }
 
@@ -175,61 +181,58 @@ pub fn table_part<'a>(schedule: &'a [u8], table_id: u8) -> &'a [u8]
 
 // ---- what is asked of both sides
 
-fn set_sides(first: &[u8], first_pid: MaybePid, second: &[u8], second_pid: MaybePid) -> Sides
+fn set_sides(
+    first: &[u8],
+    first_pid: Option<u16>,
+    second: &[u8],
+    second_pid: Option<u16>,
+) -> Result<(), Amiss>
     ensures { result ≡ set_sides first.now first_pid second.now second_pid }
 {
     if !(laid::is_set(first) & laid::is_set(second)) {
-        return Sides::NotSets;
+        return Err(Amiss::NotSets);
     }
-    match laid::pid_word(first_pid) {
-        PidWord::NoPid => Sides::NoPid,
-        PidWord::TooLarge => beside_bad(laid::pid_word(second_pid)),
-        PidWord::Is(p) => match laid::pid_word(second_pid) {
-            PidWord::NoPid => Sides::NoPid,
-            PidWord::TooLarge => Sides::BadPid,
-            PidWord::Is(q) => keyed(laid::key_in(p, first), laid::key_in(q, second)),
-        },
-    }
+    let (p, q) = both_words(first_pid, second_pid)?;
+    keyed(laid::key_in(p, first), laid::key_in(q, second))
 }
 
-fn schedule_sides(first: &[u8], first_pid: MaybePid, second: &[u8], second_pid: MaybePid) -> Sides
+fn schedule_sides(
+    first: &[u8],
+    first_pid: Option<u16>,
+    second: &[u8],
+    second_pid: Option<u16>,
+) -> Result<(), Amiss>
     ensures { result ≡ schedule_sides first.now first_pid second.now second_pid }
 {
     if !(laid::is_schedule(first) & laid::is_schedule(second)) {
-        return Sides::NotSets;
+        return Err(Amiss::NotSets);
     }
-    match laid::pid_word(first_pid) {
-        PidWord::NoPid => Sides::NoPid,
-        PidWord::TooLarge => beside_bad(laid::pid_word(second_pid)),
-        PidWord::Is(p) => match laid::pid_word(second_pid) {
-            PidWord::NoPid => Sides::NoPid,
-            PidWord::TooLarge => Sides::BadPid,
-            PidWord::Is(q) => keyed(
-                laid::schedule_key_in(p, first),
-                laid::schedule_key_in(q, second),
-            ),
-        },
-    }
+    let (p, q) = both_words(first_pid, second_pid)?;
+    keyed(
+        laid::schedule_key_in(p, first),
+        laid::schedule_key_in(q, second),
+    )
 }
 
-// The first side has a number that is no PID: 41 where the second has no PID, else 12.
-fn beside_bad(second: PidWord) -> Sides
-    ensures { result ≡ beside_bad second }
+// The PID words of both sides: 41 where one of them has no PID, whichever it is, then 12.
+fn both_words(first: Option<u16>, second: Option<u16>) -> Result<(u64, u64), Amiss>
+    ensures { result ≡ both_words (pid_word first) (pid_word second) }
 {
-    match second {
-        PidWord::NoPid => Sides::NoPid,
-        PidWord::TooLarge => Sides::BadPid,
-        PidWord::Is(_) => Sides::BadPid,
+    match (laid::pid_word(first), laid::pid_word(second)) {
+        (Ok(p), Ok(q)) => Ok((p, q)),
+        (Err(NoWord::NoPid), _) => Err(Amiss::NoPid),
+        (_, Err(NoWord::NoPid)) => Err(Amiss::NoPid),
+        _ => Err(Amiss::BadPid),
     }
 }
 
-fn keyed(first: Key, second: Key) -> Sides
+fn keyed(first: Key, second: Key) -> Result<(), Amiss>
     ensures { result ≡ same_sides first second }
 {
     if rows::same_key(first, second) {
-        Sides::Alike
+        Ok(())
     } else {
-        Sides::OtherKey
+        Err(Amiss::OtherKey)
     }
 }
 
@@ -239,11 +242,11 @@ fn set_or_empty(s: &[u8]) -> bool
     (s.len() == 0) | laid::is_set(s)
 }
 
-fn refused(answer: CompareAnswer) -> Compared
-    ensures { result ≡ refused answer }
+fn refused(amiss: Amiss) -> Compared
+    ensures { result ≡ refused (answer_of amiss) }
 {
     Compared {
-        answer,
+        answer: amiss.answer(),
         count: 0,
         versions: false,
         lasts: false,

@@ -5,10 +5,8 @@ use mathlib.Core.Path.{◌≡◌, refl, sym, ap}
 use mathlib.Core.List.{List}
 use mathlib.Core.Bool.{cond}
 use lib.Dec.{eqb}
-use Rattle.answers.specs.Answers.{outcome_no}
-use Rattle.answers.specs.declared.Outcome.{Outcome}
-use Rattle.answers.specs.declared.Outcome.TheVariants as outcome
-use Rattle.section.specs.declared.ids.MaybePid.{MaybePid}
+use Rattle.answers.specs.Answers.{outcome_no, Outcome}
+use Rattle.std.specs.Prelude.{Option, Ok, Err}
 use Rattle.host_words.specs.Answers.{Words, words, Pushes, pushes}
 use Rattle.host_words.specs.Inputs.{input_number}
 use Rattle.host_words.specs.Pids.{maybe_pid}
@@ -28,12 +26,12 @@ use Rattle.host_eit_words.specs.Words.{eit_of, words_of, words_opened, row_by, t
 use Rattle.host_eit.specs.Calls.{eit_opened, eit_cleared, eit_left, row_after, eit_pushed, eit_dropped_to, eit_dropped, eit_next, eit_next_in}
 
 outcome_number : (a : Outcome) → outcome_no a ≡ number (outcome_of a)
-outcome_number outcome.Done = refl
-outcome_number (outcome.Refused r) = refl
+outcome_number (Ok _) = refl
+outcome_number (Err r) = refl
 
 opened_words : (a : Outcome) (e : Eit) (w : List ℕ) → words_opened a e w ≡ cond (eqb (number (outcome_of a)) 7) (words_of e) w
-opened_words outcome.Done e w = refl
-opened_words (outcome.Refused r) e w = rw (refused_not_7 r)
+opened_words (Ok _) e w = refl
+opened_words (Err r) e w = rw (refused_not_7 r)
 
 push_row : (a : PushAnswer) (s : Store) (row : List ℕ) → row_by a row ≡ row_after (answer_of a s) row
 unfolding set_out_lem schedule_out
@@ -61,7 +59,7 @@ module _ (eit heads slots cells schedule_heads units : List ℕ) where
   eit_cleared_lem s o ws r h e t = rw (← h, ← e, ap (λ (x : Words). x.answer) t, ap (λ (x : Words). x.now) t, outcome_number o.answer)
 
   pub eit_pushed_lem :
-      (input pid : ℕ) (section row : List ℕ) (s : Eit) (j : ℕ) (p : MaybePid) (o : Pushed) (hs ss cs ts us ws rs : List ℕ) (r : ℕ) →
+      (input pid : ℕ) (section row : List ℕ) (s : Eit) (j : ℕ) (p : Option ℕ) (o : Pushed) (hs ss cs ts us ws rs : List ℕ) (r : ℕ) →
       s ≡ eit_of eit → j ≡ input_number input → p ≡ maybe_pid pid →
       pushed o hs ss cs ts us ≡ pushed_of (store s heads slots cells schedule_heads units) j p section →
       pushes r ws rs ≡ tells_pushed o eit row →

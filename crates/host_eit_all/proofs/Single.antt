@@ -6,10 +6,10 @@ use mathlib.Core.List.{List, ◌∷◌}
 use mathlib.Core.Bool.{Bool, true, false, cond}
 use lib.ListN.{length}
 use Rattle.answers.specs.declared.Refusal.TheVariants.{NotWhole, CounterFull, NoPid}
-use Rattle.section.specs.declared.ids.MaybePid.TheVariants as maybe
+use Rattle.std.specs.Prelude.{Some, Result, Err}
+use Rattle.arrivals.specs.declared.Arrival.{Arrival}
+use Rattle.answers.specs.declared.Refusal.{Refusal}
 use Rattle.arrivals.specs.Arrivals.{eit_arrival}
-use Rattle.arrivals.specs.declared.EitArrival.{EitArrival}
-use Rattle.arrivals.specs.declared.EitArrival.TheVariants as arrival
 use Rattle.eit_state.specs.State.{Store, whole_of, counters_full}
 use Rattle.eit_pids.specs.Rows.{any_without}
 use Rattle.eit_admit.specs.Admitting.{admitted}
@@ -30,12 +30,12 @@ sections_each s g gs = go (whole_of s) (counters_full s.eit) (any_without s.eit 
     m : ℕ
     m = 0 + (5 + length g.section)
 
-    admitted_by : (whole full without : Bool) → EitArrival
+    admitted_by : (whole full without : Bool) → Result Arrival Refusal
     admitted_by whole full without =
         cond whole
-        (cond full (arrival.Refused CounterFull)
-        (cond without (arrival.Refused NoPid) (eit_arrival g.input (maybe.Some g.pid) g.section)))
-        (arrival.Refused NotWhole)
+        (cond full (Err CounterFull)
+        (cond without (Err NoPid) (eit_arrival g.input (Some g.pid) g.section)))
+        (Err NotWhole)
 
     each : After → AllAfter
     each l = cond (is_nothing l.told) (pushed_each m l.store gs) (all_after (of l.told) l.store m)

@@ -4,10 +4,8 @@ use Prim.Native.Nat.{ℕ}
 use mathlib.Core.Path.{◌≡◌}
 use mathlib.Core.List.{List, [], ◌∷◌}
 use borrow.Author.Tests.{eq-eqb, ne_eqb}
-use Rattle.answers.specs.declared.Outcome.{Outcome}
-use Rattle.answers.specs.declared.Outcome.TheVariants as outcome
-use Rattle.filter.specs.declared.Wanted.{Wanted}
-use Rattle.filter.specs.declared.Wanted.TheVariants as wanted
+use Rattle.answers.specs.Answers.{Outcome}
+use Rattle.std.specs.Prelude.{Option, Some, None, Ok}
 use Rattle.eit_state.specs.declared.Eit.{Eit}
 use Rattle.eit_drop.specs.declared.Filter.{Filter}
 use Rattle.eit_drop.specs.declared.WantedPid.{WantedPid}
@@ -20,7 +18,7 @@ use Rattle.host_eit_words.specs.Words as eits
 
 -- ---- the words of a collector
 
-pub eit_written : (a : Outcome) (e : Eit) (w ws : List ℕ) → a ≡ outcome.Done → ws ≡ eits.words_of e → ws ≡ eits.words_opened a e w
+pub eit_written : (a : Outcome) (e : Eit) (w ws : List ℕ) → a ≡ Ok tt → ws ≡ eits.words_of e → ws ≡ eits.words_opened a e w
 eit_written a e w ws h j = rw h j
 
 pub set_row_written : (a : eit_push.PushAnswer) (i : ℕ) (row : List ℕ) → a ≡ eit_answer.Set i → i ∷ [] ≡ eits.row_by a row
@@ -32,10 +30,10 @@ schedule_row_written a k row h = rw h
 -- ---- a filter's words
 
 module _ (w : ℕ) where
-  pub field_free : w ≡ 18446744073709551615 → wanted.Any ≡ eits.wanted_of w
+  pub field_free : w ≡ 18446744073709551615 → None ≡ eits.wanted_of w
   field_free h = rw (eq-eqb w 18446744073709551615 h)
 
-  pub field_exact : (w ≡ 18446744073709551615 → ⊥) → wanted.Exactly w ≡ eits.wanted_of w
+  pub field_exact : (w ≡ 18446744073709551615 → ⊥) → Some w ≡ eits.wanted_of w
   field_exact h = rw (ne_eqb w 18446744073709551615 h)
 
   pub pid_free : w ≡ 18446744073709551615 → wanted_pid.Any ≡ eits.wanted_pid_of w
@@ -48,7 +46,7 @@ module _ (w : ℕ) where
   pid_exact n h k e = rw (ne_eqb w 18446744073709551615 h, ne_eqb w 0xFFFF_FFFF k, e)
 
 pub filter_read :
-    (w : List ℕ) (p : WantedPid) (k s t o c n : Wanted) →
+    (w : List ℕ) (p : WantedPid) (k s t o c n : Option ℕ) →
     p ≡ eits.wanted_pid_of (at w 0) → k ≡ eits.wanted_of (at w 1) → s ≡ eits.wanted_of (at w 2) → t ≡ eits.wanted_of (at w 3) → o ≡ eits.wanted_of (at w 4) →
     c ≡ eits.wanted_of (at w 5) → n ≡ eits.wanted_of (at w 6) →
     ◌≡◌ {A = Filter} (record { pid = p; kind = k; service_id = s; transport_stream_id = t; original_network_id = o; current_next = c; input = n }) (eits.filter_of w)

@@ -1,11 +1,7 @@
 -- The eight words of an EIT collector: 0 limit, 1 size, 2 count, 3 used, 4 evictions, 5 schedules, 6 schedule evictions, 7 clock; the word of a
 -- row that goes out; and the seven words of a filter.
-use Rattle.std.specs.Prelude.{ℕ, List, [], ◌∷◌, cond, eqb}
-use Rattle.answers.specs.Answers.{outcome_no}
-use Rattle.answers.specs.declared.Outcome.{Outcome}
-use Rattle.answers.specs.declared.Outcome.TheVariants as outcome
-use Rattle.filter.specs.declared.Wanted.{Wanted}
-use Rattle.filter.specs.declared.Wanted.TheVariants as wanted
+use Rattle.std.specs.Prelude.{ℕ, List, [], ◌∷◌, cond, eqb, Option, Some, None, Ok, Err}
+use Rattle.answers.specs.Answers.{outcome_no, Outcome}
 use Rattle.eit_state.specs.State.{push_number}
 use Rattle.eit_state.specs.declared.Eit.{Eit}
 use Rattle.eit_state.specs.declared.Pushed.{Pushed}
@@ -39,8 +35,8 @@ words_after w e = at w 0 ∷ at w 1 ∷ at w 2 ∷ counts_of e
 
 -- an opening that answers 7 writes all eight, a refused one none
 abbrev pub words_opened : Outcome → Eit → List ℕ → List ℕ
-words_opened outcome.Done e w = words_of e
-words_opened (outcome.Refused r) e w = w
+words_opened (Ok _) e w = words_of e
+words_opened (Err r) e w = w
 
 -- the row of a set or a schedule that goes out; any other answer leaves the word as it was
 abbrev pub row_by : PushAnswer → List ℕ → List ℕ
@@ -62,8 +58,8 @@ tells_turned o w = words (outcome_no o.answer) (words_after w o.eit)
 -- ---- a filter: 0 pid, 1 kind, 2 service_id, 3 transport_stream_id, 4 original_network_id, 5 current_next, 6 input
 
 -- "each exact or free": all 64 bits set is free
-abbrev pub wanted_of : ℕ → Wanted
-wanted_of w = cond (eqb w 18446744073709551615) wanted.Any (wanted.Exactly w)
+abbrev pub wanted_of : ℕ → Option ℕ
+wanted_of w = cond (eqb w 18446744073709551615) None (Some w)
 
 -- "PID or none": 0xFFFFFFFF is exactly none
 abbrev pub wanted_pid_of : ℕ → WantedPid

@@ -6,10 +6,9 @@ ghost use Rattle.std.specs.Prelude.{◌≡◌};
 ghost use Rattle.host_words.specs.Answers.{words, pushes};
 ghost use Rattle.host_eit_words.specs.Words.{eit_of, words_of, words_opened, words_after, row_by, tells_opened, tells_pushed, tells_turned, wanted_of, wanted_pid_of, filter_of};
 
-use answers::Outcome;
+use answers::{Numbered, Outcome};
 use eit_drop::{Filter, WantedPid};
 use eit_state::{Eit, PushAnswer, Pushed, Turned};
-use filter::Wanted;
 use host_words::pids;
 use store::Sets;
 
@@ -56,8 +55,8 @@ fn write_where(words: &mut [u64; 8], answer: Outcome, eit: Eit)
     ensures { words.new ≡ words_opened answer eit words.old }
 {
     match answer {
-        Outcome::Done => write(words, eit),
-        Outcome::Refused(_) => {}
+        Ok(()) => write(words, eit),
+        Err(_) => {}
     }
 }
 
@@ -118,14 +117,10 @@ pub fn write_turned(eit: &mut [u64; 8], turned: Turned) -> u8
     answer.number()
 }
 
-fn wanted(word: u64) -> Wanted
+fn wanted(word: u64) -> Option<u64>
     ensures { result ≡ wanted_of word }
 {
-    if word == FREE {
-        Wanted::Any
-    } else {
-        Wanted::Exactly(word)
-    }
+    if word == FREE { None } else { Some(word) }
 }
 
 // The PID of a filter: free, 0xFFFFFFFF for "exactly none", which a drop refuses (41), or exactly that one.

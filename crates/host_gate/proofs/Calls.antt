@@ -8,10 +8,8 @@ use native.Mathlib.Omega.{arith}
 use lib.ListN.{length}
 use lib.Dec.{eqb}
 use borrow.Author.Tests.{ltb-false, ne_eqb}
-use Rattle.answers.specs.Answers.{refusal_no, outcome_no, reply_no}
-use Rattle.answers.specs.declared.Outcome.{Outcome}
-use Rattle.answers.specs.declared.Outcome.TheVariants as outcome
-use Rattle.answers.specs.declared.Reply.{Reply}
+use Rattle.answers.specs.Answers.{refusal_no, outcome_no, reply_no, Outcome, Reply}
+use Rattle.std.specs.Prelude.{Ok, Err}
 use Rattle.answers.proofs.Laws.{refused_from_10}
 use Rattle.counters.specs.declared.Counters.{Counters}
 use Rattle.watched.specs.Store.{Opening, opening_by, asked}
@@ -30,8 +28,8 @@ use Rattle.host_gate.specs.Calls.{begun, gate_opened, left, gate_offered, watch_
 use Rattle.host_gate_words.specs.declared.Held.{Held}
 
 pub opened_words : (a : Outcome) (g : Gate) (c : Counters) (w : List ℕ) → words_opened a g c w ≡ cond (eqb (outcome_no a) 7) (words_of g c) w
-opened_words outcome.Done g c w = refl
-opened_words (outcome.Refused r) g c w =
+opened_words (Ok _) g c w = refl
+opened_words (Err r) g c w =
     let h : 10 ≤ refusal_no r = ltb-false (refusal_no r) 10 (refused_from_10 r) in
     rw (ne_eqb (refusal_no r) 7 (omega arith))
 

@@ -7,6 +7,8 @@ ghost use Rattle.host_gate.specs.Calls.{begun, gate_opened, left, gate_offered, 
 ghost use Rattle.host_words.specs.Answers.{words};
 ghost use Rattle.pats.specs.Store.{record_of};
 
+use answers::Numbered;
+
 // Opens a gate and the watch record of one input: 7, 12 or 13. `settings` are bits: 1 repeats, 2 follow complete PATs, 4 well-known PIDs, 8 with 2 each changed
 // PAT section. A refusal writes nothing.
 pub fn open(

@@ -5,9 +5,8 @@ use mathlib.Core.Bool.{Bool}
 use mathlib.Core.List.{List, [], ◌∷◌}
 use Prim.Native.Nat.{ℕ, ◌%◌, ◌/◌}
 use lib.Dec.{eqb}
-use Rattle.answers.specs.declared.Outcome.{Outcome}
-use Rattle.answers.specs.declared.Outcome.TheVariants as outcome
-use Rattle.answers.specs.declared.Outcome.TheVariants.{Done}
+use Rattle.answers.specs.Answers.{Outcome}
+use Rattle.std.specs.Prelude.{Ok, Err}
 use Rattle.answers.specs.declared.Refusal.{Refusal}
 use Rattle.offers.specs.declared.Failure.{Failure}
 use Rattle.offers.specs.declared.Failure.TheVariants.{TooShort, Mismatch}
@@ -71,8 +70,8 @@ mismatch_words f stored worked h = rw h
 pub told_are : (n r : ℕ) (g gs f fs : List ℕ) → r ≡ n → gs ≡ g → fs ≡ f → told r gs fs ≡ told n g f
 told_are n r g gs f fs a b c = λ i. record { answer = a i; gate = b i; failure = c i }
 
-pub all_written : (a : Outcome) (g : Gate) (c : Counters) (w ws : List ℕ) → a ≡ Done → ws ≡ words_of g c → ws ≡ words_opened a g c w
+pub all_written : (a : Outcome) (g : Gate) (c : Counters) (w ws : List ℕ) → a ≡ Ok tt → ws ≡ words_of g c → ws ≡ words_opened a g c w
 all_written a g c w ws h e = rw h e
 
-pub none_written : (a : Outcome) (r : Refusal) (g : Gate) (c : Counters) (w : List ℕ) → a ≡ outcome.Refused r → w ≡ words_opened a g c w
+pub none_written : (a : Outcome) (r : Refusal) (g : Gate) (c : Counters) (w : List ℕ) → a ≡ Err r → w ≡ words_opened a g c w
 none_written a r g c w h = rw h

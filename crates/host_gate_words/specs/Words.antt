@@ -1,9 +1,7 @@
 -- The thirteen words of a gate: 0 capacity, 1 repeats, 2 follow (0 off, 2 each changed PAT section, any other complete PATs), 3 change rule, 4 used, 5 first, 6 completed, 7 emitted, 8 suppressed,
 -- 9 CRC failures, 10 short sections, 11 CRC mismatches, 12 evictions; its settings as bits; and the three words of a failure.
-use Rattle.std.specs.Prelude.{ℕ, ◌/◌, ◌%◌, List, [], ◌∷◌, Bool, cond, not, eqb}
-use Rattle.answers.specs.Answers.{outcome_no}
-use Rattle.answers.specs.declared.Outcome.{Outcome}
-use Rattle.answers.specs.declared.Outcome.TheVariants as outcome
+use Rattle.std.specs.Prelude.{ℕ, ◌/◌, ◌%◌, List, [], ◌∷◌, Bool, cond, not, eqb, Ok, Err}
+use Rattle.answers.specs.Answers.{outcome_no, Outcome}
 use Rattle.counters.specs.Counters.{counts}
 use Rattle.counters.specs.declared.Counters.{Counters}
 use Rattle.gate_state.specs.State.{Said, plain, short, mismatch, said_of, number_of}
@@ -71,8 +69,8 @@ words_after w g c = at w 0 ∷ at w 1 ∷ at w 2 ∷ at w 3 ∷ counts_of g c
 
 -- an opening that answers 7 writes all thirteen, a refused one none
 abbrev pub words_opened : Outcome → Gate → Counters → List ℕ → List ℕ
-words_opened outcome.Done g c w = words_of g c
-words_opened (outcome.Refused r) g c w = w
+words_opened (Ok _) g c w = words_of g c
+words_opened (Err r) g c w = w
 
 -- what an opening and an offer hand to the host
 abbrev pub tells_opened : Opened → List ℕ → Words

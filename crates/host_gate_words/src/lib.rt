@@ -7,7 +7,7 @@ ghost use Rattle.gate_state.specs.State.{said_of, failure_said};
 ghost use Rattle.host_words.specs.Answers.{words};
 ghost use Rattle.host_gate_words.specs.Words.{asks_for_known, follow_asked, follow_in, follow_word, settings_of, gate_of, counters_of, held_in, bit, words_of, words_after, words_opened, failure_after, told, tells_opened, tells_offered};
 
-use answers::Outcome;
+use answers::{Numbered, Outcome};
 use counters::Counters;
 use gate_state::{Answer, Follow, Gate, Offered, Opened, Settings};
 use offers::Failure;
@@ -152,8 +152,8 @@ fn write_where(words: &mut [u64; 13], answer: Outcome, gate: Gate, counters: Cou
     ensures { words.new ≡ words_opened answer gate counters words.old }
 {
     match answer {
-        Outcome::Done => write(words, gate, counters),
-        Outcome::Refused(_) => {}
+        Ok(()) => write(words, gate, counters),
+        Err(_) => {}
     }
 }
 

@@ -3,11 +3,11 @@
 use Prim.Native.Nat.{ℕ, ◌/◌}
 use mathlib.Core.Path.{◌≡◌, ap}
 use mathlib.Core.List.{List, [], ◌∷◌}
-use mathlib.Core.Bool.{Bool, true, false, ◌||◌}
+use mathlib.Core.Bool.{true, false, ◌||◌}
 use lib.ListN.{length}
 use lib.Dec.{eqb}
 use borrow.Author.Tests.{eq-eqb, ne_eqb}
-use Rattle.section.specs.declared.ids.MaybePid.{MaybePid}
+use Rattle.std.specs.Prelude.{Option}
 use Rattle.guides.specs.Store.{compare_no, held_no, compared, listed, compared_schedules, listed_schedules, tables_of, held_by}
 use Rattle.guides.specs.declared.Compared.{Compared}
 use Rattle.guides.specs.declared.Holder.{Holder}
@@ -34,7 +34,7 @@ module _ (h : Holder) (w : List ℕ) (n : ℕ) (e : n ≡ held_no h.answer) wher
 
 -- ---- the calls
 
-module _ (first second : List ℕ) (p q : ℕ) (m n : MaybePid) (f : m ≡ maybe_pid p) (g : n ≡ maybe_pid q) (list told : List ℕ) (c : Compared) (l ws : List ℕ) (r : ℕ) where
+module _ (first second : List ℕ) (p q : ℕ) (m n : Option ℕ) (f : m ≡ maybe_pid p) (g : n ≡ maybe_pid q) (list told : List ℕ) (c : Compared) (l ws : List ℕ) (r : ℕ) where
   pub sets_compared_lem :
       c ≡ compared first m second n (length list / 4) → l ≡ listed first m second n list → words r ws ≡ tells_compared c told → comparison r ws l ≡ sets_compared first p second q list told
   unfolding sets_compared

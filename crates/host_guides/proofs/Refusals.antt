@@ -1,18 +1,17 @@
 -- 10, 41, 12 and 33 leave everything that is lent as it was, 34 the list and the words of the tables, 9 and 10 of one section its three words.
 -- Assumes nothing.
-use Prim.Native.Nat.{ℕ, ◌/◌, ◌≤◌}
+use Prim.Native.Nat.{ℕ, ◌/◌}
 use mathlib.Core.Path.{◌≡◌, refl, sym, ap, ◌∙◌}
-use mathlib.Core.List.{List, [], ◌∷◌}
-use mathlib.Core.Bool.{Bool, true, false, cond, ◌||◌}
+use mathlib.Core.List.{List}
+use mathlib.Core.Bool.{Bool, true, false, cond}
 use native.Mathlib.Omega.{arith}
 use lib.ListN.{length}
 use lib.Dec.{eqb, ltb}
 use borrow.Author.Tests.{ne_eqb}
 use Rattle.differences.specs.Rules.{Entry}
-use Rattle.guides.specs.Store.{compare_no, held_no, set_sides, schedule_sides, told_of, compared_by, list_if, list_by, tables_if, tables_by, set_entries, schedule_entries, schedule_words, compared, listed, compared_schedules, listed_schedules, tables_of, held_by}
-use Rattle.guides.specs.declared.Sides.{Sides}
-use Rattle.guides.specs.declared.Sides.TheVariants as sides
-use Rattle.guides.specs.declared.CompareAnswer.{CompareAnswer}
+use Rattle.guides.specs.Store.{compare_no, set_sides, schedule_sides, told_of, compared_by, list_if, list_by, tables_if, tables_by, set_entries, schedule_entries, schedule_words, compared, listed, compared_schedules, listed_schedules, tables_of, Sides}
+use Rattle.std.specs.Prelude.{Ok, Err}
+use Rattle.guides.specs.declared.Amiss.TheVariants as amiss
 use Rattle.guides.specs.declared.CompareAnswer.TheVariants as answer
 use Rattle.host_words.specs.Answers.{words}
 use Rattle.host_words.specs.Pids.{maybe_pid}
@@ -32,20 +31,20 @@ told_tells room count v l = go (ltb room count) (eqb count 0)
 by_sides :
     (s : Sides) (es : List Entry) (v l : Bool) (list told : List ℕ) (n : ℕ) → n ≡ compare_no (compared_by s (length list / 4) es v l).answer → tells n ≡ false →
     handed (compared_by s (length list / 4) es v l) told (list_by s es list) ≡ comparison n told list
-by_sides sides.NotSets es v l list told n e h = rw e
-by_sides sides.NoPid es v l list told n e h = rw e
-by_sides sides.BadPid es v l list told n e h = rw e
-by_sides sides.OtherKey es v l list told n e h = rw e
-by_sides sides.Alike es v l list told n e h = let z : ◌≡◌ {A = Bool} true false = sym (ap tells e ∙ told_tells (length list / 4) (length es) v l) ∙ h in cc
+by_sides (Err amiss.NotSets) es v l list told n e h = rw e
+by_sides (Err amiss.NoPid) es v l list told n e h = rw e
+by_sides (Err amiss.BadPid) es v l list told n e h = rw e
+by_sides (Err amiss.OtherKey) es v l list told n e h = rw e
+by_sides (Ok u) es v l list told n e h = let z : ◌≡◌ {A = Bool} true false = sym (ap tells e ∙ told_tells (length list / 4) (length es) v l) ∙ h in cc
 
 by_kinds :
     (s : Sides) (es : List Entry) (v l : Bool) (ws tables list told : List ℕ) (n : ℕ) → n ≡ compare_no (compared_by s (length list / 4) es v l).answer → tells n ≡ false →
     handed_tables (compared_by s (length list / 4) es v l) told (tables_by s es (length list / 4) ws tables) (list_by s es list) ≡ comparisons n told tables list
-by_kinds sides.NotSets es v l ws tables list told n e h = rw e
-by_kinds sides.NoPid es v l ws tables list told n e h = rw e
-by_kinds sides.BadPid es v l ws tables list told n e h = rw e
-by_kinds sides.OtherKey es v l ws tables list told n e h = rw e
-by_kinds sides.Alike es v l ws tables list told n e h = let z : ◌≡◌ {A = Bool} true false = sym (ap tells e ∙ told_tells (length list / 4) (length es) v l) ∙ h in cc
+by_kinds (Err amiss.NotSets) es v l ws tables list told n e h = rw e
+by_kinds (Err amiss.NoPid) es v l ws tables list told n e h = rw e
+by_kinds (Err amiss.BadPid) es v l ws tables list told n e h = rw e
+by_kinds (Err amiss.OtherKey) es v l ws tables list told n e h = rw e
+by_kinds (Ok u) es v l ws tables list told n e h = let z : ◌≡◌ {A = Bool} true false = sym (ap tells e ∙ told_tells (length list / 4) (length es) v l) ∙ h in cc
 
 module _ (first : List ℕ) (p : ℕ) (second : List ℕ) (q : ℕ) (n : ℕ) where
   -- 10, 41, 12 and 33
@@ -61,11 +60,8 @@ module _ (first : List ℕ) (p : ℕ) (second : List ℕ) (q : ℕ) (n : ℕ) wh
 
 -- 34
 full_list : (s : Sides) (es : List Entry) (v l : Bool) (list : List ℕ) → compare_no (compared_by s (length list / 4) es v l).answer ≡ 34 → list_by s es list ≡ list
-full_list sides.NotSets es v l list e = refl
-full_list sides.NoPid es v l list e = refl
-full_list sides.BadPid es v l list e = refl
-full_list sides.OtherKey es v l list e = refl
-full_list sides.Alike es v l list e = go (ltb (length list / 4) (length es)) refl
+full_list (Err x) es v l list e = refl
+full_list (Ok u) es v l list e = go (ltb (length list / 4) (length es)) refl
   where
     go : (a : Bool) → ltb (length list / 4) (length es) ≡ a → list_if es list ≡ list
     go true z = rw z
@@ -76,11 +72,8 @@ full_list sides.Alike es v l list e = go (ltb (length list / 4) (length es)) ref
         more false k = let y : ◌≡◌ {A = ℕ} 8 34 = k in absurd (omega arith)
 
 full_tables : (s : Sides) (es : List Entry) (v l : Bool) (ws tables list : List ℕ) → compare_no (compared_by s (length list / 4) es v l).answer ≡ 34 → tables_by s es (length list / 4) ws tables ≡ tables
-full_tables sides.NotSets es v l ws tables list e = refl
-full_tables sides.NoPid es v l ws tables list e = refl
-full_tables sides.BadPid es v l ws tables list e = refl
-full_tables sides.OtherKey es v l ws tables list e = refl
-full_tables sides.Alike es v l ws tables list e = go (ltb (length list / 4) (length es)) refl
+full_tables (Err x) es v l ws tables list e = refl
+full_tables (Ok u) es v l ws tables list e = go (ltb (length list / 4) (length es)) refl
   where
     go : (a : Bool) → ltb (length list / 4) (length es) ≡ a → tables_if (length list / 4) es ws tables ≡ tables
     go true z = rw z

@@ -13,25 +13,25 @@ use borrow.Author.Tests.{eq-eqb, ne_eqb, lt-ltb, le-ltb, leb-false, ltb-false}
 use Rattle.section.specs.Header.{byte_at}
 use Rattle.section.specs.Judged.{rule_known, rule_of}
 use Rattle.section.specs.declared.header.ChangeRule.{ChangeRule}
-use Rattle.section.specs.declared.ids.MaybePid.{MaybePid}
-use Rattle.section.specs.declared.ids.MaybePid.TheVariants as maybe
+use Rattle.std.specs.Prelude.{Option, Some, None}
 use Rattle.offers.specs.Offers.{is_short}
 use Rattle.offers.specs.declared.Failure.TheVariants as failure
 use Rattle.answers.specs.declared.Refusal.TheVariants as refusal
 use Rattle.gate_state.specs.declared.Answer.{Answer}
 use Rattle.gate_state.specs.declared.Answer.TheVariants as answer
 use Rattle.rules_logs.specs.Records.{Bytes, record_size, seen_record, failed_record, set_record, bare_set_record}
-use Rattle.log_records.specs.Reading.{seen_at, failed_at, set_at, bare_set_at, fields_at, read_at, read_number}
+use Rattle.log_records.specs.Reading.{seen_at, failed_at, set_at, bare_set_at, fields_at, Read, read_at, error_number, read_number}
 use Rattle.log_records.specs.declared.Record.{Record}
-use Rattle.log_records.specs.declared.Read.{Read}
-use Rattle.log_records.specs.declared.Read.TheVariants as read
+use Rattle.std.specs.Prelude.{Option, Some, None, Result, Ok, Err}
+use Rattle.log_records.specs.declared.ReadError.{ReadError}
+use Rattle.log_records.specs.declared.ReadError.TheVariants as read
 use Rattle.log_entries.specs.Entries.{entry_with}
 use Rattle.log_entries.specs.declared.Entry.{Entry}
 use Rattle.log_entries.proofs.Entries.{entry_shows}
 use Rattle.log_makers.specs.Makers.{parts_in, seen_or, offer_record, offer_noted, noted_of, is_origin, is_source, set_record_of, set_entry}
-use Rattle.log_makers.specs.declared.Found.{Found}
-use Rattle.log_makers.specs.declared.Found.TheVariants as found
-use Rattle.log_makers.specs.declared.Noted.{Noted}
+use Rattle.section.specs.declared.header.Parts.{Parts}
+use Rattle.log_makers.specs.declared.NoteError.{NoteError}
+use Rattle.log_makers.specs.declared.NoteError.TheVariants as note
 use Rattle.host_words.specs.Answers.{Words, words}
 use Rattle.host_words.specs.Inputs.{input_number}
 use Rattle.host_words.specs.Pids.{pid_number, maybe_pid}
@@ -50,18 +50,17 @@ kind_at s i size = go (eqb size 13) (eqb size 6) (eqb size 10)
     go false false false = refl
 
 abbrev kind_in : Read → ℕ
-kind_in (read.Found r) = r.kind
-kind_in read.End = 0
-kind_in read.Unknown = 0
-kind_in read.Cut = 0
+kind_in (Ok (Some r)) = r.kind
+kind_in (Ok None) = 0
+kind_in (Err e) = 0
 
 -- a record that was found ends within the log
-pub found_fits : (s : List ℕ) (i : ℕ) (r : Record) (x : Read) → x ≡ read_at s i → x ≡ read.Found r → i + record_size r.kind ≤ length s
+pub found_fits : (s : List ℕ) (i : ℕ) (r : Record) (x : Read) → x ≡ read_at s i → x ≡ Ok (Some r) → i + record_size r.kind ≤ length s
 unfolding read_at
 found_fits s i r x e h = go (leb (length s) i) (eqb (record_size (byte_at s i)) 0) (ltb (length s - i) (record_size (byte_at s i))) refl refl refl (sym e ∙ h)
   where
     go : (a b c : Bool) → leb (length s) i ≡ a → eqb (record_size (byte_at s i)) 0 ≡ b → ltb (length s - i) (record_size (byte_at s i)) ≡ c →
-        cond a read.End (cond b read.Unknown (cond c read.Cut (read.Found (fields_at s i (record_size (byte_at s i)))))) ≡ read.Found r → i + record_size r.kind ≤ length s
+        cond a (Ok None) (cond b (Err read.Unknown) (cond c (Err read.Cut) (Ok (Some (fields_at s i (record_size (byte_at s i))))))) ≡ Ok (Some r) → i + record_size r.kind ≤ length s
     go true b c p q t z = let y : ◌≡◌ {A = ℕ} 9 8 = ap read_number z in absurd (omega (arith, y))
     go false true c p q t z = let y : ◌≡◌ {A = ℕ} 38 8 = ap read_number z in absurd (omega (arith, y))
     go false false true p q t z = let y : ◌≡◌ {A = ℕ} 39 8 = ap read_number z in absurd (omega (arith, y))
@@ -71,25 +70,21 @@ found_fits s i r x e h = go (leb (length s) i) (eqb (record_size (byte_at s i)) 
         omega (arith, leb-false (length s) i p, ltb-false (length s - i) (record_size (byte_at s i)) t, m)
 
 -- so the place after it is a number that a host can be told
-pub place_fits : (s : List ℕ) (i size : ℕ) (r : Record) (x : Read) → x ≡ read_at s i → x ≡ read.Found r → size ≡ record_size r.kind → length s < 18446744073709551616 → i + size < 18446744073709551616
+pub place_fits : (s : List ℕ) (i size : ℕ) (r : Record) (x : Read) → x ≡ read_at s i → x ≡ Ok (Some r) → size ≡ record_size r.kind → length s < 18446744073709551616 → i + size < 18446744073709551616
 place_fits s i size r x e h m n = let f : i + record_size r.kind ≤ length s = found_fits s i r x e h in omega (arith, f, m, n)
 
 module _ (s : List ℕ) (i : ℕ) (w : List ℕ) (x : Read) (e : x ≡ read_at s i) where
-  pub read_found : (r : Record) (size : ℕ) (v : List ℕ) → x ≡ read.Found r → size ≡ record_size r.kind → v ≡ record_words r (i + size) → words 8 v ≡ log_read s i w
+  pub read_found : (r : Record) (size : ℕ) (v : List ℕ) → x ≡ Ok (Some r) → size ≡ record_size r.kind → v ≡ record_words r (i + size) → words 8 v ≡ log_read s i w
   unfolding log_read
   read_found r size v h m z = rw (← e, h, z, m)
 
-  pub read_end : x ≡ read.End → words 9 w ≡ log_read s i w
+  pub read_end : x ≡ Ok None → words 9 w ≡ log_read s i w
   unfolding log_read
   read_end h = rw (← e, h)
 
-  pub read_unknown : x ≡ read.Unknown → words 38 w ≡ log_read s i w
+  pub read_not : (y : ReadError) (n : ℕ) → x ≡ Err y → n ≡ error_number y → words n w ≡ log_read s i w
   unfolding log_read
-  read_unknown h = rw (← e, h)
-
-  pub read_cut : x ≡ read.Cut → words 39 w ≡ log_read s i w
-  unfolding log_read
-  read_cut h = rw (← e, h)
+  read_not y n h k = rw (← e, h, k)
 
 -- ---- the answer of a number
 
@@ -118,10 +113,10 @@ module _ (n : ℕ) where
 
 -- ---- the bytes of a record
 
-seen_size : (kind input pid : ℕ) (f : Found) → length (seen_or kind input pid f) ≤ 13
+seen_size : (kind input pid : ℕ) (f : Option Parts) → length (seen_or kind input pid f) ≤ 13
 unfolding seen_record
-seen_size kind input pid (found.Are p) = omega arith
-seen_size kind input pid found.Nothing = omega arith
+seen_size kind input pid (Some p) = omega arith
+seen_size kind input pid None = omega arith
 
 offer_size : (a : Answer) (rule : ChangeRule) (input pid : ℕ) (s : Bytes) → length (offer_record a rule input pid s) ≤ 13
 unfolding offer_record failed_record
@@ -134,10 +129,10 @@ either_size : (b : Bool) (l : Bytes) (n : ℕ) → length l ≤ n → length (co
 either_size true l n h = h
 either_size false l n h = omega arith
 
-set_size : (input : ℕ) (pid : MaybePid) (s : Bytes) → length (set_record_of input pid s) ≤ 10
+set_size : (input : ℕ) (pid : Option ℕ) (s : Bytes) → length (set_record_of input pid s) ≤ 10
 unfolding set_record bare_set_record
-set_size input (maybe.Some p) s = omega arith
-set_size input maybe.None s = omega arith
+set_size input (Some p) s = omega arith
+set_size input None s = omega arith
 
 entry_size_lem : (l : Bytes) → (entry_with l).length ≡ length l
 unfolding entry_with
@@ -161,24 +156,34 @@ laid_entry e l d v t h p q =
 pub laid_part : (d all v : List ℕ) (n : ℕ) → v ≡ paste d 0 (take (n - 0) all) (length (take (n - 0) all)) → v ≡ laid_over d (take n all)
 laid_part d all v n h = simp unary_clauses at h
 
-noted_entry : (a : Answer) (rule : ChangeRule) (input pid : ℕ) (s : Bytes) → length s ≤ 4098 → (noted_of a rule input pid s).entry ≡ entry_with (offer_bytes a rule input pid s)
+noted_entry : (a : Answer) (rule : ChangeRule) (input pid : ℕ) (s : Bytes) → length s ≤ 4098 → noted_of a rule input pid s ≡ Ok (entry_with (offer_bytes a rule input pid s))
 unfolding noted_of offer_noted offer_bytes
 noted_entry a rule input pid s h = rw (le-ltb 4098 (length s) h)
 
-module _ (x : Answer) (ru : ChangeRule) (i p : ℕ) (s : List ℕ) (noted : Noted) (e : noted ≡ noted_of x ru i p s) (h : length s ≤ 4098) where
-  the_entry : noted.entry ≡ entry_with (offer_bytes x ru i p s)
-  the_entry = ap (λ (z : Noted). z.entry) e ∙ noted_entry x ru i p s h
+module _ (x : Answer) (ru : ChangeRule) (i p : ℕ) (s : List ℕ) {noted : Result Entry NoteError} (e : noted ≡ noted_of x ru i p s) (h : length s ≤ 4098) where
+  noted_ok : noted ≡ Ok (entry_with (offer_bytes x ru i p s))
+  noted_ok = e ∙ noted_entry x ru i p s h
 
-  pub offer_room : (n : ℕ) → n ≡ 13 → RoomFor noted.entry n
-  unfolding offer_bytes
-  offer_room n m = rw m (has_room noted.entry (offer_bytes x ru i p s) 13 the_entry (either_size (is_origin i p) (offer_record x ru i p s) 13 (offer_size x ru i p s)) (omega arith))
+  -- a section that is not too long is noted
+  pub offer_noted_ever : {y : NoteError} → noted ≡ Err y → ⊥
+  offer_noted_ever {y = y} q =
+      let k : ◌≡◌ {A = Result Entry NoteError} (Ok (entry_with (offer_bytes x ru i p s))) (Err y) = sym noted_ok ∙ q in
+      let z : ◌≡◌ {A = ℕ} 0 1 = cc in omega arith
 
-  pub offer_made_lem : (a rule input pid : ℕ) (known : Bool) (d told v t : List ℕ) → known ≡ rule_known rule → known ≡ true → i ≡ input_number input → p ≡ pid_number pid → ru ≡ rule_of rule → x ≡ answer_of a →
-      v ≡ laid_over d (take noted.entry.length noted.entry.bytes) → t ≡ noted.entry.length ∷ [] → made 7 v t ≡ offer_made a rule input pid s d told
-  unfolding offer_made
-  offer_made_lem a rule input pid known d told v t k kt ii pp rr xx vv tt =
-      laid_entry noted.entry (offer_bytes x ru i p s) d v t the_entry vv tt
-      ∙ rw (le-ltb 4098 (length s) h, ← k, kt, ← ii, ← pp, ← rr, ← xx)
+  module _ {entry : Entry} (q : noted ≡ Ok entry) where
+    the_entry : entry ≡ entry_with (offer_bytes x ru i p s)
+    the_entry = let k : ◌≡◌ {A = Result Entry NoteError} (Ok entry) (Ok (entry_with (offer_bytes x ru i p s))) = sym q ∙ noted_ok in cc
+
+    pub offer_room : (n : ℕ) → n ≡ 13 → RoomFor entry n
+    unfolding offer_bytes
+    offer_room n m = rw m (has_room entry (offer_bytes x ru i p s) 13 the_entry (either_size (is_origin i p) (offer_record x ru i p s) 13 (offer_size x ru i p s)) (omega arith))
+
+    pub offer_made_lem : (a rule input pid : ℕ) (known : Bool) (d told v t : List ℕ) → known ≡ rule_known rule → known ≡ true → i ≡ input_number input → p ≡ pid_number pid → ru ≡ rule_of rule → x ≡ answer_of a →
+        v ≡ laid_over d (take entry.length entry.bytes) → t ≡ entry.length ∷ [] → made 7 v t ≡ offer_made a rule input pid s d told
+    unfolding offer_made
+    offer_made_lem a rule input pid known d told v t k kt ii pp rr xx vv tt =
+        laid_entry entry (offer_bytes x ru i p s) d v t the_entry vv tt
+        ∙ rw (le-ltb 4098 (length s) h, ← k, kt, ← ii, ← pp, ← rr, ← xx)
 
 module _ (a rule input pid : ℕ) (s d told : List ℕ) where
   pub offer_overlong : 4098 < length s → made 42 d told ≡ offer_made a rule input pid s d told
@@ -191,7 +196,7 @@ module _ (a rule input pid : ℕ) (s d told : List ℕ) where
 
 -- ---- the record of a set
 
-module _ (i : ℕ) (p : MaybePid) (s : List ℕ) (entry : Entry) (e : entry ≡ set_entry i p s) where
+module _ (i : ℕ) (p : Option ℕ) (s : List ℕ) (entry : Entry) (e : entry ≡ set_entry i p s) where
   of_set : entry ≡ entry_with (set_bytes i p s)
   unfolding set_entry set_bytes
   of_set = e

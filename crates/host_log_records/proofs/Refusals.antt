@@ -9,19 +9,17 @@ use lib.ListN.{length}
 use lib.Dec.{ltb}
 use Rattle.section.specs.Judged.{rule_known, rule_of}
 use Rattle.rules_logs.specs.Records.{Bytes}
-use Rattle.log_records.specs.Reading.{read_at}
-use Rattle.log_records.specs.declared.Read.{Read}
-use Rattle.log_records.specs.declared.Read.TheVariants as read
+use Rattle.std.specs.Prelude.{Some, None, Ok, Err}
+use Rattle.log_records.specs.Reading.{Read, read_at}
 use Rattle.host_words.specs.Answers.{words}
 use Rattle.host_words.specs.Inputs.{input_number}
 use Rattle.host_words.specs.Pids.{pid_number}
 use Rattle.host_log_records.specs.Calls.{tells_record, log_read, answer_of, made, made_of, offer_bytes, offer_made}
 
 told_none : (x : Read) (place : ℕ) (w : List ℕ) (n : ℕ) → n ≡ (tells_record x place w).answer → (n ≡ 8 → ⊥) → tells_record x place w ≡ words n w
-told_none (read.Found r) place w n e h = absurd (h e)
-told_none read.End place w n e h = rw e
-told_none read.Unknown place w n e h = rw e
-told_none read.Cut place w n e h = rw e
+told_none (Ok (Some r)) place w n e h = absurd (h e)
+told_none (Ok None) place w n e h = rw e
+told_none (Err x) place w n e h = rw e
 
 pub log_read_refused : (log : List ℕ) (place : ℕ) (fields : List ℕ) (n : ℕ) → n ≡ (log_read log place fields).answer → (n ≡ 8 → ⊥) → log_read log place fields ≡ words n fields
 unfolding log_read

@@ -1,20 +1,17 @@
 -- What the record calls of a log answer and leave in what a host lends (docs/RULES.md, "Logs"), with the inputs and PIDs that the host's numbers stand for.
 -- `cond test a b` is a where the test is true, else b.
 -- Assumes nothing.
-use Rattle.std.specs.Prelude.{ℕ, ◌+◌, ◌≤◌, List, [], ◌∷◌, cond, ◌&&◌, length, leb, ltb, eqb}
+use Rattle.std.specs.Prelude.{ℕ, ◌+◌, ◌≤◌, List, [], ◌∷◌, cond, ◌&&◌, length, leb, ltb, eqb, Some, None, Ok, Err, Option}
 use Rattle.std.proofs.Math.Seq.{paste}
 use Rattle.section.specs.Judged.{rule_known, rule_of}
 use Rattle.section.specs.declared.header.ChangeRule.{ChangeRule}
-use Rattle.section.specs.declared.ids.MaybePid.{MaybePid}
 use Rattle.answers.specs.declared.Refusal.TheVariants as refusal
 use Rattle.offers.specs.declared.Failure.TheVariants as failure
 use Rattle.gate_state.specs.declared.Answer.{Answer}
 use Rattle.gate_state.specs.declared.Answer.TheVariants as answer
 use Rattle.rules_logs.specs.Records.{Bytes, record_size}
-use Rattle.log_records.specs.Reading.{read_at}
+use Rattle.log_records.specs.Reading.{Read, error_number, read_at}
 use Rattle.log_records.specs.declared.Record.{Record}
-use Rattle.log_records.specs.declared.Read.{Read}
-use Rattle.log_records.specs.declared.Read.TheVariants as read
 use Rattle.log_entries.specs.declared.Entry.{Entry}
 use Rattle.log_makers.specs.Makers.{offer_record, is_origin, is_source, set_record_of}
 use Rattle.host_words.specs.Answers.{Words, words}
@@ -30,10 +27,9 @@ record_words r next =
 
 -- 8 writes them; 9, 38 and 39 leave them as they were
 abbrev pub tells_record : Read → (place : ℕ) → List ℕ → Words
-tells_record (read.Found r) place w = words 8 (record_words r (place + record_size r.kind))
-tells_record read.End place w = words 9 w
-tells_record read.Unknown place w = words 38 w
-tells_record read.Cut place w = words 39 w
+tells_record (Ok (Some r)) place w = words 8 (record_words r (place + record_size r.kind))
+tells_record (Ok None) place w = words 9 w
+tells_record (Err e) place w = words (error_number e) w
 
 unfoldable pub log_read : (log : List ℕ) → (place : ℕ) → (fields : List ℕ) → Words
 log_read log place w = tells_record (read_at log place) place w
@@ -81,7 +77,7 @@ offer_made a rule input pid s r t =
     (cond (rule_known rule) (made_of (offer_bytes (answer_of a) (rule_of rule) (input_number input) (pid_number pid) s) r) (made 13 r t))
 
 -- the record of a set; none of a section under 12 bytes, where there is no such input or PID, and without a PID
-unfoldable pub set_bytes : (input : ℕ) → MaybePid → Bytes → Bytes
+unfoldable pub set_bytes : (input : ℕ) → Option ℕ → Bytes → Bytes
 set_bytes input pid s = cond (is_source input pid && leb 12 (length s)) (set_record_of input pid s) []
 
 unfoldable pub set_made : (input pid : ℕ) → (section bytes : List ℕ) → Made

@@ -9,7 +9,7 @@ ghost use Rattle.host_log_records.specs.Calls.{record_words, log_read, answer_of
 use answers::Refusal;
 use gate_state::Answer;
 use log_entries::Entry;
-use log_records::{Read, Record};
+use log_records::Record;
 use offers::Failure;
 use section::header::ChangeRule;
 
@@ -41,13 +41,12 @@ pub fn read(log: &[u8], place: u64, fields: &mut [u64; 12]) -> u8
 {
     let at = place as usize;
     match log_records::read_record(log, at) {
-        Read::Found(r) => {
+        Ok(Some(r)) => {
             write_record(fields, r, at + log_records::record_size(r.kind));
             8
         }
-        Read::End => 9,
-        Read::Unknown => 38,
-        Read::Cut => 39,
+        Ok(None) => 9,
+        Err(error) => error.number(),
     }
 }
 
@@ -110,10 +109,13 @@ pub fn offer_record(
         let i = host_words::inputs::number(input);
         let p = host_words::pids::number(pid);
         let rule = ChangeRule::of(change_rule);
-        let noted = log_makers::offer_record(answer_of(answer), rule, i, p, section);
-        let entry = noted.entry;
-        write_entry(entry, bytes, told);
-        return 7;
+        return match log_makers::offer_record(answer_of(answer), rule, i, p, section) {
+            Ok(entry) => {
+                write_entry(entry, bytes, told);
+                7
+            }
+            Err(_) => 42,
+        };
     }
     13
 }

@@ -9,10 +9,11 @@ use borrow.Author.Tests.{lt-ltb, le-ltb, eq-eqb, ne_eqb}
 use Rattle.log_state.specs.declared.Pids.{Pids}
 use Rattle.log_state.specs.declared.Pids.TheVariants as pids
 use Rattle.log_state.specs.declared.Settings.{Settings}
-use Rattle.log_check.specs.Check.{check_no}
-use Rattle.log_check.specs.declared.Checked.{Checked}
-use Rattle.log_write.specs.Write.{write_no}
-use Rattle.log_write.specs.declared.Written.{Written}
+use Rattle.std.specs.Prelude.{Option, Some, None, Result, Ok, Err}
+use Rattle.log_check.specs.Check.{error_no, place_of}
+use Rattle.log_check.specs.declared.CheckError.{CheckError}
+use Rattle.log_write.specs.Write as write
+use Rattle.log_write.specs.declared.WriteError.{WriteError}
 use Rattle.host_words.specs.Answers.{at, words}
 use Rattle.host_log_words.specs.Words.{rule_for, pids_for, settings_of, tells_checked, tells_written}
 
@@ -42,18 +43,21 @@ settings_read w r p e h = rw (e, h)
 
 -- ---- the place
 
-module _ (c : Checked) (w : List ℕ) (n : ℕ) (e : n ≡ check_no c.answer) where
-  pub place_written : (eqb n 38 || eqb n 39 || eqb n 40) ≡ true → words n (c.place ∷ []) ≡ tells_checked c w
-  place_written h = rw (← e, h)
+module _ (c : Result Unit CheckError) (w : List ℕ) where
+  pub place_yes : {u : Unit} → c ≡ Ok u → words 8 w ≡ tells_checked c w
+  place_yes h = rw h
 
-  pub place_kept : (eqb n 38 || eqb n 39 || eqb n 40) ≡ false → words n w ≡ tells_checked c w
-  place_kept h = rw (← e, h)
+  pub place_written : {e : CheckError} {p n : ℕ} → c ≡ Err e → place_of e ≡ Some p → n ≡ error_no e → words n (p ∷ []) ≡ tells_checked c w
+  place_written h q k = rw (h, k, q)
+
+  pub place_kept : {e : CheckError} {n : ℕ} → c ≡ Err e → place_of e ≡ None → n ≡ error_no e → words n w ≡ tells_checked c w
+  place_kept h q k = rw (h, k, q)
 
 -- ---- the length
 
-module _ (t : Written) (w : List ℕ) (n : ℕ) (e : n ≡ write_no t.answer) where
-  pub length_written : n ≡ 7 → words n (t.length ∷ []) ≡ tells_written t w
-  length_written h = rw (← e, eq-eqb n 7 h)
+module _ (t : Result ℕ WriteError) (w : List ℕ) where
+  pub length_written : {n : ℕ} → t ≡ Ok n → words 7 (n ∷ []) ≡ tells_written t w
+  length_written h = rw h
 
-  pub length_kept : (n ≡ 7 → ⊥) → words n w ≡ tells_written t w
-  length_kept h = rw (← e, ne_eqb n 7 h)
+  pub length_kept : {e : WriteError} {n : ℕ} → t ≡ Err e → n ≡ write.error_no e → words n w ≡ tells_written t w
+  length_kept h k = rw (h, k)

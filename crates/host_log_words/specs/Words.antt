@@ -1,14 +1,14 @@
 -- What the words of a host stand for in the calls on logs (docs/RULES.md, "Logs"), and what an answer tells in a word.
 -- `cond test a b` is a where the test is true, else b.
 -- Assumes nothing.
-use Rattle.std.specs.Prelude.{ℕ, List, [], ◌∷◌, Bool, cond, not, ◌||◌, eqb, ltb}
+use Rattle.std.specs.Prelude.{ℕ, List, [], ◌∷◌, cond, not, eqb, ltb, Option, Some, None, Result, Ok, Err}
 use Rattle.log_state.specs.declared.Pids.{Pids}
 use Rattle.log_state.specs.declared.Pids.TheVariants as pids
 use Rattle.log_state.specs.declared.Settings.{Settings}
-use Rattle.log_check.specs.Check.{check_no}
-use Rattle.log_check.specs.declared.Checked.{Checked}
+use Rattle.log_check.specs.Check.{check_no, place_of}
+use Rattle.log_check.specs.declared.CheckError.{CheckError}
 use Rattle.log_write.specs.Write.{write_no}
-use Rattle.log_write.specs.declared.Written.{Written}
+use Rattle.log_write.specs.declared.WriteError.{WriteError}
 use Rattle.host_words.specs.Answers.{at, Words, words}
 
 -- a word that does not say how sets are taken is refused as a change rule that there is not
@@ -31,19 +31,23 @@ settings_of w = record {
   pids = pids_for (at w 6);
 }
 
+-- a place that there is
+abbrev pub place_in : Option ℕ → List ℕ → List ℕ
+place_in (Some p) w = p ∷ []
+place_in None w = w
+
 -- 38, 39 and 40 tell a place
-abbrev pub tells_place : ℕ → Bool
-tells_place n = eqb n 38 || eqb n 39 || eqb n 40
+abbrev pub place_after : Result Unit CheckError → List ℕ → List ℕ
+place_after (Ok x) w = w
+place_after (Err e) w = place_in (place_of e) w
 
-abbrev pub place_after : Checked → List ℕ → List ℕ
-place_after c w = cond (tells_place (check_no c.answer)) (c.place ∷ []) w
-
-abbrev pub tells_checked : Checked → List ℕ → Words
-tells_checked c w = words (check_no c.answer) (place_after c w)
+abbrev pub tells_checked : Result Unit CheckError → List ℕ → Words
+tells_checked c w = words (check_no c) (place_after c w)
 
 -- 7 tells the log's length
-abbrev pub length_after : Written → List ℕ → List ℕ
-length_after t w = cond (eqb (write_no t.answer) 7) (t.length ∷ []) w
+abbrev pub length_after : Result ℕ WriteError → List ℕ → List ℕ
+length_after (Ok n) w = n ∷ []
+length_after (Err e) w = w
 
-abbrev pub tells_written : Written → List ℕ → Words
-tells_written t w = words (write_no t.answer) (length_after t w)
+abbrev pub tells_written : Result ℕ WriteError → List ℕ → Words
+tells_written t w = words (write_no t) (length_after t w)

@@ -5,9 +5,9 @@ ghost use Rattle.std.specs.Prelude.{◌≡◌};
 ghost use Rattle.host_words.specs.Answers.{words};
 ghost use Rattle.host_log_words.specs.Words.{settings_of, rule_for, pids_for, tells_checked, tells_written};
 
-use log_check::Checked;
+use log_check::CheckError;
 use log_state::{Pids, Settings};
-use log_write::Written;
+use log_write::WriteError;
 
 // The change rule, and none where it is not said how sets are taken: opening refuses that.
 fn rule_for(rule: u64, pids: u64) -> u64
@@ -44,26 +44,30 @@ pub fn settings_of(w: &[u64; 7]) -> Settings
     }
 }
 
-// Writes the place, which 38, 39 and 40 tell; gives the answer's number.
-pub fn write_place(place: &mut [u64; 1], told: Checked) -> u8
+// Writes the place of a wrong record (38, 39, 40); gives the answer's number.
+pub fn write_place(place: &mut [u64; 1], told: Result<(), CheckError>) -> u8
     ensures { words result place.new ≡ tells_checked told place.old }
 {
-    let answer = told.answer;
-    let number = answer.number();
-    if (number == 38) | (number == 39) | (number == 40) {
-        *place = [told.place as u64];
+    match told {
+        Ok(()) => 8,
+        Err(error) => {
+            if let Some(p) = error.place() {
+                *place = [p as u64];
+            }
+            error.number()
+        }
     }
-    number
 }
 
-// Writes how many bytes the log has, which 7 tells; gives the answer's number.
-pub fn write_length(length: &mut [u64; 1], told: Written) -> u8
+// Writes how many bytes the log has (7); gives the answer's number.
+pub fn write_length(length: &mut [u64; 1], told: Result<usize, WriteError>) -> u8
     ensures { words result length.new ≡ tells_written told length.old }
 {
-    let answer = told.answer;
-    let number = answer.number();
-    if number == 7 {
-        *length = [told.length as u64];
+    match told {
+        Ok(n) => {
+            *length = [n as u64];
+            7
+        }
+        Err(error) => error.number(),
     }
-    number
 }

@@ -17,7 +17,7 @@ abbrev pub check_left : ℕ → List ℕ → Memory → CheckLeft
 check_left answer place memory = record { answer = answer; place = place; memory = memory }
 
 abbrev pub check_handed : Check → List ℕ → CheckLeft
-check_handed c w = check_left (check_no c.checked.answer) (place_after c.checked w) c.memory
+check_handed c w = check_left (check_no c.checked) (place_after c.checked w) c.memory
 
 unfoldable pub log_checked : (settings sections log : List ℕ) → Memory → (place : List ℕ) → CheckLeft
 log_checked settings sections log m w = check_handed (checked_of (settings_of settings) sections log m) w
@@ -35,7 +35,7 @@ abbrev pub write_left : ℕ → List ℕ → List ℕ → Memory → WriteLeft
 write_left answer length room memory = record { answer = answer; length = length; room = room; memory = memory }
 
 abbrev pub write_handed : Write → List ℕ → WriteLeft
-write_handed t w = write_left (write_no t.written.answer) (length_after t.written w) t.room t.memory
+write_handed t w = write_left (write_no t.written) (length_after t.written w) t.room t.memory
 
 unfoldable pub log_written : (settings sections room : List ℕ) → Memory → (length : List ℕ) → WriteLeft
 log_written settings sections room m w = write_handed (written_of (settings_of settings) sections room m) w

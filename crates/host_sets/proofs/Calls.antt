@@ -5,10 +5,8 @@ use mathlib.Core.Path.{◌≡◌, refl, ap}
 use mathlib.Core.List.{List}
 use mathlib.Core.Bool.{cond}
 use lib.Dec.{eqb}
-use Rattle.answers.specs.Answers.{outcome_no}
-use Rattle.answers.specs.declared.Outcome.{Outcome}
-use Rattle.answers.specs.declared.Outcome.TheVariants as outcome
-use Rattle.section.specs.declared.ids.MaybePid.{MaybePid}
+use Rattle.answers.specs.Answers.{outcome_no, Outcome}
+use Rattle.std.specs.Prelude.{Option, Ok, Err}
 use Rattle.host_words.specs.Answers.{Words, words, Pushes, pushes}
 use Rattle.host_words.specs.Inputs.{input_number}
 use Rattle.host_words.specs.Pids.{maybe_pid}
@@ -28,12 +26,12 @@ use Rattle.host_sets_words.specs.Words.{sets_of, words_of, words_opened, row_by,
 use Rattle.host_sets.specs.Calls.{sets_opened, sets_cleared, sets_left, row_after, sets_pushed, sets_next}
 
 outcome_number : (a : Outcome) → outcome_no a ≡ told_no (outcome_of a)
-outcome_number outcome.Done = refl
-outcome_number (outcome.Refused r) = refl
+outcome_number (Ok _) = refl
+outcome_number (Err r) = refl
 
 opened_words : (a : Outcome) (s : Sets) (w : List ℕ) → words_opened a s w ≡ cond (eqb (told_no (outcome_of a)) 7) (words_of s) w
-opened_words outcome.Done s w = refl
-opened_words (outcome.Refused r) s w = rw (refused_not_7 r)
+opened_words (Ok _) s w = refl
+opened_words (Err r) s w = rw (refused_not_7 r)
 
 push_number_lem : (a : PushAnswer) (s : Store) → push_no a ≡ told_no (answer_of a s)
 push_number_lem Nothing s = refl
@@ -65,7 +63,7 @@ module _ (sets heads slots cells : List ℕ) where
   sets_cleared_lem s o ws r h e t = rw (← h, ← e, ap (λ (x : Words). x.answer) t, ap (λ (x : Words). x.now) t, outcome_number o.answer)
 
   pub sets_pushed_lem :
-      (input pid : ℕ) (section row : List ℕ) (s : Sets) (j : ℕ) (p : MaybePid) (o : Pushed) (hs ss cs ws rs : List ℕ) (r : ℕ) →
+      (input pid : ℕ) (section row : List ℕ) (s : Sets) (j : ℕ) (p : Option ℕ) (o : Pushed) (hs ss cs ws rs : List ℕ) (r : ℕ) →
       s ≡ sets_of sets → j ≡ input_number input → p ≡ maybe_pid pid →
       after_push o hs ss cs ≡ pushed_of (store s heads slots cells) j p section →
       pushes r ws rs ≡ tells_pushed o sets row →

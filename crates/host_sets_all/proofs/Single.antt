@@ -6,12 +6,12 @@ use mathlib.Core.List.{List, ◌∷◌}
 use mathlib.Core.Bool.{Bool, true, false, cond}
 use lib.ListN.{length}
 use Rattle.answers.specs.declared.Refusal.TheVariants.{NotWhole, CounterFull, NoPid}
-use Rattle.section.specs.declared.ids.MaybePid.TheVariants as maybe
+use Rattle.std.specs.Prelude.{Some, Result, Err}
+use Rattle.rows.specs.declared.Entry.{Entry}
+use Rattle.answers.specs.declared.Refusal.{Refusal}
 use Rattle.without_pid.specs.Pids.{without_pid}
 use Rattle.store.specs.Store.{Store, whole_of, counters_full}
 use Rattle.arrivals.specs.Arrivals.{set_arrival}
-use Rattle.arrivals.specs.declared.SetArrival.{SetArrival}
-use Rattle.arrivals.specs.declared.SetArrival.TheVariants as arrival
 use Rattle.sets_settle.specs.Settle.{refused, SetsAfter}
 use Rattle.sets_push.specs.Pushing.{admitted}
 use Rattle.sets.specs.Store.{pushed_as, pushed_of}
@@ -30,12 +30,12 @@ sections_each s g gs = go (whole_of s) (counters_full s.sets) (without_pid s.hea
     m : ℕ
     m = 0 + (5 + length g.section)
 
-    admitted_by : (whole full without : Bool) → SetArrival
+    admitted_by : (whole full without : Bool) → Result Entry Refusal
     admitted_by whole full without =
         cond whole
-        (cond full (arrival.Refused CounterFull)
-        (cond without (arrival.Refused NoPid) (set_arrival g.input (maybe.Some g.pid) g.section)))
-        (arrival.Refused NotWhole)
+        (cond full (Err CounterFull)
+        (cond without (Err NoPid) (set_arrival g.input (Some g.pid) g.section)))
+        (Err NotWhole)
 
     each : SetsAfter → AllAfter
     each l = cond (is_nothing l.told) (pushed_each m l.store gs) (all_after (of l.told) l.store m)

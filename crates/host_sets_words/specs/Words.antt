@@ -1,8 +1,6 @@
 -- The six words of a set collector: 0 limit, 1 size, 2 count, 3 used, 4 evictions, 5 clock; and the word of a row that goes out.
-use Rattle.std.specs.Prelude.{ℕ, List, [], ◌∷◌}
-use Rattle.answers.specs.Answers.{outcome_no}
-use Rattle.answers.specs.declared.Outcome.{Outcome}
-use Rattle.answers.specs.declared.Outcome.TheVariants as outcome
+use Rattle.std.specs.Prelude.{ℕ, List, [], ◌∷◌, Ok, Err}
+use Rattle.answers.specs.Answers.{outcome_no, Outcome}
 use Rattle.store.specs.declared.Sets.{Sets}
 use Rattle.sets_settle.specs.Settle.{push_no}
 use Rattle.sets_settle.specs.declared.PushAnswer.{PushAnswer}
@@ -25,8 +23,8 @@ words_after w s = at w 0 ∷ at w 1 ∷ at w 2 ∷ s.used ∷ s.evictions ∷ s.
 
 -- an opening that answers 7 writes all six, a refused one none
 abbrev pub words_opened : Outcome → Sets → List ℕ → List ℕ
-words_opened outcome.Done s w = words_of s
-words_opened (outcome.Refused r) s w = w
+words_opened (Ok _) s w = words_of s
+words_opened (Err r) s w = w
 
 -- the row of a set that goes out; any other answer leaves the word as it was
 abbrev pub row_by : PushAnswer → List ℕ → List ℕ

@@ -5,7 +5,7 @@ ghost use Rattle.std.specs.Prelude.{◌≡◌};
 ghost use Rattle.host_words.specs.Answers.{words, pushes};
 ghost use Rattle.host_sets_words.specs.Words.{sets_of, words_of, words_opened, words_after, row_by, tells_opened, tells_pushed, tells_cleared};
 
-use answers::Outcome;
+use answers::{Numbered, Outcome};
 use sets::{Cleared, Opened};
 use sets_settle::{PushAnswer, Pushed};
 use store::Sets;
@@ -42,8 +42,8 @@ fn write_where(words: &mut [u64; 6], answer: Outcome, sets: Sets)
     ensures { words.new ≡ words_opened answer sets words.old }
 {
     match answer {
-        Outcome::Done => write(words, sets),
-        Outcome::Refused(_) => {}
+        Ok(()) => write(words, sets),
+        Err(_) => {}
     }
 }
 

@@ -8,8 +8,7 @@ use lib.Dec.{eqb}
 use borrow.Author.Tests.{lt-ltb, le-ltb}
 use Rattle.times.specs.Times.{date_of}
 use Rattle.times.specs.declared.Calendar.{Calendar}
-use Rattle.times.specs.declared.Date.{Date}
-use Rattle.times.specs.declared.Date.TheVariants.{On}
+use Rattle.std.specs.Prelude.{Option, Some}
 use Rattle.eit_state.specs.State.{store}
 use Rattle.eit_state.specs.declared.Eit.{Eit}
 use Rattle.shown_sections.specs.declared.Shown.{Shown}
@@ -54,13 +53,13 @@ module _ (eit heads slots cells schedule_heads units : List ℕ) (c : Eit) (h : 
 
 -- ---- dates
 
-pub date_spelt : (d : Date) (c : Calendar) → d ≡ On c → c.year * 10000 + c.month * 100 + c.day ≡ date_word d
+pub date_spelt : (d : Option Calendar) (c : Calendar) → d ≡ Some c → c.year * 10000 + c.month * 100 + c.day ≡ date_word d
 date_spelt d c e = rw e
 
 pub no_day : (day : ℕ) → 65535 < day → 0 ≡ date_number day
 unfolding date_number
 no_day day h = rw (lt-ltb 65535 day h)
 
-pub a_day : (day : ℕ) (d : Date) (r : ℕ) → day ≤ 65535 → d ≡ date_of day → r ≡ date_word d → r ≡ date_number day
+pub a_day : (day : ℕ) (d : Option Calendar) (r : ℕ) → day ≤ 65535 → d ≡ date_of day → r ≡ date_word d → r ≡ date_number day
 unfolding date_number
 a_day day d r h e f = rw (le-ltb 65535 day h, ← e) f

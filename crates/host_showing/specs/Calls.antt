@@ -1,8 +1,7 @@
 -- What the readers of events answer and leave in what a host lends: what showing/specs/Store.antt says, of the collector that the words hold.
-use Rattle.std.specs.Prelude.{ℕ, ◌+◌, ◌*◌, List, [], ◌∷◌, Bool, cond, ◌||◌, eqb, ltb}
+use Rattle.std.specs.Prelude.{ℕ, ◌+◌, ◌*◌, List, [], ◌∷◌, Bool, cond, ◌||◌, eqb, ltb, Option, Some, None}
 use Rattle.times.specs.Times.{date_of}
-use Rattle.times.specs.declared.Date.{Date}
-use Rattle.times.specs.declared.Date.TheVariants.{On, Before}
+use Rattle.times.specs.declared.Calendar.{Calendar}
 use Rattle.eit_state.specs.State.{store}
 use Rattle.shown_sections.specs.declared.Shown.{Shown}
 use Rattle.shown_sections.specs.Shown.{show_number}
@@ -49,9 +48,9 @@ table_listed eit heads slots cells schedule_heads units row table skip list list
 -- ---- dates
 
 -- eight decimal digits: year, month, day
-abbrev pub date_word : Date → ℕ
-date_word (On c) = c.year * 10000 + c.month * 100 + c.day
-date_word Before = 0
+abbrev pub date_word : Option Calendar → ℕ
+date_word (Some c) = c.year * 10000 + c.month * 100 + c.day
+date_word None = 0
 
 -- a day number has 16 bits (EN 300 468, 5.2.4)
 unfoldable pub date_number : (day : ℕ) → ℕ

@@ -7,7 +7,7 @@ ghost use Rattle.host_words.specs.Answers.{words};
 ghost use Rattle.host_showing.specs.Calls.{tells_listed, listing, section_listed, set_listed, table_listed, date_word, date_number};
 
 use shown_sections::Shown;
-use times::{Date, Day};
+use times::{Calendar, Day};
 
 // The numbers of the refusals that tell nothing: a store that is not whole, one in which a row has no PID, and what is no section.
 const NOT_WHOLE: u8 = 10;
@@ -100,12 +100,12 @@ pub fn eit_events_in_schedule(
 }
 
 // A date in eight decimal digits, year, month and day; 0 where there is none.
-fn date_word(date: Date) -> u32
+fn date_word(date: Option<Calendar>) -> u32
     ensures { result ≡ date_word date }
 {
     match date {
-        Date::On(c) => c.year as u32 * 10000 + c.month as u32 * 100 + c.day as u32,
-        Date::Before => 0,
+        Some(c) => c.year as u32 * 10000 + c.month as u32 * 100 + c.day as u32,
+        None => 0,
     }
 }
 

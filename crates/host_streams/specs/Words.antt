@@ -1,8 +1,6 @@
 -- The three words of the streams of one input: 0 count, 1 packets, 2 malformed; and the word that tells how many sections a packet finished.
-use Rattle.std.specs.Prelude.{ℕ, ◌+◌, List, [], ◌∷◌, cond, eqb}
-use Rattle.answers.specs.Answers.{outcome_no}
-use Rattle.answers.specs.declared.Outcome.{Outcome}
-use Rattle.answers.specs.declared.Outcome.TheVariants as outcome
+use Rattle.std.specs.Prelude.{ℕ, ◌+◌, List, [], ◌∷◌, cond, eqb, Ok, Err}
+use Rattle.answers.specs.Answers.{outcome_no, Outcome}
 use Rattle.streams.specs.declared.Streams.{Streams}
 use Rattle.streams.specs.declared.Opened.{Opened}
 use Rattle.demux_state.specs.State.{Said, plain, finished, said_of, number_of}
@@ -18,8 +16,8 @@ words_of s = s.count ∷ s.packets ∷ s.malformed ∷ []
 
 -- an opening that answers 7 writes all three, a refused one none
 abbrev pub words_opened : Outcome → Streams → List ℕ → List ℕ
-words_opened outcome.Done s w = words_of s
-words_opened (outcome.Refused r) s w = w
+words_opened (Ok _) s w = words_of s
+words_opened (Err r) s w = w
 
 abbrev pub tells_opened : Opened → List ℕ → Words
 tells_opened o w = words (outcome_no o.answer) (words_opened o.answer o.streams w)

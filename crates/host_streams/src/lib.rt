@@ -8,7 +8,7 @@ ghost use Rattle.host_words.specs.Answers.{words};
 ghost use Rattle.host_streams.specs.Words.{streams_of, words_of, words_opened, words_after, finished_after, told, tells_opened, tells_fed};
 ghost use Rattle.host_streams.specs.Calls.{begun, streams_opened};
 
-use answers::Outcome;
+use answers::{Numbered, Outcome};
 use demux_state::{Answer, Fed};
 use streams::{Opened, Streams};
 
@@ -34,8 +34,8 @@ fn write_where(words: &mut [u64; 3], answer: Outcome, streams: Streams)
     ensures { words.new ≡ words_opened answer streams words.old }
 {
     match answer {
-        Outcome::Done => write(words, streams),
-        Outcome::Refused(_) => {}
+        Ok(()) => write(words, streams),
+        Err(_) => {}
     }
 }
 

@@ -4,9 +4,8 @@ use Prim.Native.Nat.{ℕ, ◌<◌, ◌≤◌}
 use mathlib.Core.Path.{◌≡◌}
 use mathlib.Core.List.{List, [], ◌∷◌}
 use borrow.Author.Tests.{lt-ltb, le-ltb, eq-eqb, ne_eqb}
-use Rattle.answers.specs.declared.Reply.{Reply}
-use Rattle.answers.specs.declared.Reply.TheVariants as reply
-use Rattle.section.specs.declared.ids.MaybePid.TheVariants as maybe
+use Rattle.answers.specs.Answers.{Reply}
+use Rattle.std.specs.Prelude.{Some, None, Ok, Bool, true}
 use Rattle.readers.specs.declared.Next.{Next}
 use Rattle.host_words.specs.Answers.{words, pushes}
 use Rattle.host_words.specs.Pids.{pid_number, maybe_pid}
@@ -39,13 +38,13 @@ module _ (pid : ℕ) where
   pub pid_large : 65535 ≤ pid → 65535 ≡ pid_number pid
   pid_large h = rw (le-ltb pid 65535 h)
 
-  pub pid_none : pid ≡ 0xFFFF_FFFF → maybe.None ≡ maybe_pid pid
+  pub pid_none : pid ≡ 0xFFFF_FFFF → None ≡ maybe_pid pid
   pid_none h = rw (eq-eqb pid 0xFFFF_FFFF h)
 
-  pub pid_some : (n : ℕ) → (pid ≡ 0xFFFF_FFFF → ⊥) → n ≡ pid_number pid → maybe.Some n ≡ maybe_pid pid
+  pub pid_some : (n : ℕ) → (pid ≡ 0xFFFF_FFFF → ⊥) → n ≡ pid_number pid → Some n ≡ maybe_pid pid
   pid_some n h e = rw (ne_eqb pid 0xFFFF_FFFF h, e)
 
 -- ---- a section that a question tells of
 
-pub section_written : (a : Reply) (n : Next) (w : List ℕ) → a ≡ reply.Yes → n.number ∷ n.start ∷ n.length ∷ [] ≡ section_after a n w
-section_written a n w h = rw h
+pub section_written : (a : Reply) (n : Next) (w : List ℕ) (b : Bool) → a ≡ Ok b → b ≡ true → n.number ∷ n.start ∷ n.length ∷ [] ≡ section_after a n w
+section_written a n w b h e = rw (h, e)

@@ -6,10 +6,9 @@ use mathlib.Core.List.{List}
 use mathlib.Core.Bool.{cond, false, true≢false}
 use lib.Dec.{eqb, ltb}
 use borrow.Author.Tests.{ne_eqb}
-use Rattle.answers.specs.Answers.{refusal_no, reply_no}
+use Rattle.answers.specs.Answers.{refusal_no, reply_no, Reply}
 use Rattle.answers.specs.declared.Refusal.{Refusal}
-use Rattle.answers.specs.declared.Reply.{Reply}
-use Rattle.answers.specs.declared.Reply.TheVariants.{Yes, No, Refused}
+use Rattle.std.specs.Prelude.{Ok, Err, true}
 use Rattle.answers.proofs.Laws.{refused_from_10}
 use Rattle.readers.specs.declared.Next.{Next}
 use Rattle.host_words.specs.Answers.{words}
@@ -28,6 +27,6 @@ pub refused_next : (next : Next) (w : List ℕ) (answer : ℕ) → answer ≡ (t
 refused_next next w answer e h = go next.answer e
   where
     go : (a : Reply) → answer ≡ reply_no a → words (reply_no a) (section_after a next w) ≡ words answer w
-    go Yes e = absurd (h e)
-    go No e = rw e
-    go (Refused r) e = rw e
+    go (Ok true) e = absurd (h e)
+    go (Ok false) e = rw e
+    go (Err r) e = rw e

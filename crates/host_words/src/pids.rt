@@ -2,8 +2,6 @@
 ghost use Rattle.std.specs.Prelude.{◌≡◌};
 ghost use Rattle.host_words.specs.Pids.{pid_number, maybe_pid};
 
-use section::ids::MaybePid;
-
 // No number above 65,535 becomes a small one: it is handed on as 65,535, which is no PID either.
 pub fn narrow(pid: u64) -> u16
     ensures { result ≡ pid_number pid }
@@ -18,12 +16,12 @@ pub fn number(pid: u32) -> u16
 }
 
 // The largest number stands for "no PID".
-pub fn maybe(pid: u32) -> MaybePid
+pub fn maybe(pid: u32) -> Option<u16>
     ensures { result ≡ maybe_pid pid }
 {
     if pid == 0xFFFF_FFFF {
-        MaybePid::None
+        None
     } else {
-        MaybePid::Some(number(pid))
+        Some(number(pid))
     }
 }

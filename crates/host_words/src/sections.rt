@@ -3,7 +3,7 @@ ghost use Rattle.std.specs.Prelude.{◌≡◌};
 ghost use Rattle.host_words.specs.Answers.{words};
 ghost use Rattle.host_words.specs.Sections.{section_after, tells_next};
 
-use answers::Reply;
+use answers::{Numbered, Reply};
 use readers::Next;
 
 // The words of the section. A "no" and a refusal leave them as they were.
@@ -11,9 +11,8 @@ fn write(section: &mut [u64; 3], answer: Reply, next: Next)
     ensures { section.new ≡ section_after answer next section.old }
 {
     match answer {
-        Reply::Yes => *section = [next.number as u64, next.start as u64, next.length as u64],
-        Reply::No => {}
-        Reply::Refused(_) => {}
+        Ok(true) => *section = [next.number as u64, next.start as u64, next.length as u64],
+        Ok(false) | Err(_) => {}
     }
 }
 

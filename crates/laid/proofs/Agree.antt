@@ -1,9 +1,9 @@
 -- "All have the first's": what each section of a set, of a schedule, shares with the first.
 -- Assumes nothing.
 use mathlib.Core.Path.{◌≡◌, refl, sym, ap, ◌∙◌}
-use mathlib.Core.Bool.{Bool, true, false, cond, ◌&&◌, ◌||◌}
+use mathlib.Core.Bool.{Bool, true, false, ◌&&◌, ◌||◌}
 use mathlib.Core.List.{List, [], ◌∷◌}
-use Prim.Native.Nat.{ℕ, zero, suc, ◌+◌, ◌*◌, ◌/◌, ◌≤◌, ◌<◌}
+use Prim.Native.Nat.{ℕ, zero, suc, ◌+◌, ◌≤◌, ◌<◌}
 use native.Mathlib.Omega.{arith}
 use lib.ListN.{length, take, drop, get_or, length-drop}
 use lib.Seq.{get_or-take, get_or-drop}
@@ -12,12 +12,12 @@ use borrow.Author.Tests.{eq-eqb, eqb-true, ltb-true, lt-ltb, eqb-false}
 use Rattle.laws.specs.Lists.{every}
 use Rattle.laws.proofs.Tests.{and_true, true_and}
 use Rattle.section.specs.Facts.{Bytes}
-use Rattle.section.specs.Header.{byte_at, table_id_of, section_number, version_of, last_section_number}
+use Rattle.section.specs.Header.{table_id_of, section_number}
 use Rattle.rows.specs.declared.Key.{Key}
 use Rattle.rows.specs.Rows.{same_key, same_origin}
 use Rattle.laid.specs.Laid.{size_of, sections_in, laid_out, key_in, schedule_key_in, kind_first, chain_from, chain, in_table, in_set, in_schedule, joins, joined, is_set, is_schedule, same_version, same_last}
 use Rattle.laid.specs.Walk.{rank_of}
-use Rattle.laid.proofs.Sections.{Begins, Front, laid_begins, sections_one, sections_none}
+use Rattle.laid.proofs.Sections.{laid_begins, sections_one, sections_none}
 
 -- ---- what a pair that follows each other shares
 

@@ -4,21 +4,20 @@
 use mathlib.Core.Path.{◌≡◌, refl, sym, ap, ◌∙◌}
 use mathlib.Core.Logic.{⊎_elim}
 use mathlib.Core.Bool.{Bool, true, false, cond, ◌&&◌, true≢false}
-use mathlib.Core.List.{List, [], ◌∷◌, ◌++◌, flatten}
-use Prim.Native.Nat.{ℕ, zero, suc, ◌+◌, ◌*◌, ◌%◌, ◌-◌, ◌≤◌, ◌<◌}
-use native.Mathlib.Nat.{add-sub_cancel_left}
+use mathlib.Core.List.{List, [], ◌∷◌, flatten}
+use Prim.Native.Nat.{ℕ, zero, suc, ◌≤◌, ◌<◌}
 use native.Mathlib.Omega.{arith}
-use lib.ListN.{length, take, drop, get_or, length-drop, take-append-drop}
+use lib.ListN.{length, take, drop, length-drop, take-append-drop}
 use lib.Seq.{get_or-take, length-take-le}
 use lib.Dec.{leb, eqb}
-use borrow.Author.Tests.{eq-eqb, ne_eqb, le-leb, lt-leb, leb-true, leb-false, eqb-true, eqb-false}
+use borrow.Author.Tests.{eq-eqb, ne_eqb, le-leb, leb-true, eqb-true, eqb-false}
 use Rattle.laws.specs.Entries.{whole_entries}
 use Rattle.laws.specs.Lists.{every}
 use Rattle.laws.proofs.Entries.{entries_empty, entries_short, entries_past, entries_more}
-use Rattle.laws.proofs.Tests.{lt_or_le, and_true, and_none, true_and}
-use Rattle.section.specs.Header.{byte_at, long_form, table_id_of, section_number}
+use Rattle.laws.proofs.Tests.{lt_or_le, and_true}
+use Rattle.section.specs.Header.{long_form}
 use Rattle.laid.specs.Laid.{size_of, cut, sections_in, is_long, laid_out}
-use Rattle.laid.specs.Walk.{long_size, LaidFrom, from, head_of, rank_of, head_rank, head_if}
+use Rattle.laid.specs.Walk.{long_size}
 
 -- ---- the cuts
 

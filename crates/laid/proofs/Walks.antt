@@ -3,20 +3,20 @@
 use mathlib.Core.Path.{◌≡◌, refl, sym, ap, ◌∙◌}
 use mathlib.Core.Logic.{⊎_elim}
 use mathlib.Core.Bool.{Bool, true, false, cond}
-use mathlib.Core.List.{List, [], ◌∷◌, ◌++◌, flatten}
+use mathlib.Core.List.{List, [], ◌∷◌, flatten}
 use Prim.Native.Nat.{ℕ, ◌+◌, ◌*◌, ◌-◌, ◌≤◌, ◌<◌}
 use native.Mathlib.Nat.{add-sub_cancel_left, add-zero, zero-add, sub_self, add_assoc}
 use native.Mathlib.Omega.{arith}
 use lib.ListN.{length, take, drop, get_or, length-drop, length-append}
 use lib.Seq.{get_or-take, get_or-drop, length-take-le, drop-drop, take-append_seam}
-use lib.Dec.{leb, ltb, eqb}
+use lib.Dec.{ltb, eqb}
 use borrow.Author.Tests.{eq-eqb, ne_eqb, lt-ltb, le-ltb}
 use Rattle.laws.proofs.Lists.{rest_part, rest_length}
 use Rattle.laws.proofs.Tests.{lt_or_le}
-use Rattle.section.specs.Header.{byte_at, section_length, table_id_of, section_number}
+use Rattle.section.specs.Header.{section_length, table_id_of, section_number}
 use Rattle.laid.specs.Laid.{size_of, sections_in, laid_out}
 use Rattle.laid.specs.Walk.{LaidFrom, from, head_of, rank_of, head_rank, head_if, tail_if, RankAt, leads, Sectioned, EndAt, numbered, place_in, Placed, leading, following, below_table, Passed}
-use Rattle.laid.proofs.Sections.{Front, Begins, sections_none, sections_front, laid_begins, sections_all}
+use Rattle.laid.proofs.Sections.{Begins, sections_none, sections_front, laid_begins, sections_all}
 
 pub laid_whole : (s : List ℕ) → laid_out s ≡ true → LaidFrom s 0
 laid_whole s w = record { fits = omega arith; whole = w }

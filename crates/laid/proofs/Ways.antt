@@ -2,8 +2,8 @@
 -- Assumes nothing.
 use mathlib.Core.Path.{◌≡◌, refl, sym, ap, ◌∙◌}
 use mathlib.Core.Bool.{Bool, true, false, cond, not, ◌&&◌, ◌||◌}
-use mathlib.Core.List.{List, [], ◌∷◌, ◌++◌, flatten}
-use Prim.Native.Nat.{ℕ, zero, suc, ◌+◌, ◌*◌, ◌/◌, ◌%◌, ◌-◌, ◌≤◌, ◌<◌}
+use mathlib.Core.List.{List}
+use Prim.Native.Nat.{ℕ, ◌+◌, ◌*◌, ◌/◌, ◌%◌, ◌-◌, ◌≤◌, ◌<◌}
 use native.Mathlib.Nat.{add-sub_cancel_left, sub-zero}
 use native.Mathlib.Omega.{arith}
 use lib.ListN.{length, take, drop, length-take, length-drop}
@@ -12,33 +12,31 @@ use lib.Dec.{leb, ltb, eqb}
 use borrow.Author.Tests.{le-leb, lt-leb, lt-ltb, le-ltb, leb-true, ltb-true, eqb-true, eqb-false, not-true, not-false}
 use Rattle.section.specs.Ids.{pid_made}
 use Rattle.section.specs.declared.ids.Pid.{Pid}
-use Rattle.section.specs.declared.ids.Made.{Made}
-use Rattle.section.specs.declared.ids.Made.TheVariants as made
-use Rattle.section.specs.declared.ids.MaybePid.{MaybePid}
-use Rattle.section.specs.declared.ids.MaybePid.TheVariants as maybe
-use Rattle.laid.specs.declared.PidWord.{PidWord}
-use Rattle.laid.specs.declared.PidWord.TheVariants as word
+use Rattle.answers.specs.declared.Refusal.{Refusal}
+use Rattle.std.specs.Prelude.{Result, Ok, Err, Option, Some, None}
+use Rattle.laid.specs.declared.NoWord.{NoWord}
+use Rattle.laid.specs.declared.NoWord.TheVariants as no_word
 use Rattle.laws.proofs.Lists.{rest_part}
 use Rattle.laws.proofs.Tests.{and_true, and_none}
 use Rattle.section.specs.Header.{byte_at, word16, long_form, section_length, table_id_of, extension_of}
 use Rattle.rows.specs.declared.Key.{Key}
 use Rattle.rows.specs.Rows.{same_key}
-use Rattle.laid.specs.Laid.{word_of, pid_word, is_eit, key_of, key_in, schedule_key_in, in_table, in_set, in_schedule, size_of, sections_in, laid_out, chain, chain_from, joins, joined, is_schedule, of_schedule}
+use Rattle.laid.specs.Laid.{word_of, pid_word, is_eit, key_of, key_in, schedule_key_in, in_table, in_set, in_schedule, laid_out, chain, chain_from, joins, joined, is_schedule, of_schedule}
 use Rattle.laid.specs.Walk.{long_size, Sized, from}
-use Rattle.laid.proofs.Sections.{Front, Begins, sections_none, sections_front, laid_empty, laid_none, laid_front, laid_begins, size_front, front_size}
+use Rattle.laid.proofs.Sections.{Front, sections_none, sections_front, laid_empty, laid_none, laid_front, size_front}
 
 -- ---- the PID word
 
-pub word_one : (m : Made) (p : Pid) → m ≡ made.One p → word.Is p.0 ≡ word_of m
+pub word_one : (m : Result Pid Refusal) (p : Pid) → m ≡ Ok p → Ok p.0 ≡ word_of m
 word_one m p h = rw h
 
-pub word_none : (m : Made) → m ≡ made.TooLarge → word.TooLarge ≡ word_of m
-word_none m h = rw h
+pub word_none : (m : Result Pid Refusal) (r : Refusal) → m ≡ Err r → Err no_word.TooLarge ≡ word_of m
+word_none m r h = rw h
 
-pub pid_some : (pid : MaybePid) (v : ℕ) (m : Made) (r : PidWord) → pid ≡ maybe.Some v → m ≡ pid_made v → r ≡ word_of m → r ≡ pid_word pid
+pub pid_some : (pid : Option ℕ) (v : ℕ) (m : Result Pid Refusal) (r : Result ℕ NoWord) → pid ≡ Some v → m ≡ pid_made v → r ≡ word_of m → r ≡ pid_word pid
 pid_some pid v m r h e j = rw (h, ← e) j
 
-pub pid_none : (pid : MaybePid) → pid ≡ maybe.None → word.NoPid ≡ pid_word pid
+pub pid_none : (pid : Option ℕ) → pid ≡ None → Err no_word.NoPid ≡ pid_word pid
 pid_none pid h = rw h
 
 -- ---- keys

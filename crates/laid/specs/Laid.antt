@@ -1,14 +1,12 @@
 -- Sections laid one after another in bytes: which bytes are a set of sections, which a schedule (docs/RULES.md, "Compared guides"). The fields are those of
 -- ISO/IEC 13818-1, 2.4.4.11, and of EN 300 468, 5.2.4. `cond test a b` is a where the test is true, else b.
-use Rattle.std.specs.Prelude.{ℕ, zero, suc, ◌+◌, ◌*◌, ◌/◌, ◌%◌, Bool, true, false, cond, ◌&&◌, ◌||◌, length, take, drop, leb, ltb, eqb}
+use Rattle.std.specs.Prelude.{ℕ, zero, suc, ◌*◌, ◌/◌, ◌%◌, Bool, true, false, cond, ◌&&◌, ◌||◌, length, take, drop, leb, ltb, eqb, Result, Ok, Err, Option, Some, None}
 use mathlib.Core.List.{List, [], ◌∷◌, flatten}
 use Rattle.section.specs.Ids.{pid_made}
-use Rattle.section.specs.declared.ids.Made.{Made}
-use Rattle.section.specs.declared.ids.Made.TheVariants as made
-use Rattle.section.specs.declared.ids.MaybePid.{MaybePid}
-use Rattle.section.specs.declared.ids.MaybePid.TheVariants as maybe
-use Rattle.laid.specs.declared.PidWord.{PidWord}
-use Rattle.laid.specs.declared.PidWord.TheVariants as word
+use Rattle.section.specs.declared.ids.Pid.{Pid}
+use Rattle.answers.specs.declared.Refusal.{Refusal}
+use Rattle.laid.specs.declared.NoWord.{NoWord}
+use Rattle.laid.specs.declared.NoWord.TheVariants as no_word
 use Rattle.laws.specs.Entries.{entry_size, whole_entries}
 use Rattle.laws.specs.Lists.{every}
 use Rattle.section.specs.Header.{byte_at, word16, table_id_of, long_form, extension_of, version_of, section_number, last_section_number}
@@ -52,13 +50,13 @@ abbrev pub kind_first : ℕ → ℕ
 kind_first t = t / 16 * 16
 
 -- the PID word of a key: a side without a PID has none, and so has a number that is no PID
-abbrev pub word_of : Made → PidWord
-word_of (made.One p) = word.Is p.0
-word_of made.TooLarge = word.TooLarge
+abbrev pub word_of : Result Pid Refusal → Result ℕ NoWord
+word_of (Ok p) = Ok p.0
+word_of (Err r) = Err no_word.TooLarge
 
-abbrev pub pid_word : MaybePid → PidWord
-pid_word maybe.None = word.NoPid
-pid_word (maybe.Some v) = word_of (pid_made v)
+abbrev pub pid_word : Option ℕ → Result ℕ NoWord
+pid_word None = Err no_word.NoPid
+pid_word (Some v) = word_of (pid_made v)
 
 -- the key of a section on this PID, its table under this number: an EIT has its transport stream and its original network in it
 abbrev pub key_of : ℕ → ℕ → List ℕ → Key

@@ -8,38 +8,39 @@ ghost use Rattle.section.specs.Header.{byte_at, word16};
 ghost use Rattle.laid.specs.Laid.{word_of, pid_word, is_eit, of_schedule, key_of, key_in, schedule_key_in, in_table, in_set, in_schedule, joins, joined, laid_out, is_set, is_schedule, table_in};
 ghost use Rattle.laid.specs.Walk.{Sized, LaidFrom, from, RankAt, head_if, leads, Sectioned, EndAt, Placed, below_table, Passed};
 
+use answers::Refusal;
 use rows::{Key, Origin};
 use section::bytes::{long_form, section_length, wide, word};
-use section::ids::{Made, MaybePid, Pid};
+use section::ids::Pid;
 
 // The rank that stands for the end of the bytes: a section's is below it.
 pub const NO_RANK: usize = 65536;
 
 // ---- keys
 
-// The PID word of a side's key, or why there is none: the side has no PID (41), or the number is no PID (12).
+// Why a side's key has no PID word: the side has no PID (41), or the number is no PID (12).
 #[derive(Clone, Copy)]
-pub enum PidWord {
-    Is(u64),
+pub enum NoWord {
     NoPid,
     TooLarge,
 }
 
-pub fn pid_word(pid: MaybePid) -> PidWord
+// The PID word of a side's key.
+pub fn pid_word(pid: Option<u16>) -> Result<u64, NoWord>
     ensures { result ≡ pid_word pid }
 {
     match pid {
-        MaybePid::None => PidWord::NoPid,
-        MaybePid::Some(v) => made_word(Pid::make(v)),
+        None => Err(NoWord::NoPid),
+        Some(v) => made_word(Pid::make(v)),
     }
 }
 
-fn made_word(m: Made) -> PidWord
+fn made_word(m: Result<Pid, Refusal>) -> Result<u64, NoWord>
     ensures { result ≡ word_of m }
 {
     match m {
-        Made::One(p) => PidWord::Is(p.0 as u64),
-        Made::TooLarge => PidWord::TooLarge,
+        Ok(p) => Ok(p.0 as u64),
+        Err(_) => Err(NoWord::TooLarge),
     }
 }
 

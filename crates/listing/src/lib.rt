@@ -35,18 +35,6 @@ fn count_at(s: &[u8], at: usize, header: usize) -> usize
     entry_words::count(&s[at..at + header])
 }
 
-// Twelve words go in at `at`.
-fn write(list: &mut [u32], at: usize, words: &[u32])
-    requires { (at + 12 ≤ length list.old) × (length words.now ≡ 12) }
-    ensures { list.new ≡ paste list.old at words.now 12 }
-{
-    let mut i = 0;
-    while i < entry_words::WORDS {
-        list[at + i] = words[i];
-        i += 1;
-    }
-}
-
 // Entry k goes into the list where it is not passed over and there is room for it.
 fn put(list: &mut [u32], skip: usize, k: usize, words: &[u32; 12])
     ensures { list.new ≡ put_in list.old skip k words.now }
@@ -56,7 +44,8 @@ fn put(list: &mut [u32], skip: usize, k: usize, words: &[u32; 12])
     }
     let row = k - skip;
     if row < list.len() / entry_words::WORDS {
-        write(list, row * entry_words::WORDS, words);
+        let at = row * entry_words::WORDS;
+        list[at..at + entry_words::WORDS].copy_from_slice(words);
     }
 }
 

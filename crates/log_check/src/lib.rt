@@ -7,93 +7,77 @@ ghost use Rattle.log_compare.specs.Compare.{passed, records_in};
 ghost use Rattle.log_list.specs.List.{WholeFrom};
 ghost use Rattle.log_state.specs.State.{lent};
 ghost use Rattle.log_sections.specs.Steps.{shown_in, memory};
-ghost use Rattle.log_check.specs.Check.{check_no, refused_by, told_of, IsEntry, Walked, check_as, checked_of};
+ghost use Rattle.log_check.specs.Check.{error_no, place_of, IsEntry, Walked, check_as, checked_of};
 
-use log_compare::{Fault, Seen};
+use log_compare::Wrong;
 use log_entries::Entry;
-use log_prepare::Prepared;
+use log_list::Sections;
+use log_prepare::PrepareError;
 use log_state::{Run, Settings};
 
-// Yes (8); a record of no kind (38), cut off (39), missing, too many or another one (40); the list has too long a section (42), is cut (10), sets would be
-// taken without PIDs (41), or the memory lent is too little for the settings (13).
-#[derive(Clone, Copy)]
-pub enum CheckAnswer {
-    Yes,
-    Unknown,
-    CutOff,
-    Missing,
-    TooMany,
-    Differs,
-    TooLong,
-    SectionsCut,
-    NoPid,
-    TooLittle,
+// Why a log is not that of the sections: its first wrong record; or no run was opened, and nothing was looked at.
+#[derive(Clone, Copy, Debug, PartialEq, Eq)]
+pub enum CheckError {
+    Record(Wrong),
+    Run(PrepareError),
 }
 
-// The place, in bytes from 0, is told with 38, 39 and 40; else it is 0.
-#[derive(Clone, Copy)]
-pub struct Checked {
-    pub answer: CheckAnswer,
-    pub place: usize,
+impl From<Wrong> for CheckError {
+    ghost use Rattle.log_check.specs.declared.CheckError.TheVariants.{Record};
+
+    ghost from_gives = { λ wrong e. e ≡ Record wrong };
+
+    fn from(wrong: Wrong) -> CheckError {
+        CheckError::Record(wrong)
+    }
 }
 
-impl CheckAnswer {
+impl From<PrepareError> for CheckError {
+    ghost use Rattle.log_check.specs.declared.CheckError.TheVariants.{Run};
+
+    ghost from_gives = { λ error e. e ≡ Run error };
+
+    fn from(error: PrepareError) -> CheckError {
+        CheckError::Run(error)
+    }
+}
+
+impl CheckError {
+    // A record of no kind (38), cut off (39), missing, too many or another one (40); the list has too long a section (42), is cut (10), sets would be taken
+    // without PIDs (41), or the memory lent is too little for the settings (13).
     pub fn number(self) -> u8
-        ensures { result ≡ check_no self }
+        ensures { result ≡ error_no self }
     {
         match self {
-            CheckAnswer::Yes => 8,
-            CheckAnswer::Unknown => 38,
-            CheckAnswer::CutOff => 39,
-            CheckAnswer::Missing => 40,
-            CheckAnswer::TooMany => 40,
-            CheckAnswer::Differs => 40,
-            CheckAnswer::TooLong => 42,
-            CheckAnswer::SectionsCut => 10,
-            CheckAnswer::NoPid => 41,
-            CheckAnswer::TooLittle => 13,
+            CheckError::Record(Wrong::Unknown(_)) => 38,
+            CheckError::Record(Wrong::CutOff(_)) => 39,
+            CheckError::Record(Wrong::Missing(_)) => 40,
+            CheckError::Record(Wrong::TooMany(_)) => 40,
+            CheckError::Record(Wrong::Differs(_)) => 40,
+            CheckError::Run(PrepareError::TooLong) => 42,
+            CheckError::Run(PrepareError::Cut) => 10,
+            CheckError::Run(PrepareError::NoPid) => 41,
+            CheckError::Run(PrepareError::TooLittle) => 13,
+        }
+    }
+
+    // Where the wrong record stands, in bytes from 0.
+    pub fn place(self) -> Option<usize>
+        ensures { result ≡ place_of self }
+    {
+        match self {
+            CheckError::Record(Wrong::Unknown(place)) => Some(place),
+            CheckError::Record(Wrong::CutOff(place)) => Some(place),
+            CheckError::Record(Wrong::Missing(place)) => Some(place),
+            CheckError::Record(Wrong::TooMany(place)) => Some(place),
+            CheckError::Record(Wrong::Differs(place)) => Some(place),
+            CheckError::Run(_) => None,
         }
     }
 }
 
-fn refused(answer: CheckAnswer) -> Checked
-    ensures { result ≡ refused_by answer }
-{
-    Checked { answer, place: 0 }
-}
-
-fn told(seen: Seen) -> Checked
-    ensures { result ≡ told_of seen }
-{
-    let fault = seen.fault;
-    let place = seen.place;
-    match fault {
-        Fault::None => refused(CheckAnswer::Yes),
-        Fault::Unknown => Checked {
-            answer: CheckAnswer::Unknown,
-            place,
-        },
-        Fault::CutOff => Checked {
-            answer: CheckAnswer::CutOff,
-            place,
-        },
-        Fault::Missing => Checked {
-            answer: CheckAnswer::Missing,
-            place,
-        },
-        Fault::TooMany => Checked {
-            answer: CheckAnswer::TooMany,
-            place,
-        },
-        Fault::Differs => Checked {
-            answer: CheckAnswer::Differs,
-            place,
-        },
-    }
-}
-
-// The records of one section beside the log at this place.
-fn beside(log: &[u8], place: usize, entry: Entry) -> Seen
+// The records of one section beside the log at this place; the place after them.
+fn beside(log: &[u8], place: usize, entry: Entry) -> Result<usize, Wrong>
     requires { IsEntry entry }
     ensures { result ≡ passed log.now place (records_in (shown_in entry)) }
 {
@@ -112,29 +96,22 @@ fn walk(
     cells: &mut [u8],
     sections: &[u8],
     log: &[u8],
-) -> Seen
+) -> Result<(), Wrong>
     requires { WholeFrom sections.now 0 }
     ensures { Walked sections.now log.now (lent run keys.old changes.old heads.old slots.old cells.old) result (memory keys.new changes.new heads.new slots.new cells.new) }
 {
     let mut now = run;
-    let mut place = 0;
     let mut at = 0;
-    while place < sections.len() {
+    for place in Sections::new(sections, 0) {
         let step = log_sections::take_one(now, keys, changes, heads, slots, cells, sections, place);
         let entry = step.entry;
-        let seen = beside(log, at, entry);
-        if !seen.passes() {
-            return seen;
-        }
+        at = beside(log, at, entry)?;
         now = step.run;
-        place = step.next;
-        at = seen.place;
     }
     log_compare::finish(log, at)
 }
 
-// Whether the log is exactly what the sections give with these settings. The memory lent is for the run alone: it is as before where the answer is 42, 10, 41
-// or 13.
+// Whether the log is exactly what the sections give with these settings. The memory lent is for the run alone: it is as before where no run was opened.
 pub fn check(
     settings: Settings,
     sections: &[u8],
@@ -144,18 +121,10 @@ pub fn check(
     heads: &mut [u64],
     slots: &mut [u32],
     cells: &mut [u8],
-) -> Checked
+) -> Result<(), CheckError>
     ensures { check_as result (memory keys.new changes.new heads.new slots.new cells.new) ≡ checked_of settings sections.now log.now (memory keys.old changes.old heads.old slots.old cells.old) }
 {
-    let prepared = log_prepare::prepare(settings, sections, keys, changes, heads, slots, cells);
-    match prepared {
-        Prepared::TooLong => refused(CheckAnswer::TooLong),
-        Prepared::Cut => refused(CheckAnswer::SectionsCut),
-        Prepared::NoPid => refused(CheckAnswer::NoPid),
-        Prepared::TooLittle => refused(CheckAnswer::TooLittle),
-        Prepared::Ready(run) => {
-            let seen = walk(run, keys, changes, heads, slots, cells, sections, log);
-            told(seen)
-        }
-    }
+    let run = log_prepare::prepare(settings, sections, keys, changes, heads, slots, cells)?;
+    walk(run, keys, changes, heads, slots, cells, sections, log)?;
+    Ok(())
 }

@@ -6,17 +6,18 @@ use mathlib.Core.Bool.{Bool, true, false, cond}
 use mathlib.Core.List.{List, [], ◌∷◌, ◌++◌}
 use Prim.Native.Nat.{ℕ, ◌+◌, ◌-◌, ◌≤◌, ◌<◌}
 use native.Mathlib.Omega.{arith}
-use lib.Dec.{ltb, leb, eqb}
-use lib.ListN.{length, take, drop, get_or, length-drop, drop_of_length-le}
+use lib.Dec.{ltb, eqb}
+use lib.ListN.{length, take, drop, get_or, length-drop}
 use lib.Seq.{get_or-drop, drop-drop}
 use borrow.Author.Tests.{le-leb, lt-leb}
 use Rattle.laws.specs.Lists.{same_list}
 use Rattle.laws.proofs.Lists.{get_d_ix}
 use Rattle.rules_logs.specs.Records.{Bytes, record_size}
-use Rattle.rules_logs.specs.Verdict.{Verdict, yes, unknown, cut_off, missing, too_many, differs, headed, verdict}
-use Rattle.log_compare.specs.declared.Fault.TheVariants as fault
-use Rattle.log_compare.specs.declared.Seen.{Seen}
-use Rattle.log_compare.specs.Compare.{is_none, seen, said_of, met_of, onward, passed_one, passed, finished, goes_on}
+use Rattle.rules_logs.specs.Verdict.{unknown, cut_off, too_many, differs, verdict}
+use Rattle.std.specs.Prelude.{Result, Ok, Err}
+use Rattle.log_compare.specs.declared.Wrong.{Wrong}
+use Rattle.log_compare.specs.declared.Wrong.TheVariants as wrong
+use Rattle.log_compare.specs.Compare.{verdict_of, met_of, onward, passed_one, passed, finished, goes_on}
 
 module _ (log : Bytes) (p : ℕ) where
   at_end_lem : drop p log ≡ [] → length log ≤ p
@@ -33,24 +34,24 @@ module _ (log : Bytes) (p : ℕ) where
     kind = let here : p + 0 ≡ p = omega arith in sym (get_or-drop p log 0 0 ∙ get_d_ix log 0 here) ∙ ap (λ (x : Bytes). get_or x 0 0) d
 
     -- a record that begins here
-    there : Bool → Bool → Seen
-    there a b = cond a (seen fault.Unknown p) (cond b (seen fault.CutOff p) (seen fault.None (p + record_size k)))
+    there : Bool → Bool → Result ℕ Wrong
+    there a b = cond a (Err (wrong.Unknown p)) (cond b (Err (wrong.CutOff p)) (Ok (p + record_size k)))
 
     met_there : met_of log p ≡ there (eqb (record_size k) 0) (ltb (length (k ∷ l)) (record_size k))
     unfolding met_of there
     met_there = rw (kind, left) refl
 
 -- none is expected any more
-pub finish_says : (log : Bytes) (p : ℕ) → verdict p (drop p log) [] ≡ said_of (finished log p).fault (finished log p).place
+pub finish_says : (log : Bytes) (p : ℕ) → verdict p (drop p log) [] ≡ verdict_of (finished log p)
 unfolding verdict finished there
 finish_says log p = go (drop p log) refl
   where
-    go : (l : Bytes) → drop p log ≡ l → verdict p l [] ≡ said_of (finished log p).fault (finished log p).place
+    go : (l : Bytes) → drop p log ≡ l → verdict p l [] ≡ verdict_of (finished log p)
     go [] d = rw (le-leb (length log) p (at_end_lem log p d)) refl
     go (k ∷ l) d = rw (lt-leb (length log) p (before_end log p d), met_there log p d) (by (eqb (record_size k) 0) (ltb (length (k ∷ l)) (record_size k)))
       where
         by : (a b : Bool) → cond a (unknown p) (cond b (cut_off p) (too_many p))
-            ≡ said_of (onward (there log p d a b) (seen fault.TooMany p)).fault (onward (there log p d a b) (seen fault.TooMany p)).place
+            ≡ verdict_of (onward (there log p d a b) (λ q. Err (wrong.TooMany p)))
         by true b = refl
         by false true = refl
         by false false = refl
@@ -71,19 +72,19 @@ composes log (e ∷ es) rest p = go (drop p log) refl (composes log es rest)
         size : ℕ
         size = record_size k
 
-        one : Bool → Bool → Seen
-        one a b = onward (there log p d a b) (cond (same_list (take ((there log p d a b).place - p) (k ∷ l)) e) (there log p d a b) (seen fault.Differs p))
+        one : Bool → Bool → Result ℕ Wrong
+        one a b = onward (there log p d a b) (λ q. cond (same_list (take (q - p) (k ∷ l)) e) (Ok q) (Err (wrong.Differs p)))
 
         then : verdict (p + size) (drop size (k ∷ l)) (es ++ rest) ≡ goes_on log rest (passed log (p + size) es)
         then = rw (← d, drop-drop size p log) (on (p + size))
 
         same : (c : Bool) → cond c (verdict (p + size) (drop size (k ∷ l)) (es ++ rest)) (differs p)
-            ≡ goes_on log rest (let s : Seen = cond c (seen fault.None (p + size)) (seen fault.Differs p) in onward s (passed log s.place es))
+            ≡ goes_on log rest (onward (cond c (Ok (p + size)) (Err (wrong.Differs p))) (λ q. passed log q es))
         same true = then
         same false = refl
 
         by : (a b : Bool) → cond a (unknown p) (cond b (cut_off p) (cond (same_list (take size (k ∷ l)) e) (verdict (p + size) (drop size (k ∷ l)) (es ++ rest)) (differs p)))
-            ≡ goes_on log rest (onward (one a b) (passed log (one a b).place es))
+            ≡ goes_on log rest (onward (one a b) (λ q. passed log q es))
         by true b = refl
         by false true = refl
         by false false = let n : (p + size) - p ≡ size = omega arith in rw n (same (same_list (take size (k ∷ l)) e))

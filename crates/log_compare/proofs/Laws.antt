@@ -1,103 +1,91 @@
 -- Records beside a log: one law for each way out, and that bytes which are whole records are cut up into just those.
 -- Assumes nothing.
-use mathlib.Core.Path.{◌≡◌, refl, sym, ap, subst, ◌∙◌}
-use mathlib.Core.Bool.{Bool, true, false, cond, not, true≢false}
+use mathlib.Core.Path.{◌≡◌, refl, sym, ap, ◌∙◌}
+use mathlib.Core.Bool.{Bool, true, false, cond, not}
 use mathlib.Core.List.{List, [], ◌∷◌, ◌++◌}
 use Prim.Native.Nat.{ℕ, zero, suc, ◌+◌, ◌-◌, ◌≤◌, ◌<◌}
 use native.Mathlib.Omega.{arith}
-use lib.Dec.{ltb, leb, eqb}
-use lib.ListN.{length, take, drop, get_or, length-append, length-drop, drop_of_length-le}
-use lib.Seq.{take_at, drop_at, get_or-drop, drop-drop}
+use lib.Dec.{ltb, eqb}
+use lib.ListN.{length, take, drop, get_or, length-append}
+use lib.Seq.{take_at, drop_at}
 use borrow.Author.Tests.{eq-eqb, ne_eqb, lt-ltb, le-ltb, le-leb, lt-leb, ltb-false, not-true, not-false}
 use Rattle.laws.specs.Lists.{same_list}
-use Rattle.laws.proofs.Lists.{get_d_ix}
 use Rattle.rules_logs.specs.Records.{Bytes, record_size}
-use Rattle.rules_logs.specs.Verdict.{log_of, IsRecord, AllRecords}
-use Rattle.log_compare.specs.declared.Fault.{Fault}
-use Rattle.log_compare.specs.declared.Fault.TheVariants as fault
-use Rattle.log_compare.specs.declared.Seen.{Seen}
-use Rattle.log_compare.specs.Compare.{is_none, seen, met_of, onward, passed_one, passed, finished, size_of, cut_up, records_in, Laid}
-
-pub no_fault : (f : Fault) → is_none f ≡ true → f ≡ fault.None
-no_fault fault.None h = refl
-no_fault fault.Unknown h = absurd (true≢false (sym h))
-no_fault fault.CutOff h = absurd (true≢false (sym h))
-no_fault fault.Missing h = absurd (true≢false (sym h))
-no_fault fault.TooMany h = absurd (true≢false (sym h))
-no_fault fault.Differs h = absurd (true≢false (sym h))
+use Rattle.rules_logs.specs.Verdict.{log_of, AllRecords}
+use Rattle.std.specs.Prelude.{slice_get, Some, None, Result, Ok, Err}
+use Rattle.log_compare.specs.declared.Wrong.{Wrong}
+use Rattle.log_compare.specs.declared.Wrong.TheVariants as wrong
+use Rattle.log_compare.specs.Compare.{met_of, onward, passed_one, passed, finished, size_of, cut_up, records_in, Laid}
 
 -- ---- a record that begins at a place
 
 module _ (log : Bytes) (p : ℕ) where
-  pub met_unknown : {n : ℕ} {r : Seen} → n ≡ record_size (get_or log p 0) → n ≡ 0 → r ≡ seen fault.Unknown p → r ≡ met_of log p
+  pub met_unknown : {n : ℕ} → n ≡ record_size (get_or log p 0) → n ≡ 0 → Err (wrong.Unknown p) ≡ met_of log p
   unfolding met_of
-  met_unknown e z q = rw (eq-eqb (record_size (get_or log p 0)) 0 (sym e ∙ z)) q
+  met_unknown e z = rw (eq-eqb (record_size (get_or log p 0)) 0 (sym e ∙ z)) refl
 
-  pub met_cut : {n : ℕ} {r : Seen} → n ≡ record_size (get_or log p 0) → (n ≡ 0 → ⊥) → length log - p < n → r ≡ seen fault.CutOff p → r ≡ met_of log p
+  pub met_cut : {n : ℕ} → n ≡ record_size (get_or log p 0) → (n ≡ 0 → ⊥) → length log - p < n → Err (wrong.CutOff p) ≡ met_of log p
   unfolding met_of
-  met_cut {n = n} e z l q = rw (← e, ne_eqb n 0 z, lt-ltb (length log - p) n l) q
+  met_cut {n = n} e z l = rw (← e, ne_eqb n 0 z, lt-ltb (length log - p) n l) refl
 
-  pub met_whole : {n : ℕ} {r : Seen} → n ≡ record_size (get_or log p 0) → (n ≡ 0 → ⊥) → n ≤ length log - p → r ≡ seen fault.None (p + n) → r ≡ met_of log p
+  pub met_whole : {n : ℕ} → n ≡ record_size (get_or log p 0) → (n ≡ 0 → ⊥) → n ≤ length log - p → Ok (p + n) ≡ met_of log p
   unfolding met_of
-  met_whole {n = n} e z l q = rw (← e, ne_eqb n 0 z, le-ltb (length log - p) n l) q
+  met_whole {n = n} e z l = rw (← e, ne_eqb n 0 z, le-ltb (length log - p) n l) refl
 
   -- where it is whole, it ends inside the log
-  pub record Ends (s : Seen) : Type 0 where
-    pub later : p ≤ s.place
-    pub within : s.place ≤ length log
+  pub record Ends (q : ℕ) : Type 0 where
+    pub later : p ≤ q
+    pub within : q ≤ length log
 
-  met_ends : p < length log → is_none (met_of log p).fault ≡ true → Ends (met_of log p)
+  met_ends : p < length log → (q : ℕ) → met_of log p ≡ Ok q → Ends q
   unfolding met_of
-  met_ends h = go (eqb (record_size (get_or log p 0)) 0) (ltb (length log - p) (record_size (get_or log p 0))) refl
+  met_ends h q = go (eqb size 0) (ltb (length log - p) size) refl
     where
-      go : (a b : Bool) → ltb (length log - p) (record_size (get_or log p 0)) ≡ b
-          → is_none (cond a (seen fault.Unknown p) (cond b (seen fault.CutOff p) (seen fault.None (p + record_size (get_or log p 0))))).fault ≡ true
-          → Ends (cond a (seen fault.Unknown p) (cond b (seen fault.CutOff p) (seen fault.None (p + record_size (get_or log p 0)))))
-      go true b e q = absurd (true≢false (sym q))
-      go false true e q = absurd (true≢false (sym q))
-      go false false e q = let l = ltb-false (length log - p) (record_size (get_or log p 0)) e in record { later = omega arith; within = omega (arith, l, h) }
+      size : ℕ
+      size = record_size (get_or log p 0)
 
-  module _ {s : Seen} {b : Bool} (h : p < length log) (e : s ≡ met_of log p) (f : b ≡ is_none s.fault) where
-    ends : not b ≡ false → Ends s
-    ends n = rw e (met_ends h (ap (λ (x : Seen). is_none x.fault) (sym e) ∙ sym f ∙ not-false b n))
+      go : (a b : Bool) → ltb (length log - p) size ≡ b → cond a (Err (wrong.Unknown p)) (cond b (Err (wrong.CutOff p)) (Ok (p + size))) ≡ Ok q → Ends q
+      go true b e m = absurd (let z : ◌≡◌ {A = ℕ} 0 1 = cc in omega arith)
+      go false true e m = absurd (let z : ◌≡◌ {A = ℕ} 0 1 = cc in omega arith)
+      go false false e m =
+          let is : p + size ≡ q = cc in
+          let l = ltb-false (length log - p) size e in record { later = omega (arith, is); within = omega (arith, l, h, is) }
 
-    pub ends_later : not b ≡ false → p ≤ s.place
-    ends_later n = (ends n).later
-
-    pub ends_within : not b ≡ false → s.place ≤ length log
-    ends_within n = (ends n).within
+  module _ {m : Result ℕ Wrong} (h : p < length log) (e : m ≡ met_of log p) where
+    pub ends : {q : ℕ} → m ≡ Ok q → Ends q
+    ends {q = q} n = met_ends h q (sym e ∙ n)
 
     -- ---- one record that is expected there
 
-    pub one_met : (x : Bytes) → not b ≡ true → s ≡ passed_one log p x
+    pub one_met : {w : Wrong} (x : Bytes) → m ≡ Err w → Err w ≡ passed_one log p x
     unfolding passed_one
-    one_met x n = rw (lt-leb (length log) p h, ← e, ← f, not-true b n) refl
+    one_met x n = rw (lt-leb (length log) p h, ← e, n) refl
 
-    pub one_differs : {r : Seen} {c : Bool} (x : Bytes) → not b ≡ false → c ≡ same_list (take (s.place - p) (drop p log)) x → not c ≡ true → r ≡ seen fault.Differs p → r ≡ passed_one log p x
+    pub one_differs : {q : ℕ} {c : Bool} (x : Bytes) → m ≡ Ok q → c ≡ same_list (take (q - p) (drop p log)) x → not c ≡ true → Err (wrong.Differs p) ≡ passed_one log p x
     unfolding passed_one
-    one_differs {c = c} x n g m q = rw (lt-leb (length log) p h, ← e, ← f, not-false b n, ← g, not-true c m) q
+    one_differs {c = c} x n g k = rw (lt-leb (length log) p h, ← e, n, ← g, not-true c k) refl
 
-    pub one_passes : {c : Bool} (x : Bytes) → not b ≡ false → c ≡ same_list (take (s.place - p) (drop p log)) x → not c ≡ false → s ≡ passed_one log p x
+    pub one_passes : {q : ℕ} {c : Bool} (x : Bytes) → m ≡ Ok q → c ≡ same_list (take (q - p) (drop p log)) x → not c ≡ false → Ok q ≡ passed_one log p x
     unfolding passed_one
-    one_passes {c = c} x n g m = rw (lt-leb (length log) p h, ← e, ← f, not-false b n, ← g, not-false c m) refl
+    one_passes {c = c} x n g k = rw (lt-leb (length log) p h, ← e, n, ← g, not-false c k) refl
 
     -- ---- none is expected there
 
-    pub none_met : not b ≡ true → s ≡ finished log p
+    pub none_met : {w : Wrong} → m ≡ Err w → Err w ≡ finished log p
     unfolding finished
-    none_met n = rw (lt-leb (length log) p h, ← e, ← f, not-true b n) refl
+    none_met n = rw (lt-leb (length log) p h, ← e, n) refl
 
-    pub none_over : {r : Seen} → not b ≡ false → r ≡ seen fault.TooMany p → r ≡ finished log p
+    pub none_over : {q : ℕ} → m ≡ Ok q → Err (wrong.TooMany p) ≡ finished log p
     unfolding finished
-    none_over n q = rw (lt-leb (length log) p h, ← e, ← f, not-false b n) q
+    none_over n = rw (lt-leb (length log) p h, ← e, n) refl
 
-  pub one_missing : {r : Seen} (x : Bytes) → length log ≤ p → r ≡ seen fault.Missing p → r ≡ passed_one log p x
+  pub one_missing : (x : Bytes) → length log ≤ p → Err (wrong.Missing p) ≡ passed_one log p x
   unfolding passed_one
-  one_missing x h q = rw (le-leb (length log) p h) q
+  one_missing x h = rw (le-leb (length log) p h) refl
 
-  pub none_ends : {r : Seen} → length log ≤ p → r ≡ seen fault.None p → r ≡ finished log p
+  pub none_ends : length log ≤ p → Ok tt ≡ finished log p
   unfolding finished
-  none_ends h q = rw (le-leb (length log) p h) q
+  none_ends h = rw (le-leb (length log) p h) refl
 
 -- ---- bytes that are whole records
 
@@ -143,53 +131,42 @@ first s ((k ∷ x) ∷ es) rs e h =
       is = records_back ((k ∷ x) ∷ es) rs ∙ sym (rw (take_at (k ∷ x) (log_of es) (record_size k) rs.0.sized, drop_at (k ∷ x) (log_of es) (record_size k) rs.0.sized, records_back es rs.1) refl);
     })
 
+-- what the first byte is
+pub first_some : (x : Bytes) {k : ℕ} → Some k ≡ slice_get x 0 → (0 < length x) × (k ≡ get_or x 0 0)
+first_some [] e = absurd (let z : ◌≡◌ {A = ℕ} 0 1 = cc in omega arith)
+first_some (y ∷ x) e = (omega arith, cc)
+
+pub first_none : (x : Bytes) → None ≡ slice_get x 0 → length x ≡ 0
+first_none [] e = refl
+first_none (y ∷ x) e = absurd (let z : ◌≡◌ {A = ℕ} 0 1 = cc in omega arith)
+
 -- ---- one after another
 
-pub none_yet : (log x : Bytes) (p : ℕ) {s : Seen} → s ≡ seen fault.None p → passed log p (records_in x) ≡ passed log s.place (records_in (drop 0 x))
-none_yet log x p e = rw e refl
+module _ (log x : Bytes) (l : Laid x) (h : 0 < length x) {n : ℕ} (e : n ≡ size_of x) where
+  left : First x
+  left = first x l.records l.all l.are h
 
-pub none_wrong : (p : ℕ) {s : Seen} → s ≡ seen fault.None p → is_none s.fault ≡ true
-none_wrong p e = rw e refl
-
-module _ (log x : Bytes) (done : ℕ) (l : Laid (drop done x)) (h : done < length x) {n : ℕ} (e : n ≡ record_size (get_or x done 0)) where
-  left : First (drop done x)
-  left = first (drop done x) l.records l.all l.are (omega (arith, h, length-drop done x))
-
-  size_is : size_of (drop done x) ≡ n
-  size_is = let here : done + 0 ≡ done = omega arith in ap record_size (get_or-drop done x 0 0 ∙ get_d_ix x 0 here) ∙ sym e
-
-  pub turn_fits : done + n ≤ length x
-  turn_fits = omega (arith, left.within, size_is, length-drop done x, h)
+  pub turn_fits : n ≤ length x
+  turn_fits = omega (arith, left.within, e)
 
   pub turn_more : 0 < n
-  turn_more = omega (arith, left.some, size_is)
+  turn_more = omega (arith, left.some, e)
 
-  behind_is : drop (size_of (drop done x)) (drop done x) ≡ drop (done + n) x
-  behind_is = drop-drop (size_of (drop done x)) done x ∙ ap (λ (k : ℕ). drop (done + k) x) size_is
+  pub turn_laid : Laid (drop n x)
+  turn_laid = rw e left.behind
 
-  pub turn_laid : Laid (drop (done + n) x)
-  turn_laid = subst Laid behind_is left.behind
-
-  module _ (p : ℕ) {s : Seen} {b : Bool} (q : s ≡ passed_one log p (take ((done + n) - done) (drop done x))) (f : b ≡ is_none s.fault) where
-    is_one : passed log p (records_in (drop done x)) ≡ onward s (passed log s.place (records_in (drop (done + n) x)))
+  module _ (p : ℕ) {m whole : Result ℕ Wrong} (q : m ≡ passed_one log p (take n x)) (w : whole ≡ passed log p (records_in x)) where
+    is_one : whole ≡ onward m (λ k. passed log k (records_in (drop n x)))
     unfolding passed
-    is_one =
-        let m : (done + n) - done ≡ size_of (drop done x) = omega (arith, size_is) in
-        let k : s ≡ passed_one log p (take (size_of (drop done x)) (drop done x)) = q ∙ ap (λ (i : ℕ). passed_one log p (take i (drop done x))) m in
-        rw (left.is, behind_is, ← k) refl
+    is_one = w ∙ rw (left.is, ← e, ← q) refl
 
-    pub turn_stops : (whole : Seen) → whole ≡ passed log p (records_in (drop done x)) → not b ≡ true → s ≡ whole
-    turn_stops whole w n = sym (w ∙ is_one ∙ rw (← f, not-true b n) refl)
+    pub turn_stops : {v : Wrong} → m ≡ Err v → Err v ≡ whole
+    turn_stops n = sym (is_one ∙ rw n refl)
 
-    pub turn_on : (whole : Seen) → whole ≡ passed log p (records_in (drop done x)) → not b ≡ false → whole ≡ passed log s.place (records_in (drop (done + n) x))
-    turn_on whole w n = w ∙ is_one ∙ rw (← f, not-false b n) refl
+    pub turn_on : {k : ℕ} → m ≡ Ok k → whole ≡ passed log k (records_in (drop n x))
+    turn_on n = is_one ∙ rw n refl
 
-    pub turn_none : not b ≡ false → is_none s.fault ≡ true
-    turn_none n = sym f ∙ not-false b n
-
-pub all_passed : (log x : Bytes) (done : ℕ) (s : Seen) (whole : Seen) → length x ≤ done → is_none s.fault ≡ true → whole ≡ passed log s.place (records_in (drop done x)) → s ≡ whole
+pub all_passed : (log x : Bytes) (p : ℕ) {whole : Result ℕ Wrong} → length x ≡ 0 → whole ≡ passed log p (records_in x) → Ok p ≡ whole
 unfolding passed records_in cut_up
-all_passed log x done s whole h n w =
-    let e : drop done x ≡ [] = drop_of_length-le x h in
-    let f : s.fault ≡ fault.None = no_fault s.fault n in
-    sym (w ∙ rw (e, ← f) refl)
+all_passed log [] p h w = sym w
+all_passed log (k ∷ x) p h w = absurd (omega (arith, h))

@@ -1,62 +1,55 @@
 -- Records that are expected beside those that a log has, from a place on (docs/RULES.md, "Logs"). `cond test a b` is a where the test is true, else b.
 -- Assumes nothing.
-use Rattle.std.specs.Prelude.{ℕ, zero, suc, ◌+◌, ◌-◌, ◌≤◌, ◌<◌, ◌≡◌, List, [], ◌∷◌, Bool, true, false, cond, leb, ltb, eqb, length, take, drop, get_or}
+use Rattle.std.specs.Prelude.{ℕ, zero, suc, ◌+◌, ◌-◌, ◌≡◌, List, [], ◌∷◌, cond, leb, ltb, eqb, length, take, drop, get_or, Result, Ok, Err}
 use Rattle.laws.specs.Lists.{same_list}
 use Rattle.rules_logs.specs.Records.{Bytes, record_size}
 use Rattle.rules_logs.specs.Verdict.{Verdict, yes, unknown, cut_off, missing, too_many, differs, verdict, log_of, AllRecords}
-use Rattle.log_compare.specs.declared.Fault.{Fault}
-use Rattle.log_compare.specs.declared.Fault.TheVariants as fault
-use Rattle.log_compare.specs.declared.Seen.{Seen}
+use Rattle.log_compare.specs.declared.Wrong.{Wrong}
+use Rattle.log_compare.specs.declared.Wrong.TheVariants as wrong
 
-abbrev pub is_none : Fault → Bool
-is_none fault.None = true
-is_none fault.Unknown = false
-is_none fault.CutOff = false
-is_none fault.Missing = false
-is_none fault.TooMany = false
-is_none fault.Differs = false
+-- what is said of a log with this wrong record
+abbrev pub said_of : Wrong → Verdict
+said_of (wrong.Unknown p) = unknown p
+said_of (wrong.CutOff p) = cut_off p
+said_of (wrong.Missing p) = missing p
+said_of (wrong.TooMany p) = too_many p
+said_of (wrong.Differs p) = differs p
 
-abbrev pub seen : Fault → (p : ℕ) → Seen
-seen f p = record { fault = f; place = p }
+-- yes where nothing is wrong
+abbrev pub verdict_of : Result Unit Wrong → Verdict
+verdict_of (Ok x) = yes
+verdict_of (Err w) = said_of w
 
--- what is said of a log with this fault; yes where nothing is wrong
-abbrev pub said_of : Fault → (p : ℕ) → Verdict
-said_of fault.None p = yes
-said_of fault.Unknown p = unknown p
-said_of fault.CutOff p = cut_off p
-said_of fault.Missing p = missing p
-said_of fault.TooMany p = too_many p
-said_of fault.Differs p = differs p
-
--- a record begins at place p: of no kind (38), cut off (39), or whole
-unfoldable pub met_of : Bytes → (p : ℕ) → Seen
+-- a record begins at place p: of no kind (38), cut off (39), or whole, and then the place after it
+unfoldable pub met_of : Bytes → (p : ℕ) → Result ℕ Wrong
 met_of log p =
     let size : ℕ = record_size (get_or log p 0) in
-    cond (eqb size 0) (seen fault.Unknown p) (cond (ltb (length log - p) size) (seen fault.CutOff p) (seen fault.None (p + size)))
+    cond (eqb size 0) (Err (wrong.Unknown p)) (cond (ltb (length log - p) size) (Err (wrong.CutOff p)) (Ok (p + size)))
 
--- and then this, where nothing was wrong so far
-abbrev pub onward : Seen → Seen → Seen
-onward s t = cond (is_none s.fault) t s
+-- and then this from the place where the next begins, where nothing was wrong so far
+abbrev pub onward : {A : Type 0} → Result ℕ Wrong → (ℕ → Result A Wrong) → Result A Wrong
+onward (Ok q) then = then q
+onward (Err w) then = Err w
 
 -- the record e is expected at place p
-unfoldable pub passed_one : Bytes → (p : ℕ) → Bytes → Seen
+unfoldable pub passed_one : Bytes → (p : ℕ) → Bytes → Result ℕ Wrong
 passed_one log p e =
-    let s : Seen = met_of log p in
-    cond (leb (length log) p) (seen fault.Missing p)
-    (onward s (cond (same_list (take (s.place - p) (drop p log)) e) s (seen fault.Differs p)))
+    cond (leb (length log) p) (Err (wrong.Missing p))
+    (onward (met_of log p) (λ q. cond (same_list (take (q - p) (drop p log)) e) (Ok q) (Err (wrong.Differs p))))
 
 -- records are expected from place p on
-unfoldable pub passed : Bytes → (p : ℕ) → List Bytes → Seen
-passed log p [] = seen fault.None p
-passed log p (e ∷ es) = let s : Seen = passed_one log p e in onward s (passed log s.place es)
+unfoldable pub passed : Bytes → (p : ℕ) → List Bytes → Result ℕ Wrong
+passed log p [] = Ok p
+passed log p (e ∷ es) = onward (passed_one log p e) (λ q. passed log q es)
 
 -- no record is expected from place p on
-unfoldable pub finished : Bytes → (p : ℕ) → Seen
-finished log p = cond (leb (length log) p) (seen fault.None p) (onward (met_of log p) (seen fault.TooMany p))
+unfoldable pub finished : Bytes → (p : ℕ) → Result Unit Wrong
+finished log p = cond (leb (length log) p) (Ok tt) (onward (met_of log p) (λ q. Err (wrong.TooMany p)))
 
 -- what is said of a log from what was seen so far on, beside the records that are still expected
-abbrev pub goes_on : Bytes → List Bytes → Seen → Verdict
-goes_on log rest s = cond (is_none s.fault) (verdict s.place (drop s.place log) rest) (said_of s.fault s.place)
+abbrev pub goes_on : Bytes → List Bytes → Result ℕ Wrong → Verdict
+goes_on log rest (Ok q) = verdict q (drop q log) rest
+goes_on log rest (Err w) = said_of w
 
 -- ---- records one after another in bytes
 

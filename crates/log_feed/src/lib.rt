@@ -4,7 +4,7 @@
 
 ghost use Rattle.std.specs.Prelude.{◌≡◌, ◌≤◌, length};
 
-use log_reader::{LIST_CUT, OVERLONG};
+use log_list::ListError;
 use log_run::Taken;
 use log_state::Run;
 use section::bytes::word;
@@ -72,16 +72,12 @@ pub fn open<R: Files>(rt: &R, stdout: &mut impl Write, path: &[u8]) -> io::Resul
 
 // Whether the list is whole; says what it is where it is not.
 fn judge(file: &mut impl Read, stdout: &mut impl Write, list: &mut [u8; 4103]) -> io::Result<bool> {
-    let n = log_reader::judge_list(file, list)?;
-    if n == OVERLONG {
-        entry_lines::say(stdout, b"42 too-long\n")?;
-        return Ok(false);
+    match log_reader::judge_list(file, list)? {
+        Ok(()) => return Ok(true),
+        Err(ListError::TooLong) => entry_lines::say(stdout, b"42 too-long\n")?,
+        Err(ListError::Cut) => entry_lines::say(stdout, b"10 sections-cut\n")?,
     }
-    if n == LIST_CUT {
-        entry_lines::say(stdout, b"10 sections-cut\n")?;
-        return Ok(false);
-    }
-    Ok(true)
+    Ok(false)
 }
 
 // The first reading of the list.

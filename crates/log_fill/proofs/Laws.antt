@@ -5,7 +5,7 @@ use mathlib.Core.Logic.{◌⊎◌, inl, inr}
 use mathlib.Core.List.{List, [], ◌∷◌, ◌++◌, append_assoc}
 use Prim.Native.Nat.{ℕ, suc, ◌+◌, ◌-◌, ◌≤◌, ◌<◌, min}
 use native.Mathlib.Omega.{arith}
-use lib.ListN.{length, take, drop, set, length-append, length-take, length-set, take-append-drop}
+use lib.ListN.{length, take, drop, length-take, take-append-drop}
 use lib.Seq.{sets, paste, sets-eq, set_out, length-sets, take-length, length-take-le, take_all, take-take}
 use Rattle.laws.proofs.Writes.{sets_append}
 use Rattle.laws.proofs.Tests.{lt_or_le}
@@ -13,10 +13,11 @@ use Rattle.rules_logs.specs.Records.{Bytes}
 use Rattle.rules_logs.specs.Sections.{Given}
 use Rattle.rules_logs.specs.Verdict.{log_of}
 use Rattle.log_entries.specs.declared.Entry.{Entry}
-use Rattle.log_list.specs.List.{givens_from}
+use Rattle.log_list.specs.List.{givens_from, given_at, PlacedAt}
+use Rattle.log_list.specs.declared.Place.{Place}
 use Rattle.log_list.proofs.Laws.{none_left}
 use Rattle.log_state.specs.State.{Lent}
-use Rattle.log_sections.specs.Steps.{takes, records_by, left_by, shown_in, Memory, memory_in, Stepped}
+use Rattle.log_sections.specs.Steps.{takes, records_by, left_by, shown_in, memory_in, Stepped}
 use Rattle.log_sections.specs.declared.Step.{Step}
 use Rattle.log_sections.proofs.Laws.{step_shows, log_append}
 use Rattle.log_fill.specs.Fill.{PutAt, FilledBy}
@@ -76,16 +77,16 @@ pub record On (list room₀ room : Bytes) (s₀ s : Lent) (p at : ℕ) : Type 0 
 pub starts_on : (list room : Bytes) (s : Lent) → On list room room s s 0 0
 starts_on list room s = record { within = omega arith; log = refl; leaves = refl }
 
-pub turn_on : {list room₀ room room' : Bytes} {s₀ s after : Lent} {p at at' : ℕ} {r : Step} → Stepped list p s r after → On list room₀ room s₀ s p at → PutAt room at (shown_in r.entry) at' room'
-    → On list room₀ room' s₀ after r.next at'
+pub turn_on : {list room₀ room room' : Bytes} {s₀ s after : Lent} {p at at' q : ℕ} {place : Place} {r : Step} → PlacedAt list p place → Stepped list place s r after → On list room₀ room s₀ s p at
+    → PutAt room at (shown_in r.entry) at' room' → q ≡ place.start + place.length → On list room₀ room' s₀ after q at'
 unfolding records_by left_by
-turn_on {list} {room₀} {room} {room'} {s₀} {s} {after} {p} {at} {at'} {r} st on put =
-    let es : List Bytes = (takes s st.given).records in
-    let rest : List Given = givens_from list r.next in
+turn_on {list} {room₀} {room} {room'} {s₀} {s} {after} {p} {at} {at'} {q} {place} {r} o st on put e =
+    let es : List Bytes = (takes s (given_at list place)).records in
+    let rest : List Given = givens_from list (place.start + place.length) in
     let now : sets room at (log_of (records_by s (givens_from list p))) ≡ sets room at (shown_in r.entry ++ log_of (records_by after rest)) =
-    rw (st.first, st.left, log_append es (records_by (takes s st.given).left rest), step_shows st) refl in
-    let left : left_by s (givens_from list p) ≡ left_by after rest = rw (st.first, st.left) refl in
-    record { within = put.within; log = on.log ∙ now ∙ put.on (log_of (records_by after rest)); leaves = on.leaves ∙ left }
+    rw (o.first, st.left, log_append es (records_by (takes s (given_at list place)).left rest), step_shows st) refl in
+    let left : left_by s (givens_from list p) ≡ left_by after rest = rw (o.first, st.left) refl in
+    rw e (record { within = put.within; log = on.log ∙ now ∙ put.on (log_of (records_by after rest)); leaves = on.leaves ∙ left })
 
 pub filled_end : {list room₀ room : Bytes} {s₀ s : Lent} {p at : ℕ} → length list ≤ p → On list room₀ room s₀ s p at → FilledBy list room₀ s₀ room (memory_in s)
 unfolding records_by left_by log_of

@@ -2,20 +2,15 @@
 // no room is left out.
 #![tactic(auto)]
 
-ghost use Rattle.std.specs.Prelude.{◌≡◌, ◌≤◌, min, length};
+ghost use Rattle.std.specs.Prelude.{◌≤◌, length};
 ghost use Rattle.log_list.specs.List.{WholeFrom};
 ghost use Rattle.log_state.specs.State.{lent};
 ghost use Rattle.log_sections.specs.Steps.{shown_in, memory};
 ghost use Rattle.log_fill.specs.Fill.{PutAt, FilledBy};
 
 use log_entries::Entry;
+use log_list::Sections;
 use log_state::Run;
-
-fn smaller(n: usize, m: usize) -> usize
-    ensures { result ≡ min n m }
-{
-    if n < m { n } else { m }
-}
 
 // The records of one section go in at `at`; what is told is where the next begin.
 fn put(room: &mut [u8], at: usize, entry: Entry) -> usize
@@ -24,7 +19,7 @@ fn put(room: &mut [u8], at: usize, entry: Entry) -> usize
     ensures { PutAt room.old at (shown_in entry) result room.new }
 {
     let bytes = entry.bytes;
-    let n = smaller(entry.length, room.len() - at);
+    let n = entry.length.min(room.len() - at);
     cells::keep(room, at, &bytes[0..n]);
     at + n
 }
@@ -44,13 +39,11 @@ pub fn write_all(
     ensures { FilledBy sections.now room.old (lent run keys.old changes.old heads.old slots.old cells.old) room.new (memory keys.new changes.new heads.new slots.new cells.new) }
 {
     let mut now = run;
-    let mut place = 0;
     let mut at = 0;
-    while place < sections.len() {
+    for place in Sections::new(sections, 0) {
         let step = log_sections::take_one(now, keys, changes, heads, slots, cells, sections, place);
         let entry = step.entry;
         at = put(room, at, entry);
         now = step.run;
-        place = step.next;
     }
 }

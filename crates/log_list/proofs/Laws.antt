@@ -1,25 +1,25 @@
--- A section list read place by place: what begins at a place is what `sectionsIn` reads there, and one law for each way out.
+-- A section list read place by place: what begins at a place is what `sections_in` reads there, and one law for each way out.
 -- Assumes nothing.
-use mathlib.Core.Path.{◌≡◌, refl, sym, ap, ◌∙◌}
+use mathlib.Core.Path.{◌≡◌, refl, sym, ap, subst, ◌∙◌}
 use mathlib.Core.Bool.{Bool, true, false, cond}
-use mathlib.Core.List.{List, [], ◌∷◌}
+use mathlib.Core.List.{[], ◌∷◌}
 use Prim.Native.Nat.{ℕ, zero, suc, ◌+◌, ◌-◌, ◌*◌, ◌≤◌, ◌<◌}
 use native.Mathlib.Omega.{arith}
 use lib.Dec.{ltb, leb, eqb}
 use lib.ListN.{length, take, drop, get_or, length-drop}
 use lib.Seq.{get_or-drop, drop-drop}
-use borrow.Author.Tests.{eq-eqb, ne_eqb, eqb-false, lt-ltb, le-ltb, le-leb, lt-leb, ltb-true, ltb-false, leb-true, leb-false, eqb-true}
+use borrow.Author.Tests.{eq-eqb, ne_eqb, eqb-false, lt-ltb, le-ltb, le-leb, lt-leb, ltb-true, ltb-false, leb-true, leb-false}
 use Rattle.laws.proofs.Lists.{get_d_ix}
 use Rattle.laws.proofs.Tests.{same_test}
 use Rattle.section.specs.Header.{byte_at, word16}
 use Rattle.rules_logs.specs.Records.{Bytes}
 use Rattle.rules_logs.specs.Sections.{Given, Listed, too_long, cut, sections, before, size_in, first_in, listed, sections_in}
 use Rattle.log_list.specs.declared.Place.{Place}
-use Rattle.log_list.specs.declared.Next.{Next}
-use Rattle.log_list.specs.declared.Next.TheVariants as next
-use Rattle.log_list.specs.declared.Judged.{Judged}
-use Rattle.log_list.specs.declared.Judged.TheVariants as judged
-use Rattle.log_list.specs.List.{place_at, next_at, judged_of, givens_of, givens_from, given_at, WholeFrom, PlacedAt}
+use Rattle.log_list.specs.declared.Sections.{Sections}
+use Rattle.std.specs.Prelude.{Option, Some, None, Result, Ok, Err}
+use Rattle.log_list.specs.declared.ListError.{ListError}
+use Rattle.log_list.specs.declared.ListError.TheVariants as error
+use Rattle.log_list.specs.List.{place_at, next_at, judged_of, givens_of, givens_from, given_at, WholeFrom, PlacedAt, Gives}
 
 -- ---- one section of a list
 
@@ -58,11 +58,14 @@ first_of_lem s = once (length s) s refl
 -- ---- what begins at a place
 
 -- the list from a place on, by what begins there
-abbrev after : Bytes → Next → Listed
-after s next.End = sections []
-after s next.Cut = cut
-after s next.TooLong = too_long
-after s (next.Section r) = before (given_at s r) (sections_in (drop (r.start + r.length) s))
+abbrev Found : Type 0
+Found = Result (Option Place) ListError
+
+abbrev after : Bytes → Found → Listed
+after s (Ok None) = sections []
+after s (Err error.Cut) = cut
+after s (Err error.TooLong) = too_long
+after s (Ok (Some r)) = before (given_at s r) (sections_in (drop (r.start + r.length) s))
 
 module _ (s : Bytes) (p : ℕ) where
   size_there : size_in (drop p s) ≡ (place_at s p).length
@@ -98,7 +101,7 @@ module _ (s : Bytes) (p : ℕ) where
 
       go : (a : Bool) → leb (length s) p ≡ a → (b : Bool) → ltb (length s - p) 5 ≡ b
           → cond (eqb (length s - p) 0) (sections []) (cond b cut (cond (ltb 4098 size) too_long (cond (ltb (length s - p) (5 + size)) cut behind)))
-          ≡ after s (cond a next.End (cond b next.Cut (cond (ltb 4098 size) next.TooLong (cond (ltb (length s - (p + 5)) size) next.Cut (next.Section (place_at s p))))))
+          ≡ after s (cond a (Ok None) (cond b (Err error.Cut) (cond (ltb 4098 size) (Err error.TooLong) (cond (ltb (length s - (p + 5)) size) (Err error.Cut) (Ok (Some (place_at s p)))))))
       go true e b f = rw (eq-eqb (length s - p) 0 (let h = leb-true (length s) p e in omega (arith, h))) refl
       go false e true f = rw (ne_eqb (length s - p) 0 (let h = leb-false (length s) p e in λ q. omega (arith, h, q))) refl
       go false e false f =
@@ -111,7 +114,7 @@ module _ (s : Bytes) (p : ℕ) where
           rw (ne_eqb (length s - p) 0 (λ q. omega (arith, h, q)), same)
           (sized (ltb 4098 size) (ltb (length s - (p + 5)) size))
         where
-          sized : (c d : Bool) → cond c too_long (cond d cut behind) ≡ after s (cond c next.TooLong (cond d next.Cut (next.Section (place_at s p))))
+          sized : (c d : Bool) → cond c too_long (cond d cut behind) ≡ after s (cond c (Err error.TooLong) (cond d (Err error.Cut) (Ok (Some (place_at s p)))))
           sized true d = refl
           sized false true = refl
           sized false false = refl
@@ -124,15 +127,15 @@ module _ (s : Bytes) (p : ℕ) where
   unfolding place_at
   place_read a b c = let two : p + 1 + 1 ≡ p + 2 = omega arith in rw (a, b, c, get_d_ix s 0 two) refl
 
-  pub at_end_lem : length s ≤ p → next.End ≡ next_at s p
+  pub at_end_lem : length s ≤ p → Ok None ≡ next_at s p
   unfolding next_at
   at_end_lem h = rw (le-leb (length s) p h) refl
 
-  pub head_cut : p < length s → length s - p < 5 → next.Cut ≡ next_at s p
+  pub head_cut : p < length s → length s - p < 5 → Err error.Cut ≡ next_at s p
   unfolding next_at
   head_cut h l = rw (lt-leb (length s) p h, lt-ltb (length s - p) 5 l) refl
 
-  pub too_long_lem : {r : Place} → p < length s → 5 ≤ length s - p → r ≡ place_at s p → 4098 < r.length → next.TooLong ≡ next_at s p
+  pub too_long_lem : {r : Place} → p < length s → 5 ≤ length s - p → r ≡ place_at s p → 4098 < r.length → Err error.TooLong ≡ next_at s p
   unfolding next_at
   too_long_lem {r = r} h l e m = rw (lt-leb (length s) p h, le-ltb (length s - p) 5 l, ← e, lt-ltb 4098 r.length m) refl
 
@@ -145,13 +148,13 @@ module _ (s : Bytes) (p : ℕ) where
       let q : r.start ≡ p + 5 = ap (λ (x : Place). x.start) e ∙ starts in
       omega (arith, h, l, q)
 
-  pub body_cut : {r : Place} → p < length s → 5 ≤ length s - p → r ≡ place_at s p → r.length ≤ 4098 → length s - r.start < r.length → next.Cut ≡ next_at s p
+  pub body_cut : {r : Place} → p < length s → 5 ≤ length s - p → r ≡ place_at s p → r.length ≤ 4098 → length s - r.start < r.length → Err error.Cut ≡ next_at s p
   unfolding next_at
   body_cut {r = r} h l e m n =
       let q : r.start ≡ p + 5 = ap (λ (x : Place). x.start) e ∙ starts in
       rw (lt-leb (length s) p h, le-ltb (length s - p) 5 l, ← e, le-ltb 4098 r.length m, lt-ltb (length s - (p + 5)) r.length (omega (arith, n, q))) refl
 
-  pub is_there : {r : Place} → p < length s → 5 ≤ length s - p → r ≡ place_at s p → r.length ≤ 4098 → r.length ≤ length s - r.start → next.Section r ≡ next_at s p
+  pub is_there : {r : Place} → p < length s → 5 ≤ length s - p → r ≡ place_at s p → r.length ≤ 4098 → r.length ≤ length s - r.start → Ok (Some r) ≡ next_at s p
   unfolding next_at
   is_there {r = r} h l e m n =
       let q : r.start ≡ p + 5 = ap (λ (x : Place). x.start) e ∙ starts in
@@ -166,7 +169,7 @@ pub record Stands (s : Bytes) (p : ℕ) (r : Place) : Type 0 where
   pub short : r.length ≤ 4098
   pub within : r.start + r.length ≤ length s
 
-there_stands : (s : Bytes) (p : ℕ) (r : Place) → next_at s p ≡ next.Section r → Stands s p r
+there_stands : (s : Bytes) (p : ℕ) (r : Place) → next_at s p ≡ Ok (Some r) → Stands s p r
 unfolding next_at
 there_stands s p r = go (leb (length s) p) refl (ltb (length s - p) 5) refl (ltb 4098 size) refl (ltb (length s - (p + 5)) size) refl
   where
@@ -174,7 +177,7 @@ there_stands s p r = go (leb (length s) p) refl (ltb (length s - p) 5) refl (ltb
     size = (place_at s p).length
 
     go : (a : Bool) → leb (length s) p ≡ a → (b : Bool) → ltb (length s - p) 5 ≡ b → (c : Bool) → ltb 4098 size ≡ c → (d : Bool) → ltb (length s - (p + 5)) size ≡ d
-        → cond a next.End (cond b next.Cut (cond c next.TooLong (cond d next.Cut (next.Section (place_at s p))))) ≡ next.Section r → Stands s p r
+        → cond a (Ok None) (cond b (Err error.Cut) (cond c (Err error.TooLong) (cond d (Err error.Cut) (Ok (Some (place_at s p)))))) ≡ Ok (Some r) → Stands s p r
     go true e b f c g d h q = absurd (let z : ◌≡◌ {A = ℕ} 0 1 = cc in omega arith)
     go false e true f c g d h q = absurd (let z : ◌≡◌ {A = ℕ} 0 1 = cc in omega arith)
     go false e false f true g d h q = absurd (let z : ◌≡◌ {A = ℕ} 0 1 = cc in omega arith)
@@ -189,12 +192,12 @@ there_stands s p r = go (leb (length s) p) refl (ltb (length s - p) 5) refl (ltb
         let six : r.start ≡ p + 5 = ap (λ (x : Place). x.start) (sym is) ∙ starts s p in
         record { placed = sym is; head = omega (arith, one, two); start = six; short = omega (arith, three, five); within = omega (arith, one, two, four, five, six) }
 
-there_ends : (s : Bytes) (p : ℕ) → next_at s p ≡ next.End → length s ≤ p
+there_ends : (s : Bytes) (p : ℕ) → next_at s p ≡ Ok None → length s ≤ p
 unfolding next_at
 there_ends s p = go (leb (length s) p) refl (ltb (length s - p) 5) (ltb 4098 (place_at s p).length) (ltb (length s - (p + 5)) (place_at s p).length)
   where
     go : (a : Bool) → leb (length s) p ≡ a → (b c d : Bool)
-        → cond a next.End (cond b next.Cut (cond c next.TooLong (cond d next.Cut (next.Section (place_at s p))))) ≡ next.End → length s ≤ p
+        → cond a (Ok None) (cond b (Err error.Cut) (cond c (Err error.TooLong) (cond d (Err error.Cut) (Ok (Some (place_at s p)))))) ≡ Ok None → length s ≤ p
     go true e b c d q = leb-true (length s) p e
     go false e true c d q = absurd (let z : ◌≡◌ {A = ℕ} 0 1 = cc in omega arith)
     go false e false true d q = absurd (let z : ◌≡◌ {A = ℕ} 0 1 = cc in omega arith)
@@ -208,45 +211,40 @@ judged_before g too_long = refl
 judged_before g cut = refl
 judged_before g (sections gs) = refl
 
-givens_before : (g : Given) (l : Listed) → judged_of l ≡ judged.Whole → givens_of (before g l) ≡ g ∷ givens_of l
+givens_before : (g : Given) (l : Listed) → judged_of l ≡ Ok tt → givens_of (before g l) ≡ g ∷ givens_of l
 givens_before g too_long h = absurd (let z : ◌≡◌ {A = ℕ} 0 1 = cc in omega arith)
 givens_before g cut h = absurd (let z : ◌≡◌ {A = ℕ} 0 1 = cc in omega arith)
 givens_before g (sections gs) h = refl
 
-module _ (s : Bytes) (at : ℕ) {found : Next} (e : found ≡ next_at s at) where
+module _ (s : Bytes) (at : ℕ) {found : Found} (e : found ≡ next_at s at) where
   -- what begins here decides, or hands on
-  by_next : (n : Next) → found ≡ n → sections_in (drop at s) ≡ after s n
+  by_next : (n : Found) → found ≡ n → sections_in (drop at s) ≡ after s n
   by_next n q = from_here s at ∙ ap (after s) (sym e ∙ q)
 
-  pub judged_end : found ≡ next.End → judged_of (sections_in s) ≡ judged_of (sections_in (drop at s)) → judged.Whole ≡ judged_of (sections_in s)
-  judged_end q inv = sym (inv ∙ ap judged_of (by_next next.End q))
+  pub judged_end : found ≡ Ok None → judged_of (sections_in s) ≡ judged_of (sections_in (drop at s)) → Ok tt ≡ judged_of (sections_in s)
+  judged_end q inv = sym (inv ∙ ap judged_of (by_next (Ok None) q))
 
-  pub judged_cut : found ≡ next.Cut → judged_of (sections_in s) ≡ judged_of (sections_in (drop at s)) → judged.Cut ≡ judged_of (sections_in s)
-  judged_cut q inv = sym (inv ∙ ap judged_of (by_next next.Cut q))
+  pub judged_fault : {x : ListError} → found ≡ Err x → judged_of (sections_in s) ≡ judged_of (sections_in (drop at s)) → Err x ≡ judged_of (sections_in s)
+  judged_fault {x = error.Cut} q inv = sym (inv ∙ ap judged_of (by_next (Err error.Cut) q))
+  judged_fault {x = error.TooLong} q inv = sym (inv ∙ ap judged_of (by_next (Err error.TooLong) q))
 
-  pub judged_long : found ≡ next.TooLong → judged_of (sections_in s) ≡ judged_of (sections_in (drop at s)) → judged.TooLong ≡ judged_of (sections_in s)
-  judged_long q inv = sym (inv ∙ ap judged_of (by_next next.TooLong q))
+  pub judged_on : {r : Place} → found ≡ Ok (Some r) → judged_of (sections_in s) ≡ judged_of (sections_in (drop at s)) → judged_of (sections_in s) ≡ judged_of (sections_in (drop (r.start + r.length) s))
+  judged_on {r = r} q inv = inv ∙ ap judged_of (by_next (Ok (Some r)) q) ∙ judged_before (given_at s r) (sections_in (drop (r.start + r.length) s))
 
-  pub judged_on : {r : Place} → found ≡ next.Section r → judged_of (sections_in s) ≡ judged_of (sections_in (drop at s)) → judged_of (sections_in s) ≡ judged_of (sections_in (drop (r.start + r.length) s))
-  judged_on {r = r} q inv = inv ∙ ap judged_of (by_next (next.Section r) q) ∙ judged_before (given_at s r) (sections_in (drop (r.start + r.length) s))
-
-  pub stands : {r : Place} → found ≡ next.Section r → Stands s at r
+  pub stands : {r : Place} → found ≡ Ok (Some r) → Stands s at r
   stands {r = r} q = there_stands s at r (sym e ∙ q)
-
-pub judged_none : (s : Bytes) (at : ℕ) → length s ≤ at → judged_of (sections_in s) ≡ judged_of (sections_in (drop at s)) → judged.Whole ≡ judged_of (sections_in s)
-judged_none s at h inv = judged_end s at (at_end_lem s at h) refl inv
 
 -- ---- a section of a whole list
 
 module _ (s : Bytes) (p : ℕ) (w : WholeFrom s p) (l : p < length s) where
-  at_whole : next_at s p ≡ next.Section (place_at s p)
+  at_whole : next_at s p ≡ Ok (Some (place_at s p))
   at_whole = go (next_at s p) refl (sym (ap judged_of (from_here s p)) ∙ w.whole)
     where
-      go : (n : Next) → next_at s p ≡ n → judged_of (after s n) ≡ judged.Whole → n ≡ next.Section (place_at s p)
-      go next.End e h = absurd (let q = there_ends s p e in omega (arith, q, l))
-      go next.Cut e h = absurd (let z : ◌≡◌ {A = ℕ} 0 1 = cc in omega arith)
-      go next.TooLong e h = absurd (let z : ◌≡◌ {A = ℕ} 0 1 = cc in omega arith)
-      go (next.Section r) e h = ap next.Section (there_stands s p r e).placed
+      go : (n : Found) → next_at s p ≡ n → judged_of (after s n) ≡ Ok tt → n ≡ Ok (Some (place_at s p))
+      go (Ok None) e h = absurd (let q = there_ends s p e in omega (arith, q, l))
+      go (Err error.Cut) e h = absurd (let z : ◌≡◌ {A = ℕ} 0 1 = cc in omega arith)
+      go (Err error.TooLong) e h = absurd (let z : ◌≡◌ {A = ℕ} 0 1 = cc in omega arith)
+      go (Ok (Some r)) e h = ap (λ (x : Place). Ok (Some x)) (there_stands s p r e).placed
 
   placed : Stands s p (place_at s p)
   placed = there_stands s p (place_at s p) at_whole
@@ -266,7 +264,7 @@ module _ (s : Bytes) (p : ℕ) (w : WholeFrom s p) (l : p < length s) where
       is : sections_in (drop p s) ≡ before (given_at s there) rest
       is = from_here s p ∙ ap (after s) at_whole
 
-      whole : judged_of rest ≡ judged.Whole
+      whole : judged_of rest ≡ Ok tt
       whole = sym (judged_before (given_at s there) rest) ∙ sym (ap judged_of is) ∙ w.whole
 
       first : givens_from s p ≡ given_at s there ∷ givens_of rest
@@ -277,5 +275,21 @@ pub none_left : (s : Bytes) (p : ℕ) → length s ≤ p → givens_from s p ≡
 none_left s p h = ap givens_of (from_here s p ∙ ap (after s) (sym (at_end_lem s p h)))
 
 -- a list that was judged whole is whole from its start
-pub from_start : (s : Bytes) → judged_of (sections_in s) ≡ judged.Whole → WholeFrom s 0
+pub from_start : (s : Bytes) → judged_of (sections_in s) ≡ Ok tt → WholeFrom s 0
 from_start s h = record { within = omega arith; whole = h }
+
+-- ---- the iterator over the sections of a list
+
+module _ (s t : Sections) {list : Bytes} (e : s.list.now ≡ list) where
+  pub gave_place : {place : Place} → Gives s (Some place) t → PlacedAt list s.at place × (t.at ≡ place.start + place.length) × (t.list.now ≡ list)
+  gave_place {place = place} g = (subst (λ (l : Bytes). PlacedAt l s.at place) e g.1.0, g.1.1, g.0 ∙ e)
+
+  pub gave_none : Gives s None t → length list ≤ s.at
+  gave_none g = rw (← e) g.1
+
+  module _ {p : ℕ} (f : s.at ≡ p) where
+    pub gave_next : {place : Place} → Gives s (Some place) t → PlacedAt list p place × (t.at ≡ place.start + place.length) × (t.list.now ≡ list)
+    gave_next {place = place} g = let w = gave_place g in (subst (λ (k : ℕ). PlacedAt list k place) f w.0, w.1, w.2)
+
+    pub gave_end : Gives s None t → length list ≤ p
+    gave_end g = rw (← f) (gave_none g)

@@ -1,14 +1,13 @@
 -- A section list read place by place (docs/RULES.md, "Logs").
 -- Assumes nothing.
-use Rattle.std.specs.Prelude.{ℕ, ◌+◌, ◌-◌, ◌*◌, ◌≤◌, ◌<◌, ◌≡◌, List, [], ◌∷◌, cond, leb, ltb, length, take, drop}
+use Rattle.std.specs.Prelude.{ℕ, ◌+◌, ◌-◌, ◌*◌, ◌≤◌, ◌<◌, ◌≡◌, List, [], ◌∷◌, cond, leb, ltb, length, take, drop, Option, Some, None, Result, Ok, Err, MatchOption}
 use Rattle.section.specs.Header.{byte_at, word16}
 use Rattle.rules_logs.specs.Records.{Bytes}
 use Rattle.rules_logs.specs.Sections.{Given, Listed, too_long, cut, sections, sections_in}
 use Rattle.log_list.specs.declared.Place.{Place}
-use Rattle.log_list.specs.declared.Next.{Next}
-use Rattle.log_list.specs.declared.Next.TheVariants as next
-use Rattle.log_list.specs.declared.Judged.{Judged}
-use Rattle.log_list.specs.declared.Judged.TheVariants as judged
+use Rattle.log_list.specs.declared.ListError.{ListError}
+use Rattle.log_list.specs.declared.ListError.TheVariants as error
+use Rattle.log_list.specs.declared.Sections.{Sections}
 
 -- what the five bytes at place p say
 unfoldable pub place_at : Bytes → (p : ℕ) → Place
@@ -20,20 +19,20 @@ place_at s p = record {
 }
 
 -- what begins at place p: a length over 4,098 is told also where the bytes behind it are missing
-unfoldable pub next_at : Bytes → (p : ℕ) → Next
+unfoldable pub next_at : Bytes → (p : ℕ) → Result (Option Place) ListError
 next_at s p =
     let size : ℕ = (place_at s p).length in
-    cond (leb (length s) p) next.End
-    (cond (ltb (length s - p) 5) next.Cut
-    (cond (ltb 4098 size) next.TooLong
-    (cond (ltb (length s - (p + 5)) size) next.Cut
-    (next.Section (place_at s p)))))
+    cond (leb (length s) p) (Ok None)
+    (cond (ltb (length s - p) 5) (Err error.Cut)
+    (cond (ltb 4098 size) (Err error.TooLong)
+    (cond (ltb (length s - (p + 5)) size) (Err error.Cut)
+    (Ok (Some (place_at s p))))))
 
 -- what a list comes to
-abbrev pub judged_of : Listed → Judged
-judged_of too_long = judged.TooLong
-judged_of cut = judged.Cut
-judged_of (sections gs) = judged.Whole
+abbrev pub judged_of : Listed → Result Unit ListError
+judged_of too_long = Err error.TooLong
+judged_of cut = Err error.Cut
+judged_of (sections gs) = Ok tt
 
 -- its sections, none where it is not whole
 abbrev pub givens_of : Listed → List Given
@@ -52,7 +51,7 @@ given_at s r = record { input = r.input; pid = r.pid; section = take r.length (d
 -- from place p on the list is whole
 pub record WholeFrom (s : Bytes) (p : ℕ) : Type 0 where
   pub within : p ≤ length s
-  pub whole : judged_of (sections_in (drop p s)) ≡ judged.Whole
+  pub whole : judged_of (sections_in (drop p s)) ≡ Ok tt
 
 -- the first of the sections from place p on
 pub record PlacedAt (s : Bytes) (p : ℕ) (r : Place) : Type 0 where
@@ -61,3 +60,7 @@ pub record PlacedAt (s : Bytes) (p : ℕ) (r : Place) : Type 0 where
   pub starts : r.start ≡ p + 5
   pub later : p < r.start
   pub short : r.length ≤ 4098
+
+-- what an iterator over the sections gives, and where it goes on: nothing at the end of the list
+abbrev pub Gives : Sections → Option Place → Sections → Type 0
+Gives s r t = (t.list.now ≡ s.list.now) × MatchOption r (length s.list.now ≤ s.at) (λ place. PlacedAt s.list.now s.at place × (t.at ≡ place.start + place.length))

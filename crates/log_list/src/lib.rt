@@ -2,9 +2,10 @@
 // checker and the writer.
 #![tactic(auto)]
 
-ghost use Rattle.std.specs.Prelude.{◌≡◌, ◌+◌, ◌≤◌, ◌<◌, length};
+ghost use Rattle.std.specs.Prelude.{◌≡◌, ◌+◌, ◌-◌, ◌≤◌, ◌<◌, length};
+ghost use Rattle.std.specs.Iterator.{at_most};
 ghost use Rattle.rules_logs.specs.Sections.{sections_in};
-ghost use Rattle.log_list.specs.List.{place_at, next_at, judged_of, WholeFrom, PlacedAt};
+ghost use Rattle.log_list.specs.List.{place_at, next_at, judged_of, WholeFrom, PlacedAt, Gives};
 
 use section::bytes::{wide, word};
 
@@ -23,19 +24,9 @@ pub struct Place {
     pub length: usize,
 }
 
-// The list ends here, is cut (10), tells of too long a section (42), or has a section.
-#[derive(Clone, Copy)]
-pub enum Next {
-    End,
-    Cut,
-    TooLong,
-    Section(Place),
-}
-
-// A list as a whole: cut (10), with too long a section (42), or neither.
-#[derive(Clone, Copy)]
-pub enum Judged {
-    Whole,
+// What may be wrong with a list: it ends inside a section (10), or tells of a section of more than 4,098 bytes (42).
+#[derive(Clone, Copy, Debug, PartialEq, Eq)]
+pub enum ListError {
     Cut,
     TooLong,
 }
@@ -53,24 +44,24 @@ fn place_at(list: &[u8], place: usize) -> Place
     }
 }
 
-// The section that begins at this place. A length over 4,098 is told first, also where the bytes behind it are missing.
-pub fn read_next(list: &[u8], place: usize) -> Next
+// The section that begins at this place, none at the end. A length over 4,098 is told first, also where the bytes behind it are missing.
+pub fn read_next(list: &[u8], place: usize) -> Result<Option<Place>, ListError>
     ensures { result ≡ next_at list.now place }
 {
     if list.len() <= place {
-        return Next::End;
+        return Ok(None);
     }
     if list.len() - place < HEAD {
-        return Next::Cut;
+        return Err(ListError::Cut);
     }
     let p = place_at(list, place);
     if LONGEST < p.length {
-        return Next::TooLong;
+        return Err(ListError::TooLong);
     }
     if list.len() - p.start < p.length {
-        return Next::Cut;
+        return Err(ListError::Cut);
     }
-    Next::Section(p)
+    Ok(Some(p))
 }
 
 // The section that begins at this place of a list that is whole from there on.
@@ -83,20 +74,49 @@ pub fn section_at(list: &[u8], place: usize) -> Place
 }
 
 // The whole list, from its start: the first bad section decides.
-pub fn judge(list: &[u8]) -> Judged
+pub fn judge(list: &[u8]) -> Result<(), ListError>
     ensures { result ≡ judged_of (sections_in list.now) }
 {
     let mut at = 0;
-    while at < list.len() {
-        let found = read_next(list, at);
-        match found {
-            Next::End => return Judged::Whole,
-            Next::Cut => return Judged::Cut,
-            Next::TooLong => return Judged::TooLong,
-            Next::Section(p) => {
-                at = p.start + p.length;
-            }
-        }
+    while let Some(p) = read_next(list, at)? {
+        at = p.start + p.length;
     }
-    Judged::Whole
+    Ok(())
+}
+
+// The sections of a list that is whole from a place on, one after another.
+#[derive(Clone, Copy)]
+pub struct Sections<'a> {
+    list: &'a [u8],
+    at: usize,
+}
+
+impl<'a> Sections<'a> {
+    // Those from this place on.
+    pub fn new(list: &'a [u8], at: usize) -> Sections<'a>
+        requires { WholeFrom list.now at }
+        ensures list { result.list.now ≡ list.now }
+        ensures at { result.at ≡ at }
+    {
+        Sections { list, at }
+    }
+}
+
+impl<'a> Iterator for Sections<'a> {
+    type Item = Place;
+
+    ghost can_next = { λ s. WholeFrom s.list.now s.at };
+
+    ghost next_gives = { Gives };
+
+    ghost remaining = { λ s. at_most (length s.list.now - s.at) };
+
+    fn next(&mut self) -> Option<Place> {
+        if self.list.len() <= self.at {
+            return None;
+        }
+        let place = section_at(self.list, self.at);
+        self.at = place.start + place.length;
+        Some(place)
+    }
 }

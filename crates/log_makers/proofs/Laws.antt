@@ -16,8 +16,7 @@ use Rattle.section.specs.declared.header.ChangeRule.{ChangeRule}
 use Rattle.section.specs.declared.header.Form.TheVariants as form
 use Rattle.section.specs.declared.header.Header.{Header}
 use Rattle.section.specs.declared.header.Parts.{Parts}
-use Rattle.section.specs.declared.ids.MaybePid.{MaybePid}
-use Rattle.section.specs.declared.ids.MaybePid.TheVariants as maybe
+use Rattle.std.specs.Prelude.{Option, Some, None}
 use Rattle.section.proofs.Laws.{form_headed, form_long, form_tot, form_plain}
 use Rattle.offers.specs.Offers.{is_short}
 use Rattle.offers.specs.declared.Failure.{Failure}
@@ -28,18 +27,16 @@ use Rattle.rules_logs.specs.Records.{Bytes, seen_record, failed_record, set_reco
 use Rattle.log_makers.specs.Makers.{has_parts, checked_in, parts_in, seen_or, offer_record, offer_noted, noted_of, is_source, set_record_of, set_entry, bare_record_of, bare_set_entry}
 use Rattle.log_entries.specs.Entries.{entry_with, failed_kind}
 use Rattle.log_entries.specs.declared.Entry.{Entry}
-use Rattle.log_makers.specs.declared.Found.{Found}
-use Rattle.log_makers.specs.declared.Found.TheVariants as found
-use Rattle.log_makers.specs.declared.Noting.TheVariants.{Done, TooLong}
-use Rattle.log_makers.specs.declared.Noted.{Noted}
+use Rattle.std.specs.Prelude.{Option, Some, None, Ok, Err}
+use Rattle.log_makers.specs.declared.NoteError.TheVariants.{TooLong}
 
 -- ---- what was found
 
 module _ (kind input pid : ℕ) (r : Entry) where
-  pub found_parts_lem : (f : Found) (p : Parts) → f ≡ found.Are p → r ≡ entry_with (seen_record kind input pid p) → r ≡ entry_with (seen_or kind input pid f)
+  pub found_parts_lem : (f : Option Parts) (p : Parts) → f ≡ Some p → r ≡ entry_with (seen_record kind input pid p) → r ≡ entry_with (seen_or kind input pid f)
   found_parts_lem f p e j = rw e j
 
-  pub found_none : (f : Found) → f ≡ found.Nothing → r ≡ entry_with [] → r ≡ entry_with (seen_or kind input pid f)
+  pub found_none : (f : Option Parts) → f ≡ None → r ≡ entry_with [] → r ≡ entry_with (seen_or kind input pid f)
   found_none f e j = rw e j
 
 -- ---- parts
@@ -50,43 +47,43 @@ module _ (s : List ℕ) where
   headed_read x v k e h j = rw (e, h, j)
 
 module _ (rule : ChangeRule) (s : List ℕ) where
-  pub checked_none : length s < 4 → found.Nothing ≡ checked_in rule s
+  pub checked_none : length s < 4 → None ≡ checked_in rule s
   unfolding checked_in
   checked_none h = rw (lt-ltb (length s) 4 h)
 
-  pub checked_some : (k : ℕ) (p : Parts) → 4 ≤ length s → k ≡ checked_change rule s → p ≡ bare_parts (table_id_of s) k → found.Are p ≡ checked_in rule s
+  pub checked_some : (k : ℕ) (p : Parts) → 4 ≤ length s → k ≡ checked_change rule s → p ≡ bare_parts (table_id_of s) k → Some p ≡ checked_in rule s
   unfolding checked_in
   checked_some k p h e j = rw (le-ltb (length s) 4 h, j, e)
 
-  pub parts_none : length s < 3 → found.Nothing ≡ parts_in rule s
+  pub parts_none : length s < 3 → None ≡ parts_in rule s
   unfolding parts_in has_parts
   parts_none h = rw (lt-ltb (length s) 3 h)
 
   module _ (l : Bool) (n : 3 ≤ length s) (e : l ≡ long_form s) where
-    pub parts_headed : (p : Parts) → l ≡ true → 12 ≤ length s → p ≡ headed_parts s (stored_crc s) → found.Are p ≡ parts_in rule s
+    pub parts_headed : (p : Parts) → l ≡ true → 12 ≤ length s → p ≡ headed_parts s (stored_crc s) → Some p ≡ parts_in rule s
     unfolding parts_in has_parts parts_of change_of
     parts_headed p h m j =
         let four : 4 ≤ length s = omega (arith, m) in
         rw (← form_headed s l e h m, le-ltb (length s) 3 n, le-leb 4 (length s) four, j)
 
-    checked_form : (r : Found) → form.Checked ≡ form_of s → r ≡ checked_in rule s → r ≡ parts_in rule s
+    checked_form : (r : Option Parts) → form.Checked ≡ form_of s → r ≡ checked_in rule s → r ≡ parts_in rule s
     unfolding parts_in has_parts parts_of change_of checked_in
     checked_form r f j = j ∙ rw (← f, le-ltb (length s) 3 n) (go (ltb (length s) 4) (leb 4 (length s)) refl refl)
       where
         go : (a b : Bool) → a ≡ ltb (length s) 4 → b ≡ leb 4 (length s)
-            → cond a found.Nothing (found.Are (bare_parts (table_id_of s) (checked_change rule s))) ≡ cond b (found.Are (bare_parts (table_id_of s) (checked_change rule s))) found.Nothing
+            → cond a None (Some (bare_parts (table_id_of s) (checked_change rule s))) ≡ cond b (Some (bare_parts (table_id_of s) (checked_change rule s))) None
         go true true p q = absurd (omega (arith, ltb-true (length s) 4 (sym p), leb-true 4 (length s) (sym q)))
         go true false p q = refl
         go false true p q = refl
         go false false p q = absurd (omega (arith, ltb-false (length s) 4 (sym p), leb-false 4 (length s) (sym q)))
 
-    pub parts_long : (r : Found) → l ≡ true → length s < 12 → r ≡ checked_in rule s → r ≡ parts_in rule s
+    pub parts_long : (r : Option Parts) → l ≡ true → length s < 12 → r ≡ checked_in rule s → r ≡ parts_in rule s
     parts_long r h m j = checked_form r (form_long s l e h m) j
 
-    pub parts_tot : (r : Found) → l ≡ false → table_id_of s ≡ 0x73 → r ≡ checked_in rule s → r ≡ parts_in rule s
+    pub parts_tot : (r : Option Parts) → l ≡ false → table_id_of s ≡ 0x73 → r ≡ checked_in rule s → r ≡ parts_in rule s
     parts_tot r h m j = checked_form r (form_tot s l e h m) j
 
-    pub parts_plain : (k : ℕ) (p : Parts) → l ≡ false → (table_id_of s ≡ 0x73 → ⊥) → k ≡ crc_of s → p ≡ bare_parts (table_id_of s) k → found.Are p ≡ parts_in rule s
+    pub parts_plain : (k : ℕ) (p : Parts) → l ≡ false → (table_id_of s ≡ 0x73 → ⊥) → k ≡ crc_of s → p ≡ bare_parts (table_id_of s) k → Some p ≡ parts_in rule s
     unfolding parts_in has_parts parts_of change_of
     parts_plain k p h m i j = rw (← form_plain s l e h m, le-ltb (length s) 3 n, j, i)
 
@@ -94,11 +91,11 @@ module _ (rule : ChangeRule) (s : List ℕ) where
 
 module _ (a : Answer) (rule : ChangeRule) (input pid : ℕ) (s : List ℕ) (r : Entry) where
   module _ (o : (ltb input 16 && ltb pid 8192) ≡ true) where
-    pub noted_emitted : (f : Found) → a ≡ answer.Emitted → f ≡ parts_in rule s → r ≡ entry_with (seen_or 1 input pid f) → r ≡ offer_noted a rule input pid s
+    pub noted_emitted : (f : Option Parts) → a ≡ answer.Emitted → f ≡ parts_in rule s → r ≡ entry_with (seen_or 1 input pid f) → r ≡ offer_noted a rule input pid s
     unfolding offer_noted offer_record
     noted_emitted f h e j = rw (o, h, ← e) j
 
-    pub noted_suppressed : (f : Found) → a ≡ answer.Suppressed → f ≡ parts_in rule s → r ≡ entry_with (seen_or 2 input pid f) → r ≡ offer_noted a rule input pid s
+    pub noted_suppressed : (f : Option Parts) → a ≡ answer.Suppressed → f ≡ parts_in rule s → r ≡ entry_with (seen_or 2 input pid f) → r ≡ offer_noted a rule input pid s
     unfolding offer_noted offer_record
     noted_suppressed f h e j = rw (o, h, ← e) j
 
@@ -114,13 +111,13 @@ module _ (a : Answer) (rule : ChangeRule) (input pid : ℕ) (s : List ℕ) (r : 
   unfolding offer_noted
   noted_nowhere o j = rw o j
 
-  pub offer_long : 4098 < length s → r ≡ entry_with [] → ◌≡◌ {A = Noted} (record { answer = TooLong; entry = r }) (noted_of a rule input pid s)
-  unfolding noted_of
-  offer_long h j = rw (lt-ltb 4098 (length s) h, j)
-
-  pub offer_done : length s ≤ 4098 → r ≡ offer_noted a rule input pid s → ◌≡◌ {A = Noted} (record { answer = Done; entry = r }) (noted_of a rule input pid s)
+  pub offer_done : length s ≤ 4098 → r ≡ offer_noted a rule input pid s → Ok r ≡ noted_of a rule input pid s
   unfolding noted_of
   offer_done h j = rw (le-ltb 4098 (length s) h, ← j)
+
+pub offer_long : (a : Answer) (rule : ChangeRule) (input pid : ℕ) (s : List ℕ) → 4098 < length s → Err TooLong ≡ noted_of a rule input pid s
+unfolding noted_of
+offer_long a rule input pid s h = rw (lt-ltb 4098 (length s) h)
 
 -- ---- of a set
 
@@ -131,28 +128,28 @@ module _ (input : ℕ) (s : List ℕ) (o : (leb 16 input || ltb (length s) 12) �
   good_input : ltb input 16 ≡ true
   good_input = lt-ltb input 16 (leb-false 16 input (or_false (leb 16 input) (ltb (length s) 12) o).0)
 
-  module _ (p : MaybePid) (r : Entry) where
-    pub set_no_pid : p ≡ maybe.None → r ≡ entry_with [] → r ≡ set_entry input p s
+  module _ (p : Option ℕ) (r : Entry) where
+    pub set_no_pid : p ≡ None → r ≡ entry_with [] → r ≡ set_entry input p s
     unfolding set_entry
     set_no_pid n j = rw n j
 
-    pub set_pid : (v : ℕ) (h : Header) (b : Bytes) → p ≡ maybe.Some v → v < 8192 → h ≡ header_of s → b ≡ set_record input v h → r ≡ entry_with b → r ≡ set_entry input p s
+    pub set_pid : (v : ℕ) (h : Header) (b : Bytes) → p ≡ Some v → v < 8192 → h ≡ header_of s → b ≡ set_record input v h → r ≡ entry_with b → r ≡ set_entry input p s
     unfolding set_entry
     set_pid v h b n y e k j = rw (n, good_input, le-leb 12 (length s) long_enough, lt-ltb v 8192 y, ← e, ← k) j
 
-    pub set_bad_pid : (v : ℕ) → p ≡ maybe.Some v → 8192 ≤ v → r ≡ entry_with [] → r ≡ set_entry input p s
+    pub set_bad_pid : (v : ℕ) → p ≡ Some v → 8192 ≤ v → r ≡ entry_with [] → r ≡ set_entry input p s
     unfolding set_entry
     set_bad_pid v n y j = rw (n, good_input, le-ltb v 8192 y) j
 
-pub set_none : (input : ℕ) (p : MaybePid) (s : List ℕ) (r : Entry) → (leb 16 input || ltb (length s) 12) ≡ true → r ≡ entry_with [] → r ≡ set_entry input p s
+pub set_none : (input : ℕ) (p : Option ℕ) (s : List ℕ) (r : Entry) → (leb 16 input || ltb (length s) 12) ≡ true → r ≡ entry_with [] → r ≡ set_entry input p s
 unfolding set_entry
 set_none input p s r o j = j ∙ ap entry_with (go p (leb 16 input) (ltb (length s) 12) refl refl o)
   where
-    go : (p : MaybePid) (a b : Bool) → a ≡ leb 16 input → b ≡ ltb (length s) 12 → (a || b) ≡ true → [] ≡ cond (is_source input p && leb 12 (length s)) (set_record_of input p s) []
-    go maybe.None a b x y z = refl
-    go (maybe.Some v) true b x y z = rw (le-ltb input 16 (leb-true _ _ (sym x)))
-    go (maybe.Some v) false true x y z = rw (lt-leb 12 (length s) (ltb-true _ _ (sym y)), and_none (is_source input (maybe.Some v)))
-    go (maybe.Some v) false false x y z = absurd (true≢false (sym z))
+    go : (p : Option ℕ) (a b : Bool) → a ≡ leb 16 input → b ≡ ltb (length s) 12 → (a || b) ≡ true → [] ≡ cond (is_source input p && leb 12 (length s)) (set_record_of input p s) []
+    go None a b x y z = refl
+    go (Some v) true b x y z = rw (le-ltb input 16 (leb-true _ _ (sym x)))
+    go (Some v) false true x y z = rw (lt-leb 12 (length s) (ltb-true _ _ (sym y)), and_none (is_source input (Some v)))
+    go (Some v) false false x y z = absurd (true≢false (sym z))
 
 -- ---- by the older definition
 

@@ -12,45 +12,30 @@ use gate_state::Answer;
 use log_entries::Entry;
 use section::bytes;
 use section::header::{ChangeRule, Header, Parts};
-use section::ids::MaybePid;
 
-// Noted (7), or a section of more than 4,098 bytes (42).
-#[derive(Clone, Copy)]
-pub enum Noting {
-    Done,
+// Why nothing is noted: the section has more than 4,098 bytes (42).
+#[derive(Clone, Copy, Debug, PartialEq, Eq)]
+pub enum NoteError {
     TooLong,
 }
 
-impl Noting {
-    pub fn number(self) -> u8
-        ensures { result ≡ noting_no self }
-    {
-        match self {
-            Noting::Done => 7,
-            Noting::TooLong => 42,
-        }
+// The number of what `offer_record` answers: 7, or 42.
+pub fn note_number(noted: Result<Entry, NoteError>) -> u8
+    ensures { result ≡ noting_no noted }
+{
+    match noted {
+        Ok(_) => 7,
+        Err(NoteError::TooLong) => 42,
     }
 }
 
-#[derive(Clone, Copy)]
-pub struct Noted {
-    pub answer: Noting,
-    pub entry: Entry,
-}
-
-// The parts of a section that is long enough for what its form announces.
-#[derive(Clone, Copy)]
-pub enum Found {
-    Are(Parts),
-    Nothing,
-}
-
-fn found_entry(kind: u8, input: u8, pid: u16, f: Found) -> Entry
-    ensures { result ≡ entry_with (seen_or kind input pid f) }
+// The record of a section with these parts, and of one that is too short for what its form announces none.
+fn parts_entry(kind: u8, input: u8, pid: u16, parts: Option<Parts>) -> Entry
+    ensures { result ≡ entry_with (seen_or kind input pid parts) }
 {
-    match f {
-        Found::Are(p) => log_entries::seen_entry(kind, input, pid, p),
-        Found::Nothing => log_entries::none(),
+    match parts {
+        Some(p) => log_entries::seen_entry(kind, input, pid, p),
+        None => log_entries::none(),
     }
 }
 
@@ -107,33 +92,33 @@ fn checked_change(s: &[u8], rule: ChangeRule) -> u32
 }
 
 // With a checked CRC and no header.
-fn checked(s: &[u8], rule: ChangeRule) -> Found
+fn checked(s: &[u8], rule: ChangeRule) -> Option<Parts>
     requires { 3 ≤ length s.now }
     ensures { result ≡ checked_in rule s.now }
 {
     if s.len() < 4 {
-        return Found::Nothing;
+        return None;
     }
-    Found::Are(bare(s[0], checked_change(s, rule)))
+    Some(bare(s[0], checked_change(s, rule)))
 }
 
-// The parts of a section, by its form. Its CRC is not judged.
-fn parts(s: &[u8], rule: ChangeRule) -> Found
+// The parts of a section that is long enough for what its form announces. Its CRC is not judged.
+fn parts(s: &[u8], rule: ChangeRule) -> Option<Parts>
     ensures { result ≡ parts_in rule s.now }
 {
     if s.len() < 3 {
-        return Found::Nothing;
+        return None;
     }
     if bytes::long_form(s) {
         if 12 <= s.len() {
-            return Found::Are(headed(s));
+            return Some(headed(s));
         }
         return checked(s, rule);
     }
     if s[0] == 0x73 {
         return checked(s, rule);
     }
-    Found::Are(bare(s[0], crc::crc(s)))
+    Some(bare(s[0], crc::crc(s)))
 }
 
 // 0, 6 or 13 bytes.
@@ -143,9 +128,9 @@ fn note(answer: Answer, rule: ChangeRule, input: u8, pid: u16, section: &[u8]) -
 {
     if (input < 16) & (pid < 8192) {
         return match answer {
-            Answer::Emitted => found_entry(log_records::EMITTED, input, pid, parts(section, rule)),
+            Answer::Emitted => parts_entry(log_records::EMITTED, input, pid, parts(section, rule)),
             Answer::Suppressed => {
-                found_entry(log_records::SUPPRESSED, input, pid, parts(section, rule))
+                parts_entry(log_records::SUPPRESSED, input, pid, parts(section, rule))
             }
             Answer::Failed(failure) => log_entries::failed_entry(
                 failure.is_short(),
@@ -159,21 +144,21 @@ fn note(answer: Answer, rule: ChangeRule, input: u8, pid: u16, section: &[u8]) -
     log_entries::none()
 }
 
-// The record of what the gate answered to an offer: 42 of a section of more than 4,098 bytes, else 7 with 0, 6 or 13 bytes. The gate has judged the
+// The record of what the gate answered to an offer: 0, 6 or 13 bytes; none of a section of more than 4,098 bytes. The gate has judged the
 // section: a record of what it found sound has the section's parts, and 0 bytes where it cannot have been sound.
-pub fn offer_record(answer: Answer, rule: ChangeRule, input: u8, pid: u16, section: &[u8]) -> Noted
+pub fn offer_record(
+    answer: Answer,
+    rule: ChangeRule,
+    input: u8,
+    pid: u16,
+    section: &[u8],
+) -> Result<Entry, NoteError>
     ensures { result ≡ noted_of answer rule input pid section.now }
 {
     if 4098 < section.len() {
-        return Noted {
-            answer: Noting::TooLong,
-            entry: log_entries::none(),
-        };
+        return Err(NoteError::TooLong);
     }
-    Noted {
-        answer: Noting::Done,
-        entry: note(answer, rule, input, pid, section),
-    }
+    Ok(note(answer, rule, input, pid, section))
 }
 
 fn header_of(s: &[u8]) -> Header
@@ -192,15 +177,15 @@ fn header_of(s: &[u8]) -> Header
 
 // The record of the set that this section completed, 10 bytes; 0 of a section under 12 bytes, where there is no such input or PID, and without a PID: the push
 // before it was answered 41.
-pub fn set_record(input: u8, pid: MaybePid, section: &[u8]) -> Entry
+pub fn set_record(input: u8, pid: Option<u16>, section: &[u8]) -> Entry
     ensures { result ≡ set_entry input pid section.now }
 {
     if (16 <= input) | (section.len() < 12) {
         return log_entries::none();
     }
     match pid {
-        MaybePid::None => log_entries::none(),
-        MaybePid::Some(v) => {
+        None => log_entries::none(),
+        Some(v) => {
             if v < 8192 {
                 log_entries::of_10(log_records::set(input, v, header_of(section)))
             } else {

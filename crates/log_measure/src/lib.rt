@@ -6,16 +6,10 @@ ghost use Rattle.log_state.specs.State.{lent};
 ghost use Rattle.log_sections.specs.Steps.{memory};
 ghost use Rattle.log_measure.specs.Measure.{MeasuredBy};
 
+use log_list::Sections;
 use log_state::Run;
 
-// Whether the log fits, and then its length; else 0.
-#[derive(Clone, Copy)]
-pub struct Measured {
-    pub fits: bool,
-    pub length: usize,
-}
-
-// The sections of a whole list, up to the first whose records find no room.
+// The log of the sections of a whole list; none where it is longer than the room. It stops at the first section whose records find none.
 pub fn measure(
     run: Run,
     keys: &mut [u64],
@@ -25,29 +19,21 @@ pub fn measure(
     cells: &mut [u8],
     sections: &[u8],
     room: usize,
-) -> Measured
+) -> Option<usize>
     requires { WholeFrom sections.now 0 }
     ensures { MeasuredBy sections.now room (lent run keys.old changes.old heads.old slots.old cells.old) result (memory keys.new changes.new heads.new slots.new cells.new) }
 {
     let mut now = run;
-    let mut place = 0;
     let mut free = room;
-    while place < sections.len() {
+    for place in Sections::new(sections, 0) {
         let step = log_sections::take_one(now, keys, changes, heads, slots, cells, sections, place);
         let entry = step.entry;
         let size = entry.length;
         if free < size {
-            return Measured {
-                fits: false,
-                length: 0,
-            };
+            return None;
         }
         now = step.run;
-        place = step.next;
         free -= size;
     }
-    Measured {
-        fits: true,
-        length: room - free,
-    }
+    Some(room - free)
 }

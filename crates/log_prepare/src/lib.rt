@@ -4,33 +4,42 @@
 
 ghost use Rattle.std.specs.Prelude.{◌≡◌, length};
 ghost use Rattle.rules_logs.specs.Sections.{sections_in};
-ghost use Rattle.log_prepare.specs.Prepare.{prepared_of, ready_of};
+ghost use Rattle.log_prepare.specs.Prepare.{error_of, prepared_of, ready_of};
 
-use answers::Outcome;
-use log_list::Judged;
+use log_list::ListError;
 use log_state::{Opened, Pids, Run, Settings};
 
-// A section of the list is too long (42), the list is cut (10), sets would be taken without PIDs (41), the memory is too little (13), or the run is open.
-#[derive(Clone, Copy)]
-pub enum Prepared {
+// Why no run is opened: a section of the list is too long (42), the list is cut (10), sets would be taken without PIDs (41), or the memory is too little (13).
+#[derive(Clone, Copy, Debug, PartialEq, Eq)]
+pub enum PrepareError {
     TooLong,
     Cut,
     NoPid,
     TooLittle,
-    Ready(Run),
 }
 
-fn ready(pids: Pids, opened: Opened) -> Prepared
+impl From<ListError> for PrepareError {
+    ghost from_gives = { λ e made. made ≡ error_of e };
+
+    fn from(error: ListError) -> PrepareError {
+        match error {
+            ListError::Cut => PrepareError::Cut,
+            ListError::TooLong => PrepareError::TooLong,
+        }
+    }
+}
+
+fn ready(pids: Pids, opened: Opened) -> Result<Run, PrepareError>
     ensures { result ≡ ready_of pids opened }
 {
     if pids.is_without() {
-        return Prepared::NoPid;
+        return Err(PrepareError::NoPid);
     }
     let answer = opened.answer;
     let run = opened.run;
     match answer {
-        Outcome::Done => Prepared::Ready(run),
-        Outcome::Refused(_) => Prepared::TooLittle,
+        Ok(()) => Ok(run),
+        Err(_) => Err(PrepareError::TooLittle),
     }
 }
 
@@ -43,19 +52,13 @@ pub fn prepare(
     heads: &[u64],
     slots: &[u32],
     cells: &[u8],
-) -> Prepared
+) -> Result<Run, PrepareError>
     ensures { result ≡ prepared_of settings (sections_in sections.now) (length keys.now) (length changes.now) (length heads.now) (length slots.now) (length cells.now) }
 {
-    let judged = log_list::judge(sections);
+    log_list::judge(sections)?;
     let pids = settings.pids;
-    match judged {
-        Judged::TooLong => Prepared::TooLong,
-        Judged::Cut => Prepared::Cut,
-        Judged::Whole => {
-            ready(
-                pids,
-                log_state::open(settings, keys, changes, heads, slots, cells),
-            )
-        }
-    }
+    ready(
+        pids,
+        log_state::open(settings, keys, changes, heads, slots, cells),
+    )
 }

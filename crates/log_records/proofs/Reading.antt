@@ -5,15 +5,15 @@ use mathlib.Core.Bool.{Bool, true, false, cond, ◌||◌}
 use mathlib.Core.List.{List}
 use Prim.Native.Nat.{ℕ, ◌+◌, ◌-◌, ◌≤◌, ◌<◌}
 use native.Mathlib.Omega.{arith}
-use lib.Dec.{eqb, leb, ltb}
+use lib.Dec.{eqb}
 use lib.ListN.{length}
 use borrow.Author.Tests.{eq-eqb, ne_eqb, le-leb, lt-leb, lt-ltb, le-ltb}
 use Rattle.crc.specs.Crc.{stored_at}
-use Rattle.section.specs.Header.{byte_at, word16}
+use Rattle.section.specs.Header.{byte_at}
 use Rattle.rules_logs.specs.Records.{record_size}
 use Rattle.log_records.specs.declared.Record.{Record}
-use Rattle.log_records.specs.declared.Read.{Read}
-use Rattle.log_records.specs.declared.Read.TheVariants.{Found, End, Unknown, Cut}
+use Rattle.std.specs.Prelude.{Some, None, Ok, Err}
+use Rattle.log_records.specs.declared.ReadError.TheVariants.{Unknown, Cut}
 use Rattle.log_records.specs.Reading.{word_at, seen_at, failed_at, set_at, bare_set_at, fields_at, read_at, IsSize}
 
 module _ (s : List ℕ) (i : ℕ) where
@@ -57,20 +57,20 @@ module _ (s : List ℕ) (i : ℕ) where
 
   -- ---- the ways out
 
-  pub at_end_lem : length s ≤ i → End ≡ read_at s i
+  pub at_end_lem : length s ≤ i → Ok None ≡ read_at s i
   unfolding read_at
   at_end_lem h = rw (le-leb (length s) i h) refl
 
-  pub no_kind : {n : ℕ} → i < length s → n ≡ record_size (byte_at s i) → n ≡ 0 → Unknown ≡ read_at s i
+  pub no_kind : {n : ℕ} → i < length s → n ≡ record_size (byte_at s i) → n ≡ 0 → Err Unknown ≡ read_at s i
   unfolding read_at
   no_kind h e z = rw (lt-leb (length s) i h, eq-eqb (record_size (byte_at s i)) 0 (sym e ∙ z)) refl
 
-  pub cut_off : {n : ℕ} → i < length s → n ≡ record_size (byte_at s i) → (n ≡ 0 → ⊥) → length s - i < n → Cut ≡ read_at s i
+  pub cut_off : {n : ℕ} → i < length s → n ≡ record_size (byte_at s i) → (n ≡ 0 → ⊥) → length s - i < n → Err Cut ≡ read_at s i
   unfolding read_at
   cut_off {n = n} h e z l =
       rw (lt-leb (length s) i h, ne_eqb (record_size (byte_at s i)) 0 (λ q. z (e ∙ q)), lt-ltb (length s - i) (record_size (byte_at s i)) (omega (arith, l, e))) refl
 
-  pub found_there : {n : ℕ} {r : Record} → i < length s → n ≡ record_size (byte_at s i) → (n ≡ 0 → ⊥) → n ≤ length s - i → r ≡ fields_at s i n → Found r ≡ read_at s i
+  pub found_there : {n : ℕ} {r : Record} → i < length s → n ≡ record_size (byte_at s i) → (n ≡ 0 → ⊥) → n ≤ length s - i → r ≡ fields_at s i n → Ok (Some r) ≡ read_at s i
   unfolding read_at
   found_there {n = n} h e z l q =
       rw (lt-leb (length s) i h, ne_eqb (record_size (byte_at s i)) 0 (λ q. z (e ∙ q)), le-ltb (length s - i) (record_size (byte_at s i)) (omega (arith, l, e)), ← e, q) refl

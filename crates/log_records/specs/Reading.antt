@@ -1,12 +1,16 @@
 -- One record of a log, read from its bytes (docs/RULES.md, "Logs").
 -- Assumes nothing.
-use Rattle.std.specs.Prelude.{ℕ, ◌+◌, ◌-◌, ◌≡◌, List, Bool, cond, leb, ltb, eqb, length, get_or}
+use Rattle.std.specs.Prelude.{ℕ, ◌+◌, ◌-◌, ◌≡◌, List, cond, leb, ltb, eqb, length, Option, Some, None, Result, Ok, Err}
 use Rattle.crc.specs.Crc.{stored_at}
 use Rattle.section.specs.Header.{byte_at, word16}
 use Rattle.rules_logs.specs.Records.{record_size}
 use Rattle.log_records.specs.declared.Record.{Record}
-use Rattle.log_records.specs.declared.Read.{Read}
-use Rattle.log_records.specs.declared.Read.TheVariants.{Found, End, Unknown, Cut}
+use Rattle.log_records.specs.declared.ReadError.{ReadError}
+use Rattle.log_records.specs.declared.ReadError.TheVariants.{Unknown, Cut}
+
+-- what there is at a place of a log: a record (8), nothing at its end (9), no such kind (38), or a record that is cut off (39)
+abbrev pub Read : Type 0
+Read = Result (Option Record) ReadError
 
 abbrev pub word_at : List ℕ → ℕ → ℕ
 word_at s i = word16 (byte_at s i) (byte_at s (i + 1))
@@ -89,10 +93,13 @@ fields_at s i size = cond (eqb size 13) (seen_at s i) (cond (eqb size 6) (failed
 unfoldable pub read_at : List ℕ → ℕ → Read
 read_at s i =
     let size : ℕ = record_size (byte_at s i) in
-    cond (leb (length s) i) End (cond (eqb size 0) Unknown (cond (ltb (length s - i) size) Cut (Found (fields_at s i size))))
+    cond (leb (length s) i) (Ok None) (cond (eqb size 0) (Err Unknown) (cond (ltb (length s - i) size) (Err Cut) (Ok (Some (fields_at s i size)))))
+
+abbrev pub error_number : ReadError → ℕ
+error_number Unknown = 38
+error_number Cut = 39
 
 abbrev pub read_number : Read → ℕ
-read_number (Found r) = 8
-read_number End = 9
-read_number Unknown = 38
-read_number Cut = 39
+read_number (Ok (Some r)) = 8
+read_number (Ok None) = 9
+read_number (Err e) = error_number e

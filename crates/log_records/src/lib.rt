@@ -3,7 +3,7 @@
 
 ghost use Rattle.std.specs.Prelude.{◌≡◌, cond, ◌<◌, ◌/◌, ◌%◌, ◌+◌, ◌≤◌, length};
 ghost use Rattle.rules_logs.specs.Records.{record_size, seen_record, failed_record, set_record, bare_set_record};
-ghost use Rattle.log_records.specs.Reading.{seen_at, failed_at, set_at, bare_set_at, fields_at, read_at, read_number, IsSize};
+ghost use Rattle.log_records.specs.Reading.{seen_at, failed_at, set_at, bare_set_at, fields_at, read_at, error_number, IsSize};
 
 use section::bytes::word;
 use section::header::{Header, Parts};
@@ -149,24 +149,20 @@ pub struct Record {
     pub last: u8,
 }
 
-// A record (8), the end of the log (9), no such kind (38), or a record that is cut off (39).
-#[derive(Clone, Copy)]
-pub enum Read {
-    Found(Record),
-    End,
+// Why no record is read: its kind is none that there is (38), or it is cut off (39).
+#[derive(Clone, Copy, Debug, PartialEq, Eq)]
+pub enum ReadError {
     Unknown,
     Cut,
 }
 
-impl Read {
+impl ReadError {
     pub fn number(self) -> u8
-        ensures { result ≡ read_number self }
+        ensures { result ≡ error_number self }
     {
         match self {
-            Read::Found(_) => 8,
-            Read::End => 9,
-            Read::Unknown => 38,
-            Read::Cut => 39,
+            ReadError::Unknown => 38,
+            ReadError::Cut => 39,
         }
     }
 }
@@ -269,19 +265,19 @@ fn fields(log: &[u8], at: usize, size: usize) -> Record
     bare_set_at(log, at)
 }
 
-// The record that begins at this place.
-pub fn read_record(log: &[u8], place: usize) -> Read
+// The record that begins at this place, none at the end of the log.
+pub fn read_record(log: &[u8], place: usize) -> Result<Option<Record>, ReadError>
     ensures { result ≡ read_at log.now place }
 {
     if log.len() <= place {
-        return Read::End;
+        return Ok(None);
     }
     let size = record_size(log[place]);
     if size == 0 {
-        return Read::Unknown;
+        return Err(ReadError::Unknown);
     }
     if log.len() - place < size {
-        return Read::Cut;
+        return Err(ReadError::Cut);
     }
-    Read::Found(fields(log, place, size))
+    Ok(Some(fields(log, place, size)))
 }

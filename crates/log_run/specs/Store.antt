@@ -1,6 +1,6 @@
 -- What one section gives and leaves in a run of a log (docs/RULES.md, "Logs"), for every run and every content of the lent slices.
 -- Assumes nothing.
-use Rattle.std.specs.Prelude.{ℕ, List, [], ◌∷◌, length}
+use Rattle.std.specs.Prelude.{ℕ, List, [], ◌∷◌, length, Result, Ok, Err}
 use Rattle.ring.specs.Store.{stamp_of, seen_of, keys_after, changes_after}
 use Rattle.ring.specs.declared.Ring.{Ring}
 use Rattle.ring.specs.declared.Seen.{Seen}
@@ -16,19 +16,18 @@ use Rattle.log_state.specs.declared.Run.{Run}
 use Rattle.log_state.specs.declared.Sight.{Sight}
 use Rattle.log_state.specs.declared.Ruling.{Ruling}
 use Rattle.log_state.specs.declared.Ruling.TheVariants as ruling
-use Rattle.log_state.specs.declared.TakeAnswer.{TakeAnswer}
-use Rattle.log_state.specs.declared.TakeAnswer.TheVariants as take
+use Rattle.log_state.specs.declared.TakeError.{TakeError}
 use Rattle.log_run.specs.declared.Taken.{Taken}
 
 -- what a section comes to: the answer, its records in order, and the run and memory that are left
 pub record Taking : Type 0 where
-  pub answer : TakeAnswer
+  pub answer : Result Unit TakeError
   pub records : List Bytes
   pub left : Lent
 
 -- the same as a call shows it: the records as bytes
 pub record Shown : Type 0 where
-  pub answer : TakeAnswer
+  pub answer : Result Unit TakeError
   pub entry : Entry
   pub left : Lent
 
@@ -50,7 +49,7 @@ seen_in s input pid section x =
     let seen : Seen = seen_of run.ring s.keys s.changes x.key number in
     let pushed : SetsAfter = gathered_of (sets_in s) (from_for (is_with run.pids) input pid) section in
     record {
-      answer = take.Done;
+      answer = Ok tt;
       records =
           seen_record (seen_kind seen.changed run.repeats) input pid x.parts
           ∷ set_records (is_with run.pids) input pid section pushed.told;
@@ -61,10 +60,10 @@ seen_in s input pid section x =
     }
 
 -- a refusal gives nothing and leaves all as it was; a failure gives its record and leaves all as it was
-unfoldable pub ruled : Lent → (input pid : ℕ) → Bytes → Ruling → Taking
-ruled s input pid section (ruling.Refused a) = record { answer = a; records = []; left = s }
-ruled s input pid section (ruling.Failed short) = record { answer = take.Done; records = failed_record (failed_kind short) input pid (length section) ∷ []; left = s }
-ruled s input pid section (ruling.Arrived x) = seen_in s input pid section x
+unfoldable pub ruled : Lent → (input pid : ℕ) → Bytes → Result Ruling TakeError → Taking
+ruled s input pid section (Err a) = record { answer = Err a; records = []; left = s }
+ruled s input pid section (Ok (ruling.Failed short)) = record { answer = Ok tt; records = failed_record (failed_kind short) input pid (length section) ∷ []; left = s }
+ruled s input pid section (Ok (ruling.Arrived x)) = seen_in s input pid section x
 
 -- 42, 10, 11, 12, 37, else 7
 unfoldable pub taking : Lent → (input pid : ℕ) → Bytes → Taking

@@ -8,11 +8,11 @@ ghost use Rattle.log_state.specs.State.{lent, Arrives};
 ghost use Rattle.log_run.specs.Store.{after_take, shown, seen_in, taken_of};
 
 use log_entries::Entry;
-use log_state::{Ruling, Run, Sight, TakeAnswer};
+use log_state::{Ruling, Run, Sight, TakeError};
 
 #[derive(Clone, Copy)]
 pub struct Taken {
-    pub answer: TakeAnswer,
+    pub answer: Result<(), TakeError>,
     pub entry: Entry,
     pub run: Run,
 }
@@ -47,14 +47,12 @@ fn admit(
     let ring_then = seen.ring;
     let sets_then = pushed.sets;
     Taken {
-        answer: TakeAnswer::Done,
+        answer: Ok(()),
         entry,
         run: Run {
             ring: ring_then,
-            repeats: run.repeats,
-            rule: run.rule,
             sets: sets_then,
-            pids,
+            ..run
         },
     }
 }
@@ -84,17 +82,17 @@ pub fn take(
         pid,
         section,
     ) {
-        Ruling::Refused(answer) => Taken {
-            answer,
+        Err(error) => Taken {
+            answer: Err(error),
             entry: log_entries::none(),
             run,
         },
-        Ruling::Failed(short) => Taken {
-            answer: TakeAnswer::Done,
+        Ok(Ruling::Failed(short)) => Taken {
+            answer: Ok(()),
             entry: log_entries::failed_entry(short, input, pid, section.len()),
             run,
         },
-        Ruling::Arrived(sight) => admit(
+        Ok(Ruling::Arrived(sight)) => admit(
             run, keys, changes, heads, slots, cells, sight, input, pid, section,
         ),
     }

@@ -1,12 +1,13 @@
 -- The sections of a list through a run of a log, one after another (docs/RULES.md, "Logs").
 -- Assumes nothing.
-use Rattle.std.specs.Prelude.{ℕ, ◌<◌, ◌≡◌, List, [], ◌∷◌, ◌++◌, Bool, length, take}
+use Rattle.std.specs.Prelude.{ℕ, ◌≡◌, List, [], ◌∷◌, ◌++◌, Bool, length, take}
 use Rattle.rules_logs.specs.Records.{Bytes}
 use Rattle.rules_logs.specs.Sections.{Given}
 use Rattle.rules_logs.specs.Verdict.{log_of}
 use Rattle.log_entries.specs.Entries.{entry_with}
 use Rattle.log_entries.specs.declared.Entry.{Entry}
-use Rattle.log_list.specs.List.{givens_from, WholeFrom}
+use Rattle.log_list.specs.List.{given_at}
+use Rattle.log_list.specs.declared.Place.{Place}
 use Rattle.log_state.specs.State.{Lent, lent, can_open}
 use Rattle.log_state.specs.declared.Run.{Run}
 use Rattle.log_state.specs.declared.Settings.{Settings}
@@ -27,14 +28,10 @@ unfoldable pub left_by : Lent → List Given → Lent
 left_by s [] = s
 left_by s (g ∷ gs) = left_by (takes s g).left gs
 
--- the section at place p of a list, taken
-pub record Stepped (list : Bytes) (p : ℕ) (s : Lent) (r : Step) (after : Lent) : Type 0 where
-  pub given : Given
-  pub first : givens_from list p ≡ given ∷ givens_from list r.next
-  pub behind : WholeFrom list r.next
-  pub later : p < r.next
-  pub entry : r.entry ≡ entry_with (log_of (takes s given).records)
-  pub left : after ≡ (takes s given).left
+-- the section that a place of a list tells of, taken
+pub record Stepped (list : Bytes) (place : Place) (s : Lent) (r : Step) (after : Lent) : Type 0 where
+  pub entry : r.entry ≡ entry_with (log_of (takes s (given_at list place)).records)
+  pub left : after ≡ (takes s (given_at list place)).left
 
 -- the bytes that an entry shows
 abbrev pub shown_in : Entry → Bytes

@@ -1,23 +1,22 @@
 // The sections of a list through a run of a log, one at a time (docs/RULES.md, "Logs"). A part of the checker and of the writer.
 #![tactic(auto)]
 
-ghost use Rattle.std.specs.Prelude.{◌<◌, length};
-ghost use Rattle.log_list.specs.List.{WholeFrom};
+ghost use Rattle.std.specs.Prelude.{◌+◌, ◌≤◌, length};
 ghost use Rattle.log_state.specs.State.{lent};
 ghost use Rattle.log_sections.specs.Steps.{Stepped};
 
 use log_entries::Entry;
+use log_list::Place;
 use log_state::Run;
 
-// The run that a section left, the records that it gave, and the place of the next section in the list.
+// The run that a section left, and the records that it gave.
 #[derive(Clone, Copy)]
 pub struct Step {
     pub run: Run,
     pub entry: Entry,
-    pub next: usize,
 }
 
-// The section at this place of the list.
+// The section of the list that a place tells of.
 pub fn take_one(
     run: Run,
     keys: &mut [u64],
@@ -26,15 +25,13 @@ pub fn take_one(
     slots: &mut [u32],
     cells: &mut [u8],
     sections: &[u8],
-    place: usize,
+    place: Place,
 ) -> Step
-    requires whole_from { WholeFrom sections.now place }
-    requires place_in_bounds { place < length sections.now }
+    requires { place.start + place.length ≤ length sections.now }
     ensures { Stepped sections.now place (lent run keys.old changes.old heads.old slots.old cells.old) result (lent result.run keys.new changes.new heads.new slots.new cells.new) }
 {
-    let given = log_list::section_at(sections, place);
-    let start = given.start;
-    let next = start + given.length;
+    let start = place.start;
+    let end = start + place.length;
     let taken = log_run::take(
         run,
         keys,
@@ -42,15 +39,11 @@ pub fn take_one(
         heads,
         slots,
         cells,
-        given.input,
-        given.pid,
-        &sections[start..next],
+        place.input,
+        place.pid,
+        &sections[start..end],
     );
     let left = taken.run;
     let entry = taken.entry;
-    Step {
-        run: left,
-        entry,
-        next,
-    }
+    Step { run: left, entry }
 }

@@ -1,16 +1,14 @@
 -- A run of a log (docs/RULES.md, "Logs"): the rows of a gate and a set collector over lent memory, and what a section comes to before anything is
 -- written. `cond test a b` is a where the test is true, else b.
 -- Assumes nothing.
-use Rattle.std.specs.Prelude.{ℕ, ◌<◌, List, Bool, true, false, cond, not, ◌&&◌, length, leb, ltb, eqb}
+use Rattle.std.specs.Prelude.{ℕ, ◌<◌, List, Bool, true, false, cond, not, ◌&&◌, length, leb, ltb, Result, Ok, Err}
 use Rattle.answers.specs.Answers.{refusal_no}
 use Rattle.answers.specs.declared.Refusal.TheVariants as refusal
-use Rattle.answers.specs.declared.Outcome.TheVariants as outcome
 use Rattle.section.specs.Judged.{rule_known, rule_of, form_of, parts_of}
 use Rattle.ring.specs.Store.{room_of, empty_ring, Whole}
 use Rattle.ring.specs.Store.{whole_of as ring_whole}
 use Rattle.store.specs.Store.{Store, store, asked, settings_fit, counters_full}
 use Rattle.store.specs.Store.{whole_of as sets_whole}
-use Rattle.store.specs.declared.Sets.{Sets}
 use Rattle.sets_plan.specs.Plan.{Ready}
 use Rattle.offers.specs.Offers.{is_short, read_of}
 use Rattle.offers.specs.declared.Verdict.{Verdict}
@@ -20,8 +18,8 @@ use Rattle.log_state.specs.declared.Pids.TheVariants as pids
 use Rattle.log_state.specs.declared.Settings.{Settings}
 use Rattle.log_state.specs.declared.Run.{Run}
 use Rattle.log_state.specs.declared.Opened.{Opened}
-use Rattle.log_state.specs.declared.TakeAnswer.{TakeAnswer}
-use Rattle.log_state.specs.declared.TakeAnswer.TheVariants as take
+use Rattle.log_state.specs.declared.TakeError.{TakeError}
+use Rattle.log_state.specs.declared.TakeError.TheVariants as take
 use Rattle.log_state.specs.declared.Ruling.{Ruling}
 use Rattle.log_state.specs.declared.Ruling.TheVariants as ruling
 
@@ -69,16 +67,16 @@ can_open s keys changes heads slots cells =
 unfoldable pub opened_of : Settings → (keys changes heads slots cells : ℕ) → Opened
 opened_of s keys changes heads slots cells =
     record {
-      answer = cond (is_without s.pids) (outcome.Refused refusal.NoPid) (cond (can_open s keys changes heads slots cells) outcome.Done (outcome.Refused refusal.TooLittle));
+      answer = cond (is_without s.pids) (Err refusal.NoPid) (cond (can_open s keys changes heads slots cells) (Ok tt) (Err refusal.TooLittle));
       run = run_of s;
     }
 
 -- ---- what a section comes to
 
-abbrev pub take_no : TakeAnswer → ℕ
-take_no take.Done = 7
-take_no take.TooLong = 42
-take_no (take.Refused r) = refusal_no r
+abbrev pub take_no : Result Unit TakeError → ℕ
+take_no (Ok x) = 7
+take_no (Err take.TooLong) = 42
+take_no (Err (take.Refused r)) = refusal_no r
 
 -- the gate's rows fit slices of these lengths, there is such a change rule, and sets are taken: a run without PIDs came from no opening
 abbrev pub gate_whole : Run → (keys changes : ℕ) → Bool
@@ -92,20 +90,20 @@ unfoldable pub whole_of : Lent → Bool
 whole_of s = whole_by s.run (length s.keys) (length s.changes) (sets_in s)
 
 -- what the gate makes of the section: a refusal, a failure, or its key and its parts
-unfoldable pub ruled_by : (rule : ℕ) → List ℕ → Verdict → Ruling
-ruled_by rule section (verdict.Refused r) = ruling.Refused (take.Refused r)
-ruled_by rule section (verdict.Failed f) = ruling.Failed (is_short f)
-ruled_by rule section (verdict.Arrived a) = ruling.Arrived (record { key = a.key; parts = parts_of (rule_of rule) section (form_of section) })
+unfoldable pub ruled_by : (rule : ℕ) → List ℕ → Verdict → Result Ruling TakeError
+ruled_by rule section (verdict.Refused r) = Err (take.Refused r)
+ruled_by rule section (verdict.Failed f) = Ok (ruling.Failed (is_short f))
+ruled_by rule section (verdict.Arrived a) = Ok (ruling.Arrived (record { key = a.key; parts = parts_of (rule_of rule) section (form_of section) }))
 
 -- 42 (over 4,098 bytes), 10, 11, then as the gate has it: 12, 37, a failure, or a section that arrived; by the lengths of the gate's slices
-unfoldable pub ruling_by : Run → (keys changes : ℕ) → Store → (input pid : ℕ) → List ℕ → Ruling
+unfoldable pub ruling_by : Run → (keys changes : ℕ) → Store → (input pid : ℕ) → List ℕ → Result Ruling TakeError
 ruling_by run keys changes sets input pid section =
-    cond (ltb 4098 (length section)) (ruling.Refused take.TooLong)
+    cond (ltb 4098 (length section)) (Err take.TooLong)
     (cond (whole_by run keys changes sets)
-    (cond (counters_full sets.sets) (ruling.Refused (take.Refused refusal.CounterFull)) (ruled_by run.rule section (read_of run.rule input pid section)))
-    (ruling.Refused (take.Refused refusal.NotWhole)))
+    (cond (counters_full sets.sets) (Err (take.Refused refusal.CounterFull)) (ruled_by run.rule section (read_of run.rule input pid section)))
+    (Err (take.Refused refusal.NotWhole)))
 
-unfoldable pub ruling_of : Lent → (input pid : ℕ) → List ℕ → Ruling
+unfoldable pub ruling_of : Lent → (input pid : ℕ) → List ℕ → Result Ruling TakeError
 ruling_of s input pid section = ruling_by s.run (length s.keys) (length s.changes) (sets_in s) input pid section
 
 -- ---- what is so of a section that is not refused
@@ -116,13 +114,13 @@ pub record Arrives (run : Run) (keys changes : ℕ) (sets : Store) (input pid : 
   pub is_input : input < 16
   pub is_pid : pid < 8192
 
-abbrev pub RulingOk : Run → (keys changes : ℕ) → Store → (input pid : ℕ) → List ℕ → Ruling → Type 0
-RulingOk run keys changes sets input pid section (ruling.Refused a) = Unit {0}
-RulingOk run keys changes sets input pid section (ruling.Failed short) = length section < 65536
-RulingOk run keys changes sets input pid section (ruling.Arrived x) = Arrives run keys changes sets input pid
+abbrev pub RulingOk : Run → (keys changes : ℕ) → Store → (input pid : ℕ) → List ℕ → Result Ruling TakeError → Type 0
+RulingOk run keys changes sets input pid section (Err a) = Unit {0}
+RulingOk run keys changes sets input pid section (Ok (ruling.Failed short)) = length section < 65536
+RulingOk run keys changes sets input pid section (Ok (ruling.Arrived x)) = Arrives run keys changes sets input pid
 
 -- of an input and a PID that there are
-abbrev pub FromOk : (input pid : ℕ) → Ruling → Type 0
-FromOk input pid (ruling.Refused a) = Unit {0}
-FromOk input pid (ruling.Failed short) = Unit {0}
-FromOk input pid (ruling.Arrived x) = (input < 16) × (pid < 8192)
+abbrev pub FromOk : (input pid : ℕ) → Result Ruling TakeError → Type 0
+FromOk input pid (Err a) = Unit {0}
+FromOk input pid (Ok (ruling.Failed short)) = Unit {0}
+FromOk input pid (Ok (ruling.Arrived x)) = (input < 16) × (pid < 8192)

@@ -11,7 +11,7 @@ ghost use Rattle.log_state.specs.State.{is_with, is_without, run_of, can_open, o
 use answers::{Outcome, Refusal};
 use ring::Ring;
 use section::header::{ChangeRule, Judged, Parts};
-use section::ids::{Origin, OriginMade};
+use section::ids::Origin;
 use store::Sets;
 
 // How sets are taken: with their PIDs; without, which is given up (41); or as before it was given up, by the older definition, which knows no PIDs.
@@ -56,10 +56,9 @@ pub struct Opened {
     pub run: Run,
 }
 
-// What a section comes to: done (7), more than 4,098 bytes (42), or a refusal (10, 11, 12, 37).
+// Why a section is not taken: it has more than 4,098 bytes (42), or a refusal (10, 11, 12, 37).
 #[derive(Clone, Copy)]
-pub enum TakeAnswer {
-    Done,
+pub enum TakeError {
     TooLong,
     Refused(Refusal),
 }
@@ -71,23 +70,21 @@ pub struct Sight {
     pub parts: Parts,
 }
 
-// No record; a record of a failure, short or not; or a section that is to be looked up and collected.
+// A record of a failure, short or not; or a section that is to be looked up and collected.
 #[derive(Clone, Copy)]
 pub enum Ruling {
-    Refused(TakeAnswer),
     Failed(bool),
     Arrived(Sight),
 }
 
-impl TakeAnswer {
-    pub fn number(self) -> u8
-        ensures { result ≡ take_no self }
-    {
-        match self {
-            TakeAnswer::Done => 7,
-            TakeAnswer::TooLong => 42,
-            TakeAnswer::Refused(refusal) => refusal.number(),
-        }
+// The number of what a section comes to: 7, 42, or the refusal's.
+pub fn take_number(answer: Result<(), TakeError>) -> u8
+    ensures { result ≡ take_no answer }
+{
+    match answer {
+        Ok(()) => 7,
+        Err(TakeError::TooLong) => 42,
+        Err(TakeError::Refused(refusal)) => refusal.number(),
     }
 }
 
@@ -95,21 +92,13 @@ impl Pids {
     pub fn is_with(self) -> bool
         ensures { result ≡ is_with self }
     {
-        match self {
-            Pids::With => true,
-            Pids::Without => false,
-            Pids::Before => false,
-        }
+        matches!(self, Pids::With)
     }
 
     pub fn is_without(self) -> bool
         ensures { result ≡ is_without self }
     {
-        match self {
-            Pids::With => false,
-            Pids::Without => true,
-            Pids::Before => false,
-        }
+        matches!(self, Pids::Without)
     }
 }
 
@@ -180,7 +169,7 @@ pub fn open(
     let pids = settings.pids;
     if pids.is_without() {
         return Opened {
-            answer: Outcome::Refused(Refusal::NoPid),
+            answer: Err(Refusal::NoPid),
             run,
         };
     }
@@ -193,12 +182,12 @@ pub fn open(
         cells.len(),
     ) {
         return Opened {
-            answer: Outcome::Done,
+            answer: Ok(()),
             run,
         };
     }
     Opened {
-        answer: Outcome::Refused(Refusal::TooLittle),
+        answer: Err(Refusal::TooLittle),
         run,
     }
 }
@@ -213,28 +202,27 @@ fn gate_whole(run: Run, keys: usize, changes: usize) -> bool
 }
 
 // 31 where the section is too short for its CRC, 3 where the CRC does not fit.
-fn read_from(from: Origin, rule: u64, section: &[u8]) -> Ruling
+fn read_from(from: Origin, rule: u64, section: &[u8]) -> Result<Ruling, TakeError>
     ensures { result ≡ ruled_by rule section.now (read_as from (length section.now) (judged_of (rule_of rule) section.now)) }
 {
     match section::header::judge(section, ChangeRule::of(rule)) {
-        Judged::Short => Ruling::Failed(true),
-        Judged::Mismatch(_, _) => Ruling::Failed(false),
-        Judged::Sound(parts) => Ruling::Arrived(Sight {
+        Judged::Short => Ok(Ruling::Failed(true)),
+        Judged::Mismatch(_, _) => Ok(Ruling::Failed(false)),
+        Judged::Sound(parts) => Ok(Ruling::Arrived(Sight {
             key: section::header::key(from, parts.table_id, parts.extension, parts.number),
             parts,
-        }),
+        })),
     }
 }
 
 // 12, 37, then 31 or 3.
-fn read(rule: u64, input: u8, pid: u16, section: &[u8]) -> Ruling
+fn read(rule: u64, input: u8, pid: u16, section: &[u8]) -> Result<Ruling, TakeError>
     ensures value { result ≡ ruled_by rule section.now (read_of rule input pid section.now) }
     ensures from_ok { FromOk input pid result }
 {
     match Origin::make(input, pid) {
-        OriginMade::One(from) => read_from(from, rule, section),
-        OriginMade::BadPid => Ruling::Refused(TakeAnswer::Refused(Refusal::BadPid)),
-        OriginMade::BadInput => Ruling::Refused(TakeAnswer::Refused(Refusal::BadInput)),
+        Ok(from) => read_from(from, rule, section),
+        Err(refusal) => Err(TakeError::Refused(refusal)),
     }
 }
 
@@ -249,21 +237,21 @@ pub fn judge(
     input: u8,
     pid: u16,
     section: &[u8],
-) -> Ruling
+) -> Result<Ruling, TakeError>
     ensures value { result ≡ ruling_by run keys changes (store run.sets heads.now slots.now cells.now) input pid section.now }
     ensures ruling_ok { RulingOk run keys changes (store run.sets heads.now slots.now cells.now) input pid section.now result }
 {
     if 4098 < section.len() {
-        return Ruling::Refused(TakeAnswer::TooLong);
+        return Err(TakeError::TooLong);
     }
     let sets = run.sets;
     if gate_whole(run, keys, changes) {
         if store::is_whole(sets, heads, slots, cells) {
             if store::counters_full(sets) {
-                return Ruling::Refused(TakeAnswer::Refused(Refusal::CounterFull));
+                return Err(TakeError::Refused(Refusal::CounterFull));
             }
             return read(run.rule, input, pid, section);
         }
     }
-    Ruling::Refused(TakeAnswer::Refused(Refusal::NotWhole))
+    Err(TakeError::Refused(Refusal::NotWhole))
 }

@@ -10,17 +10,13 @@ use Rattle.section.specs.Header.{header_of}
 use Rattle.section.specs.Judged.{collected_of}
 use Rattle.section.proofs.Facts.{takes}
 use Rattle.section.specs.declared.header.Header.{Header}
-use Rattle.section.specs.declared.header.Collected.{Collected}
-use Rattle.section.specs.declared.header.Collected.TheVariants as collected
+use Rattle.std.specs.Prelude.{Option, Some, Result, Ok, Err}
+use Rattle.answers.specs.declared.Refusal.TheVariants as refusal
 use Rattle.section.specs.declared.header.Parts.{Parts}
-use Rattle.section.specs.declared.ids.MaybePid.{MaybePid}
-use Rattle.section.specs.declared.ids.MaybePid.TheVariants as maybe
 use Rattle.rows.specs.declared.Entry.{Entry as Row}
 use Rattle.rows.specs.declared.Origin.{Origin}
 use Rattle.store.specs.Store.{Store}
 use Rattle.arrivals.specs.Arrivals.{set_read, SetTaken, Taken}
-use Rattle.arrivals.specs.declared.SetArrival.{SetArrival}
-use Rattle.arrivals.specs.declared.SetArrival.TheVariants as arrival
 use Rattle.sets_plan.specs.Plan.{Ready}
 use Rattle.sets_settle.specs.Settle.{SetsAfter, after_push}
 use Rattle.sets_settle.specs.declared.PushAnswer.{PushAnswer}
@@ -36,28 +32,25 @@ use Rattle.log_steps.proofs.Records.{set_small, none_small}
 
 -- ---- the collector
 
-module _ (s : Store) (from : Origin) (section : List ℕ) (a : SetArrival) (e : a ≡ set_read from (collected_of section)) where
-  pub gather_refused : (r : Refusal) → a ≡ arrival.Refused r
+module _ (s : Store) (from : Origin) (section : List ℕ) (a : Result Row Refusal) (e : a ≡ set_read from (collected_of section)) where
+  pub gather_refused : (r : Refusal) → a ≡ Err r
       → after_push (record { answer = push_answer.Refused r; sets = s.sets }) s.heads s.slots s.cells ≡ gathered_of s from section
   unfolding gathered_of
   gather_refused r q = ap (pushed_as s section) (sym q ∙ e)
 
-  pub gather_arrived : (x : Row) (k : SetsAfter) → a ≡ arrival.Arrived x → k ≡ whole_pushed s x section → k ≡ gathered_of s from section
+  pub gather_arrived : (x : Row) (k : SetsAfter) → a ≡ Ok x → k ≡ whole_pushed s x section → k ≡ gathered_of s from section
   unfolding gathered_of
   gather_arrived x k q f = f ∙ ap (pushed_as s section) (sym q ∙ e)
 
 -- what arrives is a long form, numbered within its table
-read_taken : (section : List ℕ) → get_or section 7 0 < 256 → (from : Origin) (c : Collected) → collected_of section ≡ c → SetTaken section (set_read from c)
+read_taken : (section : List ℕ) → get_or section 7 0 < 256 → (from : Origin) (c : Result Header Refusal) → collected_of section ≡ c → SetTaken section (set_read from c)
 unfolding header_of
-read_taken section b from collected.Malformed q = tt
-read_taken section b from collected.ShortForm q = tt
-read_taken section b from collected.BadNumber q = tt
-read_taken section b from collected.BadCrc q = tt
-read_taken section b from (collected.Good h) q =
+read_taken section b from (Err r) q = tt
+read_taken section b from (Ok h) q =
     let t = takes section h (collected_of section) refl q in
     rw t.header (record { numbered = record { number = t.numbered; last = b }; long = t.room })
 
-pub arrived_taken : (from : Origin) (section : List ℕ) (a : SetArrival) (x : Row) → get_or section 7 0 < 256 → a ≡ set_read from (collected_of section) → a ≡ arrival.Arrived x → Taken section x
+pub arrived_taken : (from : Origin) (section : List ℕ) (a : Result Row Refusal) (x : Row) → get_or section 7 0 < 256 → a ≡ set_read from (collected_of section) → a ≡ Ok x → Taken section x
 arrived_taken from section a x b e q = subst (SetTaken section) (sym e ∙ q) (read_taken section b from (collected_of section) refl)
 
 pub pushed_ok : (section : List ℕ) (x : Row) (p : PushAnswer) → Taken section x → PushedOk section p
@@ -89,7 +82,7 @@ unfolding seen_noted
 noted_seen kind input pid parts pids section p n r e j = rw (← e) j
 
 module _ (pids : Bool) (input pid : ℕ) (section : List ℕ) (r : Entry) where
-  pub entry_with_lem : (p : MaybePid) → pids ≡ true → p ≡ maybe.Some pid → r ≡ set_entry input p section → r ≡ set_entry_for pids input pid section
+  pub entry_with_lem : (p : Option ℕ) → pids ≡ true → p ≡ Some pid → r ≡ set_entry input p section → r ≡ set_entry_for pids input pid section
   entry_with_lem p h e j = rw (h, ← e) j
 
   pub entry_bare : pids ≡ false → r ≡ bare_set_entry input section → r ≡ set_entry_for pids input pid section

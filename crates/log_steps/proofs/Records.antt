@@ -9,7 +9,7 @@ use lib.Dec.{leb, ltb}
 use native.Mathlib.Omega.{arith}
 use borrow.Author.Tests.{le-leb}
 use Rattle.section.specs.declared.header.Parts.{Parts}
-use Rattle.section.specs.declared.ids.MaybePid.TheVariants as maybe
+use Rattle.std.specs.Prelude.{Some}
 use Rattle.store.specs.Store.{Store}
 use Rattle.sets_settle.specs.Settle.{Told, done, nothing, handed, refused, answer_of}
 use Rattle.sets_settle.specs.declared.PushAnswer.{PushAnswer}
@@ -40,7 +40,7 @@ pub set_small : (pids : Bool) (input pid : ℕ) (section : Bytes) → (set_entry
 unfolding set_entry bare_set_entry entry_with
 set_small true input pid section = go (ltb input 16 && ltb pid 8192 && leb 12 (length section))
   where
-    go : (b : Bool) → length (cond b (set_record_of input (maybe.Some pid) section) []) ≤ 10
+    go : (b : Bool) → length (cond b (set_record_of input (Some pid) section) []) ≤ 10
     go true = set_10_long true input pid section
     go false = omega arith
 set_small false input pid section = go (ltb input 16 && leb 12 (length section))

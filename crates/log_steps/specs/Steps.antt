@@ -1,10 +1,9 @@
 -- The records of a section that the gate takes (docs/RULES.md, "Logs"): its own, and that of the set that it completes.
 -- `cond test a b` is a where the test is true, else b.
 -- Assumes nothing.
-use Rattle.std.specs.Prelude.{ℕ, ◌≤◌, List, [], ◌∷◌, Bool, cond, ◌||◌, length}
+use Rattle.std.specs.Prelude.{ℕ, ◌≤◌, List, [], ◌∷◌, Bool, cond, ◌||◌, length, Some}
 use Rattle.section.specs.Judged.{collected_of}
 use Rattle.section.specs.declared.header.Parts.{Parts}
-use Rattle.section.specs.declared.ids.MaybePid.TheVariants as maybe
 use Rattle.rows.specs.declared.Origin.{Origin}
 use Rattle.store.specs.Store.{Store}
 use Rattle.arrivals.specs.Arrivals.{set_read}
@@ -31,7 +30,7 @@ seen_kind changed repeats = cond (changed || repeats) 1 2
 
 -- the record of a set: with its PID (5), or by the older definition without (6)
 abbrev pub line_for : (pids : Bool) → (input pid : ℕ) → Bytes → Bytes
-line_for pids input pid section = cond pids (set_record_of input (maybe.Some pid) section) (bare_record_of input section)
+line_for pids input pid section = cond pids (set_record_of input (Some pid) section) (bare_record_of input section)
 
 -- a set that goes out is a record; any other answer of the collector gives none
 abbrev pub set_records : (pids : Bool) → (input pid : ℕ) → Bytes → Told → List Bytes
@@ -42,7 +41,7 @@ set_records pids input pid section (refused r) = []
 
 -- the same by what a push answers
 abbrev pub set_entry_for : (pids : Bool) → (input pid : ℕ) → Bytes → Entry
-set_entry_for pids input pid section = cond pids (set_entry input (maybe.Some pid) section) (bare_set_entry input section)
+set_entry_for pids input pid section = cond pids (set_entry input (Some pid) section) (bare_set_entry input section)
 
 abbrev pub set_noted : (pids : Bool) → (input pid : ℕ) → Bytes → PushAnswer → Entry
 set_noted pids input pid section push_answer.Nothing = entry_with []

@@ -7,11 +7,9 @@ ghost use Rattle.sets_plan.specs.Plan.{Ready};
 ghost use Rattle.sets_settle.specs.Settle.{after_push};
 ghost use Rattle.log_steps.specs.Steps.{from_for, seen_kind, gathered_of, set_entry_for, set_noted, seen_noted, PushedOk};
 
-use arrivals::SetArrival;
 use log_entries::Entry;
 use rows::Origin;
 use section::header::Parts;
-use section::ids::MaybePid;
 use sets_settle::{PushAnswer, Pushed};
 use store::Sets;
 
@@ -57,13 +55,11 @@ pub fn gather(
     ensures pushed_ok { PushedOk section.now result.answer }
 {
     match arrivals::set_read(from, section) {
-        SetArrival::Refused(refusal) => Pushed {
+        Err(refusal) => Pushed {
             answer: PushAnswer::Refused(refusal),
             sets,
         },
-        SetArrival::Arrived(entry) => {
-            sets_push::push_whole(sets, heads, slots, cells, entry, section)
-        }
+        Ok(entry) => { sets_push::push_whole(sets, heads, slots, cells, entry, section) }
     }
 }
 
@@ -72,7 +68,7 @@ fn set_entry(pids: bool, input: u8, pid: u16, section: &[u8]) -> Entry
     ensures { result ≡ set_entry_for pids input pid section.now }
 {
     if pids {
-        log_makers::set_record(input, MaybePid::Some(pid), section)
+        log_makers::set_record(input, Some(pid), section)
     } else {
         log_makers::bare_set_record(input, section)
     }

@@ -5,49 +5,42 @@
 ghost use Rattle.std.specs.Prelude.{◌≡◌};
 ghost use Rattle.log_list.specs.List.{WholeFrom, givens_from};
 ghost use Rattle.log_sections.specs.Steps.{memory};
-ghost use Rattle.log_write.specs.Write.{write_no, refused_by, write_as, as_writer, ran_twice, written_of};
+ghost use Rattle.log_write.specs.Write.{error_no, write_as, as_writer, ran_twice, written_of};
 
-use log_prepare::Prepared;
+use log_prepare::PrepareError;
 use log_state::{Pids, Run, Settings};
 
-// Written (7); the log is longer than the room (44); the list has too long a section (42), is cut (10), sets would not be taken with PIDs (41), or the memory
-// lent is too little for the settings (13).
-#[derive(Clone, Copy)]
-pub enum WriteAnswer {
-    Done,
+// Why no log is written: it is longer than the room, or no run was opened.
+#[derive(Clone, Copy, Debug, PartialEq, Eq)]
+pub enum WriteError {
     NoRoom,
-    TooLong,
-    SectionsCut,
-    NoPid,
-    TooLittle,
+    Run(PrepareError),
 }
 
-// The log's length is told with 7; else it is 0.
-#[derive(Clone, Copy)]
-pub struct Written {
-    pub answer: WriteAnswer,
-    pub length: usize,
-}
+impl From<PrepareError> for WriteError {
+    ghost use Rattle.log_write.specs.declared.WriteError.TheVariants.{Run};
 
-impl WriteAnswer {
-    pub fn number(self) -> u8
-        ensures { result ≡ write_no self }
-    {
-        match self {
-            WriteAnswer::Done => 7,
-            WriteAnswer::NoRoom => 44,
-            WriteAnswer::TooLong => 42,
-            WriteAnswer::SectionsCut => 10,
-            WriteAnswer::NoPid => 41,
-            WriteAnswer::TooLittle => 13,
-        }
+    ghost from_gives = { λ error e. e ≡ Run error };
+
+    fn from(error: PrepareError) -> WriteError {
+        WriteError::Run(error)
     }
 }
 
-fn refused(answer: WriteAnswer) -> Written
-    ensures { result ≡ refused_by answer }
-{
-    Written { answer, length: 0 }
+impl WriteError {
+    // The log is longer than the room (44); the list has too long a section (42), is cut (10), sets would not be taken with PIDs (41), or the memory lent is
+    // too little for the settings (13).
+    pub fn number(self) -> u8
+        ensures { result ≡ error_no self }
+    {
+        match self {
+            WriteError::NoRoom => 44,
+            WriteError::Run(PrepareError::TooLong) => 42,
+            WriteError::Run(PrepareError::Cut) => 10,
+            WriteError::Run(PrepareError::NoPid) => 41,
+            WriteError::Run(PrepareError::TooLittle) => 13,
+        }
+    }
 }
 
 // A writer writes with PIDs alone: any other setting is without, which is 41.
@@ -59,17 +52,12 @@ fn as_writer(settings: Settings) -> Settings
         return settings;
     }
     Settings {
-        capacity: settings.capacity,
-        repeats: settings.repeats,
-        rule: settings.rule,
-        limit: settings.limit,
-        size: settings.size,
-        count: settings.count,
         pids: Pids::Without,
+        ..settings
     }
 }
 
-// A whole list with an opened run: opening writes nothing, so the second run starts from the same.
+// A whole list with an opened run: opening writes nothing, so the second run starts from the same. The log's length is told.
 fn write_open(
     run: Run,
     sections: &[u8],
@@ -79,11 +67,11 @@ fn write_open(
     heads: &mut [u64],
     slots: &mut [u32],
     cells: &mut [u8],
-) -> Written
+) -> Result<usize, WriteError>
     requires { WholeFrom sections.now 0 }
     ensures { write_as result room.new (memory keys.new changes.new heads.new slots.new cells.new) ≡ ran_twice run room.old (memory keys.old changes.old heads.old slots.old cells.old) (givens_from sections.now 0) }
 {
-    let measured = log_measure::measure(
+    match log_measure::measure(
         run,
         keys,
         changes,
@@ -92,19 +80,17 @@ fn write_open(
         cells,
         sections,
         room.len(),
-    );
-    if !measured.fits {
-        return refused(WriteAnswer::NoRoom);
-    }
-    log_fill::write_all(run, keys, changes, heads, slots, cells, sections, room);
-    Written {
-        answer: WriteAnswer::Done,
-        length: measured.length,
+    ) {
+        None => Err(WriteError::NoRoom),
+        Some(length) => {
+            log_fill::write_all(run, keys, changes, heads, slots, cells, sections, room);
+            Ok(length)
+        }
     }
 }
 
-// The log that the sections give with these settings, from the start of the room on. The memory lent is for the run alone: it is as before where the answer
-// is 42, 10, 41 or 13; the room is as before where it is not 7.
+// The log that the sections give with these settings, from the start of the room on; its length is told. The memory lent is for the run alone: it is as before
+// where no run was opened; the room is as before where no log is written.
 pub fn write(
     settings: Settings,
     sections: &[u8],
@@ -114,18 +100,10 @@ pub fn write(
     heads: &mut [u64],
     slots: &mut [u32],
     cells: &mut [u8],
-) -> Written
+) -> Result<usize, WriteError>
     ensures { write_as result room.new (memory keys.new changes.new heads.new slots.new cells.new) ≡ written_of settings sections.now room.old (memory keys.old changes.old heads.old slots.old cells.old) }
 {
     let asked = as_writer(settings);
-    let prepared = log_prepare::prepare(asked, sections, keys, changes, heads, slots, cells);
-    match prepared {
-        Prepared::TooLong => refused(WriteAnswer::TooLong),
-        Prepared::Cut => refused(WriteAnswer::SectionsCut),
-        Prepared::NoPid => refused(WriteAnswer::NoPid),
-        Prepared::TooLittle => refused(WriteAnswer::TooLittle),
-        Prepared::Ready(run) => {
-            write_open(run, sections, room, keys, changes, heads, slots, cells)
-        }
-    }
+    let run = log_prepare::prepare(asked, sections, keys, changes, heads, slots, cells)?;
+    write_open(run, sections, room, keys, changes, heads, slots, cells)
 }

@@ -1,10 +1,12 @@
 -- What the parts of the judgement ask and answer.
-use Rattle.std.specs.Prelude.{ℕ, suc, ◌+◌, ◌*◌, ◌%◌, ◌≤◌, ◌<◌, ◌≡◌, List, Bool, false, cond, take, eqb}
+use Rattle.std.specs.Prelude.{ℕ, suc, ◌+◌, ◌-◌, ◌*◌, ◌%◌, ◌≤◌, ◌<◌, ◌≡◌, List, Bool, false, cond, take, eqb, Result, Ok, Err}
 use Rattle.section.specs.Header.{byte_at}
 use Rattle.listing.specs.Store.{found_from}
 use Rattle.listing.specs.declared.Walked.{Walked}
 use Rattle.listing.specs.declared.Walked.TheVariants.{Done, Past}
 use Rattle.rules_networks.specs.Networks.{crc_at, broken_in, first_of}
+use Rattle.network_faults.specs.declared.Fault.{Fault}
+use Rattle.network_faults.specs.declared.Fault.TheVariants.{OtherTable, BrokenLoop}
 
 -- what has the length that section_length says has at most 3 + 4,095 bytes
 abbrev pub Short : (wrong : Bool) → (size : ℕ) → Type 0
@@ -26,6 +28,18 @@ pub record LoopIn (long header at left end : ℕ) : Type 0 where
 pub record NitIn (long n : ℕ) : Type 0 where
   pub room : 16 + n ≤ long
   pub short : long ≤ 4098
+
+-- what runs past does so behind table_id
+abbrev pub Inside : Walked → Type 0
+Inside (Done count) = Unit {0}
+Inside (Past at count) = 0 < at
+
+-- what is answered to the number of a fault: 0 where there is none, else its place, and 1; of place 0 is a table_id alone
+abbrev pub fault_kind : (fault : ℕ) → Fault
+fault_kind fault = cond (eqb fault 1) OtherTable (BrokenLoop (fault - 1))
+
+abbrev pub judged_by : (fault : ℕ) → Result Unit Fault
+judged_by fault = cond (eqb fault 0) (Ok tt) (Err (fault_kind fault))
 
 -- the place of what runs past, and 1
 abbrev pub past_place : Walked → ℕ

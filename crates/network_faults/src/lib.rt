@@ -1,18 +1,26 @@
 // Why a section is none that a reader takes (docs/RULES.md, "Entries"): 35, a table_id that is none of the reader's, or 36, a loop that does not end where its length
-// says; told by its place, and 1, so that 0 is a section in which every loop ends there. A section is judged by itself, before anything of it is listed.
+// says. A section is judged by itself, before anything of it is listed.
 #![tactic(auto)]
 
 ghost use Rattle.std.specs.Prelude.{◌≡◌, ◌+◌, ◌<◌, ◌≤◌, length, take};
 ghost use Rattle.section.specs.Header.{byte_at};
 ghost use Rattle.listing.specs.Store.{found_from};
-ghost use Rattle.listing.proofs.Bounds.{Below};
 ghost use Rattle.rules_networks.specs.Networks.{is_of, length_wrong, broken_in, nit_broken, sdt_broken, broken_of, fault_of};
-ghost use Rattle.network_faults.specs.Faults.{Short, LoopIn, NitIn, count12, past_place, nit_loops};
+ghost use Rattle.network_faults.specs.Faults.{Short, LoopIn, NitIn, Inside, count12, judged_by, past_place, nit_loops};
 
 use listing::{Loop, Walked};
 use rules_networks::Table;
 use section::bytes;
 use section::bytes::wide;
+
+// Why a section is refused.
+#[derive(Clone, Copy)]
+pub enum Fault {
+    // Its table_id is none of the reader's: 35.
+    OtherTable,
+    // A loop does not end where its length says, and at this place it shows: 36.
+    BrokenLoop(usize),
+}
 
 // Byte i, and 0 past the end.
 pub fn byte_at(s: &[u8], i: usize) -> usize
@@ -54,22 +62,23 @@ fn length_wrong(s: &[u8]) -> bool
     s.len() != 3 + bytes::section_length(s)
 }
 
-// The place, and 1, of what runs past its loop; 0 where nothing does.
-fn past_place(walked: Walked) -> usize
-    requires { Below 4294967296 walked }
-    ensures { result ≡ past_place walked }
+// What runs past its loop does so at its place.
+fn ended_well(walked: Walked) -> Result<(), Fault>
+    requires { Inside walked }
+    ensures { result ≡ judged_by (past_place walked) }
 {
     match walked {
-        Walked::Done(_) => 0,
-        Walked::Past(at, _) => at + 1,
+        Walked::Done(_) => Ok(()),
+        Walked::Past(at, _) => Err(Fault::BrokenLoop(at)),
     }
 }
 
 // The loop from `at` to `end`, whose first `left` bytes are descriptors and whose entries have headers of so many bytes. A list without room for an entry: the walk
 // decides, and nothing is written.
-fn loop_fault(s: &[u8], header: usize, at: usize, left: usize, end: usize) -> usize
-    requires { LoopIn (length s.now) header at left end }
-    ensures { result ≡ broken_in (found_from header (take end s.now) at left) }
+fn judge_loop(s: &[u8], header: usize, at: usize, left: usize, end: usize) -> Result<(), Fault>
+    requires loop_in { LoopIn (length s.now) header at left end }
+    requires behind { 0 < at }
+    ensures { result ≡ judged_by (broken_in (found_from header (take end s.now) at left)) }
 {
     let of = Loop {
         header,
@@ -79,71 +88,68 @@ fn loop_fault(s: &[u8], header: usize, at: usize, left: usize, end: usize) -> us
     };
     let mut none = [0u32; 1];
     let walked = listing::descriptors(&s[0..end], of, at, left, &mut none, 0);
-    past_place(walked)
+    ended_well(walked)
 }
 
 // The two loops of a NIT or BAT section that has room for its two lengths: n is the first.
-fn nit_loops(s: &[u8], n: usize) -> usize
+fn judge_nit_loops(s: &[u8], n: usize) -> Result<(), Fault>
     requires { NitIn (length s.now) n }
-    ensures { result ≡ nit_loops s.now n }
+    ensures { result ≡ judged_by (nit_loops s.now n) }
 {
     let second = 10 + n;
-    let first = loop_fault(s, entry_words::STREAM_HEADER, 10, n, second);
-    if first != 0 {
-        return first;
-    }
+    judge_loop(s, entry_words::STREAM_HEADER, 10, n, second)?;
     let end = s.len() - 4;
     if second + 2 + count_at(s, second) != end {
-        return second + 1;
+        return Err(Fault::BrokenLoop(second));
     }
-    loop_fault(s, entry_words::STREAM_HEADER, second + 2, 0, end)
+    judge_loop(s, entry_words::STREAM_HEADER, second + 2, 0, end)
 }
 
-fn nit_fault(s: &[u8]) -> usize
-    ensures { result ≡ nit_broken s.now }
+fn judge_nit(s: &[u8]) -> Result<(), Fault>
+    ensures { result ≡ judged_by (nit_broken s.now) }
 {
     if length_wrong(s) {
-        return 2;
+        return Err(Fault::BrokenLoop(1));
     }
     if s.len() < 16 {
-        return 9;
+        return Err(Fault::BrokenLoop(8));
     }
     let n = count_at(s, 8);
     if s.len() < 16 + n {
-        return 9;
+        return Err(Fault::BrokenLoop(8));
     }
-    nit_loops(s, n)
+    judge_nit_loops(s, n)
 }
 
-fn sdt_fault(s: &[u8]) -> usize
-    ensures { result ≡ sdt_broken s.now }
+fn judge_sdt(s: &[u8]) -> Result<(), Fault>
+    ensures { result ≡ judged_by (sdt_broken s.now) }
 {
     if length_wrong(s) {
-        return 2;
+        return Err(Fault::BrokenLoop(1));
     }
     if s.len() < 15 {
-        return 12;
+        return Err(Fault::BrokenLoop(11));
     }
-    loop_fault(s, entry_words::SERVICE_HEADER, 11, 0, s.len() - 4)
+    judge_loop(s, entry_words::SERVICE_HEADER, 11, 0, s.len() - 4)
 }
 
-fn broken(table: Table, s: &[u8]) -> usize
-    ensures { result ≡ broken_of table s.now }
+fn judge_loops(table: Table, s: &[u8]) -> Result<(), Fault>
+    ensures { result ≡ judged_by (broken_of table s.now) }
 {
     match table {
-        Table::Nit => nit_fault(s),
-        Table::Bat => nit_fault(s),
-        Table::Sdt => sdt_fault(s),
-        Table::None => 0,
+        Table::Nit => judge_nit(s),
+        Table::Bat => judge_nit(s),
+        Table::Sdt => judge_sdt(s),
+        Table::None => Ok(()),
     }
 }
 
-// 35 before 36.
-pub fn fault(table: Table, s: &[u8]) -> usize
-    ensures { result ≡ fault_of table s.now }
+// Whether a reader takes a section. 35 before 36.
+pub fn judge(table: Table, s: &[u8]) -> Result<(), Fault>
+    ensures { result ≡ judged_by (fault_of table s.now) }
 {
     if is_of(table, byte_at(s, 0)) {
-        return broken(table, s);
+        return judge_loops(table, s);
     }
-    1
+    Err(Fault::OtherTable)
 }

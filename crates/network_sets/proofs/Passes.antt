@@ -1,6 +1,6 @@
 -- What is told of the slots of a row is what two passes over them say: which is refused first, and what they list.
 -- Assumes nothing.
-use mathlib.Core.Path.{◌≡◌, refl, sym, ap, ap₂, ◌∙◌}
+use mathlib.Core.Path.{◌≡◌, refl, sym, ap₂, ◌∙◌}
 use mathlib.Core.Bool.{Bool, true, false, cond}
 use Prim.Native.Nat.{ℕ, zero, suc, ◌+◌, ◌*◌, ◌-◌, ◌<◌}
 use native.Mathlib.Omega.{arith}
@@ -11,8 +11,7 @@ use borrow.Author.Tests.{eqb-true, eqb-false}
 use Rattle.cells.specs.Cells.{cell_number, filled, kept}
 use Rattle.rules_networks.specs.declared.Table.{Table}
 use Rattle.rules_networks.specs.Networks.{fault_of, entries_of, Told, other_table, broken_loop, entries, told_by, read_at, and_then}
-use Rattle.network_sets.specs.declared.Fault.{Fault}
-use Rattle.network_sets.specs.Sets.{slot_told, slots_told, slot_fault, fault_at, slots_fault, slot_entries, slots_entries}
+use Rattle.network_sets.specs.Sets.{slot_told, slots_told, slot_fault, FirstFault, fault_at, slots_fault, slot_entries, slots_entries}
 
 -- these entries, and then what is told
 then_told : (c d : Bool) (xs ys : List (List ℕ)) (section place : ℕ) → and_then (entries xs) (cond c (entries ys) (cond d (other_table section) (broken_loop section place))) ≡ cond c (entries (xs ++ ys)) (cond d (other_table section) (broken_loop section place))
@@ -25,10 +24,10 @@ stays_told true section place t = refl
 stays_told false section place t = refl
 
 -- one section and then others
-abbrev both : (number a : ℕ) → Fault → Fault
+abbrev both : (number a : ℕ) → FirstFault → FirstFault
 both number a f = cond (eqb a 0) f (fault_at number a)
 
-one_then : (number a : ℕ) (xs ys : List (List ℕ)) (f : Fault) → and_then (told_by number a xs) (told_by f.section f.fault ys) ≡ told_by (both number a f).section (both number a f).fault (xs ++ ys)
+one_then : (number a : ℕ) (xs ys : List (List ℕ)) (f : FirstFault) → and_then (told_by number a xs) (told_by f.section f.fault ys) ≡ told_by (both number a f).section (both number a f).fault (xs ++ ys)
 one_then number a xs ys f = go (eqb a 0) refl
   where
     go : (c : Bool) → eqb a 0 ≡ c
@@ -55,7 +54,7 @@ module _ (t : Table) (cells : List ℕ) (size : ℕ) where
       ∙ one_then number (slot_fault t cells size w) (slot_entries t cells size w number) (slots_entries t cells size ws (number + 1)) (slots_fault t cells size ws (number + 1))
 
   -- where none is refused, each is taken
-  first_none : (a : ℕ) (f : Fault) (number : ℕ) → (both number a f).fault ≡ 0 → (a ≡ 0) × (f.fault ≡ 0)
+  first_none : (a : ℕ) (f : FirstFault) (number : ℕ) → (both number a f).fault ≡ 0 → (a ≡ 0) × (f.fault ≡ 0)
   first_none a f number = go (eqb a 0) refl
     where
       go : (c : Bool) → eqb a 0 ≡ c → (cond c f (fault_at number a)).fault ≡ 0 → (a ≡ 0) × (f.fault ≡ 0)

@@ -1,54 +1,47 @@
 -- One law for each way out of the functions that read the slots of a row.
 -- Assumes nothing.
-use mathlib.Core.Path.{◌≡◌, refl, sym, ap, ap₂, ◌∙◌}
+use mathlib.Core.Path.{◌≡◌, refl, sym, ap, ◌∙◌}
 use mathlib.Core.Logic.{◌≢◌}
-use mathlib.Core.Bool.{Bool, true, false, cond}
-use Prim.Native.Nat.{ℕ, zero, suc, ◌+◌, ◌*◌, ◌-◌, ◌≤◌, ◌<◌}
-use native.Mathlib.Nat.{add-zero, mul-le-mul, mul-le-mul_right}
+use mathlib.Core.Bool.{Bool, true, false, cond, true≢false}
+use Prim.Native.Nat.{ℕ, suc, ◌+◌, ◌*◌, ◌-◌, ◌≤◌, ◌<◌}
+use native.Mathlib.Nat.{add-zero, mul-le-mul_right}
 use native.Mathlib.Numerals.{add-one}
 use native.Mathlib.Omega.{arith}
-use mathlib.Core.List.{List, [], ◌∷◌, ◌++◌}
+use mathlib.Core.List.{List}
 use lib.ListN.{length, get_or, take, drop, drop_of_length-le}
 use lib.Seq.{drop-cons}
-use lib.Dec.{eqb, ltb}
-use borrow.Author.Tests.{lt-ltb, le-ltb, eq-eqb, ne_eqb, eqb-false, not-true}
+use lib.Dec.{eqb}
+use borrow.Author.Tests.{ne_eqb, eqb-true, eqb-false, not-true}
 use Rattle.laws.proofs.Search.{every_get}
-use Rattle.cells.specs.Cells.{kept_length, cell_number, filled, kept, slot_whole, all_whole}
+use Rattle.cells.specs.Cells.{kept_length, cell_number, filled, slot_whole}
 use Rattle.placing.proofs.Fits.{slot_bounds}
 use Rattle.listing.specs.Store.{put_all}
 use Rattle.rules_networks.specs.declared.Table.{Table}
-use Rattle.rules_networks.specs.Networks.{fault_of, entries_of, Told, other_table, broken_loop, entries, told_by}
+use Rattle.rules_networks.specs.Networks.{fault_of, entries_of, other_table, broken_loop, told_by}
 use Rattle.network_entries.specs.Entries.{listed_from, SectionIn}
 use Rattle.network_entries.proofs.Ways.{listed_then}
-use Rattle.network_sets.specs.declared.ReadAnswer.TheVariants.{Yes, No, OtherTable, BrokenLoop}
 use Rattle.network_sets.specs.declared.Read.{Read}
-use Rattle.network_sets.specs.declared.Fault.{Fault}
-use Rattle.network_sets.specs.Sets.{read_of, ended_at, refused_at, said_of, SlotIn, SlotsIn, AllTaken, slot_fault, fault_at, slots_fault, slot_entries, slots_entries, slots_told}
+use Rattle.std.specs.Prelude.{Result, Ok, Err}
+use Rattle.network_faults.specs.declared.Fault.{Fault}
+use Rattle.network_faults.specs.declared.Fault.TheVariants as why
+use Rattle.network_faults.specs.Faults.{fault_kind, judged_by}
+use Rattle.network_faults.proofs.Ways.{is_taken, err_of, taken_zero, refused_more, refused_kind}
+use Rattle.network_sets.specs.declared.RefusedSection.{RefusedSection}
+use Rattle.network_sets.specs.Sets.{ended_at, refused_as, said_of, SlotIn, SlotsIn, AllTaken, slot_fault, FirstFault, fault_at, slots_fault, first_refused, slot_entries, slots_entries, slots_told}
 use Rattle.network_sets.proofs.Passes.{slots_told_lem, all_taken}
 
 -- ---- what is told
 
-module _ (skip count : ℕ) (r : Read) where
-  pub ended_some : skip < count → r ≡ read_of Yes count 0 0 → r ≡ ended_at skip count
-  ended_some h e = rw (lt-ltb skip count h) e
-
-  pub ended_none : count ≤ skip → r ≡ read_of No count 0 0 → r ≡ ended_at skip count
-  ended_none h e = rw (le-ltb skip count h) e
-
-module _ (section fault : ℕ) (r : Read) where
-  pub refused_table : fault ≡ 1 → r ≡ read_of OtherTable 0 section 0 → r ≡ refused_at section fault
-  refused_table h e = rw (eq-eqb fault 1 h) e
-
-  pub refused_loop : fault ≢ 1 → r ≡ read_of BrokenLoop 0 section (fault - 1) → r ≡ refused_at section fault
-  refused_loop h e = rw (ne_eqb fault 1 h) e
+-- the answer to a number of a fault is the same as what is told of a section
+pub refused_by : (d : Bool) (skip section fault : ℕ) (list : List ℕ)
+    → (refused_as section (cond d why.OtherTable (why.BrokenLoop (fault - 1))), list) ≡ said_of skip (cond d (other_table section) (broken_loop section (fault - 1))) list
+refused_by true skip section fault list = refl
+refused_by false skip section fault list = refl
 
 -- ---- a slot
 
-pub start_small : (c size : ℕ) → c < 65536 → size ≤ 4096 → c * size < 4294836224
-start_small c size h l = let y : c ≤ 65535 = omega arith in let x : c * size ≤ 65535 * 4096 = mul-le-mul y l in omega arith
-
 module _ (t : Table) (cells : List ℕ) (size w : ℕ) (b : Bool) (e : b ≡ filled w) where
-  pub fault_empty : b ≡ false → 0 ≡ slot_fault t cells size w
+  pub fault_empty : b ≡ false → Ok tt ≡ judged_by (slot_fault t cells size w)
   unfolding slot_fault
   fault_empty z = rw (← e, z)
 
@@ -64,7 +57,7 @@ module _ (t : Table) (cells : List ℕ) (size w : ℕ) (b : Bool) (e : b ≡ fil
         let r = i.room in
         omega (arith, k.0)
 
-    pub fault_filled : (r : ℕ) → r ≡ fault_of t (take (start + n - start) (drop start cells)) → r ≡ slot_fault t cells size w
+    pub fault_filled : (r : Result Unit Fault) → r ≡ judged_by (fault_of t (take (start + n - start) (drop start cells))) → r ≡ judged_by (slot_fault t cells size w)
     unfolding slot_fault
     fault_filled r f = let m : start + n - start ≡ n = omega arith in rw (← e, z, ← p, ← q) (rw m at f)
 
@@ -86,18 +79,26 @@ pub slot_in : (long size : ℕ) (slots : List ℕ) (j : ℕ) → SlotsIn long si
 slot_in long size slots j i h = record { count = i.count; whole = every_get (slot_whole i.count size) slots 0 j i.whole h; room = i.room; small = i.small }
 
 module _ (t : Table) (cells : List ℕ) (size : ℕ) (slots : List ℕ) where
-  module _ (j : ℕ) (h : j < length slots) (r : ℕ) (e : r ≡ slot_fault t cells size (get_or slots j 0)) where
-    pub fault_on : r ≡ 0 → slots_fault t cells size (drop j slots) j ≡ slots_fault t cells size (drop (j + 1) slots) (j + 1)
-    unfolding slots_fault
-    fault_on z = rw (drop-cons slots j 0 h, ← e, z, add-one j)
+  module _ (j : ℕ) (whole : FirstFault) (q : slots_fault t cells size (drop j slots) j ≡ whole) where
+    module _ (h : j < length slots) (r : Result Unit Fault) (e : r ≡ judged_by (slot_fault t cells size (get_or slots j 0))) where
+      pub fault_on : (v : Unit) → r ≡ Ok v → slots_fault t cells size (drop (j + 1) slots) (j + 1) ≡ whole
+      unfolding slots_fault
+      fault_on v z =
+          let n : ℕ = slot_fault t cells size (get_or slots j 0) in
+          let s : slots_fault t cells size (drop j slots) j ≡ slots_fault t cells size (drop (j + 1) slots) (j + 1) = rw (drop-cons slots j 0 h, taken_zero n r v e z, add-one j) in
+          sym s ∙ q
 
-    pub fault_stop : r ≢ 0 → slots_fault t cells size (drop j slots) j ≡ fault_at j r
-    unfolding slots_fault
-    fault_stop z = rw (drop-cons slots j 0 h, ← e, ne_eqb r 0 z)
+      pub fault_stop : (f : Fault) → r ≡ Err f → Err (record { section = j; fault = f }) ≡ first_refused whole
+      unfolding slots_fault
+      fault_stop f z =
+          let n : ℕ = slot_fault t cells size (get_or slots j 0) in
+          let m : n ≢ 0 = refused_more n r f e z in
+          let s : slots_fault t cells size (drop j slots) j ≡ fault_at j n = rw (drop-cons slots j 0 h, ne_eqb n 0 m) in
+          rw (← q, s, ne_eqb n 0 m, refused_kind n r f e z)
 
-  pub fault_end : (j : ℕ) → length slots ≤ j → slots_fault t cells size (drop j slots) j ≡ fault_at 0 0
-  unfolding slots_fault
-  fault_end j h = rw (drop_of_length-le slots h)
+    pub fault_end : length slots ≤ j → Ok tt ≡ first_refused whole
+    unfolding slots_fault
+    fault_end h = rw (← q, drop_of_length-le slots h)
 
   module _ (skip j k : ℕ) (list : List ℕ) where
     pub entries_on : j < length slots → (r : ℕ) (l : List ℕ) → (r, l) ≡ listed_from skip k (slot_entries t cells size (get_or slots j 0) j) list
@@ -113,23 +114,39 @@ module _ (t : Table) (cells : List ℕ) (size : ℕ) (slots : List ℕ) where
 
   -- ---- both passes
 
-  module _ (f : Fault) (e : f ≡ slots_fault t cells size slots 0) where
-    pub none_refused : f.fault ≡ 0 → AllTaken t cells size slots
-    none_refused z = record { each = all_taken t cells size slots 0 (ap (λ (x : Fault). x.fault) (sym e) ∙ z) }
+  told_is : slots_told t cells size slots 0 ≡ told_by (slots_fault t cells size slots 0).section (slots_fault t cells size slots 0).fault (slots_entries t cells size slots 0)
+  told_is = slots_told_lem t cells size slots 0
 
-    told_is : slots_told t cells size slots 0 ≡ told_by f.section f.fault (slots_entries t cells size slots 0)
-    told_is = slots_told_lem t cells size slots 0 ∙ ap (λ (x : Fault). told_by x.section x.fault (slots_entries t cells size slots 0)) (sym e)
+  module _ (first : Result Unit RefusedSection) (e : first ≡ first_refused (slots_fault t cells size slots 0)) where
+    abbrev found : FirstFault
+    found = slots_fault t cells size slots 0
 
-    refused_by : (d : Bool) (skip section fault : ℕ) (list : List ℕ) → (cond d (read_of OtherTable 0 section 0) (read_of BrokenLoop 0 section (fault - 1)), list) ≡ said_of skip (cond d (other_table section) (broken_loop section (fault - 1))) list
-    refused_by true skip section fault list = refl
-    refused_by false skip section fault list = refl
+    module _ (v : Unit) (h : first ≡ Ok v) where
+      none : (b : Bool) → eqb found.fault 0 ≡ b → is_taken {E = RefusedSection} (cond b (Ok tt) (Err (record { section = found.section; fault = fault_kind found.fault }))) ≡ true → found.fault ≡ 0
+      none true q z = eqb-true found.fault 0 q
+      none false q z = absurd (true≢false (sym z))
 
-    pub said_refused : f.fault ≢ 0 → (skip : ℕ) (list : List ℕ) (r : Read) → r ≡ refused_at f.section f.fault → (r, list) ≡ said_of skip (slots_told t cells size slots 0) list
-    said_refused z skip list r g = rw (told_is, ne_eqb f.fault 0 z, g) (refused_by (eqb f.fault 1) skip f.section f.fault list)
+      no_fault : found.fault ≡ 0
+      no_fault = none (eqb found.fault 0) refl (ap is_taken (sym e ∙ h))
 
-    pub said_listed : f.fault ≡ 0 → (skip : ℕ) (list : List ℕ) (n : ℕ) (l : List ℕ) (r : Read) → (n, l) ≡ listed_from skip 0 (slots_entries t cells size slots 0) list → r ≡ ended_at skip n
-        → (r, l) ≡ said_of skip (slots_told t cells size slots 0) list
-    unfolding listed_from
-    said_listed z skip list n l r g h =
-        let a : n ≡ length (slots_entries t cells size slots 0) = ap (λ (x : ℕ × List ℕ). x.0) g ∙ omega arith in
-        rw (told_is, z, h, ap (λ (x : ℕ × List ℕ). x.1) g, a)
+      pub none_refused : AllTaken t cells size slots
+      none_refused = record { each = all_taken t cells size slots 0 no_fault }
+
+      pub said_listed : (skip : ℕ) (list : List ℕ) (n : ℕ) (l : List ℕ) (r : Read) → (n, l) ≡ listed_from skip 0 (slots_entries t cells size slots 0) list → r ≡ ended_at skip n
+          → (r, l) ≡ said_of skip (slots_told t cells size slots 0) list
+      unfolding listed_from
+      said_listed skip list n l r g k =
+          let a : n ≡ length (slots_entries t cells size slots 0) = ap (λ (x : ℕ × List ℕ). x.0) g ∙ omega arith in
+          rw (told_is, no_fault, k, ap (λ (x : ℕ × List ℕ). x.1) g, a)
+
+    module _ (x : RefusedSection) (h : first ≡ Err x) where
+      some_fault : found.fault ≢ 0
+      some_fault z = true≢false (ap is_taken (sym (rw z at e) ∙ h))
+
+      which : x ≡ record { section = found.section; fault = fault_kind found.fault }
+      which = ap (err_of x) (sym h ∙ e) ∙ rw (ne_eqb found.fault 0 some_fault)
+
+      pub said_refused : (skip : ℕ) (list : List ℕ) (r : Read) → r ≡ refused_as x.section x.fault → (r, list) ≡ said_of skip (slots_told t cells size slots 0) list
+      said_refused skip list r g =
+          ap (λ (y : Read). (y, list)) (g ∙ ap (λ (y : RefusedSection). refused_as y.section y.fault) which)
+          ∙ rw (told_is, ne_eqb found.fault 0 some_fault) (refused_by (eqb found.fault 1) skip found.section found.fault list)

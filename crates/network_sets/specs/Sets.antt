@@ -1,14 +1,17 @@
 -- The entries of the sections of a row, and what is told of them (docs/RULES.md, "Entries"). `cond test a b` is a where the test is true, else b.
-use Rattle.std.specs.Prelude.{ℕ, ◌+◌, ◌*◌, ◌-◌, ◌≤◌, ◌<◌, ◌≡◌, List, [], ◌∷◌, ◌++◌, Bool, true, false, cond, length, get_or, ltb, eqb}
+use Rattle.std.specs.Prelude.{ℕ, ◌+◌, ◌*◌, ◌≤◌, ◌<◌, ◌≡◌, List, [], ◌∷◌, ◌++◌, Bool, true, false, cond, length, get_or, ltb, eqb, Result, Ok, Err}
 use Rattle.answers.specs.Answers.{refusal_no}
-use Rattle.cells.specs.Cells.{kept_length, cell_number, filled, kept, slot_whole, all_whole}
+use Rattle.cells.specs.Cells.{cell_number, filled, kept, slot_whole, all_whole}
 use Rattle.listing.specs.Store.{put_all}
 use Rattle.rules_networks.specs.declared.Table.{Table}
 use Rattle.rules_networks.specs.Networks.{fault_of, entries_of, Told, other_table, broken_loop, entries, read_at, and_then}
 use Rattle.network_sets.specs.declared.ReadAnswer.{ReadAnswer}
 use Rattle.network_sets.specs.declared.ReadAnswer.TheVariants.{Yes, No, Refused, OtherTable, BrokenLoop}
 use Rattle.network_sets.specs.declared.Read.{Read}
-use Rattle.network_sets.specs.declared.Fault.{Fault}
+use Rattle.network_sets.specs.declared.RefusedSection.{RefusedSection}
+use Rattle.network_faults.specs.declared.Fault.{Fault}
+use Rattle.network_faults.specs.declared.Fault.TheVariants as why
+use Rattle.network_faults.specs.Faults.{fault_kind}
 
 -- ---- answers
 
@@ -32,8 +35,9 @@ nothing_read answer = read_of answer 0 0 0
 abbrev pub ended_at : (skip count : ℕ) → Read
 ended_at skip count = read_of (cond (ltb skip count) Yes No) count 0 0
 
-abbrev pub refused_at : (section fault : ℕ) → Read
-refused_at section fault = cond (eqb fault 1) (read_of OtherTable 0 section 0) (read_of BrokenLoop 0 section (fault - 1))
+abbrev pub refused_as : (section : ℕ) → Fault → Read
+refused_as section why.OtherTable = read_of OtherTable 0 section 0
+refused_as section (why.BrokenLoop place) = read_of BrokenLoop 0 section place
 
 -- what is told, and the list: as before with 35 and 36, else with the entries in its window
 abbrev pub said_of : (skip : ℕ) → Told → (list : List ℕ) → Read × List ℕ
@@ -57,12 +61,20 @@ slots_told t cells size (w ∷ ws) number = and_then (slot_told t cells size w n
 unfoldable pub slot_fault : Table → (cells : List ℕ) → (size w : ℕ) → ℕ
 slot_fault t cells size w = cond (filled w) (fault_of t (kept cells size w)) 0
 
-abbrev pub fault_at : (section fault : ℕ) → Fault
+-- the first section that is refused, and the number of its fault: 0 and 0 where none is
+pub record FirstFault : Type 0 where
+  pub section : ℕ
+  pub fault : ℕ
+
+abbrev pub fault_at : (section fault : ℕ) → FirstFault
 fault_at section fault = record { section = section; fault = fault }
 
-unfoldable pub slots_fault : Table → (cells : List ℕ) → (size : ℕ) → (slots : List ℕ) → (number : ℕ) → Fault
+unfoldable pub slots_fault : Table → (cells : List ℕ) → (size : ℕ) → (slots : List ℕ) → (number : ℕ) → FirstFault
 slots_fault t cells size [] number = fault_at 0 0
 slots_fault t cells size (w ∷ ws) number = cond (eqb (slot_fault t cells size w) 0) (slots_fault t cells size ws (number + 1)) (fault_at number (slot_fault t cells size w))
+
+abbrev pub first_refused : FirstFault → Result Unit RefusedSection
+first_refused f = cond (eqb f.fault 0) (Ok tt) (Err (record { section = f.section; fault = fault_kind f.fault }))
 
 unfoldable pub slot_entries : Table → (cells : List ℕ) → (size w number : ℕ) → List (List ℕ)
 slot_entries t cells size w number = cond (filled w) (entries_of t (cell_number w * size) number (kept cells size w)) []

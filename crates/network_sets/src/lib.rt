@@ -4,10 +4,12 @@
 
 ghost use Rattle.std.specs.Prelude.{◌≡◌, ◌+◌, ◌*◌, ◌≤◌, ◌<◌, length};
 ghost use Rattle.cells.specs.Cells.{cell_number};
+ghost use Rattle.network_faults.specs.Faults.{judged_by};
 ghost use Rattle.network_entries.specs.Entries.{listed_from};
-ghost use Rattle.network_sets.specs.Sets.{read_number, read_of, nothing_read, ended_at, refused_at, said_of, SlotIn, SlotsIn, AllTaken, slot_fault, slots_fault, slot_entries, slots_entries, slots_told};
+ghost use Rattle.network_sets.specs.Sets.{read_number, read_of, nothing_read, ended_at, refused_as, said_of, SlotIn, SlotsIn, AllTaken, slot_fault, slots_fault, first_refused, slot_entries, slots_entries, slots_told};
 
 use answers::Refusal;
+use network_faults::Fault;
 use rules_networks::Table;
 
 // What a question for entries answers: there are some from the one asked for on, or none; a refusal; a table_id that is none of the reader's (35); a loop that does not end
@@ -44,11 +46,11 @@ pub struct Read {
     pub place: usize,
 }
 
-// Why a section is refused, by its number: `fault` is the place, and 1; 0 where none is.
+// A section of a row that is refused, by its number, and why.
 #[derive(Clone, Copy)]
-pub struct Fault {
+pub struct RefusedSection {
     pub section: usize,
-    pub fault: usize,
+    pub fault: Fault,
 }
 
 fn read_of(answer: ReadAnswer, count: usize, section: usize, place: usize) -> Read
@@ -79,15 +81,14 @@ pub fn ended(skip: usize, count: usize) -> Read
     read_of(ReadAnswer::No, count, 0, 0)
 }
 
-// 35 at table_id, 36 anywhere else.
-pub fn refused(section: usize, fault: usize) -> Read
-    requires { 0 < fault }
-    ensures { result ≡ refused_at section fault }
+// 35 at table_id, 36 at the place of what breaks a loop.
+pub fn refused(section: usize, fault: Fault) -> Read
+    ensures { result ≡ refused_as section fault }
 {
-    if fault == 1 {
-        return read_of(ReadAnswer::OtherTable, 0, section, 0);
+    match fault {
+        Fault::OtherTable => read_of(ReadAnswer::OtherTable, 0, section, 0),
+        Fault::BrokenLoop(place) => read_of(ReadAnswer::BrokenLoop, 0, section, place),
     }
-    read_of(ReadAnswer::BrokenLoop, 0, section, fault - 1)
 }
 
 // Where the bytes of the section begin that a slot's word names.
@@ -99,35 +100,29 @@ fn start_of(w: u32, size: usize) -> usize
 }
 
 // Why the section that a slot's word names is refused, if it names one.
-fn slot_fault(table: Table, w: u32, size: usize, cells: &[u8]) -> usize
+fn judge_slot(table: Table, w: u32, size: usize, cells: &[u8]) -> Result<(), Fault>
     requires { SlotIn (length cells.now) size w }
-    ensures { result ≡ slot_fault table cells.now size w }
+    ensures { result ≡ judged_by (slot_fault table cells.now size w) }
 {
     if cells::is_filled(w) {
         let start = start_of(w, size);
         let end = start + cells::kept_length(w);
-        return network_faults::fault(table, &cells[start..end]);
+        return network_faults::judge(table, &cells[start..end]);
     }
-    0
+    Ok(())
 }
 
 // The first section that is refused, by rising number.
-fn slots_fault(table: Table, slots: &[u32], size: usize, cells: &[u8]) -> Fault
+fn judge_slots(table: Table, slots: &[u32], size: usize, cells: &[u8]) -> Result<(), RefusedSection>
     requires { SlotsIn (length cells.now) size slots.now }
-    ensures { result ≡ slots_fault table cells.now size slots.now 0 }
+    ensures { result ≡ first_refused (slots_fault table cells.now size slots.now 0) }
 {
-    let mut j = 0;
-    while j < slots.len() {
-        let fault = slot_fault(table, slots[j], size, cells);
-        if fault != 0 {
-            return Fault { section: j, fault };
+    for (j, w) in slots.iter().enumerate() {
+        if let Err(fault) = judge_slot(table, *w, size, cells) {
+            return Err(RefusedSection { section: j, fault });
         }
-        j += 1;
     }
-    Fault {
-        section: 0,
-        fault: 0,
-    }
+    Ok(())
 }
 
 // The entries of the section that a slot's word names, if it names one, after k others; how many there are then.
@@ -168,10 +163,8 @@ fn list_slots(
     ensures { (result, list.new) ≡ listed_from skip 0 (slots_entries table cells.now size slots.now 0) list.old }
 {
     let mut k = 0;
-    let mut j = 0;
-    while j < slots.len() {
-        k = list_slot(table, slots[j], j, size, cells, skip, list, k);
-        j += 1;
+    for (j, w) in slots.iter().enumerate() {
+        k = list_slot(table, *w, j, size, cells, skip, list, k);
     }
     k
 }
@@ -188,8 +181,7 @@ pub fn read_slots(
     requires { SlotsIn (length cells.now) size slots.now }
     ensures { (result, list.new) ≡ said_of skip (slots_told table cells.now size slots.now 0) list.old }
 {
-    let first = slots_fault(table, slots, size, cells);
-    if first.fault != 0 {
+    if let Err(first) = judge_slots(table, slots, size, cells) {
         return refused(first.section, first.fault);
     }
     ended(skip, list_slots(table, slots, size, cells, skip, list))

@@ -1,10 +1,10 @@
 -- What the two calls come to: `entries` answers neither 35 nor 36 exactly where the section is whole, and then lists the entries of its loops; the place of 36 is the first in
 -- byte order; 10, 41, 35 and 36 leave the list.
 -- Assumes nothing.
-use mathlib.Core.Path.{◌≡◌, refl, sym, ap, ◌∙◌, subst}
+use mathlib.Core.Path.{◌≡◌, refl, sym, ap, ◌∙◌}
 use mathlib.Core.Logic.{◌≢◌}
 use mathlib.Core.Bool.{Bool, true, false, cond, ◌||◌, true≢false}
-use Prim.Native.Nat.{ℕ, zero, suc, ◌+◌, ◌*◌, ◌-◌, ◌/◌}
+use Prim.Native.Nat.{ℕ, zero, suc, ◌*◌, ◌-◌, ◌/◌}
 use native.Mathlib.Omega.{arith}
 use mathlib.Core.List.{List, ◌++◌}
 use lib.ListN.{length, drop}
@@ -18,17 +18,15 @@ use Rattle.without_pid.specs.Pids.{without_pid}
 use Rattle.store.specs.Store.{Store, whole_of}
 use Rattle.handed.specs.Handed.{set_out_lem}
 use Rattle.listing.specs.Rules.{page, joined}
-use Rattle.listing.specs.Store.{put_all}
 use Rattle.rules_networks.specs.declared.Table.{Table}
 use Rattle.rules_networks.specs.declared.Table.TheVariants.{Nit, Bat, Sdt, None}
-use Rattle.rules_networks.specs.Networks.{is_of, length_wrong, NitWhole, SdtWhole, NitBreaks, SdtBreaks, nit_broken, sdt_broken, broken_of, fault_of, entries_of, Told, other_table, broken_loop, entries, told_by, read_at, read_as}
+use Rattle.rules_networks.specs.Networks.{is_of, length_wrong, NitWhole, SdtWhole, NitBreaks, SdtBreaks, broken_of, fault_of, entries_of, Told, other_table, broken_loop, entries, told_by, read_at, read_as}
 use Rattle.rules_networks.proofs.Nit.{nit_whole, nit_laid_out}
 use Rattle.rules_networks.proofs.Sdt.{sdt_whole, sdt_laid_out}
 use Rattle.rules_networks.proofs.Broken.{First, nit_first_broken, sdt_first_broken}
 use Rattle.network_sets.specs.declared.Read.{Read}
-use Rattle.network_sets.specs.declared.ReadAnswer.{ReadAnswer}
-use Rattle.network_sets.specs.declared.ReadAnswer.TheVariants.{Yes, No, Refused, OtherTable, BrokenLoop}
-use Rattle.network_sets.specs.Sets.{read_number, read_of, nothing_read, ended_at, said_of, slots_told, is_refused}
+use Rattle.network_sets.specs.declared.ReadAnswer.TheVariants.{Yes, No, Refused}
+use Rattle.network_sets.specs.Sets.{read_number, nothing_read, ended_at, said_of, slots_told, is_refused}
 use Rattle.network_sets.proofs.Order.{as_before_lem, entries_twelve, read_window}
 use Rattle.networks.specs.Store.{read_section, read_set}
 

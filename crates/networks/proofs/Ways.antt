@@ -1,19 +1,17 @@
 -- One law for each way out of the two calls, and what they ask of their parts.
 -- Assumes nothing.
-use mathlib.Core.Path.{◌≡◌, refl, sym, ap, ◌∙◌}
-use mathlib.Core.Logic.{◌≢◌}
+use mathlib.Core.Path.{◌≡◌, refl, ap, ◌∙◌}
 use mathlib.Core.Bool.{Bool, true, false, cond, not, true≢false}
-use Prim.Native.Nat.{ℕ, ◌+◌, ◌*◌, ◌-◌, ◌≤◌, ◌<◌}
+use Prim.Native.Nat.{ℕ, ◌+◌, ◌*◌, ◌≤◌, ◌<◌}
 use native.Mathlib.Nat.{zero-add}
 use native.Mathlib.Omega.{arith}
 use mathlib.Core.List.{List}
 use lib.ListN.{length, take, drop, length-take}
 use lib.Seq.{take_all}
 use lib.Dec.{ltb, eqb}
-use borrow.Author.Tests.{ne_eqb, eqb-true, not-false, ltb-false}
+use borrow.Author.Tests.{ne_eqb, eqb-true, ltb-false}
 use Rattle.laws.specs.Lists.{any}
 use Rattle.answers.specs.declared.Refusal.TheVariants as refusal
-use Rattle.cells.specs.Cells.{all_whole}
 use Rattle.section.specs.Header.{byte_at, section_length}
 use Rattle.rows.specs.Rows.{row_slots, slots_at, slot_count, last_of}
 use Rattle.rows.proofs.Whole.{rows_get}
@@ -25,14 +23,19 @@ use Rattle.handed.specs.Handed.{set_out_lem}
 use Rattle.handed.proofs.Ways.{in_use}
 use Rattle.rules_networks.specs.declared.Table.{Table}
 use Rattle.rules_networks.specs.declared.Table.TheVariants.{Nit, Bat, Sdt, None}
-use Rattle.rules_networks.specs.Networks.{length_wrong, fault_of, entries_of, Told, other_table, broken_loop, entries, told_by, read_at, read_as}
+use Rattle.rules_networks.specs.Networks.{length_wrong, fault_of, entries_of, read_at, read_as}
 use Rattle.rules_networks.proofs.Nit.{nit_passed}
 use Rattle.rules_networks.proofs.Sdt.{sdt_passed}
+use Rattle.std.specs.Prelude.{Result, Ok, Err}
+use Rattle.network_faults.specs.declared.Fault.{Fault}
+use Rattle.network_faults.specs.Faults.{judged_by}
+use Rattle.network_faults.proofs.Ways.{taken_zero, refused_more, refused_kind}
+use Rattle.network_sets.proofs.Ways.{refused_by}
 use Rattle.network_entries.specs.Entries.{listed_from, SectionIn}
-use Rattle.network_entries.proofs.Ways.{broken_none, nit_none, bat_none, sdt_none}
+use Rattle.network_entries.proofs.Ways.{nit_none, bat_none, sdt_none}
 use Rattle.network_sets.specs.declared.Read.{Read}
-use Rattle.network_sets.specs.declared.ReadAnswer.TheVariants.{No, Refused, OtherTable, BrokenLoop}
-use Rattle.network_sets.specs.Sets.{nothing_read, read_of, ended_at, refused_at, said_of, slots_told, SlotsIn}
+use Rattle.network_sets.specs.declared.ReadAnswer.TheVariants.{No, Refused}
+use Rattle.network_sets.specs.Sets.{nothing_read, ended_at, refused_as, said_of, slots_told, SlotsIn}
 use Rattle.networks.specs.Store.{read_section, read_set}
 
 -- ---- section_length
@@ -69,26 +72,29 @@ module _ (t : Table) (s : List ℕ) (e : fault_of t s ≡ 0) where
 pub section_in : (s : List ℕ) (size number : ℕ) → size ≡ length s → size ≤ 4098 → number < 256 → SectionIn (length s) 0 size number 0
 section_in s size number e h k = record { within = omega arith; short = omega arith; numbered = k; few = omega arith }
 
-pub section_whole : (t : Table) (s : List ℕ) (size fault : ℕ) → fault ≡ fault_of t s → fault ≡ 0 → size ≡ length s → fault_of t (take size (drop 0 s)) ≡ 0
-section_whole t s size fault f z e = rw (e, take_all (length s) s (omega arith)) (sym f ∙ z)
+module _ (t : Table) (s : List ℕ) (judged : Result Unit Fault) (f : judged ≡ judged_by (fault_of t s)) where
+  pub section_taken : (v : Unit) → judged ≡ Ok v → fault_of t s ≡ 0
+  section_taken v z = taken_zero (fault_of t s) judged v f z
 
-module _ (t : Table) (s : List ℕ) (skip : ℕ) (list : List ℕ) (number fault : ℕ) (g : number ≡ byte_at s 6) (f : fault ≡ fault_of t s) where
-  refused_by : (d : Bool) → (cond d (read_of OtherTable 0 number 0) (read_of BrokenLoop 0 number (fault - 1)), list) ≡ said_of skip (cond d (other_table number) (broken_loop number (fault - 1))) list
-  refused_by true = refl
-  refused_by false = refl
+  pub section_whole : (v : Unit) → judged ≡ Ok v → (size : ℕ) → size ≡ length s → fault_of t (take size (drop 0 s)) ≡ 0
+  section_whole v z size e = rw (e, take_all (length s) s (omega arith)) (section_taken v z)
 
-  pub section_refused : fault ≢ 0 → (r : Read) → r ≡ refused_at number fault → (r, list) ≡ read_section t s skip list
+module _ (t : Table) (s : List ℕ) (skip : ℕ) (list : List ℕ) (number : ℕ) (judged : Result Unit Fault) (g : number ≡ byte_at s 6) (f : judged ≡ judged_by (fault_of t s)) where
+  pub section_refused : (x : Fault) → judged ≡ Err x → (r : Read) → r ≡ refused_as number x → (r, list) ≡ read_section t s skip list
   unfolding read_section read_as read_at
-  section_refused z r e = rw (← g, ← f, ne_eqb fault 0 z, e) (refused_by (eqb fault 1))
+  section_refused x h r e =
+      let n : ℕ = fault_of t s in
+      ap (λ (y : Read). (y, list)) (e ∙ ap (refused_as number) (refused_kind n judged x f h))
+      ∙ rw (← g, ne_eqb n 0 (refused_more n judged x f h)) (refused_by (eqb n 1) skip number n list)
 
-  pub section_listed_lem : fault ≡ 0 → (size n : ℕ) (l : List ℕ) (r : Read) → size ≡ length s → (n, l) ≡ listed_from skip 0 (entries_of t 0 number (take size (drop 0 s))) list → r ≡ ended_at skip n
+  pub section_listed_lem : (v : Unit) → judged ≡ Ok v → (size n : ℕ) (l : List ℕ) (r : Read) → size ≡ length s → (n, l) ≡ listed_from skip 0 (entries_of t 0 number (take size (drop 0 s))) list → r ≡ ended_at skip n
       → (r, l) ≡ read_section t s skip list
   unfolding read_section read_as read_at listed_from
-  section_listed_lem z size n l r k e h =
+  section_listed_lem v z size n l r k e h =
       let q : take size (drop 0 s) ≡ s = rw k (take_all (length s) s (omega arith)) in
       let e' = rw q at e in
       let a : n ≡ length (entries_of t 0 number s) = ap (λ (x : ℕ × List ℕ). x.0) e' ∙ zero-add (length (entries_of t 0 number s)) in
-      rw (← g, ← f, z, h, ap (λ (x : ℕ × List ℕ). x.1) e', a)
+      rw (← g, taken_zero (fault_of t s) judged v f z, h, ap (λ (x : ℕ × List ℕ). x.1) e', a)
 
 -- ---- a set
 

@@ -27,8 +27,7 @@ pub fn entries(table: Table, section: &[u8], skip: usize, list: &mut [u32]) -> R
     ensures { (result, list.new) ≡ read_section table section.now skip list.old }
 {
     let number = network_faults::byte_at(section, 6);
-    let fault = network_faults::fault(table, section);
-    if fault != 0 {
+    if let Err(fault) = network_faults::judge(table, section) {
         return network_sets::refused(number, fault);
     }
     let size = own_length(table, section);

@@ -1,7 +1,7 @@
 -- One law for each way out of a function, and what holds of a section that arrives.
 -- Assumes nothing.
 use Prim.Native.Nat.{ℕ, ◌^◌, ◌<◌}
-use mathlib.Core.Path.{◌≡◌, refl, sym, subst}
+use mathlib.Core.Path.{◌≡◌, refl, sym, subst, ◌∙◌}
 use mathlib.Core.List.{List}
 use mathlib.Core.Bool.{Bool, true, false, cond, not}
 use lib.ListN.{length}
@@ -15,13 +15,13 @@ use Rattle.section.specs.Facts.{Bytes}
 use Rattle.section.specs.Ids.{origin_of, origin_made}
 use Rattle.section.specs.Judged.{rule_of, judged_of}
 use Rattle.section.specs.declared.ids.Origin.{Origin}
-use Rattle.section.specs.declared.ids.OriginMade.{OriginMade}
-use Rattle.section.specs.declared.ids.OriginMade.TheVariants as origin
+use Rattle.std.specs.Prelude.{Result, Ok, Err}
+use Rattle.answers.specs.declared.Refusal.{Refusal}
 use Rattle.section.specs.declared.header.ChangeRule.{ChangeRule}
 use Rattle.section.specs.declared.header.Parts.{Parts}
 use Rattle.section.specs.declared.header.Judged.{Judged}
 use Rattle.section.specs.declared.header.Judged.TheVariants.{Short, Mismatch, Sound}
-use Rattle.section.proofs.Facts.{judged_table, judged_change, origin_one, origin_none, origin_outside}
+use Rattle.section.proofs.Facts.{judged_table, judged_change, origin_one}
 use Rattle.offers.specs.Offers.{arrival_of, read_as, read_of, verdict_of, Taken, Admissible, VerdictOk}
 use Rattle.offers.specs.declared.Arrival.{Arrival}
 use Rattle.offers.specs.declared.Failure.{Failure}
@@ -44,16 +44,19 @@ module _ (from : Origin) (rule : ℕ) (c : ChangeRule) (section : List ℕ) (v :
 
 -- ---- 12 and 37
 
-module _ (rule input pid : ℕ) (section : List ℕ) (m : OriginMade) (e : m ≡ origin_made input pid) where
-  pub read_pid : m ≡ origin.BadPid → Refused BadPid ≡ read_of rule input pid section
-  unfolding read_of
-  read_pid h = rw (le-ltb pid 8192 (origin_none input pid m e h))
+module _ (rule input pid : ℕ) (section : List ℕ) (m : Result Origin Refusal) (e : m ≡ origin_made input pid) where
+  refused_cases : (a b : Bool) (o : Origin) (v : Verdict) (r : Refusal) → cond a (cond b (Ok o) (Err BadInput)) (Err BadPid) ≡ Err r
+      → Refused r ≡ cond a (cond b v (Refused BadInput)) (Refused BadPid)
+  refused_cases true true o v r q = let z : ◌≡◌ {A = ℕ} 0 1 = cc in absurd (omega arith)
+  refused_cases true false o v r q = cc
+  refused_cases false b o v r q = cc
 
-  pub read_nowhere : m ≡ origin.BadInput → Refused BadInput ≡ read_of rule input pid section
+  -- 12 or 37
+  pub read_refused : (r : Refusal) → m ≡ Err r → Refused r ≡ read_of rule input pid section
   unfolding read_of
-  read_nowhere h = let n = origin_outside input pid m e h in rw (lt-ltb pid 8192 n.0, le-ltb input 16 n.1)
+  read_refused r h = refused_cases (ltb pid 8192) (ltb input 16) (origin_of input pid) (read_as (origin_of input pid) (length section) (judged_of (rule_of rule) section)) r (sym e ∙ h)
 
-  pub read_section_lem : (from : Origin) (v : Verdict) → m ≡ origin.One from → v ≡ read_as from (length section) (judged_of (rule_of rule) section) → v ≡ read_of rule input pid section
+  pub read_section_lem : (from : Origin) (v : Verdict) → m ≡ Ok from → v ≡ read_as from (length section) (judged_of (rule_of rule) section) → v ≡ read_of rule input pid section
   unfolding read_of
   read_section_lem from v h k = let n = origin_one input pid m e from h in rw (lt-ltb pid 8192 n.1, lt-ltb input 16 n.2, ← n.0) k
 

@@ -9,7 +9,7 @@ ghost use Rattle.offers.specs.Offers.{is_short, arrival_of, read_as, read_of, Ta
 use answers::Refusal;
 use counters::Counters;
 use section::header::{ChangeRule, Judged, Parts};
-use section::ids::{Origin, OriginMade};
+use section::ids::Origin;
 
 // What tells one section from another at the gate: its key, the version and the change number that it came with. And its table_id.
 #[derive(Clone, Copy)]
@@ -73,9 +73,8 @@ fn read(rule: u64, input: u8, pid: u16, section: &[u8]) -> Verdict
     ensures taken { Taken section.now result }
 {
     match Origin::make(input, pid) {
-        OriginMade::One(from) => read_from(from, rule, section),
-        OriginMade::BadPid => Verdict::Refused(Refusal::BadPid),
-        OriginMade::BadInput => Verdict::Refused(Refusal::BadInput),
+        Ok(from) => read_from(from, rule, section),
+        Err(refusal) => Verdict::Refused(refusal),
     }
 }
 

@@ -81,11 +81,11 @@ none_yet most watched packets pids =
     ap (λ (k : ℕ). more_by 0 (passed_from k watched packets pids)) z ∙ (λ i. passed (n i) p.pids)
 
 module _ (most n : ℕ) (watched packets pids : List ℕ) (all : Passed) (q : more_by n (passed_from (most - n) watched (drop (n * 188) packets) pids) ≡ all) where
-  pub at_end_lem : most ≤ n → passed n pids ≡ all
+  pub at_end_lem : most ≤ n → n ≤ most → passed most pids ≡ all
   unfolding passed_from
-  at_end_lem h =
+  at_end_lem h k =
       let z : most - n ≡ 0 = omega arith in
-      let y : n ≡ n + 0 = omega arith in
+      let y : most ≡ n + 0 = omega arith in
       (λ i. passed (y i) pids) ∙ sym (ap (λ (k : ℕ). more_by n (passed_from k watched (drop (n * 188) packets) pids)) z) ∙ q
 
   abbrev part : List ℕ

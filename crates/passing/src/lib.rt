@@ -40,14 +40,12 @@ pub fn pass_over(watched: &[u64], pids: &mut [u64], packets: &[u8], most: usize)
     requires most_in_bounds { most * 188 ≤ length packets.now }
     ensures { passed result pids.new ≡ passed_from most watched.now packets.now pids.old }
 {
-    let mut n = 0;
-    while n < most {
+    for n in 0..most {
         let at = n * packet::PACKET_BYTES;
         let to = at + packet::PACKET_BYTES;
         if !pass(watched, pids, &packets[at..to]) {
             return n;
         }
-        n += 1;
     }
-    n
+    most
 }

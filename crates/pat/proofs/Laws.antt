@@ -4,11 +4,10 @@ use mathlib.Core.Path.{◌≡◌, refl, sym, ap, ◌∙◌}
 use mathlib.Core.Logic.{⊎_elim}
 use mathlib.Core.Bool.{Bool, true, false, cond, not, ◌&&◌, ◌||◌, or-false}
 use Prim.Native.Nat.{ℕ, suc, ◌+◌, ◌-◌, ◌/◌, ◌%◌, ◌≤◌, ◌<◌}
-use native.Mathlib.Nat.{add-zero}
 use native.Mathlib.Omega.{arith}
-use mathlib.Core.List.{List, [], ◌∷◌}
-use lib.ListN.{length, get_or, take, drop, replicate, set, length-drop, length-take, length-replicate, get_or-eq_default}
-use lib.Seq.{get_or-drop, get_or-take, drop-drop}
+use mathlib.Core.List.{List, [], ◌∷◌, ◌++◌}
+use lib.ListN.{length, get_or, take, drop, replicate, set, length-take, length-replicate, get_or-eq_default}
+use lib.Seq.{get_or-drop, get_or-take}
 use lib.Dec.{leb, eqb}
 use borrow.Author.Tests.{eq-eqb, ne_eqb, le-leb, lt-leb, leb-true, not-true, not-false}
 use Rattle.laws.specs.Bits.{has_bit, add_bit, add_bits}
@@ -28,31 +27,34 @@ four (a ∷ b ∷ c ∷ []) h = absurd (omega arith)
 four (a ∷ b ∷ c ∷ d ∷ t) h = refl
 
 -- the way out of a group: program 0 adds nothing, any other its PID
-module _ (s n : List ℕ) (i number : ℕ) (e : number ≡ word16 (byte_at s i) (byte_at s (i + 1))) where
-  pub group_zero : number ≡ 0 → n ≡ with_group s i n
+module _ (group n : List ℕ) (number : ℕ) (e : number ≡ word16 (byte_at group 0) (byte_at group 1)) where
+  pub group_zero : number ≡ 0 → n ≡ with_group group n
   unfolding with_group
-  group_zero z = rw (eq-eqb (word16 (byte_at s i) (byte_at s (i + 1))) 0 (sym e ∙ z))
+  group_zero z = rw (eq-eqb (word16 (byte_at group 0) (byte_at group 1)) 0 (sym e ∙ z))
 
-  pub group_some : (number ≡ 0 → ⊥) → (m : List ℕ) (p : ℕ) → p ≡ pid_of (byte_at s (i + 2)) (byte_at s (i + 3)) → m ≡ add_bit n p → m ≡ with_group s i n
+  pub group_some : (number ≡ 0 → ⊥) → (m : List ℕ) (p : ℕ) → p ≡ pid_of (byte_at group 2) (byte_at group 3) → m ≡ add_bit n p → m ≡ with_group group n
   unfolding with_group
-  group_some z m p ep em = rw (ne_eqb (word16 (byte_at s i) (byte_at s (i + 1))) 0 (λ w. z (e ∙ w)), em, ep)
+  group_some z m p ep em = rw (ne_eqb (word16 (byte_at group 0) (byte_at group 1)) 0 (λ w. z (e ∙ w)), em, ep)
 
--- a turn of the loop over the groups, and its end
-pub turn_group : (s n : List ℕ) (i : ℕ) → i + 4 ≤ length s → add_bits n (program_pids (drop i s)) ≡ add_bits (with_group s i n) (program_pids (drop (i + 4) s))
+-- a turn of the loop over the groups, of which `rest` are left, and its end
+pub turn_group : (group rest rest' n n' all : List ℕ) → rest ≡ group ++ rest' → length group ≡ 4 → n' ≡ with_group group n → add_bits n (program_pids rest) ≡ all
+    → add_bits n' (program_pids rest') ≡ all
 unfolding program_pids with_group add_bits
-turn_group s n i h =
-    ap (λ (l : List ℕ). add_bits n (program_pids l)) group ∙ pick (eqb (word16 (byte_at s i) (byte_at s (i + 1))) 0) (pid_of (byte_at s (i + 2)) (byte_at s (i + 3))) (program_pids (drop (i + 4) s))
+turn_group [] rest rest' n n' all r h e q = absurd (omega (arith, h))
+turn_group (a ∷ []) rest rest' n n' all r h e q = absurd (omega (arith, h))
+turn_group (a ∷ b ∷ []) rest rest' n n' all r h e q = absurd (omega (arith, h))
+turn_group (a ∷ b ∷ c ∷ []) rest rest' n n' all r h e q = absurd (omega (arith, h))
+turn_group (a ∷ b ∷ c ∷ d ∷ []) rest rest' n n' all r h e q =
+    rw e (sym (pick (eqb (word16 a b) 0) (pid_of c d) (program_pids rest')) ∙ ap (λ (l : List ℕ). add_bits n (program_pids l)) (sym r) ∙ q)
   where
-    group : drop i s ≡ byte_at s i ∷ byte_at s (i + 1) ∷ byte_at s (i + 2) ∷ byte_at s (i + 3) ∷ drop (i + 4) s
-    group = four (drop i s) (simp length-drop (omega arith)) ∙ simp (get_or-drop, drop-drop, add-zero)
-
     pick : (b : Bool) (p : ℕ) (ps : List ℕ) → add_bits n (cond b ps (p ∷ ps)) ≡ add_bits (cond b n (add_bit n p)) ps
     pick true p ps = refl
     pick false p ps = refl
+turn_group (a ∷ b ∷ c ∷ d ∷ x ∷ group) rest rest' n n' all r h e q = absurd (omega (arith, h))
 
-pub turn_end : (s n : List ℕ) (i : ℕ) → length s < i + 4 → add_bits n (program_pids (drop i s)) ≡ n
+pub turn_end : (rest n all : List ℕ) → length rest < 4 → add_bits n (program_pids rest) ≡ all → n ≡ all
 unfolding program_pids add_bits
-turn_end s n i h = ap (add_bits n) (short (drop i s) (simp length-drop (omega arith)))
+turn_end rest n all h q = sym (ap (add_bits n) (short rest h)) ∙ q
   where
     short : (t : List ℕ) → length t < 4 → program_pids t ≡ []
     short [] h = refl

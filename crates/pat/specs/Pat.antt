@@ -45,6 +45,6 @@ pat_of s = cond (readable s) Readable Unreadable
 unfoldable pub with_programs : List ℕ → List ℕ → List ℕ
 with_programs s n = cond (readable s) (add_bits n (program_pids (groups_of s))) n
 
--- the set n with the PID of the group at byte i
-unfoldable pub with_group : List ℕ → ℕ → List ℕ → List ℕ
-with_group s i n = cond (eqb (word16 (byte_at s i) (byte_at s (i + 1))) 0) n (add_bit n (pid_of (byte_at s (i + 2)) (byte_at s (i + 3))))
+-- the set n with the PID of a group of four bytes
+unfoldable pub with_group : List ℕ → List ℕ → List ℕ
+with_group group n = cond (eqb (word16 (byte_at group 0) (byte_at group 1)) 0) n (add_bit n (pid_of (byte_at group 2) (byte_at group 3)))

@@ -44,36 +44,34 @@ pub fn is_readable(s: &[u8]) -> bool
 fn add_groups(s: &[u8], n: &mut [u64; 128])
     ensures { n.new ≡ add_bits n.old (program_pids s.now) }
 {
-    let mut i = 0;
-    while 4 <= s.len() - i {
-        add_group(s, i, n);
-        i += 4;
+    for group in s.chunks_exact(4) {
+        add_group(group, n);
     }
 }
 
-// Adds the PID of the group at i, unless it is program 0's.
-fn add_group(s: &[u8], i: usize, n: &mut [u64; 128])
-    requires { i + 4 ≤ length s.now }
-    ensures { n.new ≡ with_group s.now i n.old }
+// Adds the PID of a group, unless it is program 0's.
+fn add_group(group: &[u8], n: &mut [u64; 128])
+    requires { length group.now ≡ 4 }
+    ensures { n.new ≡ with_group group.now n.old }
 {
-    let number = program_number(s, i);
+    let number = program_number(group);
     if number.0 != 0 {
-        section::pids::add(n, program_pid(s, i));
+        section::pids::add(n, program_pid(group));
     }
 }
 
-// The first 16 bits of the group at i.
-fn program_number(s: &[u8], i: usize) -> ProgramNumber
-    requires { i + 4 ≤ length s.now }
-    ensures { result.0 ≡ word16 (byte_at s.now i) (byte_at s.now (i + 1)) }
+// The first 16 bits of a group.
+fn program_number(group: &[u8]) -> ProgramNumber
+    requires { length group.now ≡ 4 }
+    ensures { result.0 ≡ word16 (byte_at group.now 0) (byte_at group.now 1) }
 {
-    ProgramNumber(word(s, i))
+    ProgramNumber(word(group, 0))
 }
 
-// The last 13 bits of the group at i; three bits before them are reserved.
-fn program_pid(s: &[u8], i: usize) -> Pid
-    requires { i + 4 ≤ length s.now }
-    ensures { (result.0 ≡ pid_of (byte_at s.now (i + 2)) (byte_at s.now (i + 3))) × (result.0 < 8192) }
+// The last 13 bits of a group; three bits before them are reserved.
+fn program_pid(group: &[u8]) -> Pid
+    requires { length group.now ≡ 4 }
+    ensures { (result.0 ≡ pid_of (byte_at group.now 2) (byte_at group.now 3)) × (result.0 < 8192) }
 {
-    Pid((wide(s[i + 2]) % 32 * 256 + wide(s[i + 3])) as u16)
+    Pid((wide(group[2]) % 32 * 256 + wide(group[3])) as u16)
 }

@@ -23,7 +23,7 @@ use Rattle.sets_plan.specs.declared.Plan.{Plan}
 use Rattle.sets_plan.specs.declared.Plan.TheVariants as plan
 use Rattle.sets_settle.specs.Settle.{settled, kept_in, carried}
 use Rattle.sets_push.specs.Pushing.{whole_pushed}
-use Rattle.pats.specs.Store.{Record, record_of, pat_clock, pat_most, pats_full, pat_store, pushed_in, followed_in, entered_in, PatsReady, Arrives}
+use Rattle.pats.specs.Store.{Record, pat_clock, pat_most, pats_full, pat_store, entered_in, PatsReady}
 use Rattle.pats.proofs.Laws.{then_store, enter_by}
 
 -- ---- where it goes

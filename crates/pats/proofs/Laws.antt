@@ -13,10 +13,11 @@ use lib.ListN.{length, get_or, take, drop, set, length-set, length-drop, length-
 use lib.Seq.{paste, drop-drop, take-append-le, take-take, take-set-le, get_or-drop, get_or-set_same, get_or-set_other, length-take-le, length-paste}
 use Rattle.laws.proofs.Tests.{and_true}
 use Rattle.laws.proofs.Lists.{drop_take}
-use Rattle.section.specs.declared.ids.MaybePid.TheVariants as maybe
+use Rattle.std.specs.Prelude.{Some, Result, Ok, Err}
+use Rattle.answers.specs.declared.Refusal.{Refusal}
 use Rattle.pat.specs.Pat.{with_programs}
 use Rattle.pat.proofs.Laws.{length_programs}
-use Rattle.watched.specs.Store.{watched_of, protected_of, followed_of, no_pids, following}
+use Rattle.watched.specs.Store.{watched_of, protected_of, followed_of, no_pids}
 use Rattle.watched.proofs.Meaning.{following_protected, following_past, length_following}
 use Rattle.rows.specs.Rows.{touched, with_mark, rows_whole}
 use Rattle.rows.specs.declared.Entry.{Entry}
@@ -25,8 +26,6 @@ use Rattle.store.specs.Store.{Store, store, whole_of, WholeStore}
 use Rattle.store.specs.declared.Sets.{Sets}
 use Rattle.store.proofs.Whole.{whole_means, means_whole, cell_fits, evictions_go_on, clock_goes_on}
 use Rattle.arrivals.specs.Arrivals.{set_arrival, SetTaken}
-use Rattle.arrivals.specs.declared.SetArrival.{SetArrival}
-use Rattle.arrivals.specs.declared.SetArrival.TheVariants as arrival
 use Rattle.arrivals.proofs.Facts.{set_taken}
 use Rattle.cells.specs.Cells.{slot_word}
 use Rattle.sets_plan.specs.Plan.{plan_of, PlanOk, KeepOk}
@@ -262,12 +261,12 @@ module _ (r : Record) (input : ℕ) (section : List ℕ) (b : get_or section 7 0
   unfolding entered_in
   enter_by = go (enters section) refl
     where
-      arrived : enters section ≡ true → (a : SetArrival) → set_arrival input (maybe.Some 0) section ≡ a → SetTaken section a → P (entered_as r section a)
-      arrived h (arrival.Refused x) q t = none
-      arrived h (arrival.Arrived e) q t = some h e (record { input = input; read = q; taken = t })
+      arrived : enters section ≡ true → (a : Result Entry Refusal) → set_arrival input (Some 0) section ≡ a → SetTaken section a → P (entered_as r section a)
+      arrived h (Err x) q t = none
+      arrived h (Ok e) q t = some h e (record { input = input; read = q; taken = t })
 
-      go : (t : Bool) → enters section ≡ t → P (cond t (entered_as r section (set_arrival input (maybe.Some 0) section)) r)
-      go true h = arrived h (set_arrival input (maybe.Some 0) section) refl (set_taken section b input (maybe.Some 0))
+      go : (t : Bool) → enters section ≡ t → P (cond t (entered_as r section (set_arrival input (Some 0) section)) r)
+      go true h = arrived h (set_arrival input (Some 0) section) refl (set_taken section b input (Some 0))
       go false h = none
 
 module _ (r : Record) (o : PatsReady r) (input : ℕ) (section : List ℕ) (b : get_or section 7 0 < 256) where

@@ -12,27 +12,15 @@ use borrow.Rule.Slice.PartMut.{put_mid, same_len_mid}
 use lib.ListN.{length, get_or, take, drop, set, length-set, length-drop}
 use lib.Seq.{paste, get_or-take, get_or-drop, take_all, length-take-le, drop-drop, length-paste, drop-set-lt, get_or-set_same, get_or-set_other}
 use Rattle.ticks.proofs.Slots.{part_pasted}
-use Rattle.section.proofs.Facts.{takes}
-use Rattle.section.specs.Header.{header_of}
-use Rattle.section.specs.Judged.{collected_of}
-use Rattle.section.specs.Ids.{origin_made}
-use Rattle.section.specs.declared.header.Header.{Header}
-use Rattle.section.specs.declared.header.Collected.{Collected}
-use Rattle.section.specs.declared.header.Collected.TheVariants as collected
-use Rattle.section.specs.declared.ids.OriginMade.{OriginMade}
-use Rattle.section.specs.declared.ids.OriginMade.TheVariants as made
-use Rattle.section.specs.declared.ids.MaybePid.{MaybePid}
-use Rattle.section.specs.declared.ids.MaybePid.TheVariants as maybe
+use Rattle.std.specs.Prelude.{Option, Ok}
 use Rattle.rows.specs.Rows.{touched, tick_of, with_mark}
 use Rattle.rows.proofs.Words.{put_not, touched_newest, length_kept}
 use Rattle.rows.specs.declared.Entry.{Entry}
-use Rattle.rows.specs.declared.Origin.{Origin}
 use Rattle.without_pid.specs.Pids.{without_pid}
 use Rattle.store.specs.Store.{Store, store, risen_sets, WholeStore}
 use Rattle.store.specs.declared.Sets.{Sets}
 use Rattle.store.proofs.Whole.{means_whole}
-use Rattle.arrivals.specs.Arrivals.{set_arrival, set_judged, set_read, made_words, Taken}
-use Rattle.arrivals.specs.declared.SetArrival.TheVariants as arrival
+use Rattle.arrivals.specs.Arrivals.{set_arrival, Taken}
 use Rattle.sets_plan.specs.Plan.{plan_of, PlanOk, Ready}
 use Rattle.sets_plan.specs.declared.Plan.{Plan}
 use Rattle.sets_plan.specs.declared.Plan.TheVariants as plan
@@ -198,7 +186,7 @@ row_there_lem (Refused r) s o = tt
 
 -- ---- pushing is the set collector's push, once 10, 11 and 41 have been asked
 
-pub pushed_as_lem : (s : Store) → Ready s → without_pid s.heads s.sets.used ≡ false → (input : ℕ) (pid : MaybePid) (bytes : List ℕ) (e : Entry) → set_arrival input pid bytes ≡ arrival.Arrived e
+pub pushed_as_lem : (s : Store) → Ready s → without_pid s.heads s.sets.used ≡ false → (input : ℕ) (pid : Option ℕ) (bytes : List ℕ) (e : Entry) → set_arrival input pid bytes ≡ Ok e
     → pushed_of s input pid bytes ≡ whole_pushed s e bytes
 unfolding pushed_of admitted
 pushed_as_lem s o n input pid bytes e q = rw (means_whole s o.whole, ne_eqb s.sets.evictions 18446744073709551615 o.counts, ne_eqb s.sets.clock 18446744073709551615 o.runs, n, q)

@@ -9,13 +9,13 @@ use native.Mathlib.Numerals.{add-one}
 use native.Mathlib.Decide.{ℕ_discrete}
 use native.Mathlib.Omega.{arith}
 use borrow.Author.Tests.{le-leb, lt-leb, leb-true, eq-eqb, ne_eqb}
-use lib.Dec.{leb, eqb}
+use lib.Dec.{leb}
 use lib.ListN.{length, get_or, take, drop, set, drop_of_length-le, length-drop}
 use lib.Seq.{drop-cons, length-take-le}
 use Rattle.laws.proofs.Tests.{and_true}
 use Rattle.laws.proofs.Search.{every_get}
 use Rattle.section.specs.Header.{current_next_of}
-use Rattle.section.specs.declared.ids.MaybePid.TheVariants as maybe
+use Rattle.std.specs.Prelude.{Some, Result, Ok, Err}
 use Rattle.answers.specs.declared.Refusal.{Refusal}
 use Rattle.cells.specs.Cells.{kept_length, cell_number, slot_whole, all_whole, kept, part_of}
 use Rattle.pat.specs.Pat.{readable, with_programs}
@@ -24,11 +24,9 @@ use Rattle.rows.specs.Rows.{row_slots, rows_whole}
 use Rattle.rows.proofs.Whole.{rows_get}
 use Rattle.rows.specs.declared.Entry.{Entry}
 use Rattle.placing.proofs.Fits.{slot_bounds}
-use Rattle.store.specs.Store.{Store, store, settings_fit, whole_of, counters_full}
+use Rattle.store.specs.Store.{Store, settings_fit, whole_of, counters_full}
 use Rattle.store.specs.declared.Sets.{Sets}
 use Rattle.arrivals.specs.Arrivals.{set_arrival, SetTaken}
-use Rattle.arrivals.specs.declared.SetArrival.{SetArrival}
-use Rattle.arrivals.specs.declared.SetArrival.TheVariants as arrival
 use Rattle.sets_settle.specs.Settle.{set_in, answer_of}
 use Rattle.sets_settle.specs.declared.PushAnswer.{PushAnswer}
 use Rattle.sets_settle.specs.declared.PushAnswer.TheVariants as push_answer
@@ -182,12 +180,12 @@ module _ (words slots cells section : List ℕ) (input : ℕ) (b : Bool) (p : b 
   unfolding entered_in
   enter_not h = rw (← p, h)
 
-  module _ (h : b ≡ true) (a : SetArrival) (q : a ≡ set_arrival input (maybe.Some 0) section) where
-    pub enter_refused : (r : Refusal) → a ≡ arrival.Refused r → record_of words slots cells ≡ entered_in (record_of words slots cells) input section
+  module _ (h : b ≡ true) (a : Result Entry Refusal) (q : a ≡ set_arrival input (Some 0) section) where
+    pub enter_refused : (r : Refusal) → a ≡ Err r → record_of words slots cells ≡ entered_in (record_of words slots cells) input section
     unfolding entered_in
     enter_refused r e = rw (← p, h, ← q, e)
 
-    module _ (e : Entry) (f : a ≡ arrival.Arrived e) where
+    module _ (e : Entry) (f : a ≡ Ok e) where
       pub enter_arrives : SetTaken section a → Arrives section e
       enter_arrives t = record { input = input; read = sym q ∙ f; taken = subst (SetTaken section) f t }
 

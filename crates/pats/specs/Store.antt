@@ -1,9 +1,9 @@
 -- The record of a watch that follows complete PATs: what it holds, and exactly what each call leaves, for every content of the three lent slices
 -- (docs/RULES.md, "Watched PIDs" and "Collectors"; ISO/IEC 13818-1, 2.4.4.3). `cond test a b` is a where the test is true, else b.
-use Rattle.std.specs.Prelude.{ℕ, ◌≤◌, ◌<◌, max, ◌≡◌, List, [], ◌∷◌, Bool, true, cond, ◌&&◌, length, get_or, take, drop, set, leb, eqb}
+use Rattle.std.specs.Prelude.{ℕ, ◌≤◌, ◌<◌, max, ◌≡◌, List, [], ◌∷◌, Bool, true, cond, ◌&&◌, length, get_or, take, drop, set, leb, eqb, Some, Result, Ok, Err}
 use Rattle.std.proofs.Math.Seq.{paste}
 use Rattle.section.specs.Header.{current_next_of}
-use Rattle.section.specs.declared.ids.MaybePid.TheVariants as maybe
+use Rattle.answers.specs.declared.Refusal.{Refusal}
 use Rattle.pat.specs.Pat.{readable, with_programs}
 use Rattle.watched.specs.Store.{no_pids, following}
 use Rattle.cells.specs.Cells.{all_whole}
@@ -12,8 +12,6 @@ use Rattle.rows.specs.declared.Entry.{Entry}
 use Rattle.store.specs.Store.{Store, store, whole_of, counters_full, WholeStore}
 use Rattle.store.specs.declared.Sets.{Sets}
 use Rattle.arrivals.specs.Arrivals.{set_arrival, Taken}
-use Rattle.arrivals.specs.declared.SetArrival.{SetArrival}
-use Rattle.arrivals.specs.declared.SetArrival.TheVariants as arrival
 use Rattle.sets_plan.specs.Plan.{Ready}
 use Rattle.sets_settle.specs.Settle.{Told, done, nothing, handed, refused, SetsAfter, set_in, answer_of}
 use Rattle.sets_settle.specs.declared.PushAnswer.{PushAnswer}
@@ -108,13 +106,13 @@ abbrev pub followed_in : Entering → Record
 followed_in x = record_of (watch_after x.told x.then.words) x.then.slots x.then.cells
 
 -- as what the section says: a refusal leaves all as it was
-abbrev pub entered_as : Record → List ℕ → SetArrival → Record
-entered_as r section (arrival.Refused x) = r
-entered_as r section (arrival.Arrived e) = followed_in (pushed_in r (whole_pushed (pat_store r) e section))
+abbrev pub entered_as : Record → List ℕ → Result Entry Refusal → Record
+entered_as r section (Err x) = r
+entered_as r section (Ok e) = followed_in (pushed_in r (whole_pushed (pat_store r) e section))
 
 -- a section of PID 0 on an input
 unfoldable pub entered_in : Record → (input : ℕ) → List ℕ → Record
-entered_in r input section = cond (enters section) (entered_as r section (set_arrival input (maybe.Some 0) section)) r
+entered_in r input section = cond (enters section) (entered_as r section (set_arrival input (Some 0) section)) r
 
 -- ---- what the functions ask of each other
 
@@ -126,7 +124,7 @@ pub record PatsReady (r : Record) : Type 0 where
 -- a section arrived as e, on some input
 pub record Arrives (section : List ℕ) (e : Entry) : Type 0 where
   pub input : ℕ
-  pub read : set_arrival input (maybe.Some 0) section ≡ arrival.Arrived e
+  pub read : set_arrival input (Some 0) section ≡ Ok e
   pub taken : Taken section e
 
 -- a set that goes out is in row 0, and that is in use

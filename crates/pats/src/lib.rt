@@ -13,9 +13,7 @@ ghost use Rattle.sets_push.specs.Pushing.{whole_pushed};
 ghost use Rattle.pats.specs.Store.{record_of, pat_clock, pat_sets, pat_head, pat_store, room_for, pats_whole, pats_full, begun_words, enters, with_all, programs_of_row};
 ghost use Rattle.pats.specs.Store.{pushed_by, pushed_in, watch_after, followed_in, entered_in, PatsReady, Arrives, Pushed, HasRow};
 
-use arrivals::SetArrival;
 use rows::Entry;
-use section::ids::MaybePid;
 use sets_settle::PushAnswer;
 use store::Sets;
 
@@ -96,9 +94,9 @@ pub fn enter(words: &mut [u64], slots: &mut [u32], cells: &mut [u8], input: u8, 
     ensures { record_of words.new slots.new cells.new ≡ entered_in (record_of words.old slots.old cells.old) input section.now }
 {
     if may_enter(section) {
-        match arrivals::set_arrival(input, MaybePid::Some(0), section) {
-            SetArrival::Refused(_) => {}
-            SetArrival::Arrived(e) => collect(words, slots, cells, e, section),
+        match arrivals::set_arrival(input, Some(0), section) {
+            Err(_) => {}
+            Ok(e) => collect(words, slots, cells, e, section),
         }
     }
 }
@@ -199,10 +197,8 @@ fn add_programs(n: &mut [u64; 128], row: &[u32], cells: &[u8])
     requires in_bounds { 262144 ≤ length cells.now }
     ensures { n.new ≡ with_all (map (kept cells.now 1024) row.now) n.old }
 {
-    let mut j = 0;
-    while j < row.len() {
-        add_section(n, row[j], cells);
-        j += 1;
+    for w in row {
+        add_section(n, *w, cells);
     }
 }
 

@@ -106,13 +106,8 @@ pub fn to_front(buffer: &mut [u8], first: usize, size: usize)
     requires { first + size ≤ length buffer.old }
     ensures { buffer.new ≡ front (take size (drop first buffer.old)) buffer.old }
 {
-    if first == 0 {
-        return;
-    }
-    let mut j = 0;
-    while j < size {
-        buffer[j] = buffer[first + j];
-        j += 1;
+    if first != 0 {
+        buffer.copy_within(first..first + size, 0);
     }
 }
 

@@ -9,13 +9,12 @@ use mathlib.Core.Bool.{Bool, true, false, cond}
 use Rattle.laws.proofs.Tests.{none≢some}
 use Rattle.laws.specs.Runs.{answers, store_after, At}
 use Rattle.answers.specs.declared.Refusal.TheVariants.{NotWhole, NoPid}
-use Rattle.answers.specs.declared.Reply.TheVariants.{No}
 use Rattle.rules_sets.specs.Rules as rules
 use Rattle.rules_sets.specs.Rules.{Whole, Answer, cleared, handout}
 use Rattle.rows.specs.Rows.{key_at, version_of, last_of}
 use Rattle.reading.specs.Reading.{Reads}
 use Rattle.reading.proofs.Reading.{one_reading}
-use Rattle.section.specs.declared.ids.MaybePid.TheVariants as maybe
+use Rattle.std.specs.Prelude.{Some, Ok}
 use Rattle.without_pid.specs.Pids.{without_pid}
 use Rattle.store.specs.Store.{Store, store, empty_sets, whole_of, WholeStore}
 use Rattle.sets_settle.specs.Settle.{Handed, Told, done, nothing, handed, refused, set_in}
@@ -44,9 +43,9 @@ clear_none s h e = go (whole_of s) (without_pid s.heads s.sets.used) e
 
 -- what is told is in its row, and what is read there are its sections
 call_out : (s : Store) → WholeStore s → (i : Given) → OfBytes i → (h : Handed) → (called s (made i)).told ≡ handed h
-    → (h ≡ set_in (called s (made i)).store h.row) × Reads (next_of (called s (made i)).store h.row) (called s (made i)).store.cells 0 h.sections No
+    → (h ≡ set_in (called s (made i)).store h.row) × Reads (next_of (called s (made i)).store h.row) (called s (made i)).store.cells 0 h.sections (Ok false)
 call_out s w clears b h e = absurd (clear_none s h e)
-call_out s w (section input pid bytes) b h e = ((pushed_out s input (maybe.Some pid) bytes h (b 7) e).set, read_handed s w input (maybe.Some pid) bytes (b 7) h e)
+call_out s w (section input pid bytes) b h e = ((pushed_out s input (Some pid) bytes h (b 7) e).set, read_handed s w input (Some pid) bytes (b 7) h e)
 
 -- the set as the rules have it
 abbrev shown : Handed → Whole
@@ -80,7 +79,7 @@ read_out (i ∷ is) b s w zero set e =
       key = ap (λ (x : Handed). key_shown x.key) (sym o.0) ∙ ap (λ (x : Whole). x.key) q.2;
       version = ap (λ (x : Handed). x.version) (sym o.0) ∙ ap (λ (x : Whole). x.version) q.2;
       last = ap (λ (x : Handed). x.last) (sym o.0) ∙ ap (λ (x : Whole). x.last) q.2;
-      sections = subst (λ (l : List (List ℕ)). Reads (next_of (called s (made i)).store h.row) (called s (made i)).store.cells 0 l No) (ap (λ (x : Whole). x.sections) q.2) o.1;
+      sections = subst (λ (l : List (List ℕ)). Reads (next_of (called s (made i)).store h.row) (called s (made i)).store.cells 0 l (Ok false)) (ap (λ (x : Whole). x.sections) q.2) o.1;
     }
 read_out (i ∷ is) b s w (suc t) set e =
     let r = read_out is (λ u j k. b (suc u) j k) (acts s i) (call_stays s (made i) (b 0 i refl) w) t set e in
@@ -98,7 +97,7 @@ handed_out (i ∷ is) b s w zero set r =
     let k : key_shown h.key ≡ set.key = ap (λ (x : Handed). key_shown x.key) o.0 ∙ ap (λ (n : ℕ). key_shown (key_at m.heads n)) (sym row) ∙ r.key in
     let v : h.version ≡ set.version = ap (λ (x : Handed). x.version) o.0 ∙ ap (version_of m.heads) (sym row) ∙ r.version in
     let l : h.last ≡ set.last = ap (λ (x : Handed). x.last) o.0 ∙ ap (last_of m.heads) (sym row) ∙ r.last in
-    let c : h.sections ≡ set.sections = (one_reading o.1 (subst (λ (n : ℕ). Reads (next_of m n) m.cells 0 set.sections No) row r.sections)).0 in
+    let c : h.sections ≡ set.sections = (one_reading o.1 (subst (λ (n : ℕ). Reads (next_of m n) m.cells 0 set.sections (Ok false)) row r.sections)).0 in
     ap some (ap answer_told p ∙ (λ j. handout (record { key = k j; version = v j; last = l j; sections = c j })))
 handed_out (i ∷ is) b s w (suc t) set r =
     handed_out is (λ u j k. b (suc u) j k) (acts s i) (call_stays s (made i) (b 0 i refl) w) t set

@@ -8,11 +8,10 @@
 -- It is said of the collector over lent memory: `tells s i` is what `push` and `clear` of the crate sets are proved to answer to call i where their
 -- memory is s, `acts s i` is the memory that they are proved to leave, and `Opened s` says that s is as `open` is proved to leave it.
 -- Assumes nothing.
-use Rattle.std.specs.Prelude.{ℕ, ◌≤◌, ◌≡◌, List}
+use Rattle.std.specs.Prelude.{ℕ, ◌≤◌, ◌≡◌, List, Some}
 use Rattle.laws.specs.Runs.{answers, At, Never, GivenBy}
 use Rattle.rules_shared.specs.Same.{Bytes}
 use Rattle.rules_sets.specs.Rules.{Whole, Answer, handout, conflict, not_whole, counter_full, no_cell}
-use Rattle.section.specs.declared.ids.MaybePid.TheVariants as maybe
 use Rattle.store.specs.Store.{Store}
 use Rattle.sets.specs.History as sets
 use Rattle.ties_sets.specs.View as ties
@@ -42,7 +41,7 @@ pub data Given : Type 0 where
 -- .. as `clear` and `push` take it
 abbrev pub made : Given → sets.Call
 made clears = sets.empty
-made (section input pid bytes) = sets.offer input (maybe.Some pid) bytes
+made (section input pid bytes) = sets.offer input (Some pid) bytes
 
 abbrev pub OfBytes : Given → Type 0
 OfBytes i = sets.Bytes (made i)

@@ -1,9 +1,8 @@
 -- Demand 3 (Demand3.antt has its words) of what a host reads out of the lent memory: the row that a 5 tells of, its head, and its sections one after another,
 -- as `next_section` of the crate sets and `section_part` of the crate readers are proved to give them.
 -- Assumes nothing.
-use Rattle.std.specs.Prelude.{ℕ, suc, ◌≤◌, ◌≡◌, List, take}
+use Rattle.std.specs.Prelude.{ℕ, suc, ◌≤◌, ◌≡◌, List, take, Ok, false}
 use Rattle.laws.specs.Runs.{answers, store_after, At, Without}
-use Rattle.answers.specs.declared.Reply.TheVariants.{No}
 use Rattle.rules_sets.specs.Rules.{Whole}
 use Rattle.rows.specs.Rows.{key_at, version_of, last_of}
 use Rattle.reading.specs.Reading.{Reads}
@@ -29,7 +28,7 @@ pub record ReadsOut (s : Collector) (calls : Calls) (t : ℕ) (set : Whole) : Ty
   pub key : key_shown (key_at (after s calls t).heads row) ≡ set.key
   pub version : version_of (after s calls t).heads row ≡ set.version
   pub last : last_of (after s calls t).heads row ≡ set.last
-  pub sections : Reads (next_of (after s calls t) row) (after s calls t).cells 0 set.sections No
+  pub sections : Reads (next_of (after s calls t) row) (after s calls t).cells 0 set.sections (Ok false)
 
 -- ".. has, since the last clear, been" read "out of the larger at that section or an earlier one, byte for byte"
 pub record ReadOutSinceTheLastClear (s : Collector) (calls : Calls) (t : ℕ) (set : Whole) : Type 0 where

@@ -4,14 +4,14 @@ use mathlib.Core.Path.{◌≡◌, refl, ◌∙◌}
 use mathlib.Core.List.{List, [], ◌∷◌}
 use Prim.Native.Nat.{ℕ}
 use Rattle.laws.specs.Runs.{store_after}
-use Rattle.section.specs.declared.ids.MaybePid.{MaybePid}
+use Rattle.std.specs.Prelude.{Option}
 use Rattle.arrivals.specs.declared.Arrival.{Arrival}
 use Rattle.eit_state.specs.State.{Store}
 use Rattle.promises_dead.specs.Dead.{Reaches, BelowItsKind, FullAndEmpty}
 use Rattle.promises_dead.proofs.Dead.{never_below, never_empty_anywhere, limit_stays_push, limit_stays_drop, limit_stays_clear}
 use Rattle.ties_eit.specs.View.{Given, clears, drops, section, acts}
 
-module _ (s : Store) (calls : List Given) (input : ℕ) (pid : MaybePid) (bytes : List ℕ) (a : Arrival) where
+module _ (s : Store) (calls : List Given) (input : ℕ) (pid : Option ℕ) (bytes : List ℕ) (a : Arrival) where
   pub never_below_ever : Reaches (store_after acts s calls) input pid bytes a → BelowItsKind a → ⊥
   never_below_ever = never_below (store_after acts s calls) input pid bytes a
 

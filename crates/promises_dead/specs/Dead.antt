@@ -1,9 +1,7 @@
 -- Two branches of the EIT collector of dvb-si 12.0.1 (`push_section_with_pid`) that no section takes: what they ask, and which sections come to them.
-use Rattle.std.specs.Prelude.{ℕ, ◌≤◌, ◌<◌, ◌≡◌, List}
-use Rattle.section.specs.declared.ids.MaybePid.{MaybePid}
+use Rattle.std.specs.Prelude.{ℕ, ◌≤◌, ◌<◌, ◌≡◌, List, Option, Ok}
 use Rattle.arrivals.specs.Arrivals.{eit_arrival}
 use Rattle.arrivals.specs.declared.Arrival.{Arrival}
-use Rattle.arrivals.specs.declared.EitArrival.TheVariants as arrival
 use Rattle.units.specs.Units.{first_table}
 use Rattle.eit_state.specs.State.{Store}
 use Rattle.eit_plan.specs.declared.Plan.{Plan}
@@ -18,8 +16,8 @@ GoesOnWith a (plan.Repeat x) = x.arrival ≡ a
 GoesOnWith a (plan.Keep k) = k.arrival ≡ a
 
 -- the section is not refused, and a is what it says
-pub record Reaches (s : Store) (input : ℕ) (pid : MaybePid) (bytes : List ℕ) (a : Arrival) : Type 0 where
-  pub says : eit_arrival input pid bytes ≡ arrival.Arrived a
+pub record Reaches (s : Store) (input : ℕ) (pid : Option ℕ) (bytes : List ℕ) (a : Arrival) : Type 0 where
+  pub says : eit_arrival input pid bytes ≡ Ok a
   pub goes_on_lem : GoesOnWith a (plan_of s bytes a)
 
 -- the first branch: a table_id of a schedule below the first of its kind

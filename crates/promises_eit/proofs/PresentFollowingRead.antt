@@ -8,19 +8,18 @@ use mathlib.Core.List.{List, [], ◌∷◌}
 use mathlib.Core.Bool.{Bool, true, false, cond}
 use Rattle.laws.proofs.Tests.{none≢some}
 use Rattle.laws.specs.Runs.{answers, store_after, At}
-use Rattle.answers.specs.declared.Reply.TheVariants.{No}
 use Rattle.rules_eit.specs.Rules as rules
 use Rattle.rules_eit.specs.Rules.{Whole, Answer, handout}
 use Rattle.rows.specs.Rows.{key_at, version_of, last_of}
 use Rattle.reading.specs.Reading.{Reads}
 use Rattle.reading.proofs.Reading.{one_reading}
 use Rattle.answers.specs.declared.Refusal.TheVariants.{NotWhole, NoPid}
-use Rattle.section.specs.declared.ids.MaybePid.TheVariants as maybe
+use Rattle.std.specs.Prelude.{Some, Result, Ok, Err}
 use Rattle.eit_state.specs.State.{Store, store, whole_of}
 use Rattle.eit_pids.specs.Rows.{any_without}
 use Rattle.eit_drop.specs.declared.Filter.{Filter}
-use Rattle.eit_drop.specs.declared.Drop.{Drop}
-use Rattle.eit_drop.specs.declared.Drop.TheVariants as drop
+use Rattle.filter.specs.declared.Fields.{Fields}
+use Rattle.answers.specs.declared.Refusal.{Refusal}
 use Rattle.eit.specs.Store.{SetOut, set_out_lem, Told, done, nothing, a_set, a_schedule, refused, after as leaves, cleared_of, carried_drop, dropped_of, next_of}
 use Rattle.eit_state.specs.State.{empty_eit}
 use Rattle.eit_admit.specs.Admitting.{drop_of}
@@ -50,16 +49,16 @@ drop_none : (s : Store) (f : Filter) (h : SetOut) → (dropped_of s f).told ≡ 
 unfolding dropped_of
 drop_none s f h e = go (drop_of s f) e
   where
-    go : (d : Drop) → (carried_drop s d).told ≡ a_set h → ⊥
-    go (drop.Refuse r) q = let z : ◌≡◌ {A = ℕ} 0 1 = cc in omega arith
-    go (drop.Matching g) q = let z : ◌≡◌ {A = ℕ} 0 1 = cc in omega arith
+    go : (d : Result Fields Refusal) → (carried_drop s d).told ≡ a_set h → ⊥
+    go (Err r) q = let z : ◌≡◌ {A = ℕ} 0 1 = cc in omega arith
+    go (Ok g) q = let z : ◌≡◌ {A = ℕ} 0 1 = cc in omega arith
 
 -- what is told is in its row, and what is read there are its sections
 call_out : (s : Store) → Reached s → whole_of s ≡ true → (i : Given) → Fitting i → (h : SetOut) → (called s (made i)).told ≡ a_set h
-    → (h ≡ set_out_lem (called s (made i)).store h.row) × Reads (next_of (called s (made i)).store h.row) (called s (made i)).store.cells 0 h.sections No
+    → (h ≡ set_out_lem (called s (made i)).store h.row) × Reads (next_of (called s (made i)).store h.row) (called s (made i)).store.cells 0 h.sections (Ok false)
 call_out s z w clears b h e = absurd (clear_none s h e)
 call_out s z w (drops f) b h e = absurd (drop_none s f h e)
-call_out s z w (section input pid bytes) b h e = ((told_set s w input (maybe.Some pid) bytes h e).set, read_handed s z w input (maybe.Some pid) bytes b h e)
+call_out s z w (section input pid bytes) b h e = ((told_set s w input (Some pid) bytes h e).set, read_handed s z w input (Some pid) bytes b h e)
 
 -- the set as the rules have it
 abbrev shown : SetOut → Whole
@@ -95,7 +94,7 @@ read_out (i ∷ is) b s z w zero set e =
       key = ap (λ (x : SetOut). key_shown x.key) (sym o.0) ∙ ap (λ (x : Whole). x.key) q.2;
       version = ap (λ (x : SetOut). x.version) (sym o.0) ∙ ap (λ (x : Whole). x.version) q.2;
       last = ap (λ (x : SetOut). x.last) (sym o.0) ∙ ap (λ (x : Whole). x.last) q.2;
-      sections = subst (λ (l : List (List ℕ)). Reads (next_of (called s (made i)).store h.row) (called s (made i)).store.cells 0 l No) (ap (λ (x : Whole). x.sections) q.2) o.1;
+      sections = subst (λ (l : List (List ℕ)). Reads (next_of (called s (made i)).store h.row) (called s (made i)).store.cells 0 l (Ok false)) (ap (λ (x : Whole). x.sections) q.2) o.1;
     }
 read_out (i ∷ is) b s z w (suc t) set e =
     let r = read_out is (λ u j k. b (suc u) j k) (acts s i) (acts_reached s z (made i) (b 0 i refl)) (stays_whole s z w (made i) (b 0 i refl)) t set e in
@@ -113,7 +112,7 @@ handed_out (i ∷ is) b s z w zero set r =
     let k : key_shown h.key ≡ set.key = ap (λ (x : SetOut). key_shown x.key) o.0 ∙ ap (λ (n : ℕ). key_shown (key_at m.heads n)) (sym row) ∙ r.key in
     let v : h.version ≡ set.version = ap (λ (x : SetOut). x.version) o.0 ∙ ap (version_of m.heads) (sym row) ∙ r.version in
     let l : h.last ≡ set.last = ap (λ (x : SetOut). x.last) o.0 ∙ ap (last_of m.heads) (sym row) ∙ r.last in
-    let c : h.sections ≡ set.sections = (one_reading o.1 (subst (λ (n : ℕ). Reads (next_of m n) m.cells 0 set.sections No) row r.sections)).0 in
+    let c : h.sections ≡ set.sections = (one_reading o.1 (subst (λ (n : ℕ). Reads (next_of m n) m.cells 0 set.sections (Ok false)) row r.sections)).0 in
     ap some (ap answer_told p ∙ (λ j. handout (record { key = k j; version = v j; last = l j; sections = c j })))
 handed_out (i ∷ is) b s z w (suc t) set r =
     handed_out is (λ u j k. b (suc u) j k) (acts s i) (acts_reached s z (made i) (b 0 i refl)) (stays_whole s z w (made i) (b 0 i refl)) t set

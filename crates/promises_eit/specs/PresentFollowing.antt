@@ -8,14 +8,13 @@
 -- The mission's conditions are demand 3's (promises/specs/Demand3.antt). It is said of the collector over lent memory: `tells s i` is what `push`, `clear` and `drop` of the crate eit
 -- are proved to answer to call i where their memory is s, `acts s i` is the memory that they are proved to leave, and `Opened s` says that s is as `open` is proved to leave it.
 -- Assumes nothing.
-use Rattle.std.specs.Prelude.{ℕ, ◌*◌, ◌/◌, ◌≤◌, ◌≡◌, ◌⊎◌, List}
+use Rattle.std.specs.Prelude.{ℕ, ◌*◌, ◌/◌, ◌≤◌, ◌≡◌, ◌⊎◌, List, Some}
 use Rattle.laws.specs.Runs.{answers, At, Never, GivenBy}
 use Rattle.eit_section.specs.Segment.{segment_end}
 use Rattle.answers.specs.declared.Refusal.{Refusal}
 use Rattle.answers.specs.declared.Refusal.TheVariants as refusal
 use Rattle.rules_shared.specs.Same.{Bytes}
 use Rattle.rules_eit.specs.Rules.{Section, Call, offer, Whole, Answer, refused, handout}
-use Rattle.section.specs.declared.ids.MaybePid.TheVariants as maybe
 use Rattle.eit_state.specs.State.{Store}
 use Rattle.eit_drop.specs.declared.Filter.{Filter}
 use Rattle.ties_eit.specs.View as ties
@@ -47,7 +46,7 @@ pub data Given : Type 0 where
 abbrev pub made : Given → ties.Given
 made clears = ties.clears
 made (drops f) = ties.drops f
-made (section input pid bytes) = ties.section input (maybe.Some pid) bytes
+made (section input pid bytes) = ties.section input (Some pid) bytes
 
 abbrev pub Fitting : Given → Type 0
 Fitting i = ties.Fitting (made i)

@@ -1,7 +1,7 @@
 -- One law for each way out of the step of a reader, and what its move comes to.
 -- Assumes nothing.
 use mathlib.Core.Path.{◌≡◌, refl, sym, ap, ◌∙◌}
-use mathlib.Core.Bool.{Bool, true, false, cond}
+use mathlib.Core.Bool.{Bool, true, false, cond, true≢false}
 use mathlib.Core.List.{List, []}
 use Prim.Native.Nat.{ℕ, ◌+◌, ◌-◌, ◌≤◌, ◌<◌}
 use native.Mathlib.Omega.{arith}
@@ -11,8 +11,10 @@ use mir.Syntax.{w64}
 use lib.Dec.{ltb, eqb}
 use lib.ListN.{length}
 use denote.Ref.{Bor}
-use Rattle.answers.specs.Answers.{reply_no}
-use Rattle.answers.specs.declared.Reply.{Reply}
+use Rattle.std.specs.Prelude.{Ok, Err}
+use Rattle.answers.specs.Answers.{refusal_no, reply_no}
+use Rattle.answers.specs.declared.Refusal.{Refusal}
+use Rattle.answers.proofs.Laws.{refused_from_10}
 use Rattle.cells.specs.Cells.{cell_number, kept_length, next_filled, part_of}
 use Rattle.readers.specs.declared.Next.{Next}
 use Rattle.readers.specs.declared.Step.{Step}
@@ -20,28 +22,34 @@ use Rattle.readers.specs.declared.SetReader.{SetReader}
 use Rattle.readers.specs.Next.{no_section, slot_told}
 use Rattle.readers.specs.Reader.{no_step, step_of, Held, held, begun, stepped, moved_on}
 
+refused_not_8 : (r : Refusal) → eqb (refusal_no r) 8 ≡ false
+refused_not_8 r = ne_eqb (refusal_no r) 8 (λ (e : refusal_no r ≡ 8). true≢false (sym (ap (λ (n : ℕ). ltb n 10) e) ∙ refused_from_10 r))
+
 module _ (slots : List ℕ) (size from : ℕ) where
   pub step_large : (x : Step) → 4096 < size → x ≡ no_step from → x ≡ step_of size slots from
   unfolding step_of
   step_large x h e = rw (lt-leb size 4096 h) e
 
-  pub step_there : (q : Next) (a : Reply) (n : ℕ) → size ≤ 4096 → q ≡ slot_told size slots (next_filled slots from) → a ≡ q.answer → n ≡ reply_no a → n ≡ 8
+  pub step_there : (q : Next) (b : Bool) → size ≤ 4096 → q ≡ slot_told size slots (next_filled slots from) → q.answer ≡ Ok b → b ≡ true
       → ◌≡◌ {A = Step} (record { start = q.start; length = q.length; next = q.number + 1 }) (step_of size slots from)
   unfolding step_of
-  step_there q a n h e f g k = let y : eqb (reply_no q.answer) 8 ≡ true = eq-eqb (reply_no q.answer) 8 (ap reply_no (sym f) ∙ sym g ∙ k) in rw (le-leb size 4096 h, ← e, y) refl
+  step_there q b h e f g = let y : eqb (reply_no q.answer) 8 ≡ true = rw (f, g) refl in rw (le-leb size 4096 h, ← e, y) refl
 
-  pub step_none : (q : Next) (a : Reply) (n : ℕ) (x : Step) → size ≤ 4096 → q ≡ slot_told size slots (next_filled slots from) → a ≡ q.answer → n ≡ reply_no a → (n ≡ 8 → ⊥) → x ≡ no_step from
-      → x ≡ step_of size slots from
+  pub step_none : (q : Next) (b : Bool) (x : Step) → size ≤ 4096 → q ≡ slot_told size slots (next_filled slots from) → q.answer ≡ Ok b → b ≡ false → x ≡ no_step from → x ≡ step_of size slots from
   unfolding step_of
-  step_none q a n x h e f g k m = let y : eqb (reply_no q.answer) 8 ≡ false = ne_eqb (reply_no q.answer) 8 (λ z. k (g ∙ ap reply_no f ∙ z)) in rw (le-leb size 4096 h, ← e, y) m
+  step_none q b x h e f g m = let y : eqb (reply_no q.answer) 8 ≡ false = rw (f, g) refl in rw (le-leb size 4096 h, ← e, y) m
+
+  pub step_refused : (q : Next) (r : Refusal) (x : Step) → size ≤ 4096 → q ≡ slot_told size slots (next_filled slots from) → q.answer ≡ Err r → x ≡ no_step from → x ≡ step_of size slots from
+  unfolding step_of
+  step_refused q r x h e f m = let y : eqb (reply_no q.answer) 8 ≡ false = rw f (refused_not_8 r) in rw (le-leb size 4096 h, ← e, y) m
 
   -- the slot behind a section is at most the number of slots
-  pub behind_fits : (q : Next) (a : Reply) (n : ℕ) → q ≡ slot_told size slots (next_filled slots from) → a ≡ q.answer → n ≡ reply_no a → n ≡ 8 → length slots < 18446744073709551616 → Fits w64 (q.number + 1)
+  pub behind_fits : (q : Next) (b : Bool) → q ≡ slot_told size slots (next_filled slots from) → q.answer ≡ Ok b → b ≡ true → length slots < 18446744073709551616 → Fits w64 (q.number + 1)
   unfolding slot_told
-  behind_fits q a n e f g k l = go (ltb (next_filled slots from) (length slots)) refl
+  behind_fits q b e f g l = go (ltb (next_filled slots from) (length slots)) refl
     where
       eight : reply_no q.answer ≡ 8
-      eight = ap reply_no (sym f) ∙ sym g ∙ k
+      eight = ap reply_no f ∙ ap (λ (x : Bool). reply_no (Ok x)) g
 
       go : (b : Bool) → ltb (next_filled slots from) (length slots) ≡ b → Fits w64 (q.number + 1)
       go true h =

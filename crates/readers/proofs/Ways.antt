@@ -11,7 +11,7 @@ use mir.Syntax.{w64}
 use lib.Dec.{lit<}
 use lib.ListN.{length, get_or}
 use Rattle.laws.specs.Lists.{first_from}
-use Rattle.answers.specs.declared.Reply.TheVariants.{Yes, No}
+use Rattle.std.specs.Prelude.{Ok, true, false}
 use Rattle.cells.specs.Cells.{kept_length, cell_number, next_filled}
 use Rattle.readers.specs.declared.Next.{Next}
 use Rattle.readers.specs.Next.{no_section, slot_told}
@@ -25,11 +25,11 @@ product_fits a b h k = record { fits = lt_of_le_of_lt (product a b 65535 4096 h 
 
 module _ (slots : List ℕ) (size j : ℕ) where
   pub told_yes : (n c : ℕ) → j < length slots → n ≡ kept_length (get_or slots j 0) → c ≡ cell_number (get_or slots j 0)
-      → ◌≡◌ {A = Next} (record { answer = Yes; number = j; start = c * size; length = n }) (slot_told size slots j)
+      → ◌≡◌ {A = Next} (record { answer = Ok true; number = j; start = c * size; length = n }) (slot_told size slots j)
   unfolding slot_told
   told_yes n c h e f = rw (lt-ltb j (length slots) h, e, f)
 
-  pub told_no_lem : (q : Next) → length slots ≤ j → q ≡ no_section No → q ≡ slot_told size slots j
+  pub told_no_lem : (q : Next) → length slots ≤ j → q ≡ no_section (Ok false) → q ≡ slot_told size slots j
   unfolding slot_told
   told_no_lem q h e = rw (le-ltb j (length slots) h) e
 
@@ -41,5 +41,5 @@ past : (slots : List ℕ) (from : ℕ) → length slots ≤ from → next_filled
 unfolding first_from
 past slots from h = let z : length slots - from ≡ 0 = omega arith in rw z
 
-pub slot_past : (slots : List ℕ) (size from : ℕ) (q : Next) → length slots ≤ from → q ≡ no_section No → q ≡ slot_told size slots (next_filled slots from)
+pub slot_past : (slots : List ℕ) (size from : ℕ) (q : Next) → length slots ≤ from → q ≡ no_section (Ok false) → q ≡ slot_told size slots (next_filled slots from)
 slot_past slots size from q h e = rw (past slots from h) (told_no_lem slots size from q h e)

@@ -1,8 +1,7 @@
 -- The sections of a row, one after another (docs/RULES.md, "Collectors").
 -- `cond test a b` is a where the test is true, else b.
-use Rattle.std.specs.Prelude.{ℕ, ◌*◌, List, [], ◌∷◌, cond, length, get_or, ltb}
-use Rattle.answers.specs.declared.Reply.{Reply}
-use Rattle.answers.specs.declared.Reply.TheVariants.{Yes, No}
+use Rattle.std.specs.Prelude.{ℕ, ◌*◌, List, [], ◌∷◌, cond, length, get_or, ltb, Ok, true, false}
+use Rattle.answers.specs.Answers.{Reply}
 use Rattle.cells.specs.Cells.{cell_number, kept_length, filled}
 use Rattle.readers.specs.declared.Next.{Next}
 
@@ -19,5 +18,5 @@ no_section a = record { answer = a; number = 0; start = 0; length = 0 }
 unfoldable pub slot_told : ℕ → List ℕ → ℕ → Next
 slot_told size slots j =
     cond (ltb j (length slots))
-    (record { answer = Yes; number = j; start = cell_number (get_or slots j 0) * size; length = kept_length (get_or slots j 0) })
-    (no_section No)
+    (record { answer = Ok true; number = j; start = cell_number (get_or slots j 0) * size; length = kept_length (get_or slots j 0) })
+    (no_section (Ok false))

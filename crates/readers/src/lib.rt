@@ -37,13 +37,13 @@ fn told(slots: &[u32], size: usize, j: usize) -> Next
     if j < slots.len() {
         let w = slots[j];
         return Next {
-            answer: Reply::Yes,
+            answer: Ok(true),
             number: j,
             start: cells::cell_number(w) * size,
             length: cells::kept_length(w),
         };
     }
-    no_section(Reply::No)
+    no_section(Ok(false))
 }
 
 // The first filled slot at or after `from`.
@@ -54,7 +54,7 @@ pub fn next_slot(slots: &[u32], size: usize, from: usize) -> Next
     if from < slots.len() {
         return told(slots, size, cells::next_filled(slots, from));
     }
-    no_section(Reply::No)
+    no_section(Ok(false))
 }
 
 // The bytes of a section, by what a question told of it: exactly the kept ones, or an empty part where the cells have not that many.
@@ -90,16 +90,15 @@ pub fn step_from(row: &[u32], size: usize, from: usize) -> Step
         return no_step(from);
     }
     let found = next_slot(row, size, from);
-    let answer = found.answer;
-    if answer.number() == 8 {
-        let next = found.number + 1;
-        return Step {
+    match found.answer {
+        Ok(true) => Step {
             start: found.start,
             length: found.length,
-            next,
-        };
+            next: found.number + 1,
+        },
+        Ok(false) => no_step(from),
+        Err(_) => no_step(from),
     }
-    no_step(from)
 }
 
 // A reader over a complete set: the lent cells, the slot to look at next, and the section that it handed out last, which is a part of the cells and

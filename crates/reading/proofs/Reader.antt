@@ -14,9 +14,8 @@ use borrow.Author.Tests.{ltb-true, le-leb, ne_eqb}
 use Rattle.laws.specs.Lists.{first_from}
 use Rattle.laws.proofs.Search.{every_get, first_passes, first_from_lem}
 use Rattle.placing.proofs.Fits.{slot_bounds}
-use Rattle.answers.specs.Answers.{reply_no}
-use Rattle.answers.specs.declared.Reply.{Reply}
-use Rattle.answers.specs.declared.Reply.TheVariants.{Yes, No, Refused}
+use Rattle.answers.specs.Answers.{reply_no, Reply}
+use Rattle.std.specs.Prelude.{Ok}
 use Rattle.cells.specs.Cells.{kept_length, cell_number, filled, next_filled, slot_whole, all_whole, kept, part_of}
 use Rattle.readers.specs.Next.{slot_told}
 use Rattle.readers.specs.Reader.{Held, no_step, step_of, stepped, moved_on}
@@ -35,12 +34,12 @@ one_handing {size = size} {slots = slots} {h = h} (hands n r) (hands m s) = ap (
 
 module _ (size : ℕ) (slots : List ℕ) (small : size ≤ 4096) where
   -- a step, by what a question is answered
-  step_yes : (from : ℕ) → (asks size slots from).answer ≡ Yes
+  step_yes : (from : ℕ) → (asks size slots from).answer ≡ Ok true
       → step_of size slots from ≡ record { start = (asks size slots from).start; length = (asks size slots from).length; next = (asks size slots from).number + 1 }
   unfolding step_of
   step_yes from e = rw (le-leb size 4096 small, e) refl
 
-  step_no : (from : ℕ) → (asks size slots from).answer ≢ Yes → step_of size slots from ≡ no_step from
+  step_no : (from : ℕ) → (asks size slots from).answer ≢ (Ok true) → step_of size slots from ≡ no_step from
   unfolding step_of slot_told
   step_no from n = go (ltb (next_filled slots from) (length slots)) refl
     where
@@ -60,7 +59,7 @@ module _ (size : ℕ) (slots : List ℕ) (small : size ≤ 4096) where
         true≢false (sym f ∙ ap (λ (k : ℕ). not (eqb k 0)) z)
 
     -- so has a section that is told of
-    has_bytes : (from : ℕ) → (asks size slots from).answer ≡ Yes → part_of cells (asks size slots from).start (asks size slots from).length ≢ []
+    has_bytes : (from : ℕ) → (asks size slots from).answer ≡ Ok true → part_of cells (asks size slots from).start (asks size slots from).length ≢ []
     unfolding slot_told
     has_bytes from e = go (ltb (next_filled slots from) (length slots)) refl
       where
@@ -71,7 +70,7 @@ module _ (size : ℕ) (slots : List ℕ) (small : size ≤ 4096) where
             let f = first_passes (λ (j : ℕ). filled (get_or slots j 0)) (length slots - from) from (omega (arith, l, low)) in
             let w = every_get (slot_whole count size) slots 0 (next_filled slots from) whole l in
             rw h (keeps_bytes (get_or slots (next_filled slots from) 0) w f)
-        go false h = let z : No ≡ Yes = sym (rw h refl) ∙ e in absurd (no≢yes z)
+        go false h = let z : ◌≡◌ {A = Reply} (Ok false) (Ok true) = sym (rw h refl) ∙ e in absurd (no≢yes z)
 
     -- what is read by asking from a slot on, a reader at that slot hands out
     pub reader_hands : {from : ℕ} {parts : List (List ℕ)} {last : Reply} (before : List ℕ) → Reads (asks size slots) cells from parts last

@@ -15,8 +15,8 @@ use Rattle.laws.specs.Lists.{every, first_from}
 use Rattle.laws.proofs.Tests.{and_true}
 use Rattle.laws.proofs.Search.{every_get}
 use Rattle.placing.proofs.Fits.{slot_bounds}
-use Rattle.answers.specs.declared.Reply.{Reply}
-use Rattle.answers.specs.declared.Reply.TheVariants.{Yes, No}
+use Rattle.answers.specs.Answers.{Reply}
+use Rattle.std.specs.Prelude.{Ok}
 use Rattle.cells.specs.Cells.{kept_length, cell_number, filled, slot_whole, all_whole, all_filled, kept, part_of}
 use Rattle.readers.specs.Next.{filled_slots, slot_told, no_section}
 use Rattle.readers.specs.declared.Next.{Next}
@@ -31,11 +31,11 @@ one_reading {ask = ask} {cells = cells} {from = from} (goes_on e r) (goes_on f s
     let t = one_reading r s in
     (ap (λ (l : List (List ℕ)). part_of cells (ask from).start (ask from).length ∷ l) t.0, t.1)
 
-pub no≢yes : No ≢ Yes
+pub no≢yes : ◌≢◌ {A = Reply} (Ok false) (Ok true)
 no≢yes e = let z : ◌≡◌ {A = ℕ} 0 1 = cc in omega arith
 
 -- where there is none, nothing is read
-pub reads_none : (ask : ℕ → Next) (cells : List ℕ) (from : ℕ) → ask from ≡ no_section No → Reads ask cells from [] No
+pub reads_none : (ask : ℕ → Next) (cells : List ℕ) (from : ℕ) → ask from ≡ no_section (Ok false) → Reads ask cells from [] (Ok false)
 reads_none ask cells from q = subst (λ (x : Next). Reads ask cells from [] x.answer) q (ends (λ y. no≢yes (sym (ap (λ (x : Next). x.answer) q) ∙ y)))
 
 -- a question that is answered alike is read alike
@@ -58,9 +58,9 @@ part_kept count size w cells h f l =
 module _ (count size : ℕ) (cells slots : List ℕ) (whole : all_whole count size slots ≡ true) (room : count * size ≤ length cells) where
   -- slot j, as a question tells of it
   abbrev told : ℕ → Next
-  told j = record { answer = Yes; number = j; start = cell_number (get_or slots j 0) * size; length = kept_length (get_or slots j 0) }
+  told j = record { answer = Ok true; number = j; start = cell_number (get_or slots j 0) * size; length = kept_length (get_or slots j 0) }
 
-  none_left : (from : ℕ) → from ≡ length slots → asks size slots from ≡ no_section No
+  none_left : (from : ℕ) → from ≡ length slots → asks size slots from ≡ no_section (Ok false)
   unfolding slot_told first_from
   none_left from e =
       let z : length slots - from ≡ 0 = omega (arith, e) in
@@ -79,10 +79,10 @@ module _ (count size : ℕ) (cells slots : List ℕ) (whole : all_whole count si
       let y : length slots - suc from ≡ n = omega (arith, e) in
       rw (z, y, f) refl
 
-  reads_from : (n from : ℕ) → n + from ≡ length slots → Reads (asks size slots) cells from (map (kept cells size) (filled_slots (drop from slots))) No
+  reads_from : (n from : ℕ) → n + from ≡ length slots → Reads (asks size slots) cells from (map (kept cells size) (filled_slots (drop from slots))) (Ok false)
   unfolding filled_slots
   reads_from zero from e =
-      let q : asks size slots from ≡ no_section No = none_left from (omega (arith, e)) in
+      let q : asks size slots from ≡ no_section (Ok false) = none_left from (omega (arith, e)) in
       let l : length slots ≤ from = omega (arith, e) in
       rw (drop_of_length-le slots l)
       (reads_none (asks size slots) cells from q)
@@ -91,21 +91,21 @@ module _ (count size : ℕ) (cells slots : List ℕ) (whole : all_whole count si
       w : ℕ
       w = get_or slots from 0
 
-      go : (b : Bool) → filled (get_or slots from 0) ≡ b → Reads (asks size slots) cells (suc from) (map (kept cells size) (filled_slots (drop (suc from) slots))) No
-          → Reads (asks size slots) cells from (map (kept cells size) (cond b (get_or slots from 0 ∷ filled_slots (drop (suc from) slots)) (filled_slots (drop (suc from) slots)))) No
+      go : (b : Bool) → filled (get_or slots from 0) ≡ b → Reads (asks size slots) cells (suc from) (map (kept cells size) (filled_slots (drop (suc from) slots))) (Ok false)
+          → Reads (asks size slots) cells from (map (kept cells size) (cond b (get_or slots from 0 ∷ filled_slots (drop (suc from) slots)) (filled_slots (drop (suc from) slots)))) (Ok false)
       go true f r =
           let q : asks size slots from ≡ told from = is_there n from e f in
           let p : part_of cells (asks size slots from).start (asks size slots from).length ≡ kept cells size (get_or slots from 0) =
           ap (λ (x : Next). part_of cells x.start x.length) q
           ∙ part_kept count size (get_or slots from 0) cells (every_get (slot_whole count size) slots 0 from whole (omega (arith, e))) f room in
           let s : suc from ≡ (asks size slots from).number + 1 = (let i : from ≡ (asks size slots from).number = sym (ap (λ (x : Next). x.number) q) in omega (arith, i)) in
-          subst (λ (l : List ℕ). Reads (asks size slots) cells from (l ∷ map (kept cells size) (filled_slots (drop (suc from) slots))) No) p
+          subst (λ (l : List ℕ). Reads (asks size slots) cells from (l ∷ map (kept cells size) (filled_slots (drop (suc from) slots))) (Ok false)) p
           (goes_on (ap (λ (x : Next). x.answer) q)
-          (subst (λ (k : ℕ). Reads (asks size slots) cells k (map (kept cells size) (filled_slots (drop (suc from) slots))) No) s r))
-      go false f r = alike (asks size slots) cells from (suc from) (map (kept cells size) (filled_slots (drop (suc from) slots))) No (is_empty n from e f) r
+          (subst (λ (k : ℕ). Reads (asks size slots) cells k (map (kept cells size) (filled_slots (drop (suc from) slots))) (Ok false)) s r))
+      go false f r = alike (asks size slots) cells from (suc from) (map (kept cells size) (filled_slots (drop (suc from) slots))) (Ok false) (is_empty n from e f) r
 
   -- from the first slot on
-  pub reads_all : Reads (asks size slots) cells 0 (map (kept cells size) (filled_slots slots)) No
+  pub reads_all : Reads (asks size slots) cells 0 (map (kept cells size) (filled_slots slots)) (Ok false)
   reads_all = reads_from (length slots) 0 (omega arith)
 
 -- where every slot is filled, every slot is read

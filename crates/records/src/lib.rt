@@ -4,9 +4,10 @@
 ghost use Rattle.std.specs.Prelude.{◌≡◌, ◌≤◌, IfOk, length};
 ghost use Rattle.records.specs.Next.{Within};
 
+use program_input::read_full;
 use section::bytes::wide;
 use std::io;
-use std::io::{ErrorKind, Read};
+use std::io::Read;
 
 // The bytes of the longest record: a PID, and a section of 3 + 4,095 bytes.
 pub const LONGEST: usize = 4100;
@@ -17,29 +18,6 @@ pub enum Next {
     Record(usize),
     End,
     Cut,
-}
-
-// Reads until buf is full or the input ends, and answers how many bytes came. A proved loop has to end, and nothing says that the input does: the turns are
-// counted, up to a number that no run uses up.
-fn read_full(stdin: &mut impl Read, buf: &mut [u8]) -> io::Result<usize>
-    ensures { IfOk result (λ n. n ≤ length buf.old) }
-{
-    let mut done = 0;
-    for _ in 0..u64::MAX {
-        if done >= buf.len() {
-            break;
-        }
-        match stdin.read(&mut buf[done..]) {
-            Ok(0) => break,
-            Ok(n) => done += n,
-            Err(e) => {
-                if e.kind() != ErrorKind::Interrupted {
-                    return Err(e);
-                }
-            }
-        }
-    }
-    Ok(done)
 }
 
 // Reads one record to the start of buf: the PID, the three bytes that end in section_length, and as many more as that says.
@@ -62,18 +40,11 @@ pub fn read_record(stdin: &mut impl Read, buf: &mut [u8]) -> io::Result<Next>
     Ok(Next::Record(5 + n))
 }
 
-// What reading an input found: the number that stands there, or the end of standard input.
-#[derive(Clone, Copy)]
-pub enum InputRead {
-    One(u8),
-    End,
-}
-
-// Reads the byte that records with an input begin with.
-pub fn read_input(stdin: &mut impl Read) -> io::Result<InputRead> {
+// Reads the byte that records with an input begin with; `None` at the end of standard input.
+pub fn read_input(stdin: &mut impl Read) -> io::Result<Option<u8>> {
     let mut byte = [0u8; 1];
     if read_full(stdin, &mut byte)? == 0 {
-        return Ok(InputRead::End);
+        return Ok(None);
     }
-    Ok(InputRead::One(byte[0]))
+    Ok(Some(byte[0]))
 }

@@ -36,7 +36,7 @@ module _ (keys : List ℕ) (used key whole : ℕ) (fits : used ≤ length keys) 
     row_more_to : (j : ℕ) → j ≡ i + 1 → i < used → (get_or keys i 0 ≡ key → ⊥) → whole ≡ j + row_of (drop j (take used keys)) key
     row_more_to j e h ne = rw e (row_more h ne)
 
-    pub row_none : used ≤ i → i ≤ used → i ≡ whole
+    pub row_none : used ≤ i → i ≤ used → used ≡ whole
     row_none h g =
         let n : length (take used keys) ≡ used = length-take-le used keys fits in
         let z : row_of (drop i (take used keys)) key ≡ 0 = rw (drop_of_length-le (take used keys) {i = i} (omega arith)) in

@@ -75,17 +75,16 @@ fn find_from(keys: &[u64], used: usize, key: u64, from: usize) -> usize
     requires { (used ≤ length keys.now) × (from ≤ used) }
     ensures { result ≡ from + row_of (drop from (take used keys.now)) key }
 {
-    let mut i = from;
-    while i < used {
+    for i in from..used {
         if keys[i] == key {
             return i;
         }
-        i += 1;
     }
-    i
+    used
 }
 
 // The first of the rows in use that has the key, or used where none has it. Four rows a turn: half of a turn's work is to ask whether there are more.
+// Over turns counted by a `for` the same search takes a fourth more time.
 fn find(keys: &[u64], used: usize, key: u64) -> usize
     requires { used ≤ length keys.now }
     ensures { result ≡ row_of (take used keys.now) key }

@@ -2,9 +2,13 @@
 -- Assumes nothing.
 use Prim.Native.Nat.{ℕ, zero, suc, ◌+◌, ◌-◌, ◌<◌, ◌≤◌}
 use mathlib.Core.Path.{◌≡◌, refl, sym, ap, ◌∙◌}
-use mathlib.Core.List.{List}
-use mathlib.Core.Bool.{Bool, true, false, cond, ◌||◌}
-use lib.ListN.{length, get_or, set}
+use mathlib.Core.List.{List, [], ◌∷◌, ◌++◌, append_assoc}
+use mathlib.Core.Bool.{true, false, cond}
+use native.Mathlib.Nat.{zero-add}
+use native.Mathlib.Numerals.{add-one}
+use lib.ListN.{length, get_or, set, drop, replicate, length-set}
+use lib.Seq.{paste}
+use Rattle.std.proofs.lemmas.List.{drop-set, replicate_more, take-replicate}
 use lib.Dec.{ltb, eqb}
 use native.Mathlib.Omega.{arith}
 use borrow.Author.Tests.{ltb-false, eqb-false, eq-eqb, ne_eqb, lt-ltb, le-ltb}
@@ -25,33 +29,39 @@ names used at e =
     let q : at ≡ 0 → ⊥ = eqb-false at 0 p.0 in
     record { some = omega arith; within = ltb-false used at p.1 }
 
-module _ (words links : List ℕ) (used value whole left at : ℕ) (more : 0 < left) (inv : whole ≡ walk_of words links used value left at) where
-  turn : (n : ℕ) → left ≡ n → 0 < n →
-      whole ≡ cond (ends used at) used (cond (eqb (get_or words (at - 1) 0) value) (at - 1) (walk_of words links used value (n - 1) (get_or links (at - 1) 0)))
+-- a walk of at most `room` steps, of which `n` were taken
+module _ (words links : List ℕ) (used value whole room n at : ℕ) (more : n < room) (inv : whole ≡ walk_of words links used value (room - n) at) where
+  turn : (left : ℕ) → room - n ≡ left → 0 < left →
+      whole ≡ cond (ends used at) used (cond (eqb (get_or words (at - 1) 0) value) (at - 1) (walk_of words links used value (left - 1) (get_or links (at - 1) 0)))
   turn zero e h = absurd (omega arith)
-  turn (suc n) e h = let q : suc n - 1 ≡ n = omega arith in rw q (rw e at inv)
+  turn (suc left) e h = let q : suc left - 1 ≡ left = omega arith in rw q (rw e at inv)
 
   pub walk_end : ends used at ≡ true → used ≡ whole
-  walk_end e = rw e at (sym (turn left refl more))
+  walk_end e = rw e at (sym (turn (room - n) refl (omega arith)))
 
   module _ (e : ends used at ≡ false) where
     pub walk_found : get_or words (at - 1) 0 ≡ value → at - 1 ≡ whole
-    walk_found h = rw (e, eq-eqb _ _ h) at (sym (turn left refl more))
+    walk_found h = rw (e, eq-eqb _ _ h) at (sym (turn (room - n) refl (omega arith)))
 
-    pub walk_more : (get_or words (at - 1) 0 ≡ value → ⊥) → whole ≡ walk_of words links used value (left - 1) (get_or links (at - 1) 0)
-    walk_more h = rw (e, ne_eqb _ _ h) at (turn left refl more)
+    pub walk_more : (get_or words (at - 1) 0 ≡ value → ⊥) → whole ≡ walk_of words links used value (room - (n + 1)) (get_or links (at - 1) 0)
+    walk_more h =
+        let q : room - n - 1 ≡ room - (n + 1) = omega arith in
+        rw (e, ne_eqb _ _ h, q) at (turn (room - n) refl (omega arith))
 
-pub walk_none : (words links : List ℕ) (used value whole left at : ℕ) → left ≤ 0 → whole ≡ walk_of words links used value left at → used ≡ whole
-walk_none words links used value whole zero at h e = sym e
-walk_none words links used value whole (suc n) at h e = absurd (omega arith)
+pub walk_none : (words links : List ℕ) (used value whole room n at : ℕ) → room ≤ n → whole ≡ walk_of words links used value (room - n) at → used ≡ whole
+walk_none words links used value whole room n at h e = let q : room - n ≡ 0 = omega arith in rw q at (sym e)
 
-pub clear_turn : (whole l : List ℕ) (n : ℕ) → 0 < n → whole ≡ cleared_by n l → whole ≡ cleared_by (n - 1) (set l (n - 1) 0)
-clear_turn whole l zero h e = absurd (omega arith)
-clear_turn whole l (suc n) h e = let q : suc n - 1 ≡ n = omega arith in rw q e
+-- zeros in the place of the first n words
+cleared_zeros : (n : ℕ) (l : List ℕ) → n ≤ length l → replicate n 0 ++ drop n l ≡ cleared_by n l
+cleared_zeros zero l h = refl
+cleared_zeros (suc n) l h =
+    let r : replicate n 0 ++ 0 ∷ [] ≡ replicate (suc n) 0 = replicate_more {X = ℕ} n 0 ∙ ap (λ (k : ℕ). replicate k 0) (add-one n) in
+    let d : 0 ∷ drop (suc n) l ≡ drop n (set l n 0) = ap (λ (k : ℕ). 0 ∷ drop k l) (sym (add-one n)) ∙ sym (drop-set {X = ℕ} l n 0 (omega arith)) in
+    ap (λ (z : List ℕ). z ++ drop (suc n) l) (sym r) ∙ append_assoc (replicate n 0) (0 ∷ []) (drop (suc n) l) ∙ ap (λ (z : List ℕ). replicate n 0 ++ z) d
+    ∙ cleared_zeros n (set l n 0) (omega (arith, length-set l n 0))
 
-pub clear_end : (whole l : List ℕ) (n : ℕ) → n ≤ 0 → whole ≡ cleared_by n l → l ≡ whole
-clear_end whole l zero h e = sym e
-clear_end whole l (suc n) h e = absurd (omega arith)
+pub cleared_part : (n : ℕ) (l : List ℕ) → n ≤ length l → paste l 0 (replicate n 0) n ≡ cleared_by n l
+cleared_part n l h = rw (take-replicate {X = ℕ} n n 0 (omega arith), zero-add n) (cleared_zeros n l h)
 
 module _ (buckets links : List ℕ) (used room home row : ℕ) where
   pub unlink_head :

@@ -1,25 +1,23 @@
 -- The ring with its index and the ring alone: from an opened store every sequence of offers tells the same and leaves the same rows.
 -- Assumes nothing.
-use Prim.Native.Nat.{ℕ, zero, suc, ◌+◌, ◌-◌, ◌%◌, ◌^◌, ◌<◌, ◌≤◌}
+use Prim.Native.Nat.{ℕ, zero, suc, ◌+◌, ◌%◌, ◌^◌, ◌<◌, ◌≤◌}
 use mathlib.Core.Path.{◌≡◌, refl, sym, ap, subst, ◌∙◌}
-use mathlib.Core.List.{List, [], ◌∷◌, ◌++◌}
-use mathlib.Core.Bool.{Bool, true, false, cond}
+use mathlib.Core.List.{List, [], ◌∷◌}
+use mathlib.Core.Bool.{Bool, true, false}
 use lib.ListN.{length, get_or, take, set, length-set}
 use lib.Seq.{length-take-le, get_or-take, get_or-set_same, get_or-set_other}
 use lib.Dec.{ltb}
 use native.Mathlib.Nat.{mod-lt}
 use native.Mathlib.Omega.{arith}
 use borrow.Author.Tests.{ltb-true, ltb-false, lt-ltb, le-ltb}
-use Rattle.ring.specs.Store.{room_of, stamp_of, row_for, is_known, has_free, ring_with, seen_of, keys_after, changes_after}
-use Rattle.ring.specs.Rules.{Row, count_key}
+use Rattle.ring.specs.Store.{room_of, stamp_of, row_for, is_known, has_free, seen_of, keys_after, changes_after}
+use Rattle.ring.specs.Rules.{Row}
 use Rattle.ring.specs.View.{Memory, memory_after, rows_of, Reached}
-use Rattle.ring.specs.Store.{empty_ring}
-use Rattle.ring.specs.declared.Ring.{Ring}
 use Rattle.ring.proofs.Rows.{count_turned}
 use Rattle.ring.proofs.Order.{step, opened_reached}
 use Rattle.ring.proofs.Places.{known_memory, more_memory, full_memory}
-use Rattle.ring_index.specs.Store.{bucket_of, Covers, Index, index_of, cleared_by, linked, unlinked, entered, found_by, is_found, seen_by, keys_by, changes_by, index_by}
-use Rattle.ring_index.specs.Runs.{Indexed, Short, none, more, told_by, told_of, indexed_after, all_told_by, all_told_of, all_left_by, all_left_of, opened_memory, opened_index}
+use Rattle.ring_index.specs.Store.{bucket_of, Covers, Index, cleared_by, linked, unlinked, entered, found_by, is_found, seen_by, keys_by, changes_by, index_by}
+use Rattle.ring_index.specs.Runs.{Indexed, Short, more, indexed_after, all_told_by, all_told_of, all_left_by, all_left_of, opened_memory, opened_index}
 use Rattle.ring_index.proofs.Chains.{All, Holds, chain, all_map, all_chain, chain_length, walk_reads, link_holds, unlink_holds, linked_buckets, linked_links, unlinked_buckets, unlinked_links}
 use Rattle.ring_index.proofs.Newest.{newest, newer, newest_used, newest_length, newest_free, newest_full, newer_lacks, newest_turned, pick_chain, pick_newest, row_within, row_key_lem, row_once}
 

@@ -1,7 +1,7 @@
 -- What the index over the ring's rows is, and what offering a key through it tells and leaves, for every ring and every content of the lent
 -- slices. Each slice is the list of its words. A word of the index is 0 or names a row: row + 1. A bucket names the first row of its chain, a
 -- link the next row of the chain. `cond test a b` is a where the test is true, else b.
-use Rattle.std.specs.Prelude.{ℕ, zero, suc, ◌+◌, ◌*◌, ◌-◌, ◌/◌, ◌%◌, ◌<◌, ◌≤◌, List, [], ◌∷◌, Bool, true, false, cond, ◌||◌, get_or, set, ltb, eqb}
+use Rattle.std.specs.Prelude.{ℕ, zero, suc, ◌+◌, ◌*◌, ◌-◌, ◌/◌, ◌%◌, ◌≤◌, List, Bool, cond, ◌||◌, get_or, set, ltb, eqb}
 use Rattle.ring.specs.Store.{room_of, has_free, free_row, renewed, arrived}
 use Rattle.ring.specs.declared.Ring.{Ring}
 use Rattle.ring.specs.declared.Seen.{Seen}

@@ -27,11 +27,7 @@ pub fn clear(buckets: &mut [u64], room: usize)
     requires { room ≤ length buckets.old }
     ensures { buckets.new ≡ cleared_by room buckets.old }
 {
-    let mut n = room;
-    while n > 0 {
-        n -= 1;
-        buckets[n] = 0;
-    }
+    buckets[0..room].fill(0);
 }
 
 // The first row of a chain whose word is the value, or used where none has it: at most `room` steps from the row that `head` names, and none
@@ -42,8 +38,7 @@ pub fn walk(words: &[u64], links: &[u64], used: usize, room: usize, head: u64, v
     ensures { result ≡ walk_of words.now links.now used value room head }
 {
     let mut at = head as usize;
-    let mut left = room;
-    while left > 0 {
+    for _ in 0..room {
         if (at == 0) | (used < at) {
             return used;
         }
@@ -52,7 +47,6 @@ pub fn walk(words: &[u64], links: &[u64], used: usize, room: usize, head: u64, v
             return row;
         }
         at = links[row] as usize;
-        left -= 1;
     }
     used
 }

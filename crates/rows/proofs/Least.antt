@@ -1,4 +1,4 @@
--- The row that `oldestOf` gives is in use, and no row in use was touched before it.
+-- The row that `oldest_of` gives is in use, and no row in use was touched before it.
 -- Assumes nothing.
 use mathlib.Core.Path.{◌≡◌, refl}
 use mathlib.Core.Logic.{◌≢◌}

@@ -1,20 +1,16 @@
 -- One law for each turn, each end and each way out of the functions on rows.
 -- Assumes nothing.
 use mathlib.Core.Path.{◌≡◌, refl, sym, ap, ◌∙◌}
-use mathlib.Core.List.{List, ◌++◌, append_assoc}
+use mathlib.Core.List.{List}
 use mathlib.Core.Bool.{Bool, true, false, cond, ◌&&◌, and_assoc, and-true, and-false}
-use Prim.Native.Nat.{ℕ, zero, suc, ◌+◌, ◌-◌, ◌*◌, ◌≤◌, ◌<◌}
-use native.Mathlib.Nat.{le_of_eq}
+use Prim.Native.Nat.{ℕ, suc, ◌+◌, ◌-◌, ◌*◌, ◌≤◌, ◌<◌}
 use native.Mathlib.Numerals.{add-one}
 use native.Mathlib.Omega.{arith}
 use borrow.Author.Tests.{lt-ltb, le-ltb, eq-eqb, ne_eqb}
 use lib.Dec.{ltb, eqb}
-use lib.ListN.{length, get_or, take, drop, set, replicate, length-drop, length-replicate}
-use lib.Seq.{paste, set-get_or, length-take-le, take_all, drop-drop}
-use Rattle.laws.proofs.Lists.{paste_end}
+use lib.ListN.{length, get_or, take, drop, set}
 use Rattle.cells.specs.Cells.{slot_whole, all_whole, all_filled, marked_all}
 use Rattle.cells.proofs.Laws.{one_slot}
-use Rattle.rows.specs.declared.Origin.{Origin}
 use Rattle.rows.specs.declared.Key.{Key}
 use Rattle.rows.specs.declared.Entry.{Entry}
 use Rattle.rows.specs.declared.Room.{Room}
@@ -25,18 +21,22 @@ before n h = omega arith
 
 -- ---- find
 
-pub origin_words_lem : (heads : List ℕ) (i a b : ℕ) → a ≡ word heads i 10 → b ≡ word heads i 0 → ◌≡◌ {A = Origin} (record { input = a; pid = b }) (origin_at heads i)
-origin_words_lem heads i a b p q = rw (p, q)
+-- the fields' equalities, as the derive groups them
+grouped : (o t e c s n : Bool) → (o && (t && (e && (c && (s && n))))) ≡ (o && t && e && c && s && n)
+grouped false t e c s n = refl
+grouped true false e c s n = refl
+grouped true true false c s n = refl
+grouped true true true false s n = refl
+grouped true true true true false n = refl
+grouped true true true true true n = refl
 
-pub key_words_lem : (heads : List ℕ) (i : ℕ) (a : Origin) (b c d e f : ℕ) → a ≡ origin_at heads i → b ≡ word heads i 1 → c ≡ word heads i 2 → d ≡ word heads i 3 → e ≡ word heads i 4 → f ≡ word heads i 5
-    → ◌≡◌ {A = Key} (record { from = a; table_id = b; extension = c; current_next = d; transport_stream_id = e; original_network_id = f }) (key_at heads i)
-key_words_lem heads i a b c d e f p q r s t u = rw (p, q, r, s, t, u)
-
-pub keys_same : (a b : Key) (o : Bool) → o ≡ same_origin a.from b.from
-    → (o && eqb a.table_id b.table_id && eqb a.extension b.extension && eqb a.current_next b.current_next && eqb a.transport_stream_id b.transport_stream_id
-    && eqb a.original_network_id b.original_network_id) ≡ same_key a b
-unfolding same_key
-keys_same a b o e = rw e
+pub keys_equal : (a b : Key) (r : Bool)
+    → r ≡ ((eqb a.from.input b.from.input && eqb a.from.pid b.from.pid) && (eqb a.table_id b.table_id && (eqb a.extension b.extension && (eqb a.current_next b.current_next
+    && (eqb a.transport_stream_id b.transport_stream_id && eqb a.original_network_id b.original_network_id))))) → r ≡ same_key a b
+unfolding same_origin same_key
+keys_equal a b r q =
+    q ∙ grouped (eqb a.from.input b.from.input && eqb a.from.pid b.from.pid) (eqb a.table_id b.table_id) (eqb a.extension b.extension) (eqb a.current_next b.current_next)
+    (eqb a.transport_stream_id b.transport_stream_id) (eqb a.original_network_id b.original_network_id)
 
 -- ---- oldest
 
@@ -78,9 +78,6 @@ key_differs heads i key w e h =
 
 -- ---- a row for a section
 
-pub words_end : (h₀ h words : List ℕ) (at k : ℕ) → h ≡ paste h₀ at words k → length words ≤ k → k ≤ length words → h ≡ paste h₀ at words (length words)
-words_end h₀ h words at k e a b = paste_end h₀ h at words k (length words) e (omega arith)
-
 pub room_added : (heads : List ℕ) (limit used evictions : ℕ) → used < limit
     → ◌≡◌ {A = Room} (record { row = used; fresh = true; used = used + 1; evictions = evictions }) (room_new heads limit used evictions)
 unfolding room_new
@@ -104,14 +101,6 @@ head_known r e h h' t q = rw t q
 pub row_part : (heads slots : List ℕ) (i w n : ℕ) → w ≡ last_of heads i → n ≡ slot_count w → take (i * 288 + 32 + n - (i * 288 + 32)) (drop (i * 288 + 32) slots) ≡ row_slots heads slots i
 unfolding row_slots
 row_part heads slots i w n e f = let s : i * 288 + 32 + n - (i * 288 + 32) ≡ n = omega arith in rw (s, f, e)
-
-pub part_emptied : (slots part : List ℕ) (at n : ℕ) → at + n ≤ length slots → part ≡ replicate (length (take (at + n - at) (drop at slots))) 0
-    → take at slots ++ (part ++ drop (at + n - at) (drop at slots)) ≡ emptied at n slots
-part_emptied slots part at n h e =
-    let s : at + n - at ≡ n = omega arith in
-    let l : length (take n (drop at slots)) ≡ n = length-take-le n (drop at slots) (rw (length-drop at slots) (omega arith)) in
-    let r : length (replicate {A = ℕ} n 0) ≤ n = le_of_eq (length-replicate n 0) in
-    rw (e, s, l, drop-drop n at slots, take_all n (replicate n 0) r) (sym (append_assoc (take at slots) (replicate n 0) (drop (at + n) slots)))
 
 pub slot_kept : (r : Room) (e : Entry) (w : ℕ) (l l' l'' : List ℕ) → l' ≡ cond r.fresh (emptied (slots_at r.row) (e.last + 1) l) l → l'' ≡ set l' (r.row * 288 + 32 + e.number) w → l'' ≡ kept_slots r e w l
 unfolding kept_slots
@@ -146,12 +135,6 @@ marked_turn heads slots gone used i m₀ m m' p e q = q ∙ ap (λ (k : ℕ). ma
 pub marked_end : (heads slots : List ℕ) (gone used i : ℕ) (m₀ m : List ℕ) → i ≤ 0 → marked_rows heads slots gone used m₀ ≡ marked_rows heads slots gone i m → m ≡ marked_rows heads slots gone used m₀
 unfolding marked_rows
 marked_end heads slots gone used i m₀ m p q = let s : i ≡ 0 = omega arith in sym (q ∙ rw s)
-
-pub where_fresh : (fresh : Bool) (l l' : List ℕ) (at n : ℕ) → fresh ≡ true → l' ≡ emptied at n l → l' ≡ cond fresh (emptied at n l) l
-where_fresh fresh l l' at n t e = rw t e
-
-pub where_not : (fresh : Bool) (l : List ℕ) (at n : ℕ) → fresh ≡ false → l ≡ cond fresh (emptied at n l) l
-where_not fresh l at n t = rw t
 
 pub full_row : (heads slots : List ℕ) (i : ℕ) (part : List ℕ) (r : Bool) → part ≡ row_slots heads slots i → r ≡ all_filled part → r ≡ all_filled (row_slots heads slots i)
 full_row heads slots i part r e q = rw (← e) q

@@ -1,6 +1,6 @@
 -- The rows of a collector: what their heads and slots say, for every content of the two lent slices.
 -- `cond test a b` is a where the test is true, else b.
-use Rattle.std.specs.Prelude.{ℕ, zero, suc, ◌+◌, ◌-◌, ◌*◌, ◌<◌, min, List, [], ◌∷◌, Bool, true, false, cond, not, ◌&&◌, ◌||◌, get_or, take, drop, set, replicate, ltb, eqb}
+use Rattle.std.specs.Prelude.{ℕ, zero, suc, ◌+◌, ◌*◌, ◌<◌, min, List, [], ◌∷◌, Bool, true, false, cond, not, ◌&&◌, ◌||◌, get_or, take, drop, set, replicate, ltb, eqb}
 use Rattle.std.proofs.Math.Seq.{paste}
 use Rattle.laws.specs.Lists.{first_from}
 use Rattle.cells.specs.Cells.{all_whole, some_names, marked_all}

@@ -10,7 +10,7 @@ ghost use Rattle.rows.specs.Rows.{room_new, gone_row, kept_heads, slots_at, slot
 ghost use Rattle.rows.specs.Rows.{word, put, origin_at, same_origin, key_at, same_key, row_of, earlier_of, oldest_of, touched, fresh_head};
 
 // Where a row's sections came from, in the words of a head.
-#[derive(Clone, Copy)]
+#[derive(Clone, Copy, PartialEq, Eq)]
 pub struct Origin {
     pub input: u64,
     pub pid: u64,
@@ -22,7 +22,7 @@ impl Origin {
 }
 
 // What tells one row from another. The set collector has 0 as transport_stream_id and original_network_id.
-#[derive(Clone, Copy)]
+#[derive(Clone, Copy, PartialEq, Eq)]
 pub struct Key {
     pub from: Origin,
     pub table_id: u64,
@@ -144,21 +144,10 @@ pub fn key_at(heads: &[u64], i: usize) -> Key
     }
 }
 
-fn same_origin(a: Origin, b: Origin) -> bool
-    ensures { result ≡ same_origin a b }
-{
-    (a.input == b.input) & (a.pid == b.pid)
-}
-
 pub fn same_key(a: Key, b: Key) -> bool
     ensures { result ≡ same_key a b }
 {
-    same_origin(a.from, b.from)
-        & (a.table_id == b.table_id)
-        & (a.extension == b.extension)
-        & (a.current_next == b.current_next)
-        & (a.transport_stream_id == b.transport_stream_id)
-        & (a.original_network_id == b.original_network_id)
+    a == b
 }
 
 // Whether row i has the key. Rows differ most often in the extension: of those that do, one word is read.
@@ -177,14 +166,12 @@ pub fn find(heads: &[u64], key: Key, used: usize) -> usize
     requires { used * 12 ≤ length heads.now }
     ensures { result ≡ row_of heads.now key used }
 {
-    let mut i = 0;
-    while i < used {
+    for i in 0..used {
         if key_is(heads, i, key) {
             return i;
         }
-        i += 1;
     }
-    i
+    used
 }
 
 // ---- the touch order
@@ -207,10 +194,8 @@ pub fn oldest(heads: &[u64], used: usize) -> usize
     ensures { result ≡ oldest_of heads.now used }
 {
     let mut best = 0;
-    let mut i = 0;
-    while i < used {
+    for i in 0..used {
         best = elder(heads, best, i);
-        i += 1;
     }
     best
 }
@@ -224,18 +209,6 @@ pub fn touch(heads: &mut [u64], i: usize, clock: u64)
 }
 
 // ---- a row for a section
-
-// The words go in at `at`.
-fn put_words(heads: &mut [u64], at: usize, words: &[u64])
-    requires { at + length words.now ≤ length heads.old }
-    ensures { heads.new ≡ paste heads.old at words.now (length words.now) }
-{
-    let mut k = 0;
-    while k < words.len() {
-        heads[at + k] = words[k];
-        k += 1;
-    }
-}
 
 // Row i begins anew with the section, with no mark; its tick is 0 until it is touched.
 pub fn fresh_head(heads: &mut [u64], i: usize, e: Entry)
@@ -258,7 +231,8 @@ pub fn fresh_head(heads: &mut [u64], i: usize, e: Entry)
         from.input,
         0,
     ];
-    put_words(heads, i * HEAD_WORDS, &words);
+    let at = i * HEAD_WORDS;
+    heads[at..at + HEAD_WORDS].copy_from_slice(&words);
 }
 
 // Room for a key that no row in use has.
@@ -335,7 +309,7 @@ fn empty_part(slots: &mut [u32], at: usize, n: usize)
     requires { at + n ≤ length slots.old }
     ensures { slots.new ≡ emptied at n slots.old }
 {
-    cells::empty(&mut slots[at..at + n]);
+    slots[at..at + n].fill(0);
 }
 
 // The n words from `at` on are emptied where a row begins anew.
@@ -398,9 +372,7 @@ pub fn mark_rows(map: &mut [u64; 1024], heads: &[u64], slots: &[u32], gone: usiz
     requires { (used * 12 ≤ length heads.now) × (used * 288 ≤ length slots.now) }
     ensures { map.new ≡ marked_rows heads.now slots.now gone used map.old }
 {
-    let mut i = used;
-    while i > 0 {
-        i -= 1;
+    for i in (0..used).rev() {
         mark_row(map, heads, slots, gone, i);
     }
 }

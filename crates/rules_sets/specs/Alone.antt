@@ -1,4 +1,4 @@
--- Which calls concern an input of the card, and what is answered to them: the words of `as-if-alone` (docs/RULES.md, "Inputs").
+-- Which calls concern an input of the card, and what is answered to them: the words of `as_if_alone` (docs/RULES.md, "Inputs").
 -- Assumes nothing.
 use Rattle.std.specs.Prelude.{Bool, true, cond, List, [], ◌∷◌, ℕ, eqb}
 use Rattle.rules_sets.specs.Rules.{Key, Call, clear, refuse, offer, Answer}

@@ -7,8 +7,7 @@ use Prim.Native.Nat.{ℕ, ◌+◌, ◌-◌, ◌*◌, ◌%◌, ◌≤◌, ◌<◌
 use native.Mathlib.Omega.{arith}
 use borrow.Author.Tests.{eq-eqb, ne_eqb, lt-ltb, le-ltb, ltb-true, ltb-false}
 use lib.Dec.{eqb, ltb}
-use Rattle.rows.specs.Rows.{table_word, key_at, oldest_of, row_of, touched, room_in, room_renewed, room_new, kept_heads, last_of}
-use Rattle.rows.specs.declared.Key.{Key}
+use Rattle.rows.specs.Rows.{table_word, oldest_of, row_of, touched, room_in, room_renewed, room_new, kept_heads, last_of}
 use Rattle.rows.specs.declared.Entry.{Entry}
 use Rattle.rows.specs.declared.Room.{Room}
 use Rattle.rows.proofs.Loops.{before}
@@ -25,12 +24,6 @@ module _ (kind last first : ℕ) (f : (first ≡ first_table kind) × (first ≤
 
   pub count_some : first ≤ last → last - first < 15 → (last - first + 1 ≡ table_count kind last) × (last - first + 1 ≤ 16)
   count_some h l = rw (← f.0) (omega arith, omega arith)
-
-  pub count_all : first ≤ last → 15 ≤ last - first → (16 ≡ table_count kind last) × (16 ≤ 16)
-  count_all h l = rw (← f.0) (omega arith, omega arith)
-
-pub kind_word_lem : (schedule_heads : List ℕ) (k : ℕ) (key : Key) → key ≡ key_at schedule_heads k → key.table_id ≡ table_word schedule_heads k
-kind_word_lem schedule_heads k key e = rw e
 
 pub tables_counted : (schedule_heads : List ℕ) (k kind last r : ℕ) → kind ≡ table_word schedule_heads k → last ≡ last_of schedule_heads k → (r ≡ table_count kind last) × (r ≤ 16)
     → (r ≡ tables_of schedule_heads k) × (r ≤ 16)

@@ -78,10 +78,8 @@ pub fn schedules_whole(heads: &[u64], units: &[u32], count: u16, size: u16, n: u
     ensures { result ≡ schedules_whole heads.now units.now count size n }
 {
     let mut ok = true;
-    let mut k = n;
-    while k > 0 {
-        k -= 1;
-        ok = ok & schedule_whole(heads, units, count, size, k);
+    for k in (0..n).rev() {
+        ok &= schedule_whole(heads, units, count, size, k);
     }
     ok
 }
@@ -91,9 +89,7 @@ fn mark_schedules(map: &mut [u64; 1024], heads: &[u64], units: &[u32], n: usize)
     requires { (n * 12 ≤ length heads.now) × (n * 4608 ≤ length units.now) }
     ensures { map.new ≡ marked_schedules heads.now units.now n map.old }
 {
-    let mut k = n;
-    while k > 0 {
-        k -= 1;
+    for k in (0..n).rev() {
         units::mark_units(map, units, k * TABLES, tables_of(heads, k));
     }
 }

@@ -1,17 +1,16 @@
 -- One law for each turn, each end and each way out of the functions on segments.
 -- Assumes nothing.
-use mathlib.Core.Path.{◌≡◌, refl, sym, ap, ◌∙◌}
+use mathlib.Core.Path.{◌≡◌, sym, ap, ◌∙◌}
 use mathlib.Core.List.{List}
-use mathlib.Core.Bool.{Bool, true, false, cond, not, ◌&&◌, and_assoc, and-true}
-use Prim.Native.Nat.{ℕ, zero, suc, ◌+◌, ◌-◌, ◌*◌, ◌/◌, ◌%◌, ◌≤◌, ◌<◌, min}
+use mathlib.Core.Bool.{Bool, false, cond, ◌&&◌, and_assoc, and-true}
+use Prim.Native.Nat.{ℕ, ◌+◌, ◌-◌, ◌*◌, ◌/◌, ◌%◌, ◌≤◌, ◌<◌, min}
 use native.Mathlib.Omega.{arith}
-use borrow.Author.Tests.{eq-eqb, ne_eqb}
-use lib.Dec.{eqb}
-use lib.ListN.{length, take, drop, get_or, set}
+use borrow.Author.Tests.{ne_eqb}
+use lib.ListN.{take, drop}
 use Rattle.cells.specs.Cells.{all_filled}
 use Rattle.eit_section.specs.Segment.{segment_end}
-use Rattle.eit_section.proofs.Segment.{end_from_start, end_within_last}
-use Rattle.rows.specs.Rows.{slots_at, slot_count, emptied, kept_slots, last_of}
+use Rattle.eit_section.proofs.Segment.{end_from_start}
+use Rattle.rows.specs.Rows.{slot_count, emptied, kept_slots, last_of}
 use Rattle.rows.specs.declared.Entry.{Entry}
 use Rattle.rows.specs.declared.Room.{Room}
 use Rattle.rows.proofs.Loops.{before}

@@ -1,6 +1,6 @@
 -- Segments of a set of EIT sections (EN 300 468, 5.2.4): eight section numbers each, from 0 on. A row has 32 words for them, before its slots:
 -- 0 where no section of the segment was kept, else its segment_last_section_number and 1. For every content of the lent slices.
-use Rattle.std.specs.Prelude.{ℕ, zero, suc, ◌+◌, ◌-◌, ◌*◌, ◌/◌, min, List, Bool, true, false, cond, not, ◌&&◌, length, get_or, take, drop, set, eqb}
+use Rattle.std.specs.Prelude.{ℕ, zero, suc, ◌+◌, ◌-◌, ◌*◌, ◌/◌, min, List, Bool, true, cond, not, ◌&&◌, get_or, take, drop, set, eqb}
 use Rattle.cells.specs.Cells.{all_filled}
 use Rattle.eit_section.specs.Segment.{segment_end}
 use Rattle.rows.specs.Rows.{slots_at, emptied, kept_slots, last_of}

@@ -64,10 +64,8 @@ fn segments_complete(slots: &[u32], i: usize, last: u8) -> bool
     ensures { result ≡ segments_complete slots.now i last (last / 8 + 1) }
 {
     let mut ok = true;
-    let mut s = wide(last) / SEGMENT + 1;
-    while s > 0 {
-        s -= 1;
-        ok = ok & segment_complete(slots, i, last, s);
+    for s in (0..wide(last) / SEGMENT + 1).rev() {
+        ok &= segment_complete(slots, i, last, s);
     }
     ok
 }

@@ -12,14 +12,11 @@ use lib.Dec.{ltb, eqb}
 use lib.ListN.{length, get_or}
 use Rattle.answers.specs.declared.Refusal.{Refusal}
 use Rattle.answers.specs.declared.Refusal.TheVariants.{NotWhole, CounterFull, NoCell, NoPid}
-use Rattle.section.specs.declared.ids.MaybePid.{MaybePid}
-use Rattle.section.specs.declared.ids.MaybePid.TheVariants as maybe
-use Rattle.section.specs.declared.ids.OriginMade.{OriginMade}
-use Rattle.section.specs.declared.ids.OriginMade.TheVariants as made
+use Rattle.std.specs.Prelude.{Option, Some, None, Result, Ok, Err}
+use Rattle.answers.specs.declared.Refusal.TheVariants as refusal
+use Rattle.section.specs.declared.header.Header.{Header}
 use Rattle.section.specs.Ids.{origin_made, origin_of}
 use Rattle.section.specs.Judged.{collected_of}
-use Rattle.section.specs.declared.header.Collected.{Collected}
-use Rattle.section.specs.declared.header.Collected.TheVariants as collected
 use Rattle.cells.specs.Cells.{lowest_free}
 use Rattle.rows.specs.Rows.{word, touched, gone_row, kept_heads, taken_in, with_mark}
 use Rattle.rows.proofs.Words.{put_not, touched_not, kept_row, kept_fresh, kept_known}
@@ -32,8 +29,6 @@ use Rattle.store.specs.Store.{Store, store, empty_sets, whole_of, counters_full}
 use Rattle.store.proofs.Whole.{whole_means, evictions_go_on, clock_goes_on}
 use Rattle.arrivals.specs.Arrivals.{made_words, set_key, entry_of, set_read, set_judged, set_arrival, SetTaken, Taken}
 use Rattle.arrivals.proofs.Facts.{set_taken}
-use Rattle.arrivals.specs.declared.SetArrival.{SetArrival}
-use Rattle.arrivals.specs.declared.SetArrival.TheVariants as arrival
 use Rattle.sets_plan.specs.declared.Keeping.{Keeping}
 use Rattle.sets_plan.specs.declared.Plan.{Plan}
 use Rattle.sets_plan.specs.declared.Plan.TheVariants as plan
@@ -119,35 +114,32 @@ whole_pids s e bytes w t n h =
 -- ---- a call
 
 -- a section that arrived has a PID
-arrived_pid : (input : ℕ) (pid : MaybePid) (bytes : List ℕ) (e : Entry) → set_arrival input pid bytes ≡ arrival.Arrived e → e.key.from.pid ≡ 8192 → ⊥
+arrived_pid : (input : ℕ) (pid : Option ℕ) (bytes : List ℕ) (e : Entry) → set_arrival input pid bytes ≡ Ok e → e.key.from.pid ≡ 8192 → ⊥
 unfolding set_arrival
-arrived_pid input maybe.None bytes e q z = let y : ◌≡◌ {A = ℕ} 0 1 = cc in omega arith
-arrived_pid input (maybe.Some v) bytes e q z = go (ltb v 8192) (ltb input 16) refl q
+arrived_pid input None bytes e q z = let y : ◌≡◌ {A = ℕ} 0 1 = cc in omega arith
+arrived_pid input (Some v) bytes e q z = go (ltb v 8192) (ltb input 16) refl q
   where
-    read : (c : Collected) → v < 8192 → set_read (record { input = input; pid = v }) c ≡ arrival.Arrived e → ⊥
-    read collected.Malformed l f = let y : ◌≡◌ {A = ℕ} 0 1 = cc in omega arith
-    read collected.ShortForm l f = let y : ◌≡◌ {A = ℕ} 0 1 = cc in omega arith
-    read collected.BadNumber l f = let y : ◌≡◌ {A = ℕ} 0 1 = cc in omega arith
-    read collected.BadCrc l f = let y : ◌≡◌ {A = ℕ} 0 1 = cc in omega arith
-    read (collected.Good h) l f =
+    read : (c : Result Header Refusal) → v < 8192 → set_read (record { input = input; pid = v }) c ≡ Ok e → ⊥
+    read (Err r) l f = let y : ◌≡◌ {A = ℕ} 0 1 = cc in omega arith
+    read (Ok h) l f =
         let x : entry_of (set_key (record { input = input; pid = v }) h) h ≡ e = cc in
         let y : v ≡ e.key.from.pid = ap (λ (t : Entry). t.key.from.pid) x in
         omega (arith, l, y, z)
 
-    go : (b c : Bool) → ltb v 8192 ≡ b → set_judged (made_words (cond b (cond c (made.One (origin_of input v)) made.BadInput) made.BadPid)) bytes ≡ arrival.Arrived e → ⊥
+    go : (b c : Bool) → ltb v 8192 ≡ b → set_judged (made_words (cond b (cond c (Ok (origin_of input v)) (Err refusal.BadInput)) (Err refusal.BadPid))) bytes ≡ Ok e → ⊥
     go true true l f = read (collected_of bytes) (ltb-true v 8192 l) f
     go true false l f = let y : ◌≡◌ {A = ℕ} 0 1 = cc in omega arith
     go false c l f = let y : ◌≡◌ {A = ℕ} 0 1 = cc in omega arith
 
-pub push_pids : (s : Store) (input : ℕ) (pid : MaybePid) (bytes : List ℕ) → get_or bytes 7 0 < 256 → HasPids s → HasPids (pushed_of s input pid bytes).store
+pub push_pids : (s : Store) (input : ℕ) (pid : Option ℕ) (bytes : List ℕ) → get_or bytes 7 0 < 256 → HasPids s → HasPids (pushed_of s input pid bytes).store
 unfolding pushed_of admitted
 push_pids s input pid bytes b h = rw (none_without s h) (go (whole_of s) (counters_full s.sets) refl refl)
   where
-    arrived : Ready s → (a : SetArrival) → set_arrival input pid bytes ≡ a → SetTaken bytes a → HasPids (pushed_as s bytes a).store
-    arrived w (arrival.Refused r) q o = h
-    arrived w (arrival.Arrived e) q o = whole_pids s e bytes w o (arrived_pid input pid bytes e q) h
+    arrived : Ready s → (a : Result Entry Refusal) → set_arrival input pid bytes ≡ a → SetTaken bytes a → HasPids (pushed_as s bytes a).store
+    arrived w (Err r) q o = h
+    arrived w (Ok e) q o = whole_pids s e bytes w o (arrived_pid input pid bytes e q) h
 
-    go : (w t : Bool) → whole_of s ≡ w → counters_full s.sets ≡ t → HasPids (pushed_as s bytes (cond w (cond t (arrival.Refused CounterFull) (set_arrival input pid bytes)) (arrival.Refused NotWhole))).store
+    go : (w t : Bool) → whole_of s ≡ w → counters_full s.sets ≡ t → HasPids (pushed_as s bytes (cond w (cond t (Err CounterFull) (set_arrival input pid bytes)) (Err NotWhole))).store
     go false t q f = h
     go true true q f = h
     go true false q f =

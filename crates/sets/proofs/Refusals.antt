@@ -8,12 +8,11 @@ use Prim.Native.Nat.{ℕ, ◌+◌, ◌<◌}
 use native.Mathlib.Omega.{arith}
 use Rattle.answers.specs.declared.Refusal.{Refusal}
 use Rattle.answers.specs.declared.Refusal.TheVariants.{Conflict}
-use Rattle.section.specs.declared.ids.MaybePid.{MaybePid}
+use Rattle.std.specs.Prelude.{Option, Result, Ok, Err}
+use Rattle.rows.specs.declared.Entry.{Entry}
 use Rattle.rows.specs.Rows.{word, touched}
 use Rattle.rows.proofs.Words.{touched_not}
 use Rattle.store.specs.Store.{Store, store, risen_sets}
-use Rattle.arrivals.specs.declared.SetArrival.{SetArrival}
-use Rattle.arrivals.specs.declared.SetArrival.TheVariants as arrival
 use Rattle.sets_settle.specs.declared.PushAnswer.TheVariants.{Nothing, Set, Refused}
 use Rattle.sets_plan.specs.declared.Plan.{Plan}
 use Rattle.sets_plan.specs.declared.Plan.TheVariants as plan
@@ -42,10 +41,10 @@ module _ (s : Store) (bytes : List ℕ) where
   carried_keeps (plan.Repeat i) r e k = absurd (settled_tells s i r e)
   carried_keeps (plan.Keep m) r e k = absurd (settled_tells (kept_in s bytes m) m.room.row r e)
 
-  pushed_keeps : (a : SetArrival) (r : Refusal) → (pushed_as s bytes a).told ≡ refused r → r ≢ Conflict → (pushed_as s bytes a).store ≡ s
+  pushed_keeps : (a : Result Entry Refusal) (r : Refusal) → (pushed_as s bytes a).told ≡ refused r → r ≢ Conflict → (pushed_as s bytes a).store ≡ s
   unfolding whole_pushed
-  pushed_keeps (arrival.Refused x) r e k = refl
-  pushed_keeps (arrival.Arrived x) r e k = carried_keeps (plan_of s x bytes) r e k
+  pushed_keeps (Err x) r e k = refl
+  pushed_keeps (Ok x) r e k = carried_keeps (plan_of s x bytes) r e k
 
   -- what a conflict leaves: settings, counts, slots and cells, and every word of a head but the ticks; the clock rises
   pub record AsBefore (t : Store) : Type 0 where
@@ -64,17 +63,17 @@ module _ (s : Store) (bytes : List ℕ) where
   carried_conflicts (plan.Repeat i) e = absurd (settled_tells s i Conflict e)
   carried_conflicts (plan.Keep m) e = absurd (settled_tells (kept_in s bytes m) m.room.row Conflict e)
 
-  pushed_conflicts : (a : SetArrival) → (pushed_as s bytes a).told ≡ refused Conflict → AsBefore (pushed_as s bytes a).store
+  pushed_conflicts : (a : Result Entry Refusal) → (pushed_as s bytes a).told ≡ refused Conflict → AsBefore (pushed_as s bytes a).store
   unfolding whole_pushed
-  pushed_conflicts (arrival.Refused x) e = unchanged
-  pushed_conflicts (arrival.Arrived x) e = carried_conflicts (plan_of s x bytes) e
+  pushed_conflicts (Err x) e = unchanged
+  pushed_conflicts (Ok x) e = carried_conflicts (plan_of s x bytes) e
 
 -- every refusal but 22: the store is as before
-pub refusal_keeps : (s : Store) (input : ℕ) (pid : MaybePid) (bytes : List ℕ) (r : Refusal) → (pushed_of s input pid bytes).told ≡ refused r → r ≢ Conflict → (pushed_of s input pid bytes).store ≡ s
+pub refusal_keeps : (s : Store) (input : ℕ) (pid : Option ℕ) (bytes : List ℕ) (r : Refusal) → (pushed_of s input pid bytes).told ≡ refused r → r ≢ Conflict → (pushed_of s input pid bytes).store ≡ s
 unfolding pushed_of
 refusal_keeps s input pid bytes r e k = pushed_keeps s bytes (admitted s input pid bytes) r e k
 
 -- 22
-pub conflict_keeps : (s : Store) (input : ℕ) (pid : MaybePid) (bytes : List ℕ) → (pushed_of s input pid bytes).told ≡ refused Conflict → AsBefore s bytes (pushed_of s input pid bytes).store
+pub conflict_keeps : (s : Store) (input : ℕ) (pid : Option ℕ) (bytes : List ℕ) → (pushed_of s input pid bytes).told ≡ refused Conflict → AsBefore s bytes (pushed_of s input pid bytes).store
 unfolding pushed_of
 conflict_keeps s input pid bytes e = pushed_conflicts s bytes (admitted s input pid bytes) e

@@ -15,7 +15,7 @@ use lib.Seq.{paste, length-paste}
 use Rattle.answers.specs.Answers.{refusal_no}
 use Rattle.answers.specs.declared.Refusal.{Refusal}
 use Rattle.answers.specs.declared.Refusal.TheVariants.{NotWhole, CounterFull, TooLittle, NoPid, TooLong, NoCell, Conflict}
-use Rattle.section.specs.declared.ids.MaybePid.{MaybePid}
+use Rattle.std.specs.Prelude.{Option, Result, Ok, Err}
 use Rattle.cells.specs.Cells.{slot_word, slot_whole, lowest_free}
 use Rattle.rows.specs.Rows.{touched, gone_row, kept_heads, slots_at, slot_count, kept_slots, rows_whole, taken_in, last_of, with_mark}
 use Rattle.rows.proofs.Words.{put_not, length_put, length_touched, touched_not, length_kept, kept_row, kept_fresh, kept_known, length_kept_slots, kept_slot, kept_other, kept_empty, kept_same}
@@ -27,8 +27,6 @@ use Rattle.store.specs.Store.{Store, store, empty_sets, risen_sets, settings_fit
 use Rattle.store.specs.declared.Sets.{Sets}
 use Rattle.store.proofs.Whole.{long, means_whole, cell_fits}
 use Rattle.arrivals.specs.Arrivals.{set_arrival, Taken}
-use Rattle.arrivals.specs.declared.SetArrival.{SetArrival}
-use Rattle.arrivals.specs.declared.SetArrival.TheVariants as arrival
 use Rattle.sets.proofs.Arrived.{set_not_ten}
 use Rattle.sets_settle.specs.declared.PushAnswer.{PushAnswer}
 use Rattle.sets_settle.specs.declared.PushAnswer.TheVariants.{Nothing, Set, Refused}
@@ -108,8 +106,8 @@ module _ (s : Store) (bytes : List ℕ) (k : Keeping) (o : KeepOk s bytes k) whe
   abbrev w' : ℕ
   w' = slot_word (length bytes) k.cell
 
-  abbrev Ok : ℕ → Type 0
-  Ok w = slot_whole s.sets.count s.sets.size w ≡ true
+  abbrev RowGood : ℕ → Type 0
+  RowGood w = slot_whole s.sets.count s.sets.size w ≡ true
 
   head_room : r.row * 12 + 12 ≤ length s.heads
   head_room = let a = o.whole.heads_long in let b = o.room.room in let c = o.room.row in omega arith
@@ -120,13 +118,13 @@ module _ (s : Store) (bytes : List ℕ) (k : Keeping) (o : KeepOk s bytes k) whe
   new_slots : List ℕ
   new_slots = kept_slots r e w' s.slots
 
-  old_ok : (j m : ℕ) → j < s.sets.used → m < slot_count (last_of s.heads j) → Ok (get_or s.slots (slots_at j + m) 0)
+  old_ok : (j m : ℕ) → j < s.sets.used → m < slot_count (last_of s.heads j) → RowGood (get_or s.slots (slots_at j + m) 0)
   old_ok j m h l =
       let a = o.whole.slots_long in
       let b = o.whole.used in
       slot_get s.heads s.slots s.sets.count s.sets.size s.sets.used j m o.whole.rows h (omega arith) l
 
-  own_ok : (b : Bool) → r.fresh ≡ b → (m : ℕ) → m < slot_count (last_of (kept_heads r e s.heads) r.row) → Dec (m ≡ e.number) → Ok (get_or new_slots (slots_at r.row + m) 0)
+  own_ok : (b : Bool) → r.fresh ≡ b → (m : ℕ) → m < slot_count (last_of (kept_heads r e s.heads) r.row) → Dec (m ≡ e.number) → RowGood (get_or new_slots (slots_at r.row + m) 0)
   unfolding new_slots
   own_ok b f m l (yes q) =
       rw (q, kept_slot r e w' s.slots slot_room o.numbered.number o.numbered.last)
@@ -138,7 +136,7 @@ module _ (s : Store) (bytes : List ℕ) (k : Keeping) (o : KeepOk s bytes k) whe
       let last : last_of (kept_heads r e s.heads) r.row ≡ last_of s.heads r.row = kept_known r e s.heads head_room f 7 (omega arith) (omega arith) in
       rw (kept_same r e w' s.slots slot_room o.numbered.number o.numbered.last f m d) (old_ok r.row m (o.room.known f) (omega (arith, last)))
 
-  each : (j m : ℕ) → j < r.used → m < slot_count (last_of (kept_heads r e s.heads) j) → Dec (j ≡ r.row) → Ok (get_or new_slots (slots_at j + m) 0)
+  each : (j m : ℕ) → j < r.used → m < slot_count (last_of (kept_heads r e s.heads) j) → Dec (j ≡ r.row) → RowGood (get_or new_slots (slots_at j + m) 0)
   unfolding new_slots
   each j m h l (yes q) = rw q (own_ok r.fresh refl m (subst (λ (n : ℕ). m < slot_count (last_of (kept_heads r e s.heads) n)) q l) (ℕ_discrete m e.number))
   each j m h l (no d) =
@@ -184,11 +182,11 @@ pub whole_stays : (s : Store) (e : Entry) (bytes : List ℕ) → Ready s → Tak
 unfolding whole_pushed
 whole_stays s e bytes w t = carried_whole s bytes w.whole (plan_of s e bytes) (plan_ok s w e bytes t)
 
-pushed_whole_lem : (s : Store) (bytes : List ℕ) → WholeStore s → (a : SetArrival) → AdmittedOk s bytes a → WholeStore (pushed_as s bytes a).store
-pushed_whole_lem s bytes w (arrival.Refused r) o = w
-pushed_whole_lem s bytes w (arrival.Arrived e) o = whole_stays s e bytes o.0 o.1
+pushed_whole_lem : (s : Store) (bytes : List ℕ) → WholeStore s → (a : Result Entry Refusal) → AdmittedOk s bytes a → WholeStore (pushed_as s bytes a).store
+pushed_whole_lem s bytes w (Err r) o = w
+pushed_whole_lem s bytes w (Ok e) o = whole_stays s e bytes o.0 o.1
 
-pub push_stays : (s : Store) (input : ℕ) (pid : MaybePid) (bytes : List ℕ) → get_or bytes 7 0 < 256 → WholeStore s → WholeStore (pushed_of s input pid bytes).store
+pub push_stays : (s : Store) (input : ℕ) (pid : Option ℕ) (bytes : List ℕ) → get_or bytes 7 0 < 256 → WholeStore s → WholeStore (pushed_of s input pid bytes).store
 unfolding pushed_of
 push_stays s input pid bytes b w = pushed_whole_lem s bytes w (admitted s input pid bytes) (admitted_ok s bytes input pid b)
 
@@ -286,20 +284,20 @@ ten_planned s e bytes = plan_by s e bytes (λ p. ten (carried s bytes p).told �
         go : (c : ℕ) → ten (carried s bytes (cond (ltb c s.sets.count) (plan.Keep (record { entry = e; room = r; cell = c })) (plan.Refuse NoCell))).told ≡ false
         go c = at (ltb c s.sets.count) c
 
-ten_pushed : (s : Store) (input : ℕ) (pid : MaybePid) (bytes : List ℕ) → whole_of s ≡ true → ten (pushed_of s input pid bytes).told ≡ false
+ten_pushed : (s : Store) (input : ℕ) (pid : Option ℕ) (bytes : List ℕ) → whole_of s ≡ true → ten (pushed_of s input pid bytes).told ≡ false
 unfolding pushed_of admitted ten
 ten_pushed s input pid bytes w = rw w (go (counters_full s.sets) (without_pid s.heads s.sets.used))
   where
-    arrived : (a : SetArrival) → set_arrival input pid bytes ≡ a → ten (pushed_as s bytes a).told ≡ false
-    arrived (arrival.Refused r) q = set_not_ten input pid bytes r q
-    arrived (arrival.Arrived e) q = ten_planned s e bytes
+    arrived : (a : Result Entry Refusal) → set_arrival input pid bytes ≡ a → ten (pushed_as s bytes a).told ≡ false
+    arrived (Err r) q = set_not_ten input pid bytes r q
+    arrived (Ok e) q = ten_planned s e bytes
 
-    go : (b n : Bool) → ten (pushed_as s bytes (cond b (arrival.Refused CounterFull) (cond n (arrival.Refused NoPid) (set_arrival input pid bytes)))).told ≡ false
+    go : (b n : Bool) → ten (pushed_as s bytes (cond b (Err CounterFull) (cond n (Err NoPid) (set_arrival input pid bytes)))).told ≡ false
     go true n = refl
     go false true = refl
     go false false = arrived (set_arrival input pid bytes) refl
 
-pub push_not_ten : (s : Store) (input : ℕ) (pid : MaybePid) (bytes : List ℕ) → WholeStore s → (pushed_of s input pid bytes).told ≢ refused NotWhole
+pub push_not_ten : (s : Store) (input : ℕ) (pid : Option ℕ) (bytes : List ℕ) → WholeStore s → (pushed_of s input pid bytes).told ≢ refused NotWhole
 push_not_ten s input pid bytes w = not_ten (pushed_of s input pid bytes).told (ten_pushed s input pid bytes (means_whole s w))
 
 pub clear_not_ten : (s : Store) → WholeStore s → (cleared_of s).told ≢ refused NotWhole

@@ -1,17 +1,14 @@
 -- What each call of the set collector answers and leaves, for every content of the lent memory (docs/RULES.md, "Collectors", "Cells" and
 -- "Answers"). `cond test a b` is a where the test is true, else b.
-use Rattle.std.specs.Prelude.{ℕ, List, cond, length, ltb}
+use Rattle.std.specs.Prelude.{ℕ, List, cond, length, ltb, Option, Result, Ok, Err, false}
 use Rattle.answers.specs.declared.Refusal.TheVariants.{NotWhole, TooLittle, NoPid}
-use Rattle.answers.specs.declared.Outcome.{Outcome}
-use Rattle.answers.specs.declared.Outcome.TheVariants as outcome
-use Rattle.answers.specs.declared.Reply.TheVariants as reply
-use Rattle.section.specs.declared.ids.MaybePid.{MaybePid}
+use Rattle.answers.specs.Answers.{Outcome}
+use Rattle.rows.specs.declared.Entry.{Entry}
+use Rattle.answers.specs.declared.Refusal.{Refusal}
 use Rattle.cells.specs.Cells.{next_filled}
 use Rattle.rows.specs.Rows.{row_slots}
 use Rattle.without_pid.specs.Pids.{without_pid}
 use Rattle.store.specs.Store.{Store, store, empty_sets, settings_fit, whole_of}
-use Rattle.arrivals.specs.declared.SetArrival.{SetArrival}
-use Rattle.arrivals.specs.declared.SetArrival.TheVariants as arrival
 use Rattle.readers.specs.Next.{no_section, slot_told}
 use Rattle.readers.specs.declared.Next.{Next}
 use Rattle.sets_push.specs.Pushing.{admitted, whole_pushed}
@@ -24,8 +21,8 @@ use Rattle.sets.specs.declared.Cleared.{Cleared}
 
 -- what an opening or a clearing tells
 abbrev pub outcome_of : Outcome → Told
-outcome_of outcome.Done = done
-outcome_of (outcome.Refused r) = refused r
+outcome_of (Ok _) = done
+outcome_of (Err r) = refused r
 
 -- what a call handed back, with the slices as it left them
 abbrev pub after_open : Opened → List ℕ → List ℕ → List ℕ → SetsAfter
@@ -47,11 +44,11 @@ cleared_of s =
 
 -- ---- a section is pushed
 
-abbrev pub pushed_as : Store → List ℕ → SetArrival → SetsAfter
-pushed_as s bytes (arrival.Refused r) = answered (push_answer.Refused r) s
-pushed_as s bytes (arrival.Arrived e) = whole_pushed s e bytes
+abbrev pub pushed_as : Store → List ℕ → Result Entry Refusal → SetsAfter
+pushed_as s bytes (Err r) = answered (push_answer.Refused r) s
+pushed_as s bytes (Ok e) = whole_pushed s e bytes
 
-unfoldable pub pushed_of : Store → (input : ℕ) → MaybePid → List ℕ → SetsAfter
+unfoldable pub pushed_of : Store → (input : ℕ) → Option ℕ → List ℕ → SetsAfter
 pushed_of s input pid bytes = pushed_as s bytes (admitted s input pid bytes)
 
 -- ---- the sections of a set, one after another
@@ -60,8 +57,8 @@ pushed_of s input pid bytes = pushed_as s bytes (admitted s input pid bytes)
 unfoldable pub next_of : Store → ℕ → ℕ → Next
 next_of s row from =
     cond (whole_of s)
-    (cond (without_pid s.heads s.sets.used) (no_section (reply.Refused NoPid))
+    (cond (without_pid s.heads s.sets.used) (no_section (Err NoPid))
     (cond (ltb row s.sets.used)
     (slot_told s.sets.size (row_slots s.heads s.slots row) (next_filled (row_slots s.heads s.slots row) from))
-    (no_section reply.No)))
-    (no_section (reply.Refused NotWhole))
+    (no_section (Ok false))))
+    (no_section (Err NotWhole))

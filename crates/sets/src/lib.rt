@@ -8,10 +8,8 @@ ghost use Rattle.store.specs.Store.{store, asked};
 ghost use Rattle.sets_settle.specs.Settle.{after_push};
 ghost use Rattle.sets.specs.Store.{after_open, after_clear, opened_of, pushed_of, cleared_of, next_of};
 
-use answers::{Outcome, Refusal, Reply};
-use arrivals::SetArrival;
+use answers::{Outcome, Refusal};
 use readers::Next;
-use section::ids::MaybePid;
 use sets_settle::{PushAnswer, Pushed};
 use store::Sets;
 
@@ -48,12 +46,12 @@ pub fn open(
     };
     if store::settings_fit(sets, heads.len(), slots.len(), cells.len()) {
         Opened {
-            answer: Outcome::Done,
+            answer: Ok(()),
             sets,
         }
     } else {
         Opened {
-            answer: Outcome::Refused(Refusal::TooLittle),
+            answer: Err(Refusal::TooLittle),
             sets,
         }
     }
@@ -66,19 +64,17 @@ pub fn push(
     slots: &mut [u32],
     cells: &mut [u8],
     input: u8,
-    pid: MaybePid,
+    pid: Option<u16>,
     bytes: &[u8],
 ) -> Pushed
     ensures { after_push result heads.new slots.new cells.new ≡ pushed_of (store sets heads.old slots.old cells.old) input pid bytes.now }
 {
     match sets_push::admit(sets, heads, slots, cells, input, pid, bytes) {
-        SetArrival::Refused(refusal) => Pushed {
+        Err(refusal) => Pushed {
             answer: PushAnswer::Refused(refusal),
             sets,
         },
-        SetArrival::Arrived(entry) => {
-            sets_push::push_whole(sets, heads, slots, cells, entry, bytes)
-        }
+        Ok(entry) => { sets_push::push_whole(sets, heads, slots, cells, entry, bytes) }
     }
 }
 
@@ -90,12 +86,12 @@ pub fn clear(sets: Sets, heads: &[u64], slots: &[u32], cells: &[u8]) -> Cleared
     if seen.whole {
         if seen.without {
             return Cleared {
-                answer: Outcome::Refused(Refusal::NoPid),
+                answer: Err(Refusal::NoPid),
                 sets,
             };
         }
         return Cleared {
-            answer: Outcome::Done,
+            answer: Ok(()),
             sets: Sets {
                 limit: sets.limit,
                 size: sets.size,
@@ -107,7 +103,7 @@ pub fn clear(sets: Sets, heads: &[u64], slots: &[u32], cells: &[u8]) -> Cleared
         };
     }
     Cleared {
-        answer: Outcome::Refused(Refusal::NotWhole),
+        answer: Err(Refusal::NotWhole),
         sets,
     }
 }
@@ -126,12 +122,12 @@ pub fn next_section(
     let seen = store::look(sets, heads, slots, cells);
     if seen.whole {
         if seen.without {
-            return readers::no_section(Reply::Refused(Refusal::NoPid));
+            return readers::no_section(Err(Refusal::NoPid));
         }
         if row < sets.used {
             return readers::next_slot(rows::row_slots(heads, slots, row), sets.size, from);
         }
-        return readers::no_section(Reply::No);
+        return readers::no_section(Ok(false));
     }
-    readers::no_section(Reply::Refused(Refusal::NotWhole))
+    readers::no_section(Err(Refusal::NotWhole))
 }

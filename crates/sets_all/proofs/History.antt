@@ -1,17 +1,16 @@
 -- Many at a time is one by one: what a list leaves is the history of as many single pushes as it took sections, and a store that is whole stays whole.
 -- Assumes nothing.
-use mathlib.Core.Path.{◌≡◌, refl, sym, ◌∙◌}
+use mathlib.Core.Path.{◌≡◌, refl}
 use mathlib.Core.Logic.{◌≢◌}
 use mathlib.Core.List.{List, [], ◌∷◌, map}
 use mathlib.Core.Bool.{Bool, true, false, cond}
-use Prim.Native.Nat.{ℕ, zero, suc, ◌+◌, ◌<◌}
+use Prim.Native.Nat.{ℕ, suc, ◌+◌, ◌<◌}
 use native.Mathlib.Omega.{arith}
 use lib.ListN.{length, get_or, take}
 use Rattle.answers.specs.declared.Refusal.TheVariants.{NotWhole}
-use Rattle.section.specs.declared.ids.MaybePid.TheVariants as maybe
+use Rattle.std.specs.Prelude.{Some}
 use Rattle.store.specs.Store.{Store, WholeStore}
-use Rattle.sets_settle.specs.Settle.{Told, nothing, refused, SetsAfter}
-use Rattle.sets.specs.Store.{pushed_of}
+use Rattle.sets_settle.specs.Settle.{refused, SetsAfter}
 use Rattle.sets.specs.History.{Call, offer, after_all}
 use Rattle.sets.proofs.Stays.{push_stays, push_not_ten}
 use Rattle.rules_logs.specs.Sections.{Given}
@@ -19,7 +18,7 @@ use Rattle.sets_all.specs.All.{of, AllAfter, all_after, is_nothing, pushed_given
 
 -- a section of a list as a call of its own
 abbrev pub single : Given → Call
-single g = offer g.input (maybe.Some g.pid) g.section
+single g = offer g.input (Some g.pid) g.section
 
 -- how many sections were pushed
 unfoldable pub count_each : Store → List Given → ℕ
@@ -62,10 +61,10 @@ all_sound n s (g ∷ gs) b w = go (is_nothing (pushed_given s g).told) (all_soun
     m = n + (5 + length g.section)
 
     stays : WholeStore (pushed_given s g).store
-    stays = push_stays s g.input (maybe.Some g.pid) g.section b.0 w
+    stays = push_stays s g.input (Some g.pid) g.section b.0 w
 
     no : of (pushed_given s g).told ≢ of (refused NotWhole)
-    no q = push_not_ten s g.input (maybe.Some g.pid) g.section w cc
+    no q = push_not_ten s g.input (Some g.pid) g.section w cc
 
     go : (f : Bool) → Sound (pushed_each m (pushed_given s g).store gs) → Sound (cond f (pushed_each m (pushed_given s g).store gs) (all_after (of (pushed_given s g).told) (pushed_given s g).store m))
     go true r = r

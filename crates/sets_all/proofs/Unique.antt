@@ -5,7 +5,7 @@ use mathlib.Core.Path.{◌≡◌, refl, sym, ap, ◌∙◌}
 use mathlib.Core.List.{List}
 use Rattle.store.specs.Store.{Store}
 use Rattle.sets_settle.specs.declared.PushAnswer.TheVariants as push_answer
-use Rattle.sets_settle.specs.Settle.{Told, done, nothing, handed, refused, set_in}
+use Rattle.sets_settle.specs.Settle.{done, nothing, handed, refused, set_in}
 use Rattle.sets_all.specs.declared.AllAnswer.{AllAnswer}
 use Rattle.sets_all.specs.declared.AllAnswer.TheVariants as answer
 use Rattle.sets_all.specs.declared.AllPushed.{AllPushed}

@@ -1,7 +1,7 @@
 -- A push into a store that is known to be whole and to have PIDs alone, and one after another over a list: one law for each way out.
 -- Assumes nothing.
-use mathlib.Core.Path.{◌≡◌, refl, sym, ap, subst, ◌∙◌}
-use mathlib.Core.List.{List, [], ◌∷◌}
+use mathlib.Core.Path.{◌≡◌, refl, sym, subst, ◌∙◌}
+use mathlib.Core.List.{List}
 use mathlib.Core.Bool.{Bool, true, false, cond}
 use Prim.Native.Nat.{ℕ, ◌+◌, ◌-◌, ◌≤◌, ◌<◌}
 use native.Mathlib.Omega.{arith}
@@ -13,22 +13,19 @@ use Rattle.answers.specs.Answers.{refusal_no}
 use Rattle.answers.proofs.Laws.{refused_from_10}
 use Rattle.answers.specs.declared.Refusal.{Refusal}
 use Rattle.answers.specs.declared.Refusal.TheVariants.{NotWhole, CounterFull, NoPid}
-use Rattle.section.specs.declared.ids.MaybePid.{MaybePid}
-use Rattle.section.specs.declared.ids.MaybePid.TheVariants as maybe
+use Rattle.std.specs.Prelude.{Option, Some, Result, Ok, Err}
 use Rattle.rows.specs.declared.Entry.{Entry}
 use Rattle.without_pid.specs.Pids.{without_pid}
 use Rattle.store.specs.Store.{Store, store, whole_of, counters_full}
 use Rattle.store.specs.declared.Sets.{Sets}
 use Rattle.store.proofs.Whole.{means_whole, is_whole_means, evictions_go_on, clock_goes_on}
 use Rattle.arrivals.specs.Arrivals.{set_arrival, SetTaken, Taken}
-use Rattle.arrivals.specs.declared.SetArrival.{SetArrival}
-use Rattle.arrivals.specs.declared.SetArrival.TheVariants as arrival
 use Rattle.sets_plan.specs.Plan.{Ready}
 use Rattle.sets_repeats.specs.Repeats.{Passed, start, next}
-use Rattle.sets_settle.specs.Settle.{Told, nothing, refused, SetsAfter, after, after_push, answer_of, push_no}
+use Rattle.sets_settle.specs.Settle.{nothing, refused, SetsAfter, after, after_push, answer_of, push_no}
 use Rattle.sets_settle.specs.declared.PushAnswer.{PushAnswer}
 use Rattle.sets_settle.specs.declared.PushAnswer.TheVariants as push_answer
-use Rattle.sets_push.specs.Pushing.{whole_pushed, admitted}
+use Rattle.sets_push.specs.Pushing.{whole_pushed}
 use Rattle.sets_push.proofs.Ways.{admit_full, admit_section}
 use Rattle.sets.specs.Store.{pushed_of}
 use Rattle.sets.proofs.Admit.{pushed_refused, pushed_arrived}
@@ -38,8 +35,9 @@ use Rattle.rules_logs.specs.Records.{Bytes}
 use Rattle.rules_logs.specs.Sections.{Given, Listed, too_long, cut, sections, sections_in}
 use Rattle.log_list.specs.List.{judged_of, givens_of, givens_from, given_at, WholeFrom, PlacedAt}
 use Rattle.log_list.specs.declared.Place.{Place}
-use Rattle.log_list.specs.declared.Judged.{Judged}
-use Rattle.log_list.specs.declared.Judged.TheVariants as judged
+use Rattle.std.specs.Prelude.{Result, Ok, Err}
+use Rattle.log_list.specs.declared.ListError.{ListError}
+use Rattle.log_list.specs.declared.ListError.TheVariants as error
 use Rattle.log_list.proofs.Laws.{none_left, from_start}
 use Rattle.sets_all.specs.declared.AllAnswer.TheVariants as answer
 use Rattle.sets_all.specs.declared.AllPushed.{AllPushed}
@@ -47,7 +45,7 @@ use Rattle.sets_all.specs.All.{of, overlong, AllAfter, all_after, after_all, is_
 
 -- ---- one push
 
-module _ (sets : Sets) (heads slots cells : List ℕ) (w : Pushable sets heads slots cells) (input : ℕ) (pid : MaybePid) (bytes : List ℕ) where
+module _ (sets : Sets) (heads slots cells : List ℕ) (w : Pushable sets heads slots cells) (input : ℕ) (pid : Option ℕ) (bytes : List ℕ) where
   abbrev here : Store
   here = store sets heads slots cells
 
@@ -65,16 +63,16 @@ module _ (sets : Sets) (heads slots cells : List ℕ) (w : Pushable sets heads s
 
   module _ (full : Bool) (g : full ≡ counters_full sets) where
     pub ready_full : full ≡ true → after_push (record { answer = push_answer.Refused CounterFull; sets = sets }) heads slots cells ≡ pushed_of here input pid bytes
-    ready_full h = pushed_refused here input pid bytes (arrival.Refused CounterFull) (admit_full here input pid bytes true whole full g refl h) CounterFull refl
+    ready_full h = pushed_refused here input pid bytes (Err CounterFull) (admit_full here input pid bytes true whole full g refl h) CounterFull refl
 
-    pub ready_refused : (a : SetArrival) → full ≡ false → a ≡ set_arrival input pid bytes → (r : Refusal) → a ≡ arrival.Refused r
+    pub ready_refused : (a : Result Entry Refusal) → full ≡ false → a ≡ set_arrival input pid bytes → (r : Refusal) → a ≡ Err r
         → after_push (record { answer = push_answer.Refused r; sets = sets }) heads slots cells ≡ pushed_of here input pid bytes
     ready_refused a ne e r q = pushed_refused here input pid bytes a (admit_section here input pid bytes true whole full g refl false a ne (sym w.pids) refl e) r q
 
-    pub ready_arrived : (a : SetArrival) → full ≡ false → a ≡ set_arrival input pid bytes → (x : Entry) → a ≡ arrival.Arrived x → (k : SetsAfter) → k ≡ whole_pushed here x bytes → k ≡ pushed_of here input pid bytes
+    pub ready_arrived : (a : Result Entry Refusal) → full ≡ false → a ≡ set_arrival input pid bytes → (x : Entry) → a ≡ Ok x → (k : SetsAfter) → k ≡ whole_pushed here x bytes → k ≡ pushed_of here input pid bytes
     ready_arrived a ne e x q k f = pushed_arrived here input pid bytes a (admit_section here input pid bytes true whole full g refl false a ne (sym w.pids) refl e) x k q f
 
-    pub ready_may : (a : SetArrival) → full ≡ false → SetTaken bytes a → (x : Entry) → a ≡ arrival.Arrived x → Ready here × Taken bytes x
+    pub ready_may : (a : Result Entry Refusal) → full ≡ false → SetTaken bytes a → (x : Entry) → a ≡ Ok x → Ready here × Taken bytes x
     ready_may a ne t x q = (record { whole = w.whole; counts = evictions_go_on sets full g ne; runs = clock_goes_on sets full g ne }, subst (SetTaken bytes) q t)
 
 -- ---- one after another
@@ -114,7 +112,7 @@ module _ (list : Bytes) (p : ℕ) (s : Store) where
     each_stop t = first ∙ rw t
 
 -- the part of the list that a place tells of
-pub at_pushed : (s : Store) (list : Bytes) (r : Place) (k : SetsAfter) → k ≡ pushed_of s r.input (maybe.Some r.pid) (take (r.start + r.length - r.start) (drop r.start list)) → k ≡ pushed_given s (given_at list r)
+pub at_pushed : (s : Store) (list : Bytes) (r : Place) (k : SetsAfter) → k ≡ pushed_of s r.input (Some r.pid) (take (r.start + r.length - r.start) (drop r.start list)) → k ≡ pushed_given s (given_at list r)
 at_pushed s list r k e = let z : r.start + r.length - r.start ≡ r.length = omega arith in e ∙ rw z
 
 -- ---- the call
@@ -147,35 +145,35 @@ module _ (sets : Sets) (heads slots cells : List ℕ) (gs : List Given) (w : Boo
 pub looked : (s : Sets) (heads slots cells : List ℕ) (w n : Bool) → w ≡ whole_of (store s heads slots cells) → w ≡ true → n ≡ without_pid heads s.used → n ≡ false → Pushable s heads slots cells
 looked s heads slots cells w n e t f y = record { whole = is_whole_means s heads slots cells w e t; pids = sym f ∙ y }
 
-module _ (s : Store) (list : Bytes) (j : Judged) (e : j ≡ judged_of (sections_in list)) where
-  pub all_pushed : (k : AllAfter) → j ≡ judged.Whole → k ≡ pushed_sections s (givens_from list 0) → k ≡ pushed_all s list
+module _ (s : Store) (list : Bytes) (j : Result Unit ListError) (e : j ≡ judged_of (sections_in list)) where
+  pub all_pushed : (k : AllAfter) → j ≡ Ok tt → k ≡ pushed_sections s (givens_from list 0) → k ≡ pushed_all s list
   unfolding pushed_all
   all_pushed k q f = go (sections_in list) (sym e ∙ q) f
     where
-      go : (l : Listed) → judged_of l ≡ judged.Whole → k ≡ pushed_sections s (givens_of l) → k ≡ pushed_list s l
+      go : (l : Listed) → judged_of l ≡ Ok tt → k ≡ pushed_sections s (givens_of l) → k ≡ pushed_list s l
       go too_long w g = absurd (let z : ◌≡◌ {A = ℕ} 0 1 = cc in omega arith)
       go cut w g = absurd (let z : ◌≡◌ {A = ℕ} 0 1 = cc in omega arith)
       go (sections gs) w g = g
 
-  pub all_cut : (r : AllPushed) → j ≡ judged.Cut → r ≡ none NotWhole s.sets → after_all r s.heads s.slots s.cells ≡ pushed_all s list
+  pub all_cut : (r : AllPushed) → j ≡ Err error.Cut → r ≡ none NotWhole s.sets → after_all r s.heads s.slots s.cells ≡ pushed_all s list
   unfolding pushed_all
   all_cut r q f = rw f (go (sections_in list) (sym e ∙ q))
     where
-      go : (l : Listed) → judged_of l ≡ judged.Cut → all_after (of (refused NotWhole)) s 0 ≡ pushed_list s l
+      go : (l : Listed) → judged_of l ≡ Err error.Cut → all_after (of (refused NotWhole)) s 0 ≡ pushed_list s l
       go too_long w = absurd (let z : ◌≡◌ {A = ℕ} 0 1 = cc in omega arith)
       go cut w = refl
       go (sections gs) w = absurd (let z : ◌≡◌ {A = ℕ} 0 1 = cc in omega arith)
 
-  pub all_long : (r : AllPushed) → j ≡ judged.TooLong → r ≡ record { answer = answer.TooLong; sets = s.sets; taken = 0 } → after_all r s.heads s.slots s.cells ≡ pushed_all s list
+  pub all_long : (r : AllPushed) → j ≡ Err error.TooLong → r ≡ record { answer = answer.TooLong; sets = s.sets; taken = 0 } → after_all r s.heads s.slots s.cells ≡ pushed_all s list
   unfolding pushed_all
   all_long r q f = rw f (go (sections_in list) (sym e ∙ q))
     where
-      go : (l : Listed) → judged_of l ≡ judged.TooLong → all_after overlong s 0 ≡ pushed_list s l
+      go : (l : Listed) → judged_of l ≡ Err error.TooLong → all_after overlong s 0 ≡ pushed_list s l
       go too_long w = refl
       go cut w = absurd (let z : ◌≡◌ {A = ℕ} 0 1 = cc in omega arith)
       go (sections gs) w = absurd (let z : ◌≡◌ {A = ℕ} 0 1 = cc in omega arith)
 
-  pub all_whole_lem : j ≡ judged.Whole → WholeFrom list 0
+  pub all_whole_lem : j ≡ Ok tt → WholeFrom list 0
   all_whole_lem q = from_start list (sym e ∙ q)
 
 -- ---- sections that only touch their row, first

@@ -1,9 +1,8 @@
 -- Many sections in one call of the set collector: what it answers and leaves is what pushing them one by one does, until one answers something else than 4
 -- (docs/RULES.md, "Collectors", and "Logs" for a section list). `cond test a b` is a where the test is true, else b.
 -- Assumes nothing.
-use Rattle.std.specs.Prelude.{ℕ, ◌+◌, ◌≡◌, List, [], ◌∷◌, Bool, true, false, cond, length}
+use Rattle.std.specs.Prelude.{ℕ, ◌+◌, ◌≡◌, List, [], ◌∷◌, Bool, true, false, cond, length, Some}
 use Rattle.answers.specs.declared.Refusal.TheVariants.{NotWhole, CounterFull, NoPid}
-use Rattle.section.specs.declared.ids.MaybePid.TheVariants as maybe
 use Rattle.without_pid.specs.Pids.{without_pid}
 use Rattle.store.specs.Store.{Store, store, whole_of, Whole, counters_full}
 use Rattle.store.specs.declared.Sets.{Sets}
@@ -42,7 +41,7 @@ is_nothing (refused r) = false
 
 -- one section of a list is pushed, with its PID
 abbrev pub pushed_given : Store → Given → SetsAfter
-pushed_given s g = pushed_of s g.input (maybe.Some g.pid) g.section
+pushed_given s g = pushed_of s g.input (Some g.pid) g.section
 
 -- one by one, until one answers something else than 4; n bytes of the list were taken before
 unfoldable pub pushed_each : (n : ℕ) → Store → List Given → AllAfter

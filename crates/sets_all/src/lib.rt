@@ -3,7 +3,6 @@
 #![tactic(auto)]
 
 ghost use Rattle.std.specs.Prelude.{◌≡◌, ◌+◌, ◌≤◌, length, take, drop};
-ghost use Rattle.section.specs.declared.ids.MaybePid.TheVariants as maybe;
 ghost use Rattle.store.specs.Store.{store};
 ghost use Rattle.sets_settle.specs.Settle.{after_push};
 ghost use Rattle.sets.specs.Store.{pushed_of};
@@ -11,9 +10,7 @@ ghost use Rattle.log_list.specs.List.{given_at, givens_from, WholeFrom};
 ghost use Rattle.sets_all.specs.All.{all_no, after_all, pushed_each, pushed_all, pushed_given, pushed_sections, Pushable};
 
 use answers::Refusal;
-use arrivals::SetArrival;
-use log_list::{Judged, Place};
-use section::ids::MaybePid;
+use log_list::{ListError, Place, Sections};
 use sets_settle::{PushAnswer, Pushed};
 use store::Sets;
 
@@ -50,7 +47,7 @@ fn push_ready(
     slots: &mut [u32],
     cells: &mut [u8],
     input: u8,
-    pid: MaybePid,
+    pid: Option<u16>,
     bytes: &[u8],
 ) -> Pushed
     requires { Pushable sets heads.old slots.old cells.old }
@@ -64,13 +61,11 @@ fn push_ready(
         };
     }
     match arrivals::set_arrival(input, pid, bytes) {
-        SetArrival::Refused(refusal) => Pushed {
+        Err(refusal) => Pushed {
             answer: PushAnswer::Refused(refusal),
             sets,
         },
-        SetArrival::Arrived(entry) => {
-            sets_push::push_whole(sets, heads, slots, cells, entry, bytes)
-        }
+        Ok(entry) => { sets_push::push_whole(sets, heads, slots, cells, entry, bytes) }
     }
 }
 
@@ -96,7 +91,7 @@ fn push_at(
         slots,
         cells,
         place.input,
-        MaybePid::Some(place.pid),
+        Some(place.pid),
         &list[start..end],
     )
 }
@@ -116,8 +111,7 @@ fn push_each(
     let first = sets_repeats::push_first(sets, heads, slots, cells, list);
     let mut held = first.sets;
     let mut at = first.at;
-    while at < list.len() {
-        let place = log_list::section_at(list, at);
+    for place in Sections::new(list, at) {
         let pushed = push_at(held, heads, slots, cells, list, place);
         held = pushed.sets;
         at = place.start + place.length;
@@ -190,11 +184,11 @@ pub fn push_all(
     ensures { after_all result heads.new slots.new cells.new ≡ pushed_all (store sets heads.old slots.old cells.old) list.now }
 {
     match log_list::judge(list) {
-        Judged::Whole => push_listed(sets, heads, slots, cells, list),
-        Judged::Cut => refuse(
+        Ok(()) => push_listed(sets, heads, slots, cells, list),
+        Err(ListError::Cut) => refuse(
             AllAnswer::Pushed(PushAnswer::Refused(Refusal::NotWhole)),
             sets,
         ),
-        Judged::TooLong => refuse(AllAnswer::TooLong, sets),
+        Err(ListError::TooLong) => refuse(AllAnswer::TooLong, sets),
     }
 }

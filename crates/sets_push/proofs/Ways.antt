@@ -7,15 +7,14 @@ use Prim.Native.Nat.{ℕ, ◌*◌, ◌≤◌, ◌<◌}
 use native.Mathlib.Omega.{arith}
 use lib.ListN.{length, get_or}
 use Rattle.answers.specs.declared.Refusal.TheVariants.{NotWhole, CounterFull, NoPid}
-use Rattle.section.specs.declared.ids.MaybePid.{MaybePid}
+use Rattle.std.specs.Prelude.{Option, Result, Ok, Err}
+use Rattle.answers.specs.declared.Refusal.{Refusal}
 use Rattle.rows.specs.declared.Entry.{Entry}
 use Rattle.without_pid.specs.Pids.{without_pid}
 use Rattle.store.specs.Store.{Store, store, whole_of, counters_full}
 use Rattle.store.specs.declared.Sets.{Sets}
 use Rattle.store.proofs.Whole.{whole_means, is_whole_means, evictions_go_on, clock_goes_on}
 use Rattle.arrivals.specs.Arrivals.{set_arrival, SetTaken}
-use Rattle.arrivals.specs.declared.SetArrival.{SetArrival}
-use Rattle.arrivals.specs.declared.SetArrival.TheVariants as arrival
 use Rattle.arrivals.proofs.Facts.{set_taken}
 use Rattle.sets_plan.specs.Plan.{plan_of, Ready}
 use Rattle.sets_plan.specs.declared.Plan.{Plan}
@@ -25,21 +24,21 @@ use Rattle.sets_push.specs.Pushing.{whole_pushed, admitted, AdmittedOk}
 
 -- ---- 10, 11, 41, and what the section says
 
-module _ (s : Store) (input : ℕ) (pid : MaybePid) (bytes : List ℕ) (w : Bool) (e : w ≡ whole_of s) where
-  pub admit_broken : w ≡ false → arrival.Refused NotWhole ≡ admitted s input pid bytes
+module _ (s : Store) (input : ℕ) (pid : Option ℕ) (bytes : List ℕ) (w : Bool) (e : w ≡ whole_of s) where
+  pub admit_broken : w ≡ false → Err NotWhole ≡ admitted s input pid bytes
   unfolding admitted
   admit_broken t = rw (← e, t)
 
   module _ (full : Bool) (g : full ≡ counters_full s.sets) (t : w ≡ true) where
-    pub admit_full : full ≡ true → arrival.Refused CounterFull ≡ admitted s input pid bytes
+    pub admit_full : full ≡ true → Err CounterFull ≡ admitted s input pid bytes
     unfolding admitted
     admit_full h = rw (← e, t, ← g, h)
 
-    pub admit_without : (n : Bool) → full ≡ false → n ≡ without_pid s.heads s.sets.used → n ≡ true → arrival.Refused NoPid ≡ admitted s input pid bytes
+    pub admit_without : (n : Bool) → full ≡ false → n ≡ without_pid s.heads s.sets.used → n ≡ true → Err NoPid ≡ admitted s input pid bytes
     unfolding admitted
     admit_without n h f y = rw (← e, t, ← g, h, ← f, y)
 
-    pub admit_section : (n : Bool) (a : SetArrival) → full ≡ false → n ≡ without_pid s.heads s.sets.used → n ≡ false → a ≡ set_arrival input pid bytes → a ≡ admitted s input pid bytes
+    pub admit_section : (n : Bool) (a : Result Entry Refusal) → full ≡ false → n ≡ without_pid s.heads s.sets.used → n ≡ false → a ≡ set_arrival input pid bytes → a ≡ admitted s input pid bytes
     unfolding admitted
     admit_section n a h f y q = rw (← e, t, ← g, h, ← f, y) q
 
@@ -49,20 +48,20 @@ rows_lent s heads slots cells w e t = let o = is_whole_means s heads slots cells
 
 -- what arrived at a store that is whole
 module _ (s : Store) (bytes : List ℕ) where
-  arrived_ok : Ready s → (a : SetArrival) → SetTaken bytes a → AdmittedOk s bytes a
-  arrived_ok r (arrival.Refused x) t = tt
-  arrived_ok r (arrival.Arrived e) t = (r, t)
+  arrived_ok : Ready s → (a : Result Entry Refusal) → SetTaken bytes a → AdmittedOk s bytes a
+  arrived_ok r (Err x) t = tt
+  arrived_ok r (Ok e) t = (r, t)
 
-  pub admitted_may : (w full : Bool) (a : SetArrival) → w ≡ whole_of s → w ≡ true → full ≡ counters_full s.sets → full ≡ false → SetTaken bytes a → AdmittedOk s bytes a
+  pub admitted_may : (w full : Bool) (a : Result Entry Refusal) → w ≡ whole_of s → w ≡ true → full ≡ counters_full s.sets → full ≡ false → SetTaken bytes a → AdmittedOk s bytes a
   admitted_may w full a e t g h x =
       arrived_ok (record { whole = whole_means s (sym e ∙ t); counts = evictions_go_on s.sets full g h; runs = clock_goes_on s.sets full g h }) a x
 
-  pub admitted_ok : (input : ℕ) (pid : MaybePid) → get_or bytes 7 0 < 256 → AdmittedOk s bytes (admitted s input pid bytes)
+  pub admitted_ok : (input : ℕ) (pid : Option ℕ) → get_or bytes 7 0 < 256 → AdmittedOk s bytes (admitted s input pid bytes)
   unfolding admitted
   admitted_ok input pid b = go (whole_of s) (counters_full s.sets) (without_pid s.heads s.sets.used) refl refl
     where
       go : (w t n : Bool) → whole_of s ≡ w → counters_full s.sets ≡ t
-          → AdmittedOk s bytes (cond w (cond t (arrival.Refused CounterFull) (cond n (arrival.Refused NoPid) (set_arrival input pid bytes))) (arrival.Refused NotWhole))
+          → AdmittedOk s bytes (cond w (cond t (Err CounterFull) (cond n (Err NoPid) (set_arrival input pid bytes))) (Err NotWhole))
       go false t n p q = tt
       go true true n p q = tt
       go true false true p q = tt

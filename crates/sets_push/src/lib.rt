@@ -9,9 +9,7 @@ ghost use Rattle.sets_settle.specs.Settle.{after_push};
 ghost use Rattle.sets_push.specs.Pushing.{admitted, whole_pushed, AdmittedOk};
 
 use answers::Refusal;
-use arrivals::SetArrival;
 use rows::Entry;
-use section::ids::MaybePid;
 use sets_settle::Pushed;
 use store::Sets;
 
@@ -22,23 +20,23 @@ pub fn admit(
     slots: &[u32],
     cells: &[u8],
     input: u8,
-    pid: MaybePid,
+    pid: Option<u16>,
     bytes: &[u8],
-) -> SetArrival
+) -> Result<Entry, Refusal>
     ensures value { result ≡ admitted (store sets heads.now slots.now cells.now) input pid bytes.now }
     ensures admitted_ok { AdmittedOk (store sets heads.now slots.now cells.now) bytes.now result }
 {
     let seen = store::look(sets, heads, slots, cells);
     if seen.whole {
         if store::counters_full(sets) {
-            return SetArrival::Refused(Refusal::CounterFull);
+            return Err(Refusal::CounterFull);
         }
         if seen.without {
-            return SetArrival::Refused(Refusal::NoPid);
+            return Err(Refusal::NoPid);
         }
         return arrivals::set_arrival(input, pid, bytes);
     }
-    SetArrival::Refused(Refusal::NotWhole)
+    Err(Refusal::NotWhole)
 }
 
 // A section that arrived is pushed into a store that is whole.

@@ -1,33 +1,30 @@
 -- A section that only touches its row: one law for each way out of the search for it, and what a turn of the loop leaves.
 -- Assumes nothing.
-use mathlib.Core.Path.{◌≡◌, refl, sym, ap, subst, ◌∙◌}
+use mathlib.Core.Path.{◌≡◌, refl, sym, subst, ◌∙◌}
 use mathlib.Core.Logic.{◌≢◌}
 use mathlib.Core.List.{List}
-use mathlib.Core.Bool.{Bool, true, false, cond}
-use Prim.Native.Nat.{ℕ, ◌+◌, ◌-◌, ◌*◌, ◌≤◌, ◌<◌}
+use mathlib.Core.Bool.{Bool, true, false}
+use Prim.Native.Nat.{ℕ, ◌+◌, ◌-◌, ◌≤◌, ◌<◌}
 use native.Mathlib.Omega.{arith}
 use borrow.Author.Tests.{le-ltb, ne_eqb}
-use lib.Dec.{ltb, eqb}
 use lib.ListN.{length, get_or, take, drop}
-use Rattle.section.specs.declared.ids.MaybePid.{MaybePid}
-use Rattle.section.specs.declared.ids.MaybePid.TheVariants as maybe
+use Rattle.std.specs.Prelude.{Option, Some, Result, Ok}
+use Rattle.answers.specs.declared.Refusal.{Refusal}
 use Rattle.rows.specs.Rows.{row_of, row_slots, touched}
 use Rattle.rows.specs.declared.Entry.{Entry}
-use Rattle.rows.proofs.Words.{touched_not, length_touched}
+use Rattle.rows.proofs.Words.{touched_not}
 use Rattle.columns.specs.Columns.{Tells}
 use Rattle.columns.proofs.Ways.{tells_touched}
 use Rattle.without_pid.specs.Pids.{without_pid}
-use Rattle.store.specs.Store.{Store, store, counters_full, risen_sets, whole_of, Whole}
+use Rattle.store.specs.Store.{Store, store, counters_full, risen_sets, Whole}
 use Rattle.store.specs.declared.Sets.{Sets}
 use Rattle.store.proofs.Whole.{means_whole, clock_goes_on}
-use Rattle.arrivals.specs.Arrivals.{set_arrival, Numbered, SetTaken, Taken}
-use Rattle.arrivals.specs.declared.SetArrival.{SetArrival}
-use Rattle.arrivals.specs.declared.SetArrival.TheVariants as arrival
+use Rattle.arrivals.specs.Arrivals.{set_arrival, Numbered, SetTaken}
 use Rattle.placing.specs.Places.{place_known, place_of, PlaceOk}
 use Rattle.placing.specs.declared.Place.{Place}
 use Rattle.placing.specs.declared.Place.TheVariants as place
 use Rattle.placing.proofs.Laws.{place_known_lem, place_ok}
-use Rattle.sets_plan.specs.Plan.{plan_of, plan_placed}
+use Rattle.sets_plan.specs.Plan.{plan_of}
 use Rattle.sets_settle.specs.Settle.{nothing, SetsAfter, after, goes_out, settled_answer, settled_heads, settled}
 use Rattle.sets_push.specs.Pushing.{whole_pushed}
 use Rattle.sets_push.proofs.Ways.{admit_section}
@@ -38,7 +35,7 @@ use Rattle.sets.proofs.Pids.{has_pids, none_without, push_pids}
 use Rattle.rules_logs.specs.Records.{Bytes}
 use Rattle.log_list.specs.List.{given_at, PlacedAt}
 use Rattle.log_list.specs.declared.Place.{Place as Listed}
-use Rattle.sets_repeats.specs.Repeats.{Searchable, touched_in, Known, Quiet, Repeat, RepeatGiven, Passed, next}
+use Rattle.sets_repeats.specs.Repeats.{Searchable, touched_in, Known, Repeat, RepeatGiven, Passed, next}
 
 -- ---- a section that arrived
 
@@ -52,15 +49,6 @@ settled_quiet : (s : Store) (i : ℕ) → goes_out s.heads s.slots i ≡ false �
 unfolding settled settled_answer settled_heads
 settled_quiet s i q = rw (goes_same (s.sets.clock + 1) i s.heads s.slots, q)
 
-pub quiet_out : (heads slots : List ℕ) (used i : ℕ) (b : Bool) → b ≡ goes_out heads slots i → b ≡ true → used ≡ cond (goes_out heads slots i) used i
-quiet_out heads slots used i b e t = rw (← e, t)
-
-pub quiet_not : (heads slots : List ℕ) (used i : ℕ) (b : Bool) → b ≡ goes_out heads slots i → b ≡ false → i ≡ cond (goes_out heads slots i) used i
-quiet_not heads slots used i b e t = rw (← e, t)
-
-pub known_none : (s : Store) (e : Entry) (bytes : List ℕ) → Known s e bytes s.sets.used
-known_none s e bytes = record { touches = λ h. absurd (omega arith) }
-
 module _ (s : Store) (e : Entry) (bytes : List ℕ) (w : Whole s.sets s.heads s.slots s.cells) (long : length bytes ≤ s.sets.size) (i : ℕ) (p : Place)
     (f : i ≡ row_of s.heads e.key s.sets.used) (h : i < s.sets.used) (q : p ≡ place_known s e bytes i) (j : ℕ) (z : p ≡ place.Repeat j) where
   placed : place.Repeat j ≡ place_of s e bytes
@@ -73,43 +61,35 @@ module _ (s : Store) (e : Entry) (bytes : List ℕ) (w : Whole s.sets s.heads s.
   unfolding whole_pushed plan_of
   planned = let u = w.used in let n : s.sets.limit ≢ 0 = omega arith in rw (le-ltb s.sets.size (length bytes) long, ne_eqb s.sets.limit 0 n, ← placed)
 
-  pub known_repeat : (r : ℕ) → r ≡ cond (goes_out s.heads s.slots j) s.sets.used j → Known s e bytes r
-  known_repeat r k = record { touches = λ l. planned ∙ go (goes_out s.heads s.slots j) refl (k) l }
-    where
-      go : (b : Bool) → goes_out s.heads s.slots j ≡ b → r ≡ cond b s.sets.used j → r < s.sets.used → settled s j ≡ after nothing (touched_in s r)
-      go true y k l = absurd (omega (arith, k))
-      go false y k l = rw k (settled_quiet s j y)
+  pub known_repeat : (out : Bool) → out ≡ goes_out s.heads s.slots j → out ≡ false → Known s e bytes j
+  known_repeat out g n = record { row = repeat_row; touches = planned ∙ settled_quiet s j (sym g ∙ n) }
 
 -- ---- a section as it is offered
 
-pub repeat_none : (s : Store) (input : ℕ) (pid : MaybePid) (bytes : List ℕ) → Repeat s input pid bytes s.sets.used
-repeat_none s input pid bytes = record { quiet = λ h. absurd (omega arith) }
-
-pub repeat_arrived : (s : Sets) (heads slots cells tags : List ℕ) → Searchable s heads slots cells tags → (input : ℕ) (pid : MaybePid) (bytes : List ℕ) (full : Bool) (a : SetArrival) (x : Entry) (r : ℕ)
-    → get_or bytes 7 0 < 256 → full ≡ counters_full s → full ≡ false → a ≡ set_arrival input pid bytes → a ≡ arrival.Arrived x → Known (store s heads slots cells) x bytes r → Repeat (store s heads slots cells) input pid bytes r
+pub repeat_arrived : (s : Sets) (heads slots cells tags : List ℕ) → Searchable s heads slots cells tags → (input : ℕ) (pid : Option ℕ) (bytes : List ℕ) (full : Bool) (a : Result Entry Refusal) (x : Entry) (r : ℕ)
+    → get_or bytes 7 0 < 256 → full ≡ counters_full s → full ≡ false → a ≡ set_arrival input pid bytes → a ≡ Ok x → Known (store s heads slots cells) x bytes r → Repeat (store s heads slots cells) input pid bytes r
 repeat_arrived s heads slots cells tags o input pid bytes full a x r b g ne e q k = record {
-  quiet = λ h. record {
-    runs = clock_goes_on s full g ne;
-    byte = b;
-    pushed = pushed_arrived here input pid bytes a
-        (admit_section here input pid bytes true (sym (means_whole here o.whole)) full g refl false a ne (sym o.pids) refl e) x (after nothing (touched_in here r)) q (sym (k.touches h));
-  };
+  row = k.row;
+  runs = clock_goes_on s full g ne;
+  byte = b;
+  pushed = pushed_arrived here input pid bytes a
+      (admit_section here input pid bytes true (sym (means_whole here o.whole)) full g refl false a ne (sym o.pids) refl e) x (after nothing (touched_in here r)) q (sym k.touches);
 }
   where
     here : Store
     here = store s heads slots cells
 
-pub arrived_numbered : (bytes : List ℕ) (a : SetArrival) (x : Entry) → SetTaken bytes a → a ≡ arrival.Arrived x → Numbered x
+pub arrived_numbered : (bytes : List ℕ) (a : Result Entry Refusal) (x : Entry) → SetTaken bytes a → a ≡ Ok x → Numbered x
 arrived_numbered bytes a x t q = (subst (SetTaken bytes) q t).numbered
 
 -- the part of the list that a place tells of
-pub repeat_at : (s : Store) (list : Bytes) (r : Listed) (i : ℕ) → Repeat s r.input (maybe.Some r.pid) (take (r.start + r.length - r.start) (drop r.start list)) i → RepeatGiven s (given_at list r) i
+pub repeat_at : (s : Store) (list : Bytes) (r : Listed) (i : ℕ) → Repeat s r.input (Some r.pid) (take (r.start + r.length - r.start) (drop r.start list)) i → RepeatGiven s (given_at list r) i
 repeat_at s list r i e = let z : r.start + r.length - r.start ≡ r.length = omega arith in rw z at e
 
 -- ---- one after another
 
 -- a row in use is touched: the store stays whole, with its PIDs, and the column has the tags still
-pub repeat_stays : (s : Sets) (heads slots cells tags : List ℕ) (input : ℕ) (pid : MaybePid) (bytes : List ℕ) (i : ℕ) → Searchable s heads slots cells tags → Quiet (store s heads slots cells) input pid bytes i
+pub repeat_stays : (s : Sets) (heads slots cells tags : List ℕ) (input : ℕ) (pid : Option ℕ) (bytes : List ℕ) (i : ℕ) → Searchable s heads slots cells tags → Repeat (store s heads slots cells) input pid bytes i
     → Searchable (risen_sets s) (touched (s.clock + 1) i heads) slots cells tags
 repeat_stays s heads slots cells tags input pid bytes i o q = record {
   whole = subst (λ (k : SetsAfter). Whole k.store.sets k.store.heads k.store.slots k.store.cells) (sym q.pushed) (push_stays here input pid bytes q.byte o.whole);
@@ -123,11 +103,11 @@ repeat_stays s heads slots cells tags input pid bytes i o q = record {
     here = store s heads slots cells
 
 pub repeat_turn : (list : Bytes) (s₀ : Store) (s : Sets) (heads slots cells tags : List ℕ) (p : ℕ) (r : Listed) (i : ℕ) (s' : Sets) (heads' : List ℕ) → Searchable s heads slots cells tags
-    → Quiet (store s heads slots cells) r.input (maybe.Some r.pid) (given_at list r).section i → PlacedAt list p r → Passed list s₀ p (store s heads slots cells)
+    → Repeat (store s heads slots cells) r.input (Some r.pid) (given_at list r).section i → PlacedAt list p r → Passed list s₀ p (store s heads slots cells)
     → heads' ≡ touched (s.clock + 1) i heads → s' ≡ risen_sets s → Searchable s' heads' slots cells tags × Passed list s₀ (r.start + r.length) (store s' heads' slots cells)
 repeat_turn list s₀ s heads slots cells tags p r i s' heads' o q l k e f =
     rw (e, f)
-    (repeat_stays s heads slots cells tags r.input (maybe.Some r.pid) (given_at list r).section i o q, next k r l (touched_in (store s heads slots cells) i) q.pushed)
+    (repeat_stays s heads slots cells tags r.input (Some r.pid) (given_at list r).section i o q, next k r l (touched_in (store s heads slots cells) i) q.pushed)
 
 -- ---- a column that is made for them
 

@@ -2,19 +2,16 @@
 // once finds the row of each. The first section that is anything else ends it. What is answered and left is that of pushing them one by one.
 #![tactic(auto)]
 
-ghost use Rattle.std.specs.Prelude.{◌≡◌, false, cond, ◌+◌, ◌*◌, ◌<◌, ◌≤◌, length};
+ghost use Rattle.std.specs.Prelude.{◌≡◌, false, ◌+◌, ◌≤◌, length, IfSome};
 ghost use Rattle.without_pid.specs.Pids.{without_pid};
 ghost use Rattle.store.specs.Store.{store, Whole};
 ghost use Rattle.arrivals.specs.Arrivals.{Numbered};
-ghost use Rattle.sets_settle.specs.Settle.{goes_out};
 ghost use Rattle.log_list.specs.List.{given_at, WholeFrom};
 ghost use Rattle.sets_repeats.specs.Repeats.{Searchable, Known, Repeat, RepeatGiven, Passed};
 
-use arrivals::SetArrival;
-use log_list::Place;
+use log_list::{Place, Sections};
 use placing::Place as Placed;
 use rows::Entry;
-use section::ids::MaybePid;
 use store::Sets;
 
 // The settings and counts after them, and the place of the list where the next section begins.
@@ -24,19 +21,7 @@ pub struct Repeats {
     pub at: usize,
 }
 
-// Row i where it does not go out, else used.
-fn row_quiet(heads: &[u64], slots: &[u32], used: usize, i: usize) -> usize
-    requires { (i * 12 + 12 ≤ length heads.now) × (i * 288 + 288 ≤ length slots.now) }
-    ensures { result ≡ cond (goes_out heads.now slots.now i) used i }
-{
-    if sets_settle::goes_out(heads, slots, i) {
-        used
-    } else {
-        i
-    }
-}
-
-// The row of a section that arrived, where its push only touches that row; used where it does anything else.
+// The row of a section that arrived, where its push only touches that row; none where it does anything else.
 fn row_known(
     sets: Sets,
     heads: &[u64],
@@ -45,22 +30,27 @@ fn row_known(
     tags: &[u16],
     e: Entry,
     bytes: &[u8],
-) -> usize
+) -> Option<usize>
     requires searchable { Searchable sets heads.now slots.now cells.now tags.now }
     requires numbered { Numbered e }
-    ensures { Known (store sets heads.now slots.now cells.now) e bytes.now result }
+    ensures { IfSome result (Known (store sets heads.now slots.now cells.now) e bytes.now) }
 {
     if sets.size < bytes.len() {
-        return sets.used;
+        return None;
     }
     let i = columns::find(tags, heads, e.key, sets.used);
     if sets.used <= i {
-        return sets.used;
+        return None;
     }
     match placing::place_known(sets, heads, slots, cells, e, bytes, i) {
-        Placed::Conflict(_) => sets.used,
-        Placed::Repeat(row) => row_quiet(heads, slots, sets.used, row),
-        Placed::Goes(_) => sets.used,
+        Placed::Conflict(_) => None,
+        Placed::Repeat(row) => {
+            if sets_settle::goes_out(heads, slots, row) {
+                return None;
+            }
+            Some(row)
+        }
+        Placed::Goes(_) => None,
     }
 }
 
@@ -72,18 +62,18 @@ fn row_repeated(
     cells: &[u8],
     tags: &[u16],
     input: u8,
-    pid: MaybePid,
+    pid: Option<u16>,
     bytes: &[u8],
-) -> usize
+) -> Option<usize>
     requires { Searchable sets heads.now slots.now cells.now tags.now }
-    ensures { Repeat (store sets heads.now slots.now cells.now) input pid bytes.now result }
+    ensures { IfSome result (Repeat (store sets heads.now slots.now cells.now) input pid bytes.now) }
 {
     if store::counters_full(sets) {
-        return sets.used;
+        return None;
     }
     match arrivals::set_arrival(input, pid, bytes) {
-        SetArrival::Refused(_) => sets.used,
-        SetArrival::Arrived(entry) => row_known(sets, heads, slots, cells, tags, entry, bytes),
+        Err(_) => None,
+        Ok(entry) => row_known(sets, heads, slots, cells, tags, entry, bytes),
     }
 }
 
@@ -96,10 +86,10 @@ fn row_at(
     tags: &[u16],
     list: &[u8],
     place: Place,
-) -> usize
+) -> Option<usize>
     requires searchable { Searchable sets heads.now slots.now cells.now tags.now }
     requires length_in_bounds { place.start + place.length ≤ length list.now }
-    ensures { RepeatGiven (store sets heads.now slots.now cells.now) (given_at list.now place) result }
+    ensures { IfSome result (RepeatGiven (store sets heads.now slots.now cells.now) (given_at list.now place)) }
 {
     let start = place.start;
     let end = start + place.length;
@@ -110,7 +100,7 @@ fn row_at(
         cells,
         tags,
         place.input,
-        MaybePid::Some(place.pid),
+        Some(place.pid),
         &list[start..end],
     )
 }
@@ -132,12 +122,10 @@ fn push_repeats(
 {
     let mut held = sets;
     let mut at = 0;
-    while at < list.len() {
-        let place = log_list::section_at(list, at);
-        let i = row_at(held, heads, slots, cells, tags, list, place);
-        if held.used <= i {
+    for place in Sections::new(list, 0) {
+        let Some(i) = row_at(held, heads, slots, cells, tags, list, place) else {
             return Repeats { sets: held, at };
-        }
+        };
         rows::touch(heads, i, held.clock + 1);
         held = store::risen(held);
         at = place.start + place.length;

@@ -1,18 +1,19 @@
 -- The sections of a row are listed by rising number, one after another; where one ends early, nothing after it is listed. The list is a window on all entries.
 -- Assumes nothing.
-use mathlib.Core.Path.{◌≡◌, refl, sym, ap, ap₂, ◌∙◌}
+use mathlib.Core.Path.{◌≡◌, refl, sym, ap, ◌∙◌}
 use mathlib.Core.Bool.{Bool, true, false, cond, true≢false}
 use Prim.Native.Nat.{ℕ, ◌+◌, ◌*◌, ◌/◌, ◌-◌}
-use mathlib.Core.List.{List, [], ◌∷◌, ◌++◌, append_assoc, append-nil}
+use mathlib.Core.List.{List, [], ◌∷◌, ◌++◌, append_assoc}
 use lib.ListN.{length, drop, take}
 use Rattle.cells.specs.Cells.{filled, cell_number, kept_length}
 use Rattle.eit_section.specs.Eit.{eit_of}
-use Rattle.eit_section.specs.declared.Reading.{Reading}
-use Rattle.eit_section.specs.declared.Reading.TheVariants as reading
+use Rattle.std.specs.Prelude.{Result, Ok, Err}
+use Rattle.eit_section.specs.declared.Eit.{Eit}
+use Rattle.answers.specs.declared.Refusal.{Refusal}
+use Rattle.answers.specs.declared.Refusal.TheVariants as refusal
 use Rattle.listing.specs.Rules.{page, joined}
-use Rattle.listing.specs.Store.{found_from, put_all}
-use Rattle.listing.proofs.Window.{Twelve, none, more, twelve_append, found_twelve, window}
-use Rattle.shown_sections.specs.declared.Shown.{Shown}
+use Rattle.listing.specs.Store.{found_from}
+use Rattle.listing.proofs.Window.{Twelve, none, twelve_append, found_twelve, window}
 use Rattle.shown_sections.specs.Shown.{Show, show, End, finished, no_eit, broken, past_loop, good_show, show_by, section_show, and_then, end_then, slot_show, slots_show, laid}
 use Rattle.shown_sections.specs.Shown.{section_shows, in_order, entries_of, AllFinished, finished_none, finished_more, ends_early}
 
@@ -56,11 +57,11 @@ first_stop (finished_more {a} {xs} e f) b bs h =
 
 -- ---- the window
 
-by_twelve : (bytes : List ℕ) (start size number : ℕ) (x : Reading) → Twelve (show_by bytes start size number x).entries
+by_twelve : (bytes : List ℕ) (start size number : ℕ) (x : Result Eit Refusal) → Twelve (show_by bytes start size number x).entries
 unfolding good_show
-by_twelve bytes start size number reading.NotEit = none
-by_twelve bytes start size number reading.Broken = none
-by_twelve bytes start size number (reading.Good e) = found_twelve 0 number (found_from 12 (take (start + size - 4) bytes) (start + 14) 0)
+by_twelve bytes start size number (Err refusal.NotEit) = none
+by_twelve bytes start size number (Err r) = none
+by_twelve bytes start size number (Ok e) = found_twelve 0 number (found_from 12 (take (start + size - 4) bytes) (start + 14) 0)
 
 pub section_twelve : (bytes : List ℕ) (start size number : ℕ) → Twelve (section_show bytes start size number).entries
 unfolding section_show

@@ -2,24 +2,23 @@
 -- loop. No event runs past the section: its layout was judged before (19).
 -- Assumes nothing.
 use mathlib.Core.Path.{◌≡◌, refl, sym, ap, ap₂, ◌∙◌}
-use mathlib.Core.Bool.{Bool, true, false, cond}
-use Prim.Native.Nat.{ℕ, ◌+◌, ◌-◌, ◌≤◌, ◌<◌, min}
+use mathlib.Core.Bool.{true}
+use Prim.Native.Nat.{ℕ, ◌+◌, ◌-◌, ◌≤◌}
 use native.Mathlib.Omega.{arith}
 use mathlib.Core.List.{List, [], ◌∷◌, ◌++◌, append-nil}
-use lib.ListN.{length, take, drop, length-take, length-drop}
+use lib.ListN.{length, take, drop, length-drop}
 use lib.Seq.{drop-drop, take-take, length-take-le}
 use lib.Dec.{leb}
 use borrow.Author.Tests.{leb-true}
 use Rattle.laws.specs.Entries.{whole_entries}
 use Rattle.laws.proofs.Tests.{and_true}
 use Rattle.laws.proofs.Lists.{drop_take}
-use Rattle.section.specs.Header.{byte_at}
 use Rattle.eit_section.specs.Eit.{layout_good}
-use Rattle.listing.specs.Rules.{Part, Item, Whole, RunsPast, DescriptorPast, size_of, flat}
-use Rattle.listing.specs.Store.{Found, done, past, entry, descriptor, found_from, words_of}
+use Rattle.listing.specs.Rules.{Part, Item, Whole, DescriptorPast, size_of, flat}
+use Rattle.listing.specs.Store.{Found, done, past, found_from, words_of}
 use Rattle.listing.proofs.Listed.{found_parts, found_items, whole_found, past_found, words_items, Known, is_whole, runs_past, known}
 use Rattle.listing.proofs.LaidOut.{layout_good_lem}
-use Rattle.shown_sections.specs.Shown.{Show, show, End, finished, past_loop, end_by, good_show}
+use Rattle.shown_sections.specs.Shown.{show, finished, past_loop, end_by, good_show}
 
 -- the bytes of a section's events
 abbrev pub event_loop : (bytes : List ℕ) → (start size : ℕ) → List ℕ

@@ -1,24 +1,22 @@
 -- A section's walk: its places are not before its first event, it has no more entries than bytes, and its end is told as its answer.
 -- Assumes nothing.
-use mathlib.Core.Path.{◌≡◌, refl, sym, ap, ap₂, ◌∙◌}
+use mathlib.Core.Path.{◌≡◌, refl, ap, ◌∙◌}
 use mathlib.Core.Bool.{Bool, true, false, cond}
-use Prim.Native.Nat.{ℕ, zero, suc, ◌+◌, ◌*◌, ◌-◌, ◌≤◌, ◌<◌, min}
+use Prim.Native.Nat.{ℕ, zero, suc, ◌+◌, ◌-◌, ◌≤◌, min}
 use native.Mathlib.Nat.{add-zero}
 use native.Mathlib.Omega.{arith}
-use mathlib.Core.List.{List, [], ◌∷◌, ◌++◌}
+use mathlib.Core.List.{List, [], ◌∷◌}
 use lib.ListN.{length, get_or, take, drop, length-take}
 use lib.Dec.{ltb}
 use Rattle.laws.specs.Entries.{counted}
-use Rattle.cells.specs.Cells.{kept_length, cell_number, filled}
 use Rattle.eit_section.specs.Eit.{eit_of}
-use Rattle.eit_section.specs.declared.Reading.{Reading}
-use Rattle.eit_section.specs.declared.Reading.TheVariants as reading
+use Rattle.std.specs.Prelude.{Result, Ok, Err}
+use Rattle.eit_section.specs.declared.Eit.{Eit}
+use Rattle.answers.specs.declared.Refusal.{Refusal}
+use Rattle.answers.specs.declared.Refusal.TheVariants as refusal
 use Rattle.listing.specs.Store.{Found, done, past, entry, descriptor, walk, found_from, words_of, end_of}
-use Rattle.listing.specs.declared.Walked.{Walked}
-use Rattle.listing.specs.declared.Walked.TheVariants as walked
 use Rattle.listing.proofs.Bounds.{two_bytes}
-use Rattle.shown_sections.specs.declared.Shown.{Shown}
-use Rattle.shown_sections.specs.Shown.{Show, show, End, finished, no_eit, broken, past_loop, end_by, good_show, show_by, section_show, slot_show, reached_as, reached_by, From}
+use Rattle.shown_sections.specs.Shown.{End, finished, no_eit, broken, past_loop, end_by, good_show, show_by, section_show, reached_as, reached_by, From}
 
 -- ---- places
 
@@ -53,10 +51,10 @@ good_few bytes start size number =
     let l : length (take (start + size - 4) bytes) ≡ min (start + size - 4) (length bytes) = length-take (start + size - 4) bytes in
     omega arith
 
-by_few : (bytes : List ℕ) (start size number : ℕ) (x : Reading) → length (show_by bytes start size number x).entries ≤ size
-by_few bytes start size number reading.NotEit = omega arith
-by_few bytes start size number reading.Broken = omega arith
-by_few bytes start size number (reading.Good e) = good_few bytes start size number
+by_few : (bytes : List ℕ) (start size number : ℕ) (x : Result Eit Refusal) → length (show_by bytes start size number x).entries ≤ size
+by_few bytes start size number (Err refusal.NotEit) = omega arith
+by_few bytes start size number (Err r) = omega arith
+by_few bytes start size number (Ok e) = good_few bytes start size number
 
 pub section_few : (bytes : List ℕ) (start size number : ℕ) → length (section_show bytes start size number).entries ≤ size
 unfolding section_show

@@ -1,87 +1,58 @@
 -- One law for each way out of the functions that list sections.
 -- Assumes nothing.
 use mathlib.Core.Path.{◌≡◌, refl, sym, ap, ap₂, ◌∙◌}
-use mathlib.Core.Bool.{Bool, true, false, cond, not}
-use Prim.Native.Nat.{ℕ, zero, suc, ◌+◌, ◌*◌, ◌-◌, ◌≤◌, ◌<◌, min}
+use mathlib.Core.Bool.{Bool, true, false, cond}
+use Prim.Native.Nat.{ℕ, ◌+◌, ◌*◌, ◌-◌, ◌≤◌, ◌<◌, min}
 use native.Mathlib.Nat.{add-zero, sub-zero, mul-le-mul}
 use native.Mathlib.Numerals.{add-one}
 use native.Mathlib.Omega.{arith}
-use mathlib.Core.List.{List, [], ◌∷◌, ◌++◌}
+use mathlib.Core.List.{List, ◌++◌}
 use lib.ListN.{length, get_or, take, drop, length-append, length-take, drop_of_length-le}
 use lib.Seq.{drop-cons}
-use lib.Dec.{leb, ltb}
-use borrow.Author.Tests.{lt-ltb, le-ltb, leb-true}
+use lib.Dec.{leb}
+use borrow.Author.Tests.{leb-true}
 use Rattle.laws.specs.Entries.{whole_entries}
 use Rattle.laws.proofs.Tests.{and_true}
 use Rattle.answers.specs.declared.Refusal.TheVariants as refusal
 use Rattle.cells.specs.Cells.{kept_length, cell_number, filled}
 use Rattle.section.specs.Header.{byte_at}
+use Rattle.eit_section.proofs.Laws.{eit_refused_by}
 use Rattle.eit_section.specs.Eit.{eit_of, eit_by, eit_as, kind_of, layout_good, fields_of}
 use Rattle.eit_section.specs.declared.Kind.{Kind}
-use Rattle.eit_section.specs.declared.MaybeKind.{MaybeKind}
-use Rattle.eit_section.specs.declared.MaybeKind.TheVariants as maybe
+use Rattle.std.specs.Prelude.{Option, Some, None, Result, Ok, Err}
+use Rattle.answers.specs.declared.Refusal.{Refusal}
 use Rattle.eit_section.specs.declared.Eit.{Eit}
-use Rattle.eit_section.specs.declared.Reading.{Reading}
-use Rattle.eit_section.specs.declared.Reading.TheVariants as reading
 use Rattle.listing.specs.Store.{Found, found_from, put_all, words_of, end_of, listing}
 use Rattle.listing.specs.declared.Loop.{Loop}
 use Rattle.listing.specs.declared.Walked.{Walked}
-use Rattle.listing.specs.declared.Walked.TheVariants as walked
 use Rattle.listing.proofs.Window.{put_append}
-use Rattle.shown_sections.specs.declared.ShowAnswer.{ShowAnswer}
-use Rattle.shown_sections.specs.declared.ShowAnswer.TheVariants.{Yes, No, Refused, Past}
+use Rattle.shown_sections.specs.declared.ShowAnswer.TheVariants.{Yes, Refused}
 use Rattle.shown_sections.specs.declared.Shown.{Shown}
-use Rattle.shown_sections.specs.Shown.{Show, show, End, finished, no_eit, broken, past_loop, end_by, good_show, show_by, section_show, and_then, end_then, slot_show, slots_show}
-use Rattle.shown_sections.specs.Shown.{shown_as, reached_as, reached_by, shown_from, goes_on, ended_at, told_by, laid, From, Kept, HeldSlot, HeldSlots}
+use Rattle.shown_sections.specs.Shown.{Show, show, End, finished, no_eit, broken, past_loop, good_show, section_show, and_then, slot_show, slots_show, show_by}
+use Rattle.shown_sections.specs.Shown.{shown_as, reached_as, reached_by, shown_from, goes_on, ended_at, told_by, laid, From, Kept, HeldSlot}
 use Rattle.shown_sections.proofs.Walks.{from_start, section_few, reached_is, count_is}
 
 -- a test that is true and false
 stopped : {A : Type 0} {b : Bool} → b ≡ false → b ≡ true → A
 stopped e t = absurd (let z : ◌≡◌ {A = Bool} true false = sym t ∙ e in let n : ◌≡◌ {A = ℕ} 0 1 = cc in omega arith)
 
--- ---- the end
-
-module _ (skip count : ℕ) (r : Shown) where
-  pub ended_some : skip < count → r ≡ shown_as Yes count 0 0 → r ≡ ended_at skip count
-  ended_some h e = rw (lt-ltb skip count h) e
-
-  pub ended_none : count ≤ skip → r ≡ shown_as No count 0 0 → r ≡ ended_at skip count
-  ended_none h e = rw (le-ltb skip count h) e
-
-module _ (skip : ℕ) (last r : Shown) (b : Bool) (g : b ≡ goes_on last.answer) where
-  pub told_on : b ≡ true → r ≡ ended_at skip last.count → r ≡ told_by skip last
-  told_on t e = rw (← g, t) e
-
-  pub told_stopped : b ≡ false → last ≡ told_by skip last
-  told_stopped t = rw (← g, t)
-
--- ---- how a walk ended
-
-module _ (number start : ℕ) (w : Walked) (r : Shown) where
-  pub reached_done : (count : ℕ) → w ≡ walked.Done count → r ≡ shown_as Yes count 0 0 → r ≡ reached_by number start w
-  reached_done count e f = rw e f
-
-  pub reached_past : (at count : ℕ) → w ≡ walked.Past at count → r ≡ shown_as Past count number (at - start) → r ≡ reached_by number start w
-  reached_past at count e f = rw e f
-
 -- ---- a section that is an EIT's has room for 18 bytes
 
-is_good : Reading → Bool
-is_good reading.NotEit = false
-is_good reading.Broken = false
-is_good (reading.Good f) = true
+is_good : Result Eit Refusal → Bool
+is_good (Err r) = false
+is_good (Ok f) = true
 
-as_long : (s : List ℕ) (kind : Kind) (b : Bool) → layout_good s ≡ b → is_good (cond b (reading.Good (fields_of s kind)) reading.Broken) ≡ true → 18 ≤ length s
+as_long : (s : List ℕ) (kind : Kind) (b : Bool) → layout_good s ≡ b → is_good (cond b (Ok (fields_of s kind)) (Err refusal.Broken)) ≡ true → 18 ≤ length s
 unfolding is_good
 as_long s kind true e h = leb-true 18 (length s) (and_true (leb 18 (length s)) (whole_entries 12 (take (length s - 18) (drop 14 s))) e).0
 as_long s kind false e h = stopped refl h
 
-by_long : (s : List ℕ) (k : MaybeKind) → is_good (eit_by s k) ≡ true → 18 ≤ length s
+by_long : (s : List ℕ) (k : Option Kind) → is_good (eit_by s k) ≡ true → 18 ≤ length s
 unfolding eit_as is_good
-by_long s (maybe.Some kind) h = as_long s kind (layout_good s) refl h
-by_long s maybe.None h = stopped refl h
+by_long s (Some kind) h = as_long s kind (layout_good s) refl h
+by_long s None h = stopped refl h
 
-good_long : (s : List ℕ) (x : Reading) (f : Eit) → x ≡ eit_of s → x ≡ reading.Good f → 18 ≤ length s
+good_long : (s : List ℕ) (x : Result Eit Refusal) (f : Eit) → x ≡ eit_of s → x ≡ Ok f → 18 ≤ length s
 unfolding eit_of is_good
 good_long s x f e h = by_long s (kind_of (byte_at s 0)) (ap is_good (sym e ∙ h))
 
@@ -110,25 +81,33 @@ module _ (bytes : List ℕ) (start size number skip k : ℕ) (list : List ℕ) w
       let b : l ≡ put_all list skip k (words_of 0 number f) = ap (λ (p : Walked × List ℕ). p.1) e in
       ap₂ (λ (x : Shown) (y : List ℕ). (x, y)) (g ∙ ap (reached_by number start) a ∙ reached_is number start f k) b
 
-  module _ (x : Reading) (e : x ≡ eit_of (take (start + size - start) (drop start bytes))) where
+  module _ (x : Result Eit Refusal) (e : x ≡ eit_of (take (start + size - start) (drop start bytes))) where
     same : eit_of (take size (drop start bytes)) ≡ x
     same = let n : start + size - start ≡ size = omega arith in sym (rw n at e)
 
-    pub section_long : (f : Eit) → x ≡ reading.Good f → 18 ≤ size
+    pub section_long : (f : Eit) → x ≡ Ok f → 18 ≤ size
     section_long f h =
         let l = good_long (take (start + size - start) (drop start bytes)) x f e h in
         let m : length (take (start + size - start) (drop start bytes)) ≡ min (start + size - start) (length (drop start bytes)) = length-take (start + size - start) (drop start bytes) in
         omega arith
 
-    pub section_none : x ≡ reading.NotEit → (r : Shown) → r ≡ shown_as (Refused refusal.NotEit) k number 0 → (r, list) ≡ shown_from skip k (section_show bytes start size number) list
-    unfolding section_show shown_from put_all
-    section_none h r g = rw (same, h, add-zero, g)
+    -- 18 and 19
+    ends_refused : Refusal → Type 0
+    ends_refused w = (shown_as (Refused w) k number 0, list) ≡ shown_from skip k (show_by bytes start size number (Err w)) list
 
-    pub section_broken : x ≡ reading.Broken → (r : Shown) → r ≡ shown_as (Refused refusal.Broken) k number 0 → (r, list) ≡ shown_from skip k (section_show bytes start size number) list
-    unfolding section_show shown_from put_all
-    section_broken h r g = rw (same, h, add-zero, g)
+    ends_none : ends_refused refusal.NotEit
+    unfolding ends_refused shown_from put_all
+    ends_none = rw add-zero
 
-    pub section_good : (f : Eit) → x ≡ reading.Good f → (r : Shown) (l : List ℕ) → (r, l) ≡ shown_from skip k (good_show bytes start size number) list → (r, l) ≡ shown_from skip k (section_show bytes start size number) list
+    ends_broken : ends_refused refusal.Broken
+    unfolding ends_refused shown_from put_all
+    ends_broken = rw add-zero
+
+    pub section_refused : (w : Refusal) → x ≡ Err w → (r : Shown) → r ≡ shown_as (Refused w) k number 0 → (r, list) ≡ shown_from skip k (section_show bytes start size number) list
+    unfolding section_show ends_refused
+    section_refused w h r g = rw (same, h, g) (eit_refused_by ends_refused ends_none ends_broken (take (start + size - start) (drop start bytes)) w (sym e ∙ h))
+
+    pub section_good : (f : Eit) → x ≡ Ok f → (r : Shown) (l : List ℕ) → (r, l) ≡ shown_from skip k (good_show bytes start size number) list → (r, l) ≡ shown_from skip k (section_show bytes start size number) list
     unfolding section_show
     section_good f h r l g = rw (same, h) g
 

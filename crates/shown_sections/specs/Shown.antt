@@ -1,11 +1,11 @@
 -- The entries of EIT sections, and how their listing ends (docs/RULES.md, "Entries"). `cond test a b` is a where the test is true, else b.
-use Rattle.std.specs.Prelude.{ℕ, ◌+◌, ◌*◌, ◌-◌, ◌≤◌, ◌<◌, ◌≡◌, List, [], ◌∷◌, ◌++◌, Bool, true, false, cond, length, get_or, take, drop, ltb}
+use Rattle.std.specs.Prelude.{ℕ, ◌+◌, ◌*◌, ◌-◌, ◌≤◌, ◌<◌, ◌≡◌, List, [], ◌∷◌, ◌++◌, Bool, true, false, cond, length, get_or, take, drop, ltb, Result, Ok, Err}
 use Rattle.answers.specs.Answers.{refusal_no}
 use Rattle.answers.specs.declared.Refusal.TheVariants as refusal
 use Rattle.cells.specs.Cells.{kept_length, cell_number, filled}
 use Rattle.eit_section.specs.Eit.{eit_of}
-use Rattle.eit_section.specs.declared.Reading.{Reading}
-use Rattle.eit_section.specs.declared.Reading.TheVariants as reading
+use Rattle.eit_section.specs.declared.Eit.{Eit}
+use Rattle.answers.specs.declared.Refusal.{Refusal}
 use Rattle.listing.specs.Store.{Found, done, past, entry, descriptor, found_from, put_all, words_of}
 use Rattle.listing.specs.declared.Walked.{Walked}
 use Rattle.listing.specs.declared.Walked.TheVariants as walked
@@ -57,10 +57,10 @@ good_show bytes start size number =
     let f : Found = found_from 12 (take (start + size - 4) bytes) (start + 14) 0 in
     show (words_of 0 number f) (end_by number start f)
 
-abbrev pub show_by : (bytes : List ℕ) → (start size number : ℕ) → Reading → Show
-show_by bytes start size number reading.NotEit = show [] (no_eit number)
-show_by bytes start size number reading.Broken = show [] (broken number)
-show_by bytes start size number (reading.Good e) = good_show bytes start size number
+abbrev pub show_by : (bytes : List ℕ) → (start size number : ℕ) → Result Eit Refusal → Show
+show_by bytes start size number (Err refusal.NotEit) = show [] (no_eit number)
+show_by bytes start size number (Err r) = show [] (broken number)
+show_by bytes start size number (Ok e) = good_show bytes start size number
 
 -- a section: 18 and 19 before its events
 unfoldable pub section_show : (bytes : List ℕ) → (start size number : ℕ) → Show

@@ -8,7 +8,6 @@ ghost use Rattle.shown_sections.specs.Shown.{show_number, goes_on, nothing_shown
 ghost use Rattle.shown_sections.specs.Shown.{shown_from, laid, section_show, good_show, slot_show, slots_show};
 
 use answers::Refusal;
-use eit_section::Reading;
 use listing::{Loop, Walked};
 
 // What a question for entries answers: there are some from the one asked for on, or none; a refusal; or a descriptor runs past its loop (32).
@@ -69,12 +68,7 @@ fn shown_as(answer: ShowAnswer, count: usize, section: usize, place: usize) -> S
 fn goes_on(answer: ShowAnswer) -> bool
     ensures { result ≡ goes_on answer }
 {
-    match answer {
-        ShowAnswer::Yes => true,
-        ShowAnswer::No => false,
-        ShowAnswer::Refused(_) => false,
-        ShowAnswer::Past => false,
-    }
+    matches!(answer, ShowAnswer::Yes)
 }
 
 // All is listed: are there entries past those that the list passes over?
@@ -91,8 +85,7 @@ fn ended(skip: usize, count: usize) -> Shown
 pub fn told(skip: usize, last: Shown) -> Shown
     ensures { result ≡ told_by skip last }
 {
-    let answer = last.answer;
-    if goes_on(answer) {
+    if goes_on(last.answer) {
         return ended(skip, last.count);
     }
     last
@@ -148,9 +141,8 @@ pub fn show_section(
     ensures { (result, list.new) ≡ shown_from skip k (section_show bytes.now start size number) list.old }
 {
     match eit_section::read(&bytes[start..start + size]) {
-        Reading::NotEit => shown_as(ShowAnswer::Refused(Refusal::NotEit), k, number, 0),
-        Reading::Broken => shown_as(ShowAnswer::Refused(Refusal::Broken), k, number, 0),
-        Reading::Good(_) => show_events(bytes, start, size, number, skip, list, k),
+        Err(refusal) => shown_as(ShowAnswer::Refused(refusal), k, number, 0),
+        Ok(_) => show_events(bytes, start, size, number, skip, list, k),
     }
 }
 
@@ -182,15 +174,12 @@ pub fn show_slots(slots: &[u32], size: usize, cells: &[u8], skip: usize, list: &
     ensures { (result, list.new) ≡ laid skip (slots_show cells.now size slots.now 0) list.old }
 {
     let mut k = 0;
-    let mut j = 0;
-    while j < slots.len() {
-        let last = show_slot(slots[j], j, size, cells, skip, list, k);
-        let answer = last.answer;
-        if !goes_on(answer) {
+    for (j, w) in slots.iter().enumerate() {
+        let last = show_slot(*w, j, size, cells, skip, list, k);
+        if !goes_on(last.answer) {
             return last;
         }
         k = last.count;
-        j += 1;
     }
     ended(skip, k)
 }

@@ -3,7 +3,7 @@
 use mathlib.Core.Path.{◌≡◌, sym, ap, ◌∙◌}
 use mathlib.Core.Logic.{◌≢◌}
 use mathlib.Core.List.{List}
-use mathlib.Core.Bool.{Bool, true, false, cond, ◌&&◌}
+use mathlib.Core.Bool.{Bool, true, false, cond}
 use Prim.Native.Nat.{ℕ, ◌+◌, ◌*◌, ◌/◌, ◌≤◌, ◌<◌}
 use native.Mathlib.Nat.{mul-le-mul_right, mul-le-mul_left, le_trans, lt_of_le_of_lt, add-mul, one-mul}
 use native.Mathlib.Omega.{arith}
@@ -24,25 +24,11 @@ use Rattle.store.specs.Store.{Store, store, settings_fit, whole_of, counters_ful
 div_test : (k a n : ℕ) → (a ≤ n / k → a * k ≤ n) → (a * k ≤ n → a ≤ n / k) → leb a (n / k) ≡ leb (a * k) n
 div_test k a n f g = same_test _ _ (λ e. le-leb _ _ (f (leb-true _ _ e))) (λ e. le-leb _ _ (g (leb-true _ _ e)))
 
-pub settings_small : (s : Sets) (h l c : ℕ) → (leb 12 s.size && leb s.size 4096 && leb s.count 65535) ≡ true
-    → (leb s.limit (h / 12) && leb s.limit (l / 288) && leb (s.count * s.size) c) ≡ settings_fit s h l c
-settings_small s h l c e =
-    rw (div_test 12 s.limit h (λ k. omega arith) (λ k. omega arith), div_test 288 s.limit l (λ k. omega arith) (λ k. omega arith), e)
-
-pub settings_large : (s : Sets) (h l c : ℕ) → (leb 12 s.size && leb s.size 4096 && leb s.count 65535) ≡ false → false ≡ settings_fit s h l c
-settings_large s h l c e = rw e
-
 product : (a b m n : ℕ) → a ≤ m → b ≤ n → a * b ≤ m * n
 product a b m n h k = le_trans (mul-le-mul_right b h) (mul-le-mul_left m k)
 
 pub product_fits : (a b : ℕ) → a ≤ 65535 → b ≤ 4096 → Fits w64 (a * b)
 product_fits a b h k = record { fits = lt_of_le_of_lt (product a b 65535 4096 h k) (lit< tt) }
-
-pub small_fits : (s : Sets) → (leb 12 s.size && leb s.size 4096 && leb s.count 65535) ≡ true → Fits w64 (s.count * s.size)
-small_fits s e =
-    let a = and_true (leb 12 s.size && leb s.size 4096) (leb s.count 65535) e in
-    let b = and_true (leb 12 s.size) (leb s.size 4096) a.0 in
-    product_fits s.count s.size (leb-true _ _ a.1) (leb-true _ _ b.1)
 
 -- the same as orders of numbers
 pub record Long (s : Sets) (h l c : ℕ) : Type 0 where

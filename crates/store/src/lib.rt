@@ -36,12 +36,8 @@ pub fn risen(sets: Sets) -> Sets
     ensures { result ≡ risen_sets sets }
 {
     Sets {
-        limit: sets.limit,
-        size: sets.size,
-        count: sets.count,
-        used: sets.used,
-        evictions: sets.evictions,
         clock: sets.clock + 1,
+        ..sets
     }
 }
 
@@ -79,6 +75,5 @@ pub fn look(sets: Sets, heads: &[u64], slots: &[u32], cells: &[u8]) -> Looked
 pub fn is_whole(sets: Sets, heads: &[u64], slots: &[u32], cells: &[u8]) -> bool
     ensures { result ≡ whole_of (store sets heads.now slots.now cells.now) }
 {
-    let look = look(sets, heads, slots, cells);
-    look.whole
+    look(sets, heads, slots, cells).whole
 }

@@ -123,19 +123,15 @@ fn put_answer(
     requires { (length out.old ≡ 65536) × (n ≤ 65536) }
     ensures { IfOk result (λ m. m ≤ 65536) }
 {
-    if section.len() == 0 {
+    if section.is_empty() {
         return Ok(n);
     }
-    if answer == 1 {
-        return put_section(stdout, out, n, b"emitted ", pid, section);
+    match answer {
+        1 => put_section(stdout, out, n, b"emitted ", pid, section),
+        2 => put_section(stdout, out, n, b"suppressed ", pid, section),
+        3 => put_section(stdout, out, n, b"mismatch ", pid, section),
+        _ => put_section(stdout, out, n, b"short ", pid, section),
     }
-    if answer == 2 {
-        return put_section(stdout, out, n, b"suppressed ", pid, section);
-    }
-    if answer == 3 {
-        return put_section(stdout, out, n, b"mismatch ", pid, section);
-    }
-    put_section(stdout, out, n, b"short ", pid, section)
 }
 
 // The record of a section: its PID, high byte first, and its bytes.
@@ -203,7 +199,7 @@ fn put_place<'a>(
 fn listed(count: usize) -> usize
     ensures { result ≤ 64 }
 {
-    if count < 64 { count } else { 64 }
+    count.min(64)
 }
 
 // The sections that a packet finished, in the order of their places.
@@ -221,12 +217,9 @@ pub fn put_sections<'a>(
     requires { (length out.old ≡ 65536) × (n ≤ 65536) × (length places.now ≡ 384) }
     ensures { IfOk result (λ m. m ≤ 65536) }
 {
-    let end = listed(count);
     let mut m = n;
-    let mut k = 0;
-    while k < end {
+    for k in 0..listed(count) {
         m = put_place(stdout, lines, out, m, places, k, pid, packet, buffers)?;
-        k += 1;
     }
     Ok(m)
 }

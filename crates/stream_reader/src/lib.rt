@@ -10,7 +10,7 @@ use stream_cursor::Cursor;
 use stream_step::Held;
 use streams::Streams;
 
-// A proved loop has to end, and nothing says that standard input does: the turns are counted down from a number that no run uses up.
+// A proved loop has to end, and nothing says that standard input does: the turns are counted, up to a number that no run uses up.
 fn all(
     stdin: &mut impl Read,
     stdout: &mut impl Write,
@@ -59,17 +59,16 @@ fn all(
         filled: 0,
         more: true,
     };
-    let mut more = true;
-    let mut turns = u64::MAX;
-    while more & (turns > 0) {
+    for _ in 0..u64::MAX {
         let t = stream_step::step(
             stdin, stdout, lines, held, keys, changes, buckets, links, words, pat_slots, pat_cells,
             pids, buffers, places, out, block, c,
         )?;
         held = t.held;
         c = t.cursor;
-        more = c.more;
-        turns -= 1;
+        if !c.more {
+            break;
+        }
     }
     stream_cursor::finish(stdout, lines, out, c.filled, held.streams, held.counters)
 }

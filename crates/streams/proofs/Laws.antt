@@ -5,21 +5,22 @@ use mathlib.Core.Logic.{◌≢◌}
 use mathlib.Core.Bool.{Bool, true, false, cond, not, ◌&&◌, ◌||◌, true≢false}
 use mathlib.Core.List.{List, ◌++◌}
 use Prim.Native.Nat.{ℕ, zero, suc, ◌+◌, ◌-◌, ◌*◌, ◌/◌, ◌%◌, ◌^◌, ◌≤◌, ◌<◌}
-use native.Mathlib.Nat.{zero-div}
+use native.Mathlib.Nat.{zero-add, zero-div}
 use native.Mathlib.Omega.{arith}
 use lib.Dec.{eqb, ltb, leb}
 use lib.Bits.{bit_or}
 use lib.ListN.{length, get_or, set, take, drop, replicate, length-replicate, length-set}
-use lib.Seq.{length-take-le, get_or-take}
+use lib.Seq.{paste, length-take-le, get_or-take}
+use Rattle.std.proofs.lemmas.List.{take-replicate}
 use borrow.Author.Tests.{eqb-true, le-leb, lt-leb, lt-ltb, le-ltb, eq-eqb, ne_eqb, leb-true, leb-false}
 use Rattle.laws.specs.Bits.{bit, has_bit, add_bit, without}
 use Rattle.laws.proofs.Bits.{one_shl, has_added, length_add_bit}
-use Rattle.laws.proofs.Lists.{fill_turn, get_d_zip}
+use Rattle.laws.proofs.Lists.{get_d_zip}
 use Rattle.laws.proofs.Tests.{same_test}
 use Rattle.laws.proofs.Search.{first_same}
 use Rattle.cells.specs.Cells.{lowest_free, lowest_clear}
 use Rattle.cells.proofs.Laws.{has_none}
-use Rattle.answers.specs.declared.Outcome.TheVariants as outcome
+use Rattle.std.specs.Prelude.{Ok, Err}
 use Rattle.answers.specs.declared.Refusal.TheVariants.{TooLittle}
 use Rattle.streams.specs.Store.{are_enough, cleared, opening, asked, opened_of, four, buffer_of, is_named, marked, marked_to, pid_back, given_back, left_of, word_back}
 
@@ -39,11 +40,11 @@ module _ (count words bytes : ℕ) where
   some_buffers n h = rw (le-leb 1 count (omega arith), le-leb count 8192 h) refl
 
 module _ (count : ℕ) (pids : List ℕ) (bytes : ℕ) (b : Bool) (e : b ≡ are_enough count (length pids) bytes) where
-  pub not_opened : b ≡ false → opening (record { answer = outcome.Refused TooLittle; streams = asked count }) pids ≡ opened_of count pids bytes
+  pub not_opened : b ≡ false → opening (record { answer = Err TooLittle; streams = asked count }) pids ≡ opened_of count pids bytes
   unfolding opened_of
   not_opened f = rw (← e, f) refl
 
-  pub is_opened : (pids' : List ℕ) → b ≡ true → pids' ≡ cleared 32768 pids → opening (record { answer = outcome.Done; streams = asked count }) pids' ≡ opened_of count pids bytes
+  pub is_opened : (pids' : List ℕ) → b ≡ true → pids' ≡ cleared 32768 pids → opening (record { answer = Ok tt; streams = asked count }) pids' ≡ opened_of count pids bytes
   unfolding opened_of
   is_opened pids' t p = rw (← e, t, p) refl
 
@@ -57,13 +58,10 @@ module _ (count : ℕ) (pids : List ℕ) (bytes : ℕ) (b : Bool) (e : b ≡ are
       go true false r s k h = absurd (true≢false (sym h))
       go false q r s k h = absurd (true≢false (sym h))
 
--- a turn of the loop that clears, and its end
-pub clear_turn : (d rows : List ℕ) (n j : ℕ) → rows ≡ replicate j 0 ++ drop j d → length rows ≡ length d → n ≤ length d → j < n → set rows j 0 ≡ replicate (j + 1) 0 ++ drop (j + 1) d
-clear_turn d rows n j e l h k = fill_turn d rows 0 j e l (omega arith)
-
-pub clear_end : (d rows : List ℕ) (n j : ℕ) → rows ≡ replicate j 0 ++ drop j d → n ≤ j → j ≤ n → rows ≡ cleared n d
+-- zeros in the place of the first n words
+pub cleared_part : (n : ℕ) (l : List ℕ) → paste l 0 (replicate n 0) n ≡ cleared n l
 unfolding cleared
-clear_end d rows n j e h k = let q : j ≡ n = omega arith in e ∙ ap (λ (i : ℕ). replicate i 0 ++ drop i d) q
+cleared_part n l = rw (take-replicate {X = ℕ} n n 0 (omega arith), zero-add n) refl
 
 -- ---- the words of a PID
 

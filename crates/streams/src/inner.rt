@@ -88,9 +88,7 @@ fn mark_to(map: &mut [u64; 1024], pids: &[u64], to: usize, count: usize)
     requires { (to * 4 ≤ length pids.now) × (count ≤ 8192) }
     ensures { map.new ≡ marked_to pids.now count to map.old }
 {
-    let mut n = to;
-    while n > 0 {
-        n -= 1;
+    for n in (0..to).rev() {
         mark(map, pids[n * WORDS_EACH], count);
     }
 }
@@ -129,9 +127,7 @@ fn give_word(pids: &mut [u64], k: usize, left: u64)
     if left == 0 {
         return;
     }
-    let mut n = 64;
-    while n > 0 {
-        n -= 1;
+    for n in (0..64).rev() {
         give_pid(pids, k * 64 + n, (left >> n) % 2);
     }
 }
@@ -149,9 +145,7 @@ pub fn give_back(pids: &mut [u64], before: &[u64], after: &[u64])
     requires { TwoSets pids.old before.now after.now }
     ensures { pids.new ≡ given_back (left_of before.now after.now) 8192 pids.old }
 {
-    let mut k = SET_WORDS;
-    while k > 0 {
-        k -= 1;
+    for k in (0..SET_WORDS).rev() {
         give_word(pids, k, less(before[k], after[k]));
     }
 }

@@ -47,12 +47,12 @@ pub fn open(count: usize, pids: &mut [u64], buffers: &[u8]) -> Opened
     if inner::are_enough(count, pids.len(), buffers.len()) {
         clear(pids, PID_WORDS);
         return Opened {
-            answer: Outcome::Done,
+            answer: Ok(()),
             streams,
         };
     }
     Opened {
-        answer: Outcome::Refused(Refusal::TooLittle),
+        answer: Err(Refusal::TooLittle),
         streams,
     }
 }
@@ -62,9 +62,5 @@ fn clear(pids: &mut [u64], n: usize)
     requires { n ≤ length pids.old }
     ensures { pids.new ≡ cleared n pids.old }
 {
-    let mut j = 0;
-    while j < n {
-        pids[j] = 0;
-        j += 1;
-    }
+    pids[0..n].fill(0);
 }

@@ -4,7 +4,8 @@
 ghost use Rattle.std.specs.Prelude.{◌≡◌, ◌≤◌, length};
 
 use entry_lines::heads::Totals;
-use entry_pages::{PAGE, PAGES};
+use entry_pages::{Page, count};
+use network_sets::Read;
 use rules_networks::Table;
 use sets_settle::PushAnswer;
 use std::io;
@@ -18,47 +19,24 @@ pub enum Asked {
     Always(Table),
 }
 
-// The reader of a table_id (EN 300 468, table 2); `None` where it has none.
-fn reader_of(table_id: u64) -> Table {
+// The reader of a table_id (EN 300 468, table 2), where it has one.
+fn reader_of(table_id: u64) -> Option<Table> {
     match table_id {
-        0x40 => Table::Nit,
-        0x41 => Table::Nit,
-        0x42 => Table::Sdt,
-        0x46 => Table::Sdt,
-        0x4A => Table::Bat,
-        _ => Table::None,
+        0x40 | 0x41 => Some(Table::Nit),
+        0x42 | 0x46 => Some(Table::Sdt),
+        0x4A => Some(Table::Bat),
+        _ => None,
     }
 }
 
-// All entries of the set in a row.
-fn list_set(
-    stdout: &mut impl Write,
-    table: Table,
-    sets: Sets,
-    heads: &[u64],
-    slots: &[u32],
-    cells: &[u8],
-    row: usize,
-    list: &mut [u32],
-    totals: Totals,
-) -> io::Result<Totals>
-    requires { length list.old ≡ 24576 }
-{
-    let mut t = totals;
-    let mut page = 0;
-    while page < PAGES {
-        let skip = page * PAGE;
-        let read = networks::entries_of_set(table, sets, heads, slots, cells, row, skip, list);
-        let count = read.count;
-        t = entry_pages::say_page(stdout, list, entry_pages::on_page(count, skip), cells, t)?;
-        if count <= skip + PAGE {
-            let answer = read.answer;
-            entry_pages::say_end(stdout, answer.number(), read.section, read.place)?;
-            return Ok(t);
-        }
-        page += 1;
+fn page_of(read: Read) -> Page {
+    let answer = read.answer;
+    Page {
+        count: read.count,
+        answer: answer.number(),
+        section: read.section,
+        place: read.place,
     }
-    Ok(t)
 }
 
 // The line of a set that went out, and its entries.
@@ -71,8 +49,8 @@ fn say_set(
     cells: &[u8],
     row: usize,
     list: &mut [u32],
-    totals: Totals,
-) -> io::Result<Totals>
+    totals: &mut Totals,
+) -> io::Result<()>
     requires { length list.old ≡ 24576 }
 {
     if row < heads.len() / rows::HEAD_WORDS {
@@ -81,28 +59,22 @@ fn say_set(
         let last = rows::last(heads, row);
         entry_lines::heads::say_table_set(stdout, key, version, last)?;
     }
-    list_set(stdout, table, sets, heads, slots, cells, row, list, totals)
+    entry_pages::say_pages(stdout, list, cells, totals, |skip, list| {
+        page_of(networks::entries_of_set(table, sets, heads, slots, cells, row, skip, list))
+    })
 }
 
-// The reader that is asked for, of the table in a row.
-fn asked_reader(asked: Asked, heads: &[u64], row: usize) -> Asked {
+// The reader that is asked for, of the table in a row; a table without one is passed over.
+fn asked_reader(asked: Asked, heads: &[u64], row: usize) -> Option<Table> {
     match asked {
-        Asked::Always(table) => Asked::Always(table),
+        Asked::Always(table) => Some(table),
         Asked::ByTable => {
             if row < heads.len() / rows::HEAD_WORDS {
                 let key = rows::key_at(heads, row);
-                return by_table(reader_of(key.table_id));
+                return reader_of(key.table_id);
             }
-            Asked::ByTable
+            None
         }
-    }
-}
-
-// A table without a reader is passed over.
-fn by_table(table: Table) -> Asked {
-    match table {
-        Table::None => Asked::ByTable,
-        _ => Asked::Always(table),
     }
 }
 
@@ -116,15 +88,14 @@ fn tell_set(
     cells: &[u8],
     row: usize,
     list: &mut [u32],
-    totals: Totals,
-) -> io::Result<Totals>
+    totals: &mut Totals,
+) -> io::Result<()>
     requires { length list.old ≡ 24576 }
 {
-    let mut t = totals;
-    t.sets = entry_pages::one_more(t.sets);
+    count(&mut totals.sets);
     match asked_reader(asked, heads, row) {
-        Asked::Always(table) => say_set(stdout, table, sets, heads, slots, cells, row, list, t),
-        Asked::ByTable => Ok(t),
+        Some(table) => say_set(stdout, table, sets, heads, slots, cells, row, list, totals),
+        None => Ok(()),
     }
 }
 
@@ -140,12 +111,12 @@ pub fn tell(
     list: &mut [u32],
     pid: u16,
     section: &[u8],
-    totals: Totals,
-) -> io::Result<Totals>
+    totals: &mut Totals,
+) -> io::Result<()>
     requires { (length list.old ≡ 24576) × (3 ≤ length section.now) }
 {
     match answer {
-        PushAnswer::Nothing => Ok(totals),
+        PushAnswer::Nothing => Ok(()),
         PushAnswer::Set(row) => tell_set(
             stdout, asked, sets, heads, slots, cells, row, list, totals,
         ),

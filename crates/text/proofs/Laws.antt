@@ -7,6 +7,7 @@ use native.Mathlib.Nat.{pow-suc}
 use native.Mathlib.Omega.{arith}
 use native.Mathlib.Decide.{dec_lt}
 use lib.ListN.{length, length-append}
+use lib.Seq.{sets-eq, paste, take-length}
 use borrow.Author.Tests.{lt-ltb, le-ltb}
 use Rattle.laws.proofs.Writes.{sets_append}
 use Rattle.text.specs.Text.{decimal_in, decimal, Wrote}
@@ -59,3 +60,7 @@ wrote_then {l} {a} {m} {b} {n} {i} {j} {k} e f =
       next = simp length-append (omega (arith, e.next, f.next));
       bytes = f.bytes ∙ rw (e.bytes, e.next) (sym (sets_append a b l i));
     }
+
+-- a part that was copied from another slice
+pub wrote_part : (l s m : List ℕ) (at : ℕ) → at + length s ≤ length l → m ≡ paste l at s (length s) → Wrote l at s m (at + length s)
+wrote_part l s m at h e = record { next = refl; bytes = e ∙ rw take-length (sym (sets-eq s l at h)) }

@@ -1,5 +1,5 @@
 -- Sections, drops and clearings one after another: the heads as `rows` leaves them, and the touch order as the rules have it.
--- Left out: what a row holds, a known row that begins anew, and the end of the counts (11). What a drop leaves (`last_to`) is `removedHeads` of the crate filter.
+-- Left out: what a row holds, a known row that begins anew, and the end of the counts (11). What a drop leaves (`last_to`) is `removed_heads` of the crate filter.
 -- Assumes nothing.
 use Rattle.std.specs.Prelude.{ℕ, ◌+◌, ◌-◌, ◌*◌, List, [], ◌∷◌, cond, not, ltb, take, drop}
 use Rattle.std.proofs.Math.Seq.{paste}

@@ -15,8 +15,8 @@ use Rattle.demux_state.specs.State.{Said, plain, finished, number_of, packet_cou
 use Rattle.demux_packets.specs.declared.Plan.{Plan}
 use Rattle.demux_packets.specs.declared.Plan.TheVariants.{Malformed, Nothing, Unwatched, NoBuffer, Read}
 use Rattle.demux_packets.specs.Plans.{plan_of}
-use Rattle.demux_judge.specs.declared.Verdict.{Verdict}
-use Rattle.demux_judge.specs.declared.Verdict.TheVariants.{Refused, Goes}
+use Rattle.demux_judge.specs.Verdicts.{Verdict}
+use Rattle.std.specs.Prelude.{Err, Ok}
 use Rattle.demux_judge.specs.Verdicts.{whole_with, pat_count, verdict_of}
 use Rattle.demux_steady.specs.Steady.{words_in, tells, acts}
 use Rattle.demux_store.specs.Carried.{left, with_streams, read_by, planned_by}
@@ -65,7 +65,7 @@ module _ (s : Store) (input : ℕ) (packet : List ℕ) where
       p : Plan
       p = plan_of s.gate.watch.words s.streams.count s.pids packet
 
-      go : (a b d : Bool) → Leaves s (judged_in s input packet (cond a (cond b (Refused CounterFull) (cond d (Goes p) (Refused BadInput))) (Refused NotWhole)))
+      go : (a b d : Bool) → Leaves s (judged_in s input packet (cond a (cond b (Err CounterFull) (cond d (Ok p) (Err BadInput))) (Err NotWhole)))
       go true true d = refused_leaves 11 refl refl
       go true false true = plan_leaves p
       go true false false = refused_leaves 37 refl refl
@@ -91,8 +91,8 @@ module _ (s : Store) (input : ℕ) (packet : List ℕ) where
       p = plan_of s.gate.watch.words s.streams.count s.pids packet
 
       go : (a b d : Bool)
-          → (judged_in s input packet (cond a (cond b (Refused CounterFull) (cond d (Goes p) (Refused BadInput))) (Refused NotWhole))).store.streams
-          ≡ streams_after (judged_in s input packet (cond a (cond b (Refused CounterFull) (cond d (Goes p) (Refused BadInput))) (Refused NotWhole))).answer s.streams
+          → (judged_in s input packet (cond a (cond b (Err CounterFull) (cond d (Ok p) (Err BadInput))) (Err NotWhole))).store.streams
+          ≡ streams_after (judged_in s input packet (cond a (cond b (Err CounterFull) (cond d (Ok p) (Err BadInput))) (Err NotWhole))).answer s.streams
       go true true d = refl
       go true false true = plan_counts p
       go true false false = refl

@@ -47,7 +47,7 @@ use Rattle.demux_places.specs.Places.{place_at, bytes_at, outcome_of}
 use Rattle.demux_packets.specs.declared.Plan.{Plan}
 use Rattle.demux_packets.specs.declared.Plan.TheVariants as plan
 use Rattle.demux_packets.specs.Plans.{reading, no_words, buffer_plan, load_plan, packet_plan, plan_of}
-use Rattle.demux_judge.specs.declared.Verdict.TheVariants.{Refused, Goes}
+use Rattle.std.specs.Prelude.{Err, Ok}
 use Rattle.demux_judge.specs.Verdicts.{pat_count, verdict_of, Wholes}
 use Rattle.demux_judge.proofs.Laws.{whole_again}
 use Rattle.answers.specs.declared.Refusal.TheVariants.{NotWhole, CounterFull, BadInput}
@@ -529,7 +529,7 @@ module _ (c : Card) (i : ℕ) (packet : List ℕ) (st : AllStand c) (bytes : All
   feed_same =
       subst
       (λ (x : Bool). SameCall (judged_in s i packet
-      (cond x (cond near (Refused CounterFull) (cond (ltb i 16) (Goes (plan_of (words_in k) count own.pids packet)) (Refused BadInput))) (Refused NotWhole))) rules)
+      (cond x (cond near (Err CounterFull) (cond (ltb i 16) (Ok (plan_of (words_in k) count own.pids packet)) (Err BadInput))) (Err NotWhole))) rules)
       (sym (whole_again g.gate own.streams (length g.keys) (length g.changes) (g.watches i) (length own.pids) (length own.buffers) (length c.places) gate_whole))
       (go near (ltb i 16) refl)
     where
@@ -537,7 +537,7 @@ module _ (c : Card) (i : ℕ) (packet : List ℕ) (st : AllStand c) (bytes : All
       near = near_end g.counters own.streams (pat_count g.gate.follow (words_in k))
 
       go : (a d : Bool) → near ≡ a
-          → SameCall (judged_in s i packet (cond a (Refused CounterFull) (cond d (Goes (plan_of (words_in k) count own.pids packet)) (Refused BadInput))))
+          → SameCall (judged_in s i packet (cond a (Err CounterFull) (cond d (Ok (plan_of (words_in k) count own.pids packet)) (Err BadInput))))
           (cond a (refused watched_on tells_on acts_on gate_near pats_near h 11) (cond d (by_packet (packet_of packet)) (refused watched_on tells_on acts_on gate_near pats_near h 37)))
       go true d e = refuses 11
       go false true e = by_packet_lem (spares g.counters own.streams (pat_count g.gate.follow (words_in k)) e)

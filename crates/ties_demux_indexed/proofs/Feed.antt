@@ -20,8 +20,8 @@ use Rattle.demux_packets.specs.declared.Reading.{Reading}
 use Rattle.demux_packets.specs.declared.Plan.{Plan}
 use Rattle.demux_packets.specs.declared.Plan.TheVariants.{Malformed, Nothing, Unwatched, NoBuffer, Read}
 use Rattle.demux_packets.specs.Plans.{Reads}
-use Rattle.demux_judge.specs.declared.Verdict.{Verdict}
-use Rattle.demux_judge.specs.declared.Verdict.TheVariants.{Refused, Goes}
+use Rattle.demux_judge.specs.Verdicts.{Verdict}
+use Rattle.std.specs.Prelude.{Err, Ok}
 use Rattle.demux_steady.specs.Steady.{words_in, tells, acts, Steady}
 use Rattle.demux_steady.proofs.Steady.{fewer}
 use Rattle.demux_turns.specs.Turns.{OffersOf, offers_with}
@@ -78,12 +78,12 @@ module _ (s : StoreOf KeptBy) (input : ℕ) (packet : List ℕ) (p : Bytes packe
   -- 10 for want of a bucket or a link does not occur
   same_verdict : indexed.verdict_in s input packet ≡ verdict_in (bare s) input packet
   unfolding verdict_by
-  same_verdict = ap (λ (w : Bool). cond w (verdict_in (bare s) input packet) (Refused NotWhole)) (low.opened_whole_by (sections_by s.gate) rows)
+  same_verdict = ap (λ (w : Bool). cond w (verdict_in (bare s) input packet) (Err NotWhole)) (low.opened_whole_by (sections_by s.gate) rows)
 
   judged_same : (v : Verdict) → verdict_in (bare s) input packet ≡ v → AlikeLeft (indexed.judged_in s input packet v) (judged_in (bare s) input packet v)
   unfolding indexed.judged_in judged_in
-  judged_same (Refused r) e = record { same = refl; rows = rows; bytes = b }
-  judged_same (Goes x) e = planned_same x (feed_takes (bare s) input packet (verdict_in (bare s) input packet) refl p x e).plan
+  judged_same (Err r) e = record { same = refl; rows = rows; bytes = b }
+  judged_same (Ok x) e = planned_same x (feed_takes (bare s) input packet (verdict_in (bare s) input packet) refl p x e).plan
 
   -- every packet
   pub fed_same : AlikeLeft (indexed.fed s input packet) (fed (bare s) input packet)

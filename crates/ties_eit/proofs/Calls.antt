@@ -22,18 +22,15 @@ use Rattle.rules_eit.specs.Schedules.{ScheduleOf}
 use Rattle.rules_eit.specs.Rules.{Section, schedule_of, key_of, clear, drop, refuse, offer, cleared}
 use Rattle.rules_eit.specs.Cells.{on_answer, store_whole, any_at_end, ended, shows, push_in, admit_in, offer_in, good, guarded, call}
 use Rattle.rules_eit.proofs.Keys.{same_set_true, same_schedule_true}
+use Rattle.section.proofs.Refused.{collect_refused_by}
 use Rattle.section.specs.Ids.{origin_of}
 use Rattle.section.specs.Judged.{collected_of}
 use Rattle.eit_section.specs.Eit.{eit_of, fields_of}
 use Rattle.section.specs.Facts.{Bytes as AllBytes}
 use Rattle.section.specs.declared.header.Header.{Header}
-use Rattle.section.specs.declared.header.Collected.{Collected}
-use Rattle.section.specs.declared.header.Collected.TheVariants as collected
-use Rattle.eit_section.specs.declared.Reading.{Reading}
-use Rattle.eit_section.specs.declared.Reading.TheVariants as reading
-use Rattle.section.specs.declared.ids.MaybePid.{MaybePid}
-use Rattle.section.specs.declared.ids.MaybePid.TheVariants as maybe
-use Rattle.section.specs.declared.ids.OriginMade.TheVariants as made
+use Rattle.std.specs.Prelude.{Option as StdOption, Some, None, Result, Ok, Err}
+use Rattle.answers.specs.declared.Refusal.{Refusal}
+use Rattle.eit_section.specs.declared.Eit.{Eit}
 use Rattle.cells.specs.Cells.{all_whole}
 use Rattle.rows.specs.declared.Origin.{Origin as Words}
 use Rattle.rows.specs.Rows.{row_slots, rows_whole}
@@ -49,12 +46,10 @@ use Rattle.store.proofs.Whole.{long}
 use Rattle.placing.specs.Places.{place_of as place_in}
 use Rattle.schedules.specs.Schedules.{schedules_whole}
 use Rattle.eit_drop.specs.declared.Filter.{Filter}
-use Rattle.eit_drop.specs.declared.Drop.TheVariants as plan_drop
 use Rattle.arrivals.specs.declared.Arrival.{Arrival}
 use Rattle.eit_plan.specs.declared.Plan.TheVariants as plan
 use Rattle.eit_state.specs.declared.PushAnswer.TheVariants as answer
 use Rattle.arrivals.specs.Arrivals.{arrival_of}
-use Rattle.arrivals.specs.declared.EitArrival.TheVariants as arrival
 use Rattle.answers.specs.declared.Refusal.TheVariants as refusal
 use Rattle.eit_state.specs.State.{Store, store, set_store, schedules_fit, whole_of, Whole, counters_full}
 use Rattle.eit_plan.specs.Plan.{plan_placed, plan_of}
@@ -225,7 +220,7 @@ module _ (s : Store) (z : Reached s) where
             rw (le-leb (length bytes) s.eit.sets.size l) (limited l s.eit.sets.limit refl)
 
     -- 18 and 19
-    read_tied : AllBytes bytes → (from : Words) → (from.pid ≡ 8192 → ⊥) → (h : Header) → collected_of bytes ≡ collected.Good h → (r : Reading) → Read-as bytes r
+    read_tied : AllBytes bytes → (from : Words) → (from.pid ≡ 8192 → ⊥) → (h : Header) → collected_of bytes ≡ Ok h → (r : Result Eit Refusal) → Read-as bytes r
         → Tied (pushed_as s bytes (eit_fields from h r)) (good (seen s) (reads_eit (origin_shown from) bytes h r))
     unfolding reads_eit good offer_in shows on_answer answer_told seen section_of
     read_tied o from n h q r (not_eit e) = rw (not_kind bytes h q e) (record { told = refl; shown = refl; reached = z })
@@ -236,21 +231,20 @@ module _ (s : Store) (z : Reached s) where
         (good_tied (arrival_of from h (fields_of bytes kind)) k.0 k.1 (good_length bytes h q))
 
     -- 14 to 17
-    judged_tied : AllBytes bytes → (from : Words) → (from.pid ≡ 8192 → ⊥) → (c : Collected) → collected_of bytes ≡ c → Tied (pushed_as s bytes (eit_read from bytes c)) (good (seen s) (reads_as (origin_shown from) bytes c))
+    judged_tied : AllBytes bytes → (from : Words) → (from.pid ≡ 8192 → ⊥) → (c : Result Header Refusal) → collected_of bytes ≡ c → Tied (pushed_as s bytes (eit_read from bytes c)) (good (seen s) (reads_as (origin_shown from) bytes c))
     unfolding reads_as good shows on_answer answer_told seen
-    judged_tied o from n collected.Malformed q = record { told = refl; shown = refl; reached = z }
-    judged_tied o from n collected.ShortForm q = record { told = refl; shown = refl; reached = z }
-    judged_tied o from n collected.BadNumber q = record { told = refl; shown = refl; reached = z }
-    judged_tied o from n collected.BadCrc q = record { told = refl; shown = refl; reached = z }
-    judged_tied o from n (collected.Good h) q = read_tied o from n h q (eit_of bytes) (read_as_lem bytes)
+    judged_tied o from n (Err r) q =
+        collect_refused_by (λ w. Tied (pushed_as s bytes (eit_read from bytes (Err w))) (good (seen s) (reads_as (origin_shown from) bytes (Err w))))
+        (record { told = refl; shown = refl; reached = z }) (record { told = refl; shown = refl; reached = z }) (record { told = refl; shown = refl; reached = z }) (record { told = refl; shown = refl; reached = z }) bytes r q
+    judged_tied o from n (Ok h) q = read_tied o from n h q (eit_of bytes) (read_as_lem bytes)
 
     -- 41, then 12
-    pid_tied : AllBytes bytes → (input : ℕ) (pid : MaybePid) → Tied (pushed_as s bytes (eit_arrival input pid bytes)) (good (seen s) (read_section input pid bytes))
+    pid_tied : AllBytes bytes → (input : ℕ) (pid : StdOption ℕ) → Tied (pushed_as s bytes (eit_arrival input pid bytes)) (good (seen s) (read_section input pid bytes))
     unfolding eit_arrival read_section good shows on_answer answer_told seen origin_shown
-    pid_tied o input maybe.None = record { told = refl; shown = refl; reached = z }
-    pid_tied o input (maybe.Some v) = go (ltb v 8192) (ltb input 16) refl
+    pid_tied o input None = record { told = refl; shown = refl; reached = z }
+    pid_tied o input (Some v) = go (ltb v 8192) (ltb input 16) refl
       where
-        go : (b c : Bool) → ltb v 8192 ≡ b → Tied (pushed_as s bytes (eit_judged (made_words (cond b (cond c (made.One (origin_of input v)) made.BadInput) made.BadPid)) bytes))
+        go : (b c : Bool) → ltb v 8192 ≡ b → Tied (pushed_as s bytes (eit_judged (made_words (cond b (cond c (Ok (origin_of input v)) (Err refusal.BadInput)) (Err refusal.BadPid))) bytes))
             (good (seen s) (cond b (cond c (reads_as (record { input = input; pid = v }) bytes (collected_of bytes)) (refuse refusal.BadInput refl)) (refuse refusal.BadPid refl)))
         go true true q =
             let l = ltb-true v 8192 q in
@@ -259,19 +253,17 @@ module _ (s : Store) (z : Reached s) where
         go false c q = record { told = refl; shown = refl; reached = z }
 
   -- 11 comes before what the section is read as
-  ended_eit : (bytes : Bytes) (from : Origin) (h : Header) (r : Reading) → ended (seen s) (reads_eit from bytes h r) ≡ any_at_end (seen s)
+  ended_eit : (bytes : Bytes) (from : Origin) (h : Header) (r : Result Eit Refusal) → ended (seen s) (reads_eit from bytes h r) ≡ any_at_end (seen s)
   unfolding ended reads_eit
-  ended_eit bytes from h reading.NotEit = refl
-  ended_eit bytes from h reading.Broken = refl
-  ended_eit bytes from h (reading.Good f) = refl
+  ended_eit bytes from h (Err refusal.NotEit) = refl
+  ended_eit bytes from h (Err r) = refl
+  ended_eit bytes from h (Ok f) = refl
 
-  ended_as : (bytes : Bytes) (from : Origin) (c : Collected) → ended (seen s) (reads_as from bytes c) ≡ any_at_end (seen s)
+  ended_as : (bytes : Bytes) (from : Origin) (c : Result Header Refusal) → ended (seen s) (reads_as from bytes c) ≡ any_at_end (seen s)
   unfolding ended reads_as
-  ended_as bytes from collected.Malformed = refl
-  ended_as bytes from collected.ShortForm = refl
-  ended_as bytes from collected.BadNumber = refl
-  ended_as bytes from collected.BadCrc = refl
-  ended_as bytes from (collected.Good h) = ended_eit bytes from h (eit_of bytes)
+  ended_as bytes from (Err refusal.ShortForm) = refl
+  ended_as bytes from (Err r) = refl
+  ended_as bytes from (Ok h) = ended_eit bytes from h (eit_of bytes)
 
   ended_on : (bytes : Bytes) (from : Origin) → ended (seen s) (read_on from bytes) ≡ any_at_end (seen s)
   unfolding ended
@@ -281,23 +273,23 @@ module _ (s : Store) (z : Reached s) where
       go true = ended_as bytes from (collected_of bytes)
       go false = refl
 
-  ended_read : (input : ℕ) (pid : MaybePid) (bytes : Bytes) → ended (seen s) (read_section input pid bytes) ≡ any_at_end (seen s)
+  ended_read : (input : ℕ) (pid : StdOption ℕ) (bytes : Bytes) → ended (seen s) (read_section input pid bytes) ≡ any_at_end (seen s)
   unfolding read_section ended
-  ended_read input maybe.None bytes = refl
-  ended_read input (maybe.Some v) bytes = go (ltb v 8192)
+  ended_read input None bytes = refl
+  ended_read input (Some v) bytes = go (ltb v 8192)
     where
       go : (b : Bool) → ended (seen s) (cond b (read_on (record { input = input; pid = v }) bytes) (refuse refusal.BadPid refl)) ≡ any_at_end (seen s)
       go true = ended_on bytes (record { input = input; pid = v })
       go false = refl
 
   -- 10, then 11; no set and no schedule is without a PID
-  pub push_tied : (input : ℕ) (pid : MaybePid) (bytes : Bytes) → AllBytes bytes → Tied (pushed_of s input pid bytes) (call (seen s) (read_section input pid bytes))
+  pub push_tied : (input : ℕ) (pid : StdOption ℕ) (bytes : Bytes) → AllBytes bytes → Tied (pushed_of s input pid bytes) (call (seen s) (read_section input pid bytes))
   unfolding pushed_of admitted call guarded answer_told
   push_tied input pid bytes o =
       rw (whole_seen s z, ended_read input pid bytes, ended_seen s z, each_has_pid s z) (go (whole_of s) (counters_full s.eit) refl refl)
     where
       go : (w t : Bool) → whole_of s ≡ w → counters_full s.eit ≡ t
-          → Tied (pushed_as s bytes (cond w (cond t (arrival.Refused refusal.CounterFull) (eit_arrival input pid bytes)) (arrival.Refused refusal.NotWhole))) (guarded w t (seen s) (read_section input pid bytes))
+          → Tied (pushed_as s bytes (cond w (cond t (Err refusal.CounterFull) (eit_arrival input pid bytes)) (Err refusal.NotWhole))) (guarded w t (seen s) (read_section input pid bytes))
       go false t p q = record { told = refl; shown = refl; reached = z }
       go true true p q = record { told = refl; shown = refl; reached = z }
       go true false p q =
@@ -312,7 +304,7 @@ module _ (s : Store) (z : Reached s) where
   dropped_tied f fit = rw (whole_seen s z, each_has_pid s z) (go (whole_of s) refl)
     where
       go : (b : Bool) → whole_of s ≡ b
-          → Tied (carried_drop s (cond b (drop_wanted f) (plan_drop.Refuse refusal.NotWhole)))
+          → Tied (carried_drop s (cond b (drop_wanted f) (Err refusal.NotWhole)))
           (guarded b false (seen s) (drop (filter_shown f)))
       go true e = drop_tied s z (whole_store s e) f fit
       go false e = record { told = refl; shown = refl; reached = z }

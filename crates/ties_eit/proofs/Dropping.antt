@@ -15,7 +15,7 @@ use Rattle.answers.specs.declared.Refusal.TheVariants as refusal
 use Rattle.rules_eit.specs.Keys.{kind_number, ScheduleKey, SetKey, no_pid, bad_pid, bad_input, bad_filter, pid_passes, from_passes, matches as key_matches}
 use Rattle.rules_eit.specs.Rules.{done, gives, dropped}
 use Rattle.rules_eit.specs.Cells.{on_answer, shows, drop_in}
-use Rattle.section.specs.declared.ids.Made.TheVariants as made
+use Rattle.std.specs.Prelude.{Ok, Err, Option, Some, None, Result}
 use Rattle.rows.specs.declared.Origin.{Origin as Words}
 use Rattle.rows.specs.declared.Key.{Key}
 use Rattle.rows.specs.Rows.{table_word, key_at, slot_count, slots_at}
@@ -25,17 +25,14 @@ use Rattle.ticks.proofs.Cells.{up_cong}
 use Rattle.segments.specs.Segments.{word_of}
 use Rattle.schedules.specs.Schedules.{tables_of}
 use Rattle.filter.specs.declared.Of.TheVariants as of
-use Rattle.filter.specs.declared.Wanted.{Wanted}
+use Rattle.filter.specs.declared.Fields.{Fields}
+use Rattle.answers.specs.declared.Refusal.{Refusal}
 use Rattle.filter.specs.declared.WantedOrigin.{WantedOrigin}
-use Rattle.filter.specs.declared.Wanted.TheVariants as wanted
 use Rattle.filter.specs.Drops.{wants, wants_origin, matches, removed_heads, removed_words, Rest, rest, dropped_rows}
 use Rattle.ties_eit.proofs.Removed.{removed_word, removed_words_lem, removed_part, removed_slots}
 use Rattle.eit_drop.specs.declared.Filter.{Filter}
 use Rattle.eit_drop.specs.declared.WantedPid.{WantedPid}
 use Rattle.eit_drop.specs.declared.WantedPid.TheVariants as wanted_pid
-use Rattle.eit_drop.specs.declared.OriginWanted.TheVariants as origin_wanted
-use Rattle.eit_drop.specs.declared.Drop.{Drop}
-use Rattle.eit_drop.specs.declared.Drop.TheVariants as drop
 use Rattle.eit_state.specs.State.{Store, store, Whole, with_sets, with_schedules}
 use Rattle.eit_drop.specs.Drop.{input_wanted, made_wanted, wanted_origin, fields_of, drop_from, matching_gone}
 use Rattle.eit.specs.Store.{After, carried_drop}
@@ -201,7 +198,7 @@ module _ (f : Filter) (fit : FilterFits f) (w : WantedOrigin) (from : (o : Words
       schedules = schedules_stay.sound.stands;
     }
 
-    pub matching_tied : Tied (carried_drop s (drop.Matching (fields_of w f)))
+    pub matching_tied : Tied (carried_drop s (Ok (fields_of w f)))
         (shows (seen s) (seen s).cells (gives done (dropped (filter_shown f) (seen s).eit)))
     unfolding matching_gone shows on_answer answer_told
     matching_tied = record { told = refl; shown = shown_after; reached = reached_after }
@@ -209,7 +206,7 @@ module _ (f : Filter) (fit : FilterFits f) (w : WantedOrigin) (from : (o : Words
 -- ---- 41, then 12, then 37, then 7
 
 module _ (s : Store) (z : Reached s) (g : Whole s) (f : Filter) (fit : FilterFits f) where
-  abbrev leaves : Drop → After
+  abbrev leaves : Result Fields Refusal → After
   leaves d = carried_drop s d
 
   pub drop_tied : Tied (leaves (drop_from f (wanted_origin f.input f.pid))) (drop_in (seen s) (filter_shown f) (bad_filter (filter_shown f)))
@@ -217,28 +214,28 @@ module _ (s : Store) (z : Reached s) (g : Whole s) (f : Filter) (fit : FilterFit
   drop_tied = go f.pid refl
     where
       -- 37, once the PID is one that there is
-      input_tied : (w : Wanted) → ((o : Words) → wants w o.pid ≡ pid_passes (pid_test f.pid) (origin_shown o).pid) → (i : Wanted) → f.input ≡ i
+      input_tied : (w : Option ℕ) → ((o : Words) → wants w o.pid ≡ pid_passes (pid_test f.pid) (origin_shown o).pid) → (i : Option ℕ) → f.input ≡ i
           → Tied (leaves (drop_from f (input_wanted i w))) (drop_in (seen s) (filter_shown f) (cond (bad_input (wanted_as (λ (x : ℕ). x) i)) (some refusal.BadInput) none))
-      input_tied w p wanted.Any e = matching_tied f fit (record { input = wanted.Any; pid = w }) (λ o. from_wanted f wanted.Any w e o (p o)) s z g
-      input_tied w p (wanted.Exactly v) e = test (ltb v 16) refl
+      input_tied w p None e = matching_tied f fit (record { input = None; pid = w }) (λ o. from_wanted f None w e o (p o)) s z g
+      input_tied w p (Some v) e = test (ltb v 16) refl
         where
-          test : (b : Bool) → ltb v 16 ≡ b → Tied (leaves (drop_from f (cond b (origin_wanted.Is (record { input = wanted.Exactly v; pid = w })) (origin_wanted.Refused refusal.BadInput))))
+          test : (b : Bool) → ltb v 16 ≡ b → Tied (leaves (drop_from f (cond b (Ok (record { input = Some v; pid = w })) (Err refusal.BadInput))))
               (drop_in (seen s) (filter_shown f) (cond (leb 16 v) (some refusal.BadInput) none))
-          test true q = rw (lt-leb 16 v (ltb-true v 16 q)) (matching_tied f fit (record { input = wanted.Exactly v; pid = w }) (λ o. from_wanted f (wanted.Exactly v) w e o (p o)) s z g)
+          test true q = rw (lt-leb 16 v (ltb-true v 16 q)) (matching_tied f fit (record { input = Some v; pid = w }) (λ o. from_wanted f (Some v) w e o (p o)) s z g)
           test false q = rw (le-leb 16 v (ltb-false v 16 q)) (record { told = refl; shown = refl; reached = z })
 
       exactly_tied : (v : ℕ) → f.pid ≡ wanted_pid.Exactly v → (b : Bool) → ltb v 8192 ≡ b
-          → Tied (leaves (drop_from f (made_wanted f.input (cond b (made.One (record { 0 = v })) made.TooLarge))))
+          → Tied (leaves (drop_from f (made_wanted f.input (cond b (Ok (record { 0 = v })) (Err refusal.BadPid)))))
           (drop_in (seen s) (filter_shown f) (cond (leb 8192 v) (some refusal.BadPid) (cond (bad_input (wanted_as (λ (x : ℕ). x) f.input)) (some refusal.BadInput) none)))
       exactly_tied v e true q =
           let l = ltb-true v 8192 q in
           rw (lt-leb 8192 v l)
-          (input_tied (wanted.Exactly v) (λ o. pid_exactly v l o ∙ ap (λ (t : WantedPid). pid_passes (pid_test t) (origin_shown o).pid) (sym e)) f.input refl)
+          (input_tied (Some v) (λ o. pid_exactly v l o ∙ ap (λ (t : WantedPid). pid_passes (pid_test t) (origin_shown o).pid) (sym e)) f.input refl)
       exactly_tied v e false q = rw (le-leb 8192 v (ltb-false v 8192 q)) (record { told = refl; shown = refl; reached = z })
 
       go : (p : WantedPid) → f.pid ≡ p → Tied (leaves (drop_from f (wanted_origin f.input p)))
           (drop_in (seen s) (filter_shown f)
           (cond (no_pid (pid_test p)) (some refusal.NoPid) (cond (bad_pid (pid_test p)) (some refusal.BadPid) (cond (bad_input (wanted_as (λ (x : ℕ). x) f.input)) (some refusal.BadInput) none))))
-      go wanted_pid.Any e = input_tied wanted.Any (λ o. pid_any o ∙ ap (λ (t : WantedPid). pid_passes (pid_test t) (origin_shown o).pid) (sym e)) f.input refl
+      go wanted_pid.Any e = input_tied None (λ o. pid_any o ∙ ap (λ (t : WantedPid). pid_passes (pid_test t) (origin_shown o).pid) (sym e)) f.input refl
       go wanted_pid.Without e = record { told = refl; shown = refl; reached = z }
       go (wanted_pid.Exactly v) e = exactly_tied v e (ltb v 8192) refl

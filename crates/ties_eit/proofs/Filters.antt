@@ -15,9 +15,7 @@ use Rattle.rows.specs.declared.Key.{Key}
 use Rattle.ticks.specs.Origins.{origin_shown}
 use Rattle.arrivals.specs.Arrivals.{bit_of}
 use Rattle.eit_section.specs.declared.Kind.TheVariants.{PresentFollowingActual, PresentFollowingOther, ScheduleActual, ScheduleOther}
-use Rattle.eit_section.specs.declared.MaybeKind.TheVariants as maybe
-use Rattle.filter.specs.declared.Wanted.{Wanted}
-use Rattle.filter.specs.declared.Wanted.TheVariants as wanted
+use Rattle.std.specs.Prelude.{Some, None, Option as StdOption}
 use Rattle.filter.specs.declared.WantedOrigin.{WantedOrigin}
 use Rattle.filter.specs.declared.Of.TheVariants as of
 use Rattle.filter.specs.Drops.{wants, wants_origin, kind_told, kind_word, matches}
@@ -28,10 +26,10 @@ use Rattle.ties_eit.proofs.Keys.{Bit}
 
 -- ---- field by field
 
-wants_exact : (w : Wanted) (v : ℕ) → wants w v ≡ passes eqb (wanted_as (λ (x : ℕ). x) w) v
+wants_exact : (w : StdOption ℕ) (v : ℕ) → wants w v ≡ passes eqb (wanted_as (λ (x : ℕ). x) w) v
 unfolding passes
-wants_exact wanted.Any v = refl
-wants_exact (wanted.Exactly x) v = eqb_sym v x
+wants_exact None v = refl
+wants_exact (Some x) v = eqb_sym v x
 
 by_number : (n : ℕ) → n < 4 → kind_number (kind_by n) ≡ n
 unfolding kind_by kind_number
@@ -41,10 +39,10 @@ by_number (suc (suc zero)) h = refl
 by_number (suc (suc (suc zero))) h = refl
 by_number (suc (suc (suc (suc n)))) h = absurd (omega arith)
 
-wants_kind : (w : Wanted) → Below 4 w → (n : ℕ) (k : Kind) → n ≡ kind_number k → wants w n ≡ passes same_kind (wanted_as kind_by w) k
+wants_kind : (w : StdOption ℕ) → Below 4 w → (n : ℕ) (k : Kind) → n ≡ kind_number k → wants w n ≡ passes same_kind (wanted_as kind_by w) k
 unfolding passes same_kind
-wants_kind wanted.Any b n k e = refl
-wants_kind (wanted.Exactly x) b n k e = rw (by_number x b, ← e) (eqb_sym n x)
+wants_kind None b n k e = refl
+wants_kind (Some x) b n k e = rw (by_number x b, ← e) (eqb_sym n x)
 
 current_is : (x : ℕ) (b : Bool) → x < 2 → eqb (bit_of b) x ≡ beq (not (eqb x 0)) b
 current_is zero true h = refl
@@ -53,17 +51,17 @@ current_is (suc zero) true h = refl
 current_is (suc zero) false h = refl
 current_is (suc (suc x)) b h = absurd (omega arith)
 
-wants_current : (w : Wanted) → Below 2 w → (c : ℕ) → Bit c → wants w c ≡ passes beq (wanted_as (λ (x : ℕ). not (eqb x 0)) w) (not (eqb c 0))
+wants_current : (w : StdOption ℕ) → Below 2 w → (c : ℕ) → Bit c → wants w c ≡ passes beq (wanted_as (λ (x : ℕ). not (eqb x 0)) w) (not (eqb c 0))
 unfolding passes
-wants_current wanted.Any b c e = refl
-wants_current (wanted.Exactly x) b c e = ap (λ (y : ℕ). eqb y x) (sym e) ∙ current_is x (not (eqb c 0)) b
+wants_current None b c e = refl
+wants_current (Some x) b c e = ap (λ (y : ℕ). eqb y x) (sym e) ∙ current_is x (not (eqb c 0)) b
 
 -- the PID that is wanted, as a head has it
-pub pid_any : (o : Words) → wants wanted.Any o.pid ≡ pid_passes any_pid (origin_shown o).pid
+pub pid_any : (o : Words) → wants None o.pid ≡ pid_passes any_pid (origin_shown o).pid
 unfolding pid_passes
 pid_any o = refl
 
-pub pid_exactly : (v : ℕ) → v < 8192 → (o : Words) → wants (wanted.Exactly v) o.pid ≡ pid_passes (exactly v) (origin_shown o).pid
+pub pid_exactly : (v : ℕ) → v < 8192 → (o : Words) → wants (Some v) o.pid ≡ pid_passes (exactly v) (origin_shown o).pid
 unfolding pid_passes origin_shown
 pid_exactly v h o = go (eqb o.pid 8192) refl
   where
@@ -74,11 +72,11 @@ pid_exactly v h o = go (eqb o.pid 8192) refl
     go false e = eqb_sym o.pid v
 
 -- what is wanted of where sections came from
-pub from_wanted : (f : Filter) (i w : Wanted) → f.input ≡ i → (o : Words) → wants w o.pid ≡ pid_passes (pid_test f.pid) (origin_shown o).pid
+pub from_wanted : (f : Filter) (i w : StdOption ℕ) → f.input ≡ i → (o : Words) → wants w o.pid ≡ pid_passes (pid_test f.pid) (origin_shown o).pid
     → wants_origin (record { input = i; pid = w }) o ≡ from_passes (filter_shown f) (origin_shown o)
 unfolding from_passes filter_shown origin_shown
 from_wanted f i w e o p =
-    let q = wants_exact i o.input ∙ ap (λ (x : Wanted). passes eqb (wanted_as (λ (y : ℕ). y) x) o.input) (sym e) in
+    let q = wants_exact i o.input ∙ ap (λ (x : StdOption ℕ). passes eqb (wanted_as (λ (y : ℕ). y) x) o.input) (sym e) in
     λ t. q t && p t
 
 -- ---- a key
@@ -121,7 +119,7 @@ kind_word_lem t h = go (eqb t 0x4E) (eqb t 0x4F) (within 0x50 0x5F t) (within 0x
     kind_by' : Bool → Bool → Bool → Bool → Option Kind
     kind_by' a b c d = cond a (some present_actual) (cond b (some present_other) (cond c (some schedule_actual) (cond d (some schedule_other) none)))
 
-    go : (a b c d : Bool) → kind_by' a b c d ≡ some (the_kind (kind_by' a b c d)) → kind_told (cond a (maybe.Some PresentFollowingActual) (cond b (maybe.Some PresentFollowingOther) (cond c (maybe.Some ScheduleActual) (cond d (maybe.Some ScheduleOther) maybe.None)))) ≡ kind_number (the_kind (kind_by' a b c d))
+    go : (a b c d : Bool) → kind_by' a b c d ≡ some (the_kind (kind_by' a b c d)) → kind_told (cond a (Some PresentFollowingActual) (cond b (Some PresentFollowingOther) (cond c (Some ScheduleActual) (cond d (Some ScheduleOther) None)))) ≡ kind_number (the_kind (kind_by' a b c d))
     go true b c d e = refl
     go false true c d e = refl
     go false false true d e = refl

@@ -14,15 +14,12 @@ use Rattle.rows.specs.Rows.{table_word, word, key_at}
 use Rattle.arrivals.specs.Arrivals.{bit_of}
 use Rattle.filter.specs.declared.Of.{Of}
 use Rattle.filter.specs.declared.Of.TheVariants as of
-use Rattle.filter.specs.declared.Wanted.{Wanted}
-use Rattle.filter.specs.declared.Wanted.TheVariants as wanted
+use Rattle.std.specs.Prelude.{Option, Some, Result, Ok, Err}
+use Rattle.answers.specs.declared.Refusal.{Refusal}
 use Rattle.filter.specs.declared.WantedOrigin.{WantedOrigin}
 use Rattle.filter.specs.declared.Fields.{Fields}
 use Rattle.filter.specs.Drops.{wants, wants_origin, kind_in, matches, Rest, rest, dropped_row, dropped_rows}
 use Rattle.eit_drop.specs.declared.Filter.{Filter}
-use Rattle.eit_drop.specs.declared.Drop.TheVariants as drop
-use Rattle.eit_drop.specs.declared.OriginWanted.{OriginWanted}
-use Rattle.eit_drop.specs.declared.OriginWanted.TheVariants as origin_wanted
 use Rattle.eit_state.specs.State.{Store, whole_of}
 use Rattle.eit_drop.specs.Drop.{wanted_origin, fields_of, drop_from, matching_gone}
 use Rattle.eit_admit.specs.Admitting.{drop_of}
@@ -37,8 +34,8 @@ use Rattle.ties_eit.proofs.Pids.{each_has_pid}
 
 -- kinds are 0 to 3, current_next is 0 or 1
 pub data Foreign (f : Filter) : Type 0 where
-  kind : (x : ℕ) → f.kind ≡ wanted.Exactly x → 4 ≤ x → Foreign f
-  current_next : (x : ℕ) → f.current_next ≡ wanted.Exactly x → 2 ≤ x → Foreign f
+  kind : (x : ℕ) → f.kind ≡ Some x → 4 ≤ x → Foreign f
+  current_next : (x : ℕ) → f.current_next ≡ Some x → 2 ≤ x → Foreign f
 
 -- where no row matches, none leaves
 none_leave : (o : Of) (f : Fields) (n : ℕ) (r : Rest) → ((j : ℕ) → j < n → matches o f (key_at r.heads j) ≡ false) → dropped_rows o f n r ≡ r
@@ -69,11 +66,11 @@ unfolding matches
 no_match o f w (kind x e h) k l m =
     second (wants_origin w k.from) (wants f.kind (kind_in o k.table_id)) (wants f.service_id k.extension) (wants f.transport_stream_id k.transport_stream_id)
     (wants f.original_network_id k.original_network_id) (wants f.current_next k.current_next)
-    (ap (λ (q : Wanted). wants q (kind_in o k.table_id)) e ∙ ne_eqb (kind_in o k.table_id) x (λ (t : kind_in o k.table_id ≡ x). absurd (omega arith)))
+    (ap (λ (q : Option ℕ). wants q (kind_in o k.table_id)) e ∙ ne_eqb (kind_in o k.table_id) x (λ (t : kind_in o k.table_id ≡ x). absurd (omega arith)))
 no_match o f w (current_next x e h) k l m =
     last (wants_origin w k.from) (wants f.kind (kind_in o k.table_id)) (wants f.service_id k.extension) (wants f.transport_stream_id k.transport_stream_id)
     (wants f.original_network_id k.original_network_id) (wants f.current_next k.current_next)
-    (ap (λ (q : Wanted). wants q k.current_next) e ∙ ne_eqb k.current_next x (λ (t : k.current_next ≡ x). absurd (omega arith)))
+    (ap (λ (q : Option ℕ). wants q k.current_next) e ∙ ne_eqb k.current_next x (λ (t : k.current_next ≡ x). absurd (omega arith)))
 
 module _ (s : Store) (z : Reached s) (f : Filter) (g : Foreign f) (w : WantedOrigin) where
   sets_stay : dropped_rows of.Sets (fields_of w f) s.eit.sets.used (rest s.heads s.slots s.eit.sets.used) ≡ rest s.heads s.slots s.eit.sets.used
@@ -96,7 +93,7 @@ module _ (s : Store) (z : Reached s) (f : Filter) (g : Foreign f) (w : WantedOri
       let c = bit_below (not (eqb (word s.schedule_heads j 3) 0)) in
       no_match of.Schedules f w g (key_at s.schedule_heads j) (omega arith) (omega arith))
 
-  gone_stays : (carried_drop s (drop.Matching (fields_of w f))).store ≡ s
+  gone_stays : (carried_drop s (Ok (fields_of w f))).store ≡ s
   unfolding matching_gone
   gone_stays = rw (sets_stay, schedules_stay)
 
@@ -105,22 +102,22 @@ pub foreign_drop : (s : Store) → Reached s → (f : Filter) → Foreign f → 
 unfolding acts dropped_of drop_of
 foreign_drop s z f g = go (whole_of s) (any_without s.eit s.heads s.schedule_heads) (wanted_origin f.input f.pid)
   where
-    go : (b w : Bool) (p : OriginWanted) → (carried_drop s (cond b (cond w (drop.Refuse refusal.NoPid) (drop_from f p)) (drop.Refuse refusal.NotWhole))).store ≡ s
+    go : (b w : Bool) (p : Result WantedOrigin Refusal) → (carried_drop s (cond b (cond w (Err refusal.NoPid) (drop_from f p)) (Err refusal.NotWhole))).store ≡ s
     go true true p = refl
-    go true false (origin_wanted.Refused r) = refl
-    go true false (origin_wanted.Is w) = gone_stays s z f g w
+    go true false (Err r) = refl
+    go true false (Ok w) = gone_stays s z f g w
     go false w p = refl
 
 -- 41 for no PID, 12 for a PID of 8192 or more, 37 for an input of 16 or more, else 7, whatever the other fields of the filter are
-abbrev pub drop_answer : OriginWanted → Answer
-drop_answer (origin_wanted.Refused r) = refused r
-drop_answer (origin_wanted.Is w) = done
+abbrev pub drop_answer : Result WantedOrigin Refusal → Answer
+drop_answer (Err r) = refused r
+drop_answer (Ok w) = done
 
 -- a filter that names no kind and no current_next is answered as any other: by its PID and its input alone
 pub drop_answered : (s : Store) → Reached s → whole_of s ≡ true → (f : Filter) → tells s (drops f) ≡ drop_answer (wanted_origin f.input f.pid)
 unfolding tells dropped_of drop_of answer_told
 drop_answered s z w f = rw (w, each_has_pid s z) (go (wanted_origin f.input f.pid))
   where
-    go : (p : OriginWanted) → answer_told (carried_drop s (drop_from f p)).told ≡ drop_answer p
-    go (origin_wanted.Refused r) = refl
-    go (origin_wanted.Is x) = refl
+    go : (p : Result WantedOrigin Refusal) → answer_told (carried_drop s (drop_from f p)).told ≡ drop_answer p
+    go (Err r) = refl
+    go (Ok x) = refl

@@ -27,11 +27,9 @@ use Rattle.rules_eit.proofs.Exact.{NeedsCell, only_then_21, then_21, SaysNone, o
 use Rattle.section.specs.Judged.{collected_of}
 use Rattle.eit_section.specs.Eit.{eit_of}
 use Rattle.section.specs.declared.header.Header.{Header}
-use Rattle.section.specs.declared.header.Collected.{Collected}
-use Rattle.section.specs.declared.header.Collected.TheVariants as collected
-use Rattle.eit_section.specs.declared.Reading.{Reading}
-use Rattle.eit_section.specs.declared.Reading.TheVariants as reading
-use Rattle.section.specs.declared.ids.MaybePid.TheVariants as maybe
+use Rattle.std.specs.Prelude.{Some, None, Result, Ok, Err}
+use Rattle.answers.specs.declared.Refusal.{Refusal}
+use Rattle.eit_section.specs.declared.Eit as eit_section_eit
 use Rattle.ticks.proofs.Touch.{seen_none, stands_none}
 use Rattle.rows.specs.Rows.{touched}
 use Rattle.schedules.specs.declared.ScheduleRoom.{ScheduleRoom}
@@ -39,16 +37,13 @@ use Rattle.schedules.specs.Schedules.{room_of, scheduled_units, tables_there}
 use Rattle.eit_drop.specs.declared.Filter.{Filter}
 use Rattle.eit_drop.specs.declared.WantedPid.{WantedPid}
 use Rattle.eit_drop.specs.declared.WantedPid.TheVariants as wanted_pid
-use Rattle.eit_drop.specs.declared.Drop.{Drop}
-use Rattle.eit_drop.specs.declared.Drop.TheVariants as plan_drop
+use Rattle.filter.specs.declared.Fields.{Fields}
 use Rattle.arrivals.specs.declared.Arrival.{Arrival}
 use Rattle.eit_becomes.specs.declared.Becomes.{Becomes}
 use Rattle.eit_becomes.specs.declared.Becomes.TheVariants as becomes
 use Rattle.eit_plan.specs.declared.Plan.{Plan}
 use Rattle.eit_plan.specs.declared.Plan.TheVariants as plan
 use Rattle.eit_state.specs.State.{Store, store, rows, rows_of, risen_rows, asked, settings_fit, whole_of, Rows as EitRows, empty_eit}
-use Rattle.arrivals.specs.declared.EitArrival.{EitArrival}
-use Rattle.arrivals.specs.declared.EitArrival.TheVariants as arrival
 use Rattle.rules_shared.specs.Refusals as refusals
 use Rattle.eit_plan.specs.Plan.{plan_of}
 use Rattle.eit_becomes.specs.Becoming.{own_table, becomes_of, is_marked}
@@ -172,15 +167,15 @@ plan_keeps s bytes (plan.Conflict i) h = absurd (true≢false (sym h))
 plan_keeps s bytes (plan.Repeat x) h = absurd (true≢false (sym h ∙ settled_changes (risen_rows (rows_of s)) x.arrival x.row _))
 plan_keeps s bytes (plan.Keep k) h = absurd (true≢false (sym h ∙ settled_changes _ k.arrival k.room.row _))
 
-push_keeps : (s : Store) (bytes : Bytes) (v : EitArrival) → as_before (answer_told (pushed_as s bytes v).told) ≡ true → (pushed_as s bytes v).store ≡ s
+push_keeps : (s : Store) (bytes : Bytes) (v : Result Arrival Refusal) → as_before (answer_told (pushed_as s bytes v).told) ≡ true → (pushed_as s bytes v).store ≡ s
 unfolding pushed_whole
-push_keeps s bytes (arrival.Refused r) h = refl
-push_keeps s bytes (arrival.Arrived a) h = plan_keeps s bytes (plan_of s bytes a) h
+push_keeps s bytes (Err r) h = refl
+push_keeps s bytes (Ok a) h = plan_keeps s bytes (plan_of s bytes a) h
 
-drop_keeps : (s : Store) (d : Drop) → as_before (answer_told (carried_drop s d).told) ≡ true → (carried_drop s d).store ≡ s
+drop_keeps : (s : Store) (d : Result Fields Refusal) → as_before (answer_told (carried_drop s d).told) ≡ true → (carried_drop s d).store ≡ s
 unfolding as_before answer_told
-drop_keeps s (plan_drop.Refuse a) h = refl
-drop_keeps s (plan_drop.Matching f) h = absurd (true≢false (sym h))
+drop_keeps s (Err a) h = refl
+drop_keeps s (Ok f) h = absurd (true≢false (sym h))
 
 pub as_before_lem : (s : Store) (i : Given) → as_before (tells s i) ≡ true → acts s i ≡ s
 unfolding tells acts as_before answer_told cleared_of dropped_of pushed_of
@@ -221,19 +216,17 @@ same_store (i ∷ is) o s z =
     (q.0 ∙ ap (λ (t : Shown). store_after call_acts t (map reads is)) (acts_seen s z i (o 0 i refl)), q.1)
 
 -- a section that is read has 12 bytes or more
-eit_long : (from : Origin) (bytes : Bytes) (h : Header) → collected_of bytes ≡ collected.Good h → (r : Reading) → LongEnough (reads_eit from bytes h r)
+eit_long : (from : Origin) (bytes : Bytes) (h : Header) → collected_of bytes ≡ Ok h → (r : Result eit_section_eit.Eit Refusal) → LongEnough (reads_eit from bytes h r)
 unfolding reads_eit section_of
-eit_long from bytes h e reading.NotEit = good_length bytes h e
-eit_long from bytes h e reading.Broken = tt
-eit_long from bytes h e (reading.Good f) = good_length bytes h e
+eit_long from bytes h e (Err refusal.NotEit) = good_length bytes h e
+eit_long from bytes h e (Err r) = tt
+eit_long from bytes h e (Ok f) = good_length bytes h e
 
-read_long : (from : Origin) (bytes : Bytes) (c : Collected) → collected_of bytes ≡ c → LongEnough (reads_as from bytes c)
+read_long : (from : Origin) (bytes : Bytes) (c : Result Header Refusal) → collected_of bytes ≡ c → LongEnough (reads_as from bytes c)
 unfolding reads_as
-read_long from bytes collected.Malformed e = tt
-read_long from bytes collected.ShortForm e = tt
-read_long from bytes collected.BadNumber e = tt
-read_long from bytes collected.BadCrc e = tt
-read_long from bytes (collected.Good h) e = eit_long from bytes h e (eit_of bytes)
+read_long from bytes (Err refusal.ShortForm) e = tt
+read_long from bytes (Err r) e = tt
+read_long from bytes (Ok h) e = eit_long from bytes h e (eit_of bytes)
 
 on_long : (from : Origin) (bytes : Bytes) → LongEnough (read_on from bytes)
 on_long from bytes = pick (ltb from.input 16)
@@ -246,8 +239,8 @@ reads_long : (i : Given) → LongEnough (reads i)
 unfolding reads read_section
 reads_long clears = tt
 reads_long (drops f) = tt
-reads_long (section input maybe.None bytes) = tt
-reads_long (section input (maybe.Some p) bytes) = pick (ltb p 8192)
+reads_long (section input None bytes) = tt
+reads_long (section input (Some p) bytes) = pick (ltb p 8192)
   where
     pick : (b : Bool) → LongEnough (cond b (read_on (record { input = input; pid = p }) bytes) (refuse refusal.BadPid refl))
     pick true = on_long (record { input = input; pid = p }) bytes
@@ -278,7 +271,7 @@ always_whole (i ∷ is) o s z w = always_whole is (λ t j e. o (suc t) j e) (act
 abbrev pub WithoutPid : Given → Type 0
 WithoutPid clears = ⊥
 WithoutPid (drops f) = f.pid ≡ wanted_pid.Without
-WithoutPid (section input pid bytes) = pid ≡ maybe.None
+WithoutPid (section input pid bytes) = pid ≡ None
 
 -- in every history of opening, pushes with and without PIDs, drops and clears no set and no schedule is without a PID
 pub never_41_by_store : (s : Store) → Opened s → (calls : List Given) → EachFitting calls
@@ -301,26 +294,24 @@ asks_none f e = go f.pid e
     go (wanted_pid.Exactly v) e = absurd (bad (bad_pid (exactly v)) (bad_input (wanted_as (λ (x : ℕ). x) f.input)) e)
 
 -- the reading of a section's bytes says nothing of its PID
-eit_says : (from : Origin) (bytes : Bytes) (h : Header) (r : Reading) → SaysNone (reads_eit from bytes h r) → ⊥
+eit_says : (from : Origin) (bytes : Bytes) (h : Header) (r : Result eit_section_eit.Eit Refusal) → SaysNone (reads_eit from bytes h r) → ⊥
 unfolding reads_eit
-eit_says from bytes h reading.NotEit e = e
-eit_says from bytes h reading.Broken e = let z : ◌≡◌ {A = ℕ} 0 1 = cc in omega arith
-eit_says from bytes h (reading.Good f) e = e
+eit_says from bytes h (Err refusal.NotEit) e = e
+eit_says from bytes h (Err r) e = let z : ◌≡◌ {A = ℕ} 0 1 = cc in omega arith
+eit_says from bytes h (Ok f) e = e
 
-read_says : (from : Origin) (bytes : Bytes) (c : Collected) → SaysNone (reads_as from bytes c) → ⊥
+read_says : (from : Origin) (bytes : Bytes) (c : Result Header Refusal) → SaysNone (reads_as from bytes c) → ⊥
 unfolding reads_as
-read_says from bytes collected.Malformed e = let z : ◌≡◌ {A = ℕ} 0 1 = cc in omega arith
-read_says from bytes collected.ShortForm e = let z : ◌≡◌ {A = ℕ} 0 1 = cc in omega arith
-read_says from bytes collected.BadNumber e = let z : ◌≡◌ {A = ℕ} 0 1 = cc in omega arith
-read_says from bytes collected.BadCrc e = let z : ◌≡◌ {A = ℕ} 0 1 = cc in omega arith
-read_says from bytes (collected.Good h) e = eit_says from bytes h (eit_of bytes) e
+read_says from bytes (Err refusal.ShortForm) e = let z : ◌≡◌ {A = ℕ} 0 1 = cc in omega arith
+read_says from bytes (Err r) e = let z : ◌≡◌ {A = ℕ} 0 1 = cc in omega arith
+read_says from bytes (Ok h) e = eit_says from bytes h (eit_of bytes) e
 
 reads_none : (i : Given) → SaysNone (reads i) → WithoutPid i
 unfolding reads read_section
 reads_none clears e = e
 reads_none (drops f) e = asks_none f e
-reads_none (section input maybe.None bytes) e = refl
-reads_none (section input (maybe.Some p) bytes) e = absurd (pick (ltb p 8192) (ltb input 16) e)
+reads_none (section input None bytes) e = refl
+reads_none (section input (Some p) bytes) e = absurd (pick (ltb p 8192) (ltb input 16) e)
   where
     pick : (b c : Bool) → SaysNone (cond b (cond c (reads_as (record { input = input; pid = p }) bytes (collected_of bytes)) (refuse refusal.BadInput refl)) (refuse refusal.BadPid refl)) → ⊥
     pick true true e = read_says (record { input = input; pid = p }) bytes (collected_of bytes) e

@@ -22,7 +22,8 @@ use Rattle.rows.specs.Rows.{word, touched, slots_at, slot_count, row_slots, last
 use Rattle.rows.proofs.Words.{slot_at, length_slots, touched_not}
 use Rattle.ticks.specs.Order.{rows_seen}
 use Rattle.ticks.proofs.Ticks.{order_none, none_order}
-use Rattle.section.specs.declared.ids.MaybePid.{MaybePid}
+use Rattle.std.specs.Prelude.{Option, Result, Ok, Err}
+use Rattle.answers.specs.declared.Refusal.{Refusal}
 use Rattle.units.specs.Units.{is_present, unit_slots}
 use Rattle.schedules.specs.Schedules.{tables_of, room_of, scheduled_units, tables_there}
 use Rattle.schedules.specs.declared.ScheduleRoom.{ScheduleRoom}
@@ -32,8 +33,6 @@ use Rattle.eit_becomes.specs.declared.Becomes.TheVariants as becomes
 use Rattle.eit_plan.specs.declared.Plan.{Plan}
 use Rattle.eit_plan.specs.declared.Plan.TheVariants as plan
 use Rattle.eit_state.specs.State.{Store, Rows, rows, rows_of, risen_eit, risen_rows}
-use Rattle.arrivals.specs.declared.EitArrival.{EitArrival}
-use Rattle.arrivals.specs.declared.EitArrival.TheVariants as arrival
 use Rattle.eit_plan.specs.Plan.{plan_of}
 use Rattle.eit_becomes.specs.Becoming.{own_table, becomes_of, is_marked}
 use Rattle.eit_enter.specs.Entering.{schedule_entry, entered_answer, entered_in, entered}
@@ -102,12 +101,12 @@ plan_ticks s bytes (plan.Conflict i) h =
 plan_ticks s bytes (plan.Repeat x) h = absurd (settled_tells (risen_rows (rows_of s)) x.arrival x.row _ h)
 plan_ticks s bytes (plan.Keep k) h = absurd (settled_tells _ k.arrival k.room.row _ h)
 
-push_ticks : (s : Store) (bytes : Bytes) (v : EitArrival) → number_of (answer_told (pushed_as s bytes v).told) ≡ 22 → TicksAlone s (pushed_as s bytes v).store
+push_ticks : (s : Store) (bytes : Bytes) (v : Result Arrival Refusal) → number_of (answer_told (pushed_as s bytes v).told) ≡ 22 → TicksAlone s (pushed_as s bytes v).store
 unfolding pushed_whole
-push_ticks s bytes (arrival.Refused r) h = record { eit = inl refl; heads = λ j m n l. refl; slots = refl; cells = refl; schedule_heads = refl; units = refl }
-push_ticks s bytes (arrival.Arrived a) h = plan_ticks s bytes (plan_of s bytes a) h
+push_ticks s bytes (Err r) h = record { eit = inl refl; heads = λ j m n l. refl; slots = refl; cells = refl; schedule_heads = refl; units = refl }
+push_ticks s bytes (Ok a) h = plan_ticks s bytes (plan_of s bytes a) h
 
-pub conflict_memory : (s : Store) (input : ℕ) (pid : MaybePid) (bytes : Bytes) → tells s (section input pid bytes) ≡ (refused refusal.Conflict) → TicksAlone s (acts s (section input pid bytes))
+pub conflict_memory : (s : Store) (input : ℕ) (pid : Option ℕ) (bytes : Bytes) → tells s (section input pid bytes) ≡ (refused refusal.Conflict) → TicksAlone s (acts s (section input pid bytes))
 unfolding tells acts pushed_of number_of
 conflict_memory s input pid bytes h = push_ticks s bytes (admitted s input pid bytes) (ap number_of h)
 

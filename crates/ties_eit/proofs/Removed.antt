@@ -1,4 +1,4 @@
--- What stands where once a row has left: the row that stands in row j's place is the one that `movedFrom` names, with its head and its words.
+-- What stands where once a row has left: the row that stands in row j's place is the one that `moved_from` names, with its head and its words.
 -- Assumes nothing.
 use mathlib.Core.Path.{◌≡◌, sym, ap, ◌∙◌}
 use mathlib.Core.Logic.{◌≢◌}

@@ -1,6 +1,6 @@
 -- What the memory of the EIT collector shows, in the words of the rules; and its calls as the rules have them.
 -- Assumes nothing.
-use Rattle.std.specs.Prelude.{ℕ, suc, ◌+◌, ◌-◌, ◌*◌, ◌≤◌, ◌<◌, ◌≡◌, refl, true, cond, not, List, [], ◌∷◌, eqb, ltb, length, get_or}
+use Rattle.std.specs.Prelude.{ℕ, suc, ◌+◌, ◌-◌, ◌*◌, ◌≤◌, ◌<◌, ◌≡◌, refl, true, cond, not, List, [], ◌∷◌, eqb, ltb, length, get_or, Option as StdOption, Some, None, Result, Ok, Err}
 use Rattle.std.proofs.Math.Option.{Option, none, some}
 use Rattle.rules_shared.specs.Same.{Bytes, Origin}
 use Rattle.rules_shared.specs.Cells.{Settings, Held}
@@ -13,14 +13,9 @@ use Rattle.rules_eit.specs.Cells.{Store as Shown}
 use Rattle.section.specs.Judged.{collected_of}
 use Rattle.eit_section.specs.Eit.{eit_of, fields_of}
 use Rattle.section.specs.declared.header.Header.{Header}
-use Rattle.section.specs.declared.header.Collected.{Collected}
-use Rattle.section.specs.declared.header.Collected.TheVariants as collected
+use Rattle.answers.specs.declared.Refusal.{Refusal}
 use Rattle.eit_section.specs.declared.Eit as fields
 use Rattle.eit_section.specs.declared.Kind.TheVariants as kind
-use Rattle.eit_section.specs.declared.Reading.{Reading}
-use Rattle.eit_section.specs.declared.Reading.TheVariants as reading
-use Rattle.section.specs.declared.ids.MaybePid.{MaybePid}
-use Rattle.section.specs.declared.ids.MaybePid.TheVariants as maybe
 use Rattle.rows.specs.declared.Key.{Key}
 use Rattle.rows.specs.Rows.{table_word, row_slots, last_of, mark_of, version_of}
 use Rattle.ticks.specs.Order.{order_seen, Stands}
@@ -30,8 +25,6 @@ use Rattle.arrivals.specs.Arrivals.{bit_of}
 use Rattle.segments.specs.Segments.{word_of}
 use Rattle.units.specs.Units.{is_present, unit_slots, first_table}
 use Rattle.schedules.specs.Schedules.{tables_of}
-use Rattle.filter.specs.declared.Wanted.{Wanted}
-use Rattle.filter.specs.declared.Wanted.TheVariants as wanted
 use Rattle.eit_drop.specs.declared.Filter.{Filter}
 use Rattle.eit_drop.specs.declared.WantedPid.{WantedPid}
 use Rattle.eit_drop.specs.declared.WantedPid.TheVariants as wanted_pid
@@ -134,7 +127,7 @@ seen s = record {
 pub data Given : Type 0 where
   clears : Given
   drops : Filter → Given
-  section : (input : ℕ) → MaybePid → Bytes → Given
+  section : (input : ℕ) → StdOption ℕ → Bytes → Given
 
 -- what the calls are proved to tell and to leave
 abbrev pub called : Store → Given → After
@@ -143,9 +136,9 @@ called s (drops f) = dropped_of s f
 called s (section input pid bytes) = pushed_of s input pid bytes
 
 -- a field of a filter is free, or exactly one of the numbers below n
-abbrev pub Below : ℕ → Wanted → Type 0
-Below n wanted.Any = Unit {0}
-Below n (wanted.Exactly x) = x < n
+abbrev pub Below : ℕ → StdOption ℕ → Type 0
+Below n None = Unit {0}
+Below n (Some x) = x < n
 
 -- "kind .. and current_next, each exact or free": kinds are 0 to 3, current_next is 0 or 1
 pub record FilterFits (f : Filter) : Type 0 where
@@ -159,9 +152,9 @@ Fitting (drops f) = FilterFits f
 Fitting (section input pid bytes) = (i : ℕ) → get_or bytes i 0 < 256
 
 -- "PID, kind, service_id, transport_stream_id, original_network_id and current_next, each exact or free"
-abbrev pub wanted_as : {A : Type 0} → (ℕ → A) → Wanted → Option A
-wanted_as shown wanted.Any = none
-wanted_as shown (wanted.Exactly x) = some (shown x)
+abbrev pub wanted_as : {A : Type 0} → (ℕ → A) → StdOption ℕ → Option A
+wanted_as shown None = none
+wanted_as shown (Some x) = some (shown x)
 
 abbrev pub pid_test : WantedPid → PidTest
 pid_test wanted_pid.Any = any_pid
@@ -196,28 +189,28 @@ section_of from bytes h f = record {
   bytes = bytes;
 }
 
--- 19, or what the section says. Whether its table_id is one of an EIT (18) is for the rules to say, which do not look at the kind that was read
-unfoldable pub reads_eit : Origin → Bytes → Header → Reading → Call
-reads_eit from bytes h reading.NotEit = offer (section_of from bytes h (fields_of bytes kind.PresentFollowingActual))
-reads_eit from bytes h reading.Broken = refuse refusal.Broken refl
-reads_eit from bytes h (reading.Good f) = offer (section_of from bytes h f)
+-- 19, the one other refusal of this reading, or what the section says. Whether its table_id is one of an EIT (18) is for the rules to say, which do not look at the kind that was read
+unfoldable pub reads_eit : Origin → Bytes → Header → Result fields.Eit Refusal → Call
+reads_eit from bytes h (Err refusal.NotEit) = offer (section_of from bytes h (fields_of bytes kind.PresentFollowingActual))
+reads_eit from bytes h (Err r) = refuse refusal.Broken refl
+reads_eit from bytes h (Ok f) = offer (section_of from bytes h f)
 
--- 14 to 17
-unfoldable pub reads_as : Origin → Bytes → Collected → Call
-reads_as from bytes collected.Malformed = refuse refusal.Malformed refl
-reads_as from bytes collected.ShortForm = refuse refusal.ShortForm refl
-reads_as from bytes collected.BadNumber = refuse refusal.BadNumber refl
-reads_as from bytes collected.BadCrc = refuse refusal.BadCrc refl
-reads_as from bytes (collected.Good h) = reads_eit from bytes h (eit_of bytes)
+-- 15 to 17; or 14, the one other refusal of this reading
+unfoldable pub reads_as : Origin → Bytes → Result Header Refusal → Call
+reads_as from bytes (Err refusal.ShortForm) = refuse refusal.ShortForm refl
+reads_as from bytes (Err refusal.BadNumber) = refuse refusal.BadNumber refl
+reads_as from bytes (Err refusal.BadCrc) = refuse refusal.BadCrc refl
+reads_as from bytes (Err r) = refuse refusal.Malformed refl
+reads_as from bytes (Ok h) = reads_eit from bytes h (eit_of bytes)
 
 -- 37: an input of 16 or more
 abbrev pub read_on : Origin → Bytes → Call
 read_on from bytes = cond (ltb from.input 16) (reads_as from bytes (collected_of bytes)) (refuse refusal.BadInput refl)
 
 -- 41 first: no PID; then 12: a PID of 8192 or more
-unfoldable pub read_section : (input : ℕ) → MaybePid → Bytes → Call
-read_section input maybe.None bytes = refuse refusal.NoPid refl
-read_section input (maybe.Some p) bytes = cond (ltb p 8192) (read_on (record { input = input; pid = p }) bytes) (refuse refusal.BadPid refl)
+unfoldable pub read_section : (input : ℕ) → StdOption ℕ → Bytes → Call
+read_section input None bytes = refuse refusal.NoPid refl
+read_section input (Some p) bytes = cond (ltb p 8192) (read_on (record { input = input; pid = p }) bytes) (refuse refusal.BadPid refl)
 
 unfoldable pub reads : Given → Call
 reads clears = clear

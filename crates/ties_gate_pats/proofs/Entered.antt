@@ -20,7 +20,7 @@ use Rattle.gate_state.specs.State.{Said, by_tables}
 use Rattle.gate.specs.Rules.{Offer, OfBytes}
 use Rattle.gate.specs.View.{store_tells}
 use Rattle.laws.specs.Bits.{has_bit}
-use Rattle.section.specs.declared.ids.MaybePid.TheVariants as maybe
+use Rattle.std.specs.Prelude.{Some}
 use Rattle.arrivals.specs.Arrivals.{set_arrival}
 use Rattle.watched.specs.Store.{followed_of}
 use Rattle.rules_sets.specs.Rules.{Whole, Answer, cleared, nothing, handout, refused, conflict, opened, tells}
@@ -200,7 +200,7 @@ module _ (s : Kept) (k : OpenedWith s) (r : pats.Opened s.watch) (h : by_tables 
         none n = stays (sets_stay before o k' b' h' n)
 
         r' : Record
-        r' = entered_as before.watch o.section (set_arrival o.input (maybe.Some 0) o.section)
+        r' = entered_as before.watch o.section (set_arrival o.input (Some 0) o.section)
 
         handed : (w : Whole) → answer before.watch ≡ handout w → (a p f t : Bool)
             → sound_by (kept_tells before o) ≡ a → eqb o.pid 0 ≡ p → pats_full before.watch.words ≡ f → enters o.section ≡ t

@@ -16,11 +16,9 @@ use Rattle.section.specs.Ids.{origin_of}
 use Rattle.section.specs.Judged.{collected_of}
 use Rattle.section.proofs.Facts.{takes}
 use Rattle.section.specs.declared.header.Header.{Header}
-use Rattle.section.specs.declared.header.Collected.{Collected}
-use Rattle.section.specs.declared.header.Collected.TheVariants as collected
-use Rattle.section.specs.declared.ids.MaybePid.{MaybePid}
-use Rattle.section.specs.declared.ids.MaybePid.TheVariants as maybe
-use Rattle.section.specs.declared.ids.OriginMade.TheVariants as made
+use Rattle.std.specs.Prelude.{Option, Some, None, Result, Ok, Err}
+use Rattle.answers.specs.declared.Refusal.TheVariants as refusal
+use Rattle.answers.specs.declared.Refusal.{Refusal}
 use Rattle.cells.specs.Cells.{kept_length, lowest_free, kept}
 use Rattle.rows.specs.declared.Origin.{Origin}
 use Rattle.rows.specs.declared.Entry.{Entry}
@@ -37,7 +35,6 @@ use Rattle.placing.specs.declared.Place.{Place}
 use Rattle.placing.specs.declared.Place.TheVariants as place
 use Rattle.placing.proofs.Laws.{place_ok}
 use Rattle.arrivals.specs.Arrivals.{made_words, set_key, entry_of, set_read, set_judged, set_arrival}
-use Rattle.arrivals.specs.declared.SetArrival.TheVariants as arrival
 use Rattle.sets_plan.specs.declared.Plan.{Plan}
 use Rattle.sets_plan.specs.declared.Plan.TheVariants as plan
 use Rattle.sets_plan.specs.Plan.{plan_keep, plan_placed, plan_of}
@@ -195,7 +192,7 @@ module _ (s : Store) (f : WholeStore s) (e : Entry) (bytes : List ℕ) where
 -- ---- what a section says
 
 module _ (bytes : List ℕ) (w : Handed) where
-  header_given : (from : Origin) (h : Header) → collected_of bytes ≡ collected.Good h → OurSet w (entry_of (set_key from h) h) → AsRead from bytes w
+  header_given : (from : Origin) (h : Header) → collected_of bytes ≡ Ok h → OurSet w (entry_of (set_key from h) h) → AsRead from bytes w
   unfolding header_of
   header_given from h q o =
       let t = takes bytes h (collected_of bytes) refl q in
@@ -212,26 +209,23 @@ module _ (bytes : List ℕ) (w : Handed) where
       }
 
   -- 14 to 17 tell of no set
-  read_given : (s : Store) → WholeStore s → (from : Origin) → (c : Collected) → collected_of bytes ≡ c → (pushed_as s bytes (set_read from c)).told ≡ handed w → AsRead from bytes w
+  read_given : (s : Store) → WholeStore s → (from : Origin) → (c : Result Header Refusal) → collected_of bytes ≡ c → (pushed_as s bytes (set_read from c)).told ≡ handed w → AsRead from bytes w
   unfolding whole_pushed
-  read_given s f from collected.Malformed q h = let z : ◌≡◌ {A = ℕ} 0 1 = cc in absurd (omega arith)
-  read_given s f from collected.ShortForm q h = let z : ◌≡◌ {A = ℕ} 0 1 = cc in absurd (omega arith)
-  read_given s f from collected.BadNumber q h = let z : ◌≡◌ {A = ℕ} 0 1 = cc in absurd (omega arith)
-  read_given s f from collected.BadCrc q h = let z : ◌≡◌ {A = ℕ} 0 1 = cc in absurd (omega arith)
-  read_given s f from (collected.Good x) q h = header_given from x q (plan_tells s f (entry_of (set_key from x) x) bytes w h)
+  read_given s f from (Err r) q h = let z : ◌≡◌ {A = ℕ} 0 1 = cc in absurd (omega arith)
+  read_given s f from (Ok x) q h = header_given from x q (plan_tells s f (entry_of (set_key from x) x) bytes w h)
 
   -- THE THEOREM below a push: every store that is whole, every words of an origin and every section
   pub goes_out_as_read : (s : Store) → WholeStore s → (from : Origin) → (pushed_as s bytes (set_read from (collected_of bytes))).told ≡ handed w → AsRead from bytes w
   goes_out_as_read s f from h = read_given s f from (collected_of bytes) refl h
 
   -- nor do 41, 12 and 37
-  arrival_given : (s : Store) → WholeStore s → (input : ℕ) (pid : MaybePid) → (pushed_as s bytes (set_arrival input pid bytes)).told ≡ handed w → AsGiven input pid bytes w
+  arrival_given : (s : Store) → WholeStore s → (input : ℕ) (pid : Option ℕ) → (pushed_as s bytes (set_arrival input pid bytes)).told ≡ handed w → AsGiven input pid bytes w
   unfolding set_arrival
-  arrival_given s f input maybe.None h = let z : ◌≡◌ {A = ℕ} 0 1 = cc in absurd (omega arith)
-  arrival_given s f input (maybe.Some v) h = go (ltb v 8192) (ltb input 16) refl refl h
+  arrival_given s f input None h = let z : ◌≡◌ {A = ℕ} 0 1 = cc in absurd (omega arith)
+  arrival_given s f input (Some v) h = go (ltb v 8192) (ltb input 16) refl refl h
     where
       go : (b c : Bool) → ltb v 8192 ≡ b → ltb input 16 ≡ c
-          → (pushed_as s bytes (set_judged (made_words (cond b (cond c (made.One (origin_of input v)) made.BadInput) made.BadPid)) bytes)).told ≡ handed w → AsGiven input (maybe.Some v) bytes w
+          → (pushed_as s bytes (set_judged (made_words (cond b (cond c (Ok (origin_of input v)) (Err refusal.BadInput)) (Err refusal.BadPid))) bytes)).told ≡ handed w → AsGiven input (Some v) bytes w
       go true true q r h = record {
         number = v;
         with_pid = refl;
@@ -243,12 +237,12 @@ module _ (bytes : List ℕ) (w : Handed) where
       go false c q r h = let z : ◌≡◌ {A = ℕ} 0 1 = cc in absurd (omega arith)
 
 -- THE THEOREM: every store, input, PID and section
-pub goes_out_as_given : (s : Store) (input : ℕ) (pid : MaybePid) (bytes : List ℕ) (w : Handed) → (pushed_of s input pid bytes).told ≡ handed w → AsGiven input pid bytes w
+pub goes_out_as_given : (s : Store) (input : ℕ) (pid : Option ℕ) (bytes : List ℕ) (w : Handed) → (pushed_of s input pid bytes).told ≡ handed w → AsGiven input pid bytes w
 unfolding pushed_of admitted
 goes_out_as_given s input pid bytes w h = go (whole_of s) (counters_full s.sets) (without_pid s.heads s.sets.used) refl h
   where
     go : (b c n : Bool) → whole_of s ≡ b
-        → (pushed_as s bytes (cond b (cond c (arrival.Refused CounterFull) (cond n (arrival.Refused NoPid) (set_arrival input pid bytes))) (arrival.Refused NotWhole))).told ≡ handed w
+        → (pushed_as s bytes (cond b (cond c (Err CounterFull) (cond n (Err NoPid) (set_arrival input pid bytes))) (Err NotWhole))).told ≡ handed w
         → AsGiven input pid bytes w
     go true true n q h = let z : ◌≡◌ {A = ℕ} 0 1 = cc in absurd (omega arith)
     go true false true q h = let z : ◌≡◌ {A = ℕ} 0 1 = cc in absurd (omega arith)

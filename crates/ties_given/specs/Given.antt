@@ -1,9 +1,7 @@
 -- A set that goes out beside the section that was pushed (docs/RULES.md, "Collectors").
 -- Assumes nothing.
-use Rattle.std.specs.Prelude.{ℕ, ◌≤◌, ◌<◌, ◌≡◌, List, length}
+use Rattle.std.specs.Prelude.{ℕ, ◌≤◌, ◌<◌, ◌≡◌, List, length, Option, Some}
 use Rattle.section.specs.Header.{table_id_of, extension_of, version_of, current_next_of, last_section_number}
-use Rattle.section.specs.declared.ids.MaybePid.{MaybePid}
-use Rattle.section.specs.declared.ids.MaybePid.TheVariants as maybe
 use Rattle.rows.specs.declared.Origin.{Origin}
 use Rattle.arrivals.specs.Arrivals.{bit_of}
 use Rattle.sets_settle.specs.Settle.{Handed}
@@ -21,9 +19,9 @@ pub record AsRead (from : Origin) (bytes : List ℕ) (w : Handed) : Type 0 where
   pub long : 12 ≤ length bytes
 
 -- the section came with a PID, and the set has its input, its PID and the rest
-pub record AsGiven (input : ℕ) (pid : MaybePid) (bytes : List ℕ) (w : Handed) : Type 0 where
+pub record AsGiven (input : ℕ) (pid : Option ℕ) (bytes : List ℕ) (w : Handed) : Type 0 where
   pub number : ℕ
-  pub with_pid : pid ≡ maybe.Some number
+  pub with_pid : pid ≡ Some number
   pub is_pid : number < 8192
   pub is_input : input < 16
   pub read : AsRead (record { input = input; pid = number }) bytes w

@@ -6,13 +6,13 @@ use mathlib.Core.List.{List, [], ◌∷◌, ◌++◌}
 use Prim.Native.Nat.{ℕ}
 use Rattle.laws.specs.Entries.{entries_in, whole_entries}
 use Rattle.laws.specs.Lists.{every, same_list}
-use Rattle.section.specs.declared.ids.MaybePid.TheVariants as maybe
+use Rattle.std.specs.Prelude.{Some}
 use Rattle.rows.specs.Rows.{same_key, same_origin}
 use Rattle.laid.specs.Laid.{cut, sections_in, laid_out, chain_from, chain, in_set, joined, is_set}
-use Rattle.laid.specs.Walk.{numbered, place_in}
+use Rattle.laid.specs.Walk.{numbered}
 use Rattle.differences.specs.Rules.{held_in, first_place, kind_of, place_of, up_from, differences, one_of}
 use Rattle.differences.specs.Walk.{words_of}
-use Rattle.guides.specs.Store.{compare_no, set_sides, set_entries, compared, listed, held_by, section_of}
+use Rattle.guides.specs.Store.{compare_no, set_sides, set_entries, compared, listed, section_of}
 use Rattle.guides.specs.declared.Compared.{Compared}
 
 -- a section of 13 bytes: version · 2 + current_next, section number, last number, and a byte after the header
@@ -23,10 +23,10 @@ abbrev two : List ℕ
 two = section 3 0 1 5 ++ section 3 1 1 6
 
 told : List ℕ → List ℕ → Compared
-told a b = compared a (maybe.Some 0x11) b (maybe.Some 0x11) 4
+told a b = compared a (Some 0x11) b (Some 0x11) 4
 
 list_of : List ℕ → List ℕ → List ℕ
-list_of a b = listed a (maybe.Some 0x11) b (maybe.Some 0x11) (9 ∷ 9 ∷ 9 ∷ 9 ∷ 9 ∷ [])
+list_of a b = listed a (Some 0x11) b (Some 0x11) (9 ∷ 9 ∷ 9 ∷ 9 ∷ 9 ∷ [])
 
 -- two sections against one: number 1 is in the first alone; the fifth word stays
 two_against_one : list_of two (section 3 0 1 5) ≡ 0x42 ∷ 1 ∷ 1 ∷ 0 ∷ 9 ∷ []

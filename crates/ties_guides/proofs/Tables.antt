@@ -3,18 +3,18 @@
 use mathlib.Core.Path.{◌≡◌, refl, sym, ap, ◌∙◌}
 use mathlib.Core.Bool.{Bool, true, false, cond, ◌&&◌, ◌||◌, true≢false}
 use mathlib.Core.List.{List, [], ◌∷◌, ◌++◌, flatten}
-use Prim.Native.Nat.{ℕ, zero, suc, ◌+◌, ◌*◌, ◌≤◌, ◌<◌}
+use Prim.Native.Nat.{ℕ, zero, suc, ◌≤◌}
 use native.Mathlib.Omega.{arith}
 use lib.ListN.{length, take, drop, get_or, length-drop, length-append, get_or-append}
 use lib.Seq.{get_or-take, length-take-le, take-append_seam, drop-append_seam}
 use lib.Dec.{leb, ltb, eqb}
-use borrow.Author.Tests.{eq-eqb, ne_eqb, lt-ltb, le-ltb, le-leb, leb-true, ltb-true, eqb-true, eqb-false}
+use borrow.Author.Tests.{eq-eqb, lt-ltb, le-ltb, le-leb, leb-true, eqb-true, eqb-false}
 use Rattle.laws.specs.Lists.{every}
 use Rattle.laws.proofs.Tests.{and_true, true_and}
 use Rattle.section.specs.Header.{table_id_of, long_form}
 use Rattle.rows.specs.Rows.{same_key, same_origin}
-use Rattle.laid.specs.Laid.{size_of, sections_in, is_long, laid_out, kind_first, key_in, schedule_key_in, chain_from, chain, in_table, in_set, in_schedule, joins, joined, is_set, is_schedule, those, of_table, table_in}
-use Rattle.laid.proofs.Sections.{Begins, Front, laid_begins, laid_empty, laid_front, sections_one, sections_none, sections_front}
+use Rattle.laid.specs.Laid.{size_of, sections_in, is_long, laid_out, kind_first, key_in, schedule_key_in, chain_from, chain, in_table, in_set, in_schedule, joined, is_set, is_schedule, those, of_table, table_in}
+use Rattle.laid.proofs.Sections.{Front, laid_begins, laid_empty, laid_front, sections_one, sections_none, sections_front}
 use Rattle.laid.proofs.Tables.{never_falls, those_past, schedule_laid}
 use Rattle.guides.specs.Store.{set_or_empty, table_part}
 

@@ -2,40 +2,38 @@
 -- once, by rising number; versions and last numbers agree where it is empty; and the sides may be exchanged.
 -- Assumes nothing.
 use mathlib.Core.Path.{◌≡◌, refl, sym, ap, ◌∙◌}
-use mathlib.Core.Bool.{Bool, true, false, cond, not, ◌&&◌, ◌||◌, true≢false}
-use mathlib.Core.List.{List, [], ◌∷◌, ◌++◌, map, flatten}
-use Prim.Native.Nat.{ℕ, zero, suc, ◌+◌, ◌*◌, ◌/◌, ◌%◌, ◌-◌, ◌≤◌, ◌<◌}
+use mathlib.Core.Bool.{Bool, true, false, cond, not, ◌&&◌}
+use mathlib.Core.List.{List, [], ◌∷◌, map, flatten}
+use Prim.Native.Nat.{ℕ, zero, suc, ◌+◌, ◌*◌, ◌/◌, ◌%◌, ◌≤◌, ◌<◌}
 use native.Mathlib.Omega.{arith}
-use lib.ListN.{length, take, drop, get_or, length-map}
+use lib.ListN.{length, take, get_or, length-map}
 use lib.Seq.{get_or-take, take_all}
 use lib.Dec.{leb, ltb, eqb}
-use borrow.Author.Tests.{eq-eqb, ne_eqb, ltb-true, leb-true, lt-ltb, le-ltb, eqb-true}
+use borrow.Author.Tests.{eq-eqb, ltb-true, leb-true, lt-ltb, le-ltb, eqb-true}
 use Rattle.laws.specs.Entries.{whole_entries}
 use Rattle.laws.specs.Lists.{every}
 use Rattle.laws.proofs.Tests.{and_true, true_and, eqb_sym}
 use Rattle.section.specs.Facts.{Bytes}
-use Rattle.section.specs.Header.{table_id_of, long_form, section_length, section_number, version_of, last_section_number}
-use Rattle.section.specs.declared.ids.MaybePid.{MaybePid}
+use Rattle.section.specs.Header.{table_id_of, long_form, section_length, version_of, last_section_number}
 use Rattle.rows.specs.declared.Key.{Key}
 use Rattle.rows.specs.Rows.{same_key, same_origin}
 use Rattle.laid.specs.Laid.{pid_word}
-use Rattle.laid.specs.declared.PidWord.{PidWord}
-use Rattle.laid.specs.declared.PidWord.TheVariants as pid
+use Rattle.laid.specs.declared.NoWord.{NoWord}
+use Rattle.laid.specs.declared.NoWord.TheVariants as no_word
 use Rattle.laid.specs.Laid.{sections_in, is_long, laid_out, is_set, is_schedule, key_in, schedule_key_in, kind_first, same_version, same_last}
 use Rattle.laid.specs.Walk.{rank_of, numbered, place_in}
 use Rattle.laid.proofs.Sections.{sections_all}
 use Rattle.laid.proofs.Agree.{set_run, schedule_run}
-use Rattle.differences.specs.Rules.{Entry, held_in, kind_of, place_of, entry_of, entry_at, up_from, differences, schedule_differences, leader, is_none, one_of, table_word, table_words, versions_agree, lasts_agree}
-use Rattle.differences.specs.Walk.{rises, Ranked, all_differences}
+use Rattle.differences.specs.Rules.{Entry, entry_at, up_from, differences, schedule_differences, leader, is_none, one_of, table_word, table_words, versions_agree, lasts_agree}
+use Rattle.differences.specs.Walk.{all_differences}
 use Rattle.differences.proofs.Upward.{up_product}
 use Rattle.differences.proofs.Theorems.{proper, empty_same, same_empty, of_rank, listed_once, above, listed_rising, listed_few, mirror, all_mirrored}
-use Rattle.guides.specs.Store.{compare_no, held_no, same_sides, keyed, set_sides, schedule_sides, told, refused, told_of, compared_by, set_entries, schedule_entries, schedule_words, compared, compared_schedules, set_or_empty, held_not, held_one, held_for, held_of, held_by, section_of, AlikeSets, AlikeSchedules}
+use Rattle.guides.specs.Store.{compare_no, held_no, keyed, set_sides, schedule_sides, told_of, compared_by, set_entries, schedule_entries, schedule_words, compared, compared_schedules, set_or_empty, held_not, held_one, held_of, held_by, section_of, AlikeSets, AlikeSchedules, Sides, alike}
 use Rattle.guides.specs.declared.CompareAnswer.TheVariants as answer
 use Rattle.guides.specs.declared.Compared.{Compared}
 use Rattle.guides.specs.declared.HeldAnswer.TheVariants as held_answer
-use Rattle.guides.specs.declared.Holder.{Holder}
-use Rattle.guides.specs.declared.Sides.{Sides}
-use Rattle.guides.specs.declared.Sides.TheVariants as sides
+use Rattle.std.specs.Prelude.{Result, Ok, Err, Option}
+use Rattle.guides.specs.declared.Amiss.TheVariants as amiss
 use Rattle.guides.proofs.Ranges.{within, every_both, set_within, schedule_within, set_entries_lem, set_ranked, schedule_entries_lem, schedule_ranked}
 use Rattle.guides.proofs.Ways.{alike_sets, alike_schedules}
 
@@ -133,33 +131,33 @@ nine_none room (x ∷ es) v l e = go (ltb room (length (x ∷ es))) e
 none_nine : (room : ℕ) (v l : Bool) → compare_no (told_of room 0 v l).answer ≡ 9
 none_nine room v l = rw (le-ltb room 0 (omega arith))
 
-module _ (a b : List ℕ) (p q : MaybePid) (x : Bytes a) (y : Bytes b) (room : ℕ) where
-  module _ (s : set_sides a p b q ≡ sides.Alike) where
+module _ (a b : List ℕ) (p q : Option ℕ) (x : Bytes a) (y : Bytes b) (room : ℕ) where
+  module _ (s : set_sides a p b q ≡ alike) where
     told_alike : compared a p b q room ≡ told_of room (length (set_entries a b)) (same_version a b) (same_last a b)
     unfolding compared
     told_alike = rw s
 
     pub nine_same : compare_no (compared a p b q room).answer ≡ 9 → a ≡ b
-    nine_same e = sets_same a b x y (alike_sets a b p q sides.Alike (sym s) refl) (nine_none room (set_entries a b) (same_version a b) (same_last a b) (ap (λ (r : Compared). compare_no r.answer) (sym told_alike) ∙ e))
+    nine_same e = sets_same a b x y (alike_sets a b p q alike (sym s) refl) (nine_none room (set_entries a b) (same_version a b) (same_last a b) (ap (λ (r : Compared). compare_no r.answer) (sym told_alike) ∙ e))
 
     pub same_nine : a ≡ b → compare_no (compared a p b q room).answer ≡ 9
     same_nine e =
-        let z = sets_empty a b x y (alike_sets a b p q sides.Alike (sym s) refl) e in
+        let z = sets_empty a b x y (alike_sets a b p q alike (sym s) refl) e in
         ap (λ (r : Compared). compare_no r.answer) told_alike ∙ ap (λ (es : List Entry). compare_no (told_of room (length es) (same_version a b) (same_last a b)).answer) z ∙ none_nine room (same_version a b) (same_last a b)
 
-  module _ (s : schedule_sides a p b q ≡ sides.Alike) where
+  module _ (s : schedule_sides a p b q ≡ alike) where
     schedules_told_alike : compared_schedules a p b q room ≡ told_of room (length (schedule_entries a b)) (versions_agree (schedule_words a b)) (lasts_agree (schedule_words a b))
     unfolding compared_schedules
     schedules_told_alike = rw s
 
     pub schedules_nine_same : compare_no (compared_schedules a p b q room).answer ≡ 9 → a ≡ b
     schedules_nine_same e =
-        schedules_same a b x y (alike_schedules a b p q sides.Alike (sym s) refl)
+        schedules_same a b x y (alike_schedules a b p q alike (sym s) refl)
         (nine_none room (schedule_entries a b) (versions_agree (schedule_words a b)) (lasts_agree (schedule_words a b)) (ap (λ (r : Compared). compare_no r.answer) (sym schedules_told_alike) ∙ e))
 
     pub schedules_same_nine : a ≡ b → compare_no (compared_schedules a p b q room).answer ≡ 9
     schedules_same_nine e =
-        let z = schedules_empty a b x y (alike_schedules a b p q sides.Alike (sym s) refl) e in
+        let z = schedules_empty a b x y (alike_schedules a b p q alike (sym s) refl) e in
         ap (λ (r : Compared). compare_no r.answer) schedules_told_alike
         ∙ ap (λ (es : List Entry). compare_no (told_of room (length es) (versions_agree (schedule_words a b)) (lasts_agree (schedule_words a b))).answer) z
         ∙ none_nine room (versions_agree (schedule_words a b)) (lasts_agree (schedule_words a b))
@@ -240,18 +238,18 @@ keys_swap j k = rw (
   eqb_sym j.original_network_id k.original_network_id,
 )
 
-keyed_swap : (key : ℕ → List ℕ → Key) (u w : PidWord) (a b : List ℕ) → keyed key u w a b ≡ keyed key w u b a
-keyed_swap key pid.NoPid pid.NoPid a b = refl
-keyed_swap key pid.NoPid pid.TooLarge a b = refl
-keyed_swap key pid.NoPid (pid.Is q) a b = refl
-keyed_swap key pid.TooLarge pid.NoPid a b = refl
-keyed_swap key pid.TooLarge pid.TooLarge a b = refl
-keyed_swap key pid.TooLarge (pid.Is q) a b = refl
-keyed_swap key (pid.Is p) pid.NoPid a b = refl
-keyed_swap key (pid.Is p) pid.TooLarge a b = refl
-keyed_swap key (pid.Is p) (pid.Is q) a b = ap (λ (t : Bool). cond t sides.Alike sides.OtherKey) (keys_swap (key p a) (key q b))
+keyed_swap : (key : ℕ → List ℕ → Key) (u w : Result ℕ NoWord) (a b : List ℕ) → keyed key u w a b ≡ keyed key w u b a
+keyed_swap key (Err no_word.NoPid) (Err no_word.NoPid) a b = refl
+keyed_swap key (Err no_word.NoPid) (Err no_word.TooLarge) a b = refl
+keyed_swap key (Err no_word.NoPid) (Ok q) a b = refl
+keyed_swap key (Err no_word.TooLarge) (Err no_word.NoPid) a b = refl
+keyed_swap key (Err no_word.TooLarge) (Err no_word.TooLarge) a b = refl
+keyed_swap key (Err no_word.TooLarge) (Ok q) a b = refl
+keyed_swap key (Ok p) (Err no_word.NoPid) a b = refl
+keyed_swap key (Ok p) (Err no_word.TooLarge) a b = refl
+keyed_swap key (Ok p) (Ok q) a b = ap (λ (t : Bool). cond t alike (Err amiss.OtherKey)) (keys_swap (key p a) (key q b))
 
-module _ (a b : List ℕ) (p q : MaybePid) where
+module _ (a b : List ℕ) (p q : Option ℕ) where
   sets_swap : set_sides a p b q ≡ set_sides b q a p
   unfolding set_sides
   sets_swap = rw (and_swap (is_set a) (is_set b), keyed_swap key_in (pid_word p) (pid_word q) a b)
@@ -270,12 +268,9 @@ module _ (a b : List ℕ) (p q : MaybePid) where
       whole_range b a ∙ ap (λ (f : ℕ). up_from 4096 (f * 256) (entry_at (sections_in b) (sections_in a))) (sym w.kind)
       ∙ all_mirrored 4096 (kind_first (table_id_of a) * 256) (sections_in a) (sections_in b) ∙ ap (map mirror) (sym (whole_range a b))
 
-  by_side : (room : ℕ) (s : Sides) (es fs : List Entry) (v w l m : Bool) → (s ≡ sides.Alike → length es ≡ length fs) → v ≡ w → l ≡ m → compared_by s room es v l ≡ compared_by s room fs w m
-  by_side room sides.NotSets es fs v w l m f e g = refl
-  by_side room sides.NoPid es fs v w l m f e g = refl
-  by_side room sides.BadPid es fs v w l m f e g = refl
-  by_side room sides.OtherKey es fs v w l m f e g = refl
-  by_side room sides.Alike es fs v w l m f e g = rw (f refl, e, g)
+  by_side : (room : ℕ) (s : Sides) (es fs : List Entry) (v w l m : Bool) → (s ≡ alike → length es ≡ length fs) → v ≡ w → l ≡ m → compared_by s room es v l ≡ compared_by s room fs w m
+  by_side room (Err x) es fs v w l m f e g = refl
+  by_side room (Ok u) es fs v w l m f e g = rw (f refl, e, g)
 
   -- the answer, the count, and whether versions and last numbers agree, are the same
   pub compare_mirrored : (room : ℕ) → compared a p b q room ≡ compared b q a p room
@@ -319,14 +314,11 @@ module _ (a b : List ℕ) (e : kind_first (table_id_of a) ≡ kind_first (table_
       (λ t. (word_mirrored (leader (sections_in a) t) (leader (sections_in b) t)).1) 16 (kind_first (table_id_of a))
       ∙ ap (λ (f : ℕ). lasts_agree (up_from 16 f (λ (t : ℕ). table_word (leader (sections_in b) t) (leader (sections_in a) t) ∷ []))) e
 
-by_kind : (room : ℕ) (s : Sides) (es fs : List Entry) (v w l m : Bool) → (s ≡ sides.Alike → (length es ≡ length fs) × (v ≡ w) × (l ≡ m)) → compared_by s room es v l ≡ compared_by s room fs w m
-by_kind room sides.NotSets es fs v w l m f = refl
-by_kind room sides.NoPid es fs v w l m f = refl
-by_kind room sides.BadPid es fs v w l m f = refl
-by_kind room sides.OtherKey es fs v w l m f = refl
-by_kind room sides.Alike es fs v w l m f = let h = f refl in rw (h.0, h.1, h.2)
+by_kind : (room : ℕ) (s : Sides) (es fs : List Entry) (v w l m : Bool) → (s ≡ alike → (length es ≡ length fs) × (v ≡ w) × (l ≡ m)) → compared_by s room es v l ≡ compared_by s room fs w m
+by_kind room (Err x) es fs v w l m f = refl
+by_kind room (Ok u) es fs v w l m f = let h = f refl in rw (h.0, h.1, h.2)
 
-pub compare_schedules_mirrored : (a b : List ℕ) (p q : MaybePid) (room : ℕ) → compared_schedules a p b q room ≡ compared_schedules b q a p room
+pub compare_schedules_mirrored : (a b : List ℕ) (p q : Option ℕ) (room : ℕ) → compared_schedules a p b q room ≡ compared_schedules b q a p room
 unfolding compared_schedules
 compare_schedules_mirrored a b p q room =
     by_kind room (schedule_sides a p b q) (schedule_entries a b) (schedule_entries b a) (versions_agree (schedule_words a b)) (versions_agree (schedule_words b a)) (lasts_agree (schedule_words a b)) (lasts_agree (schedule_words b a))

@@ -12,7 +12,7 @@ use lib.ListN.{length}
 use Rattle.answers.specs.Answers.{refusal_no}
 use Rattle.answers.specs.declared.Refusal.{Refusal}
 use Rattle.answers.proofs.Laws.{refused_from_10}
-use Rattle.section.specs.declared.ids.MaybePid.TheVariants as maybe
+use Rattle.std.specs.Prelude.{Some}
 use Rattle.without_pid.specs.Pids.{without_pid}
 use Rattle.store.specs.Store.{Store, store, counters_full, whole_of}
 use Rattle.store.specs.declared.Sets.{Sets}
@@ -40,7 +40,7 @@ input_said i h = go (ltb i 255) refl
     go true e = refl
     go false e = let k = ltb-false i 255 e in omega (arith, h, k)
 
-pub pid_said : (p : ℕ) → p < 65536 → maybe.Some p ≡ maybe_pid p
+pub pid_said : (p : ℕ) → p < 65536 → Some p ≡ maybe_pid p
 pid_said p h = pid_some p p (λ (e : p ≡ 0xFFFF_FFFF). omega (arith, h, e)) (go (ltb p 65535) refl)
   where
     go : (b : Bool) → ltb p 65535 ≡ b → p ≡ cond b p 65535
@@ -97,7 +97,7 @@ each_calls n w heads slots cells row h (g ∷ gs) b =
     let s : Store = l.store in
     rw (← input_said g.input b.0.input, ← pid_said g.pid b.0.pid)
     (one_then w row gs (n + (5 + length g.section)) l.told s
-    (pushed_counts (store (sets_of w) heads slots cells) g.input (maybe.Some g.pid) g.section)
+    (pushed_counts (store (sets_of w) heads slots cells) g.input (Some g.pid) g.section)
     (each_calls (n + (5 + length g.section)) (words_after w s.sets) s.heads s.slots s.cells row refl gs b.1))
 
 -- ---- the call

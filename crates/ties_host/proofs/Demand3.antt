@@ -13,11 +13,9 @@ use borrow.Author.Tests.{ltb-false, eqb-true}
 use Rattle.laws.proofs.Tests.{none≢some}
 use Rattle.laws.specs.Runs.{answers, store_after, At, Never}
 use Rattle.laws.proofs.Runs.{answers_read}
-use Rattle.answers.specs.Answers.{refusal_no, reply_no}
+use Rattle.answers.specs.Answers.{refusal_no, reply_no, Reply}
 use Rattle.answers.specs.declared.Refusal.{Refusal}
 use Rattle.answers.specs.declared.Refusal.TheVariants.{NotWhole, NoPid}
-use Rattle.answers.specs.declared.Reply.{Reply}
-use Rattle.answers.specs.declared.Reply.TheVariants.{Yes, No}
 use Rattle.answers.proofs.Laws.{reply_apart, refused_from_10}
 use Rattle.rules_sets.specs.Rules.{Whole, Answer, conflict, not_whole, counter_full, no_cell}
 use Rattle.cells.specs.Cells.{part_of}
@@ -25,7 +23,7 @@ use Rattle.rows.specs.Rows.{key_at, version_of, last_of}
 use Rattle.readers.specs.declared.Next.{Next}
 use Rattle.reading.specs.Reading as reading
 use Rattle.reading.specs.Reading.{Reads}
-use Rattle.section.specs.declared.ids.MaybePid.TheVariants as maybe
+use Rattle.std.specs.Prelude.{Some, None, Ok}
 use Rattle.without_pid.specs.Pids.{without_pid}
 use Rattle.store.specs.Store.{Store, store, empty_sets, whole_of}
 use Rattle.sets_settle.specs.Settle.{Handed, Told, done, nothing, handed, refused, told_no}
@@ -74,7 +72,7 @@ given_of clear = demand.clears
 made_given : (c : Call) → WithPid c → demand.made (given_of c) ≡ call_of c
 made_given (push input pid section) h = go (eqb pid 0xFFFF_FFFF) refl
   where
-    go : (b : Bool) → eqb pid 0xFFFF_FFFF ≡ b → offer (input_number input) (maybe.Some (pid_number pid)) section ≡ offer (input_number input) (cond b maybe.None (maybe.Some (pid_number pid))) section
+    go : (b : Bool) → eqb pid 0xFFFF_FFFF ≡ b → offer (input_number input) (Some (pid_number pid)) section ≡ offer (input_number input) (cond b None (Some (pid_number pid))) section
     go true e = absurd (h (eqb-true pid 0xFFFF_FFFF e))
     go false e = refl
 made_given clear h = refl
@@ -101,23 +99,23 @@ after_as l calls h t =
 -- ---- a reading by questions is a reading of the crate's
 
 module _ (l : Lent) (row : ℕ) where
-  section_is : (n : Next) (w : List ℕ) → n.answer ≡ Yes → section_after n.answer n w ≡ n.number ∷ n.start ∷ n.length ∷ []
+  section_is : (n : Next) (w : List ℕ) → n.answer ≡ Ok true → section_after n.answer n w ≡ n.number ∷ n.start ∷ n.length ∷ []
   section_is n w e = ap (λ (a : Reply). section_after a n w) e
 
-  reads_as : {from : ℕ} {parts : List (List ℕ)} → ReadsBy l row from parts → Reads (next_of (store_in l) row) l.cells from parts No
+  reads_as : {from : ℕ} {parts : List (List ℕ)} → ReadsBy l row from parts → Reads (next_of (store_in l) row) l.cells from parts (Ok false)
   unfolding sets_next
   reads_as {from} (ends section e) =
-      let q : (next_of (store_in l) row from).answer ≡ No = reply_apart _ _ e in
+      let q : (next_of (store_in l) row from).answer ≡ (Ok false) = reply_apart _ _ e in
       subst (λ (r : Reply). Reads (next_of (store_in l) row) l.cells from [] r) q
-      (reading.ends (λ (y : (next_of (store_in l) row from).answer ≡ Yes). let z : ◌≡◌ {A = ℕ} 9 8 = sym (ap reply_no q) ∙ ap reply_no y in omega arith))
+      (reading.ends (λ (y : (next_of (store_in l) row from).answer ≡ Ok true). let z : ◌≡◌ {A = ℕ} 9 8 = sym (ap reply_no q) ∙ ap reply_no y in omega arith))
   reads_as {from} (goes_on {parts = parts} section e r) =
       let n : Next = next_of (store_in l) row from in
-      let q : n.answer ≡ Yes = reply_apart _ _ e in
+      let q : n.answer ≡ (Ok true) = reply_apart _ _ e in
       let w : section_after n.answer n section ≡ n.number ∷ n.start ∷ n.length ∷ [] = section_is n section q in
-      let rest : Reads (next_of (store_in l) row) l.cells (n.number + 1) parts No = subst (λ (v : List ℕ). Reads (next_of (store_in l) row) l.cells (at v 0 + 1) parts No) w (reads_as r) in
-      subst (λ (v : List ℕ). Reads (next_of (store_in l) row) l.cells from (part_of l.cells (at v 1) (at v 2) ∷ parts) No) (sym w) (reading.goes_on q rest)
+      let rest : Reads (next_of (store_in l) row) l.cells (n.number + 1) parts (Ok false) = subst (λ (v : List ℕ). Reads (next_of (store_in l) row) l.cells (at v 0 + 1) parts (Ok false)) w (reads_as r) in
+      subst (λ (v : List ℕ). Reads (next_of (store_in l) row) l.cells from (part_of l.cells (at v 1) (at v 2) ∷ parts) (Ok false)) (sym w) (reading.goes_on q rest)
 
-  reads_by : {from : ℕ} {parts : List (List ℕ)} {last : Reply} → Reads (next_of (store_in l) row) l.cells from parts last → last ≡ No → ReadsBy l row from parts
+  reads_by : {from : ℕ} {parts : List (List ℕ)} {last : Reply} → Reads (next_of (store_in l) row) l.cells from parts last → last ≡ Ok false → ReadsBy l row from parts
   unfolding sets_next
   reads_by {from} (reading.ends y) e = ends [] (ap reply_no e)
   reads_by {from} (reading.goes_on {parts = parts} q r) e =
@@ -205,7 +203,7 @@ module _ (l : Lent) (calls : List Call) (pids : SectionsWithPids calls) (t : ℕ
         key = ap (λ (s : Store). key_shown (key_at s.heads (row_told l calls t))) (sym e) ∙ r.key;
         version = ap (λ (s : Store). version_of s.heads (row_told l calls t)) (sym e) ∙ r.version;
         last = ap (λ (s : Store). last_of s.heads (row_told l calls t)) (sym e) ∙ r.last;
-        sections = subst (λ (s : Store). Reads (next_of s (row_told l calls t)) s.cells 0 set.sections No) e (reads_as (after l calls t) (row_told l calls t) r.sections);
+        sections = subst (λ (s : Store). Reads (next_of s (row_told l calls t)) s.cells 0 set.sections (Ok false)) e (reads_as (after l calls t) (row_told l calls t) r.sections);
       }
 
   pub read_by : read.ReadsOut (store_in l) (map given_of calls) t set → ReadsOut l calls t set
@@ -221,8 +219,8 @@ module _ (l : Lent) (calls : List Call) (pids : SectionsWithPids calls) (t : ℕ
         version = ap (λ (s : Store). version_of s.heads (row_told l calls t)) e ∙ ap (version_of (read.after (store_in l) (map given_of calls) t).heads) n ∙ r.version;
         last = ap (λ (s : Store). last_of s.heads (row_told l calls t)) e ∙ ap (last_of (read.after (store_in l) (map given_of calls) t).heads) n ∙ r.last;
         sections = reads_by (after l calls t) (row_told l calls t)
-            (subst (λ (s : Store). Reads (next_of s (row_told l calls t)) s.cells 0 set.sections No) (sym e)
-            (subst (λ (m : ℕ). Reads (next_of (read.after (store_in l) (map given_of calls) t) m) (read.after (store_in l) (map given_of calls) t).cells 0 set.sections No) (sym n) r.sections))
+            (subst (λ (s : Store). Reads (next_of s (row_told l calls t)) s.cells 0 set.sections (Ok false)) (sym e)
+            (subst (λ (m : ℕ). Reads (next_of (read.after (store_in l) (map given_of calls) t) m) (read.after (store_in l) (map given_of calls) t).cells 0 set.sections (Ok false)) (sym n) r.sections))
             refl;
       }
 

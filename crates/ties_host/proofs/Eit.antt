@@ -13,10 +13,9 @@ use Rattle.answers.specs.declared.Refusal.TheVariants as refusal
 use Rattle.rules_eit.specs.Rules.{refused}
 use Rattle.rules_eit.specs.Rules.{tells as rules_tell, acts as rules_act, opened as rules_opened}
 use Rattle.rules_eit.specs.Cells.{call_tells, call_acts}
-use Rattle.section.specs.declared.ids.MaybePid.{MaybePid}
+use Rattle.std.specs.Prelude.{Option, Result, Ok, Err}
+use Rattle.answers.specs.declared.Refusal.{Refusal}
 use Rattle.arrivals.specs.declared.Arrival.{Arrival}
-use Rattle.arrivals.specs.declared.EitArrival.{EitArrival}
-use Rattle.arrivals.specs.declared.EitArrival.TheVariants as arrival
 use Rattle.rows.specs.Rows.{touched, kept_heads}
 use Rattle.eit_pids.specs.Rows.{any_without}
 use Rattle.eit_state.specs.State.{Store, store, rows, rows_of, risen_rows, asked, empty_eit, settings_fit, whole_of}
@@ -33,8 +32,7 @@ use Rattle.eit_settle.specs.Settle.{marked_heads, settled_as, settled}
 use Rattle.eit_carry.specs.Carried.{kept_and_settled, carried, pushed_whole}
 use Rattle.eit_drop.specs.Drop.{matching_gone}
 use Rattle.eit_drop.specs.declared.Filter.{Filter}
-use Rattle.eit_drop.specs.declared.Drop.{Drop}
-use Rattle.eit_drop.specs.declared.Drop.TheVariants as plan_drop
+use Rattle.filter.specs.declared.Fields.{Fields}
 use Rattle.eit_admit.specs.Admitting.{drop_of, admitted}
 use Rattle.eit.specs.Store as eit
 use Rattle.eit.specs.Store.{Told, number, After, after, opened_of, cleared_of, carried_drop, dropped_of, pushed_as, pushed_of}
@@ -83,12 +81,12 @@ carried_counts s bytes (plan.Conflict i) = refl
 carried_counts s bytes (plan.Repeat x) = settled_counts (risen_rows (rows_of s)) x.arrival x.row
 carried_counts s bytes (plan.Keep k) = settled_counts _ k.arrival k.room.row
 
-arrived_counts : (s : Store) (bytes : List ℕ) (a : EitArrival) → (pushed_as s bytes a).store.eit ≡ counted s.eit (pushed_as s bytes a).store.eit
+arrived_counts : (s : Store) (bytes : List ℕ) (a : Result Arrival Refusal) → (pushed_as s bytes a).store.eit ≡ counted s.eit (pushed_as s bytes a).store.eit
 unfolding pushed_whole
-arrived_counts s bytes (arrival.Refused r) = refl
-arrived_counts s bytes (arrival.Arrived a) = carried_counts s bytes (plan_of s bytes a)
+arrived_counts s bytes (Err r) = refl
+arrived_counts s bytes (Ok a) = carried_counts s bytes (plan_of s bytes a)
 
-pub pushed_counts : (s : Store) (input : ℕ) (pid : MaybePid) (bytes : List ℕ) → (pushed_of s input pid bytes).store.eit ≡ counted s.eit (pushed_of s input pid bytes).store.eit
+pub pushed_counts : (s : Store) (input : ℕ) (pid : Option ℕ) (bytes : List ℕ) → (pushed_of s input pid bytes).store.eit ≡ counted s.eit (pushed_of s input pid bytes).store.eit
 unfolding pushed_of
 pushed_counts s input pid bytes = arrived_counts s bytes (admitted s input pid bytes)
 
@@ -120,9 +118,9 @@ reads_back l (drop filter) = go (drop_of (store_in l) (filter_of filter))
     s : Store
     s = store_in l
 
-    go : (d : Drop) → (let a = (carried_drop s d).store in store (eit_of (words_after l.words a.eit)) a.heads a.slots s.cells a.schedule_heads a.units) ≡ (carried_drop s d).store
-    go (plan_drop.Refuse r) = refl
-    go (plan_drop.Matching f) = refl
+    go : (d : Result Fields Refusal) → (let a = (carried_drop s d).store in store (eit_of (words_after l.words a.eit)) a.heads a.slots s.cells a.schedule_heads a.units) ≡ (carried_drop s d).store
+    go (Err r) = refl
+    go (Ok f) = refl
 
 told_number : (t : Told) → number t ≡ answer_no (answer_told t)
 unfolding answer_told

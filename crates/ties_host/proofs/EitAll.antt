@@ -11,7 +11,7 @@ use lib.Dec.{eqb}
 use lib.ListN.{length}
 use Rattle.answers.specs.Answers.{refusal_no}
 use Rattle.answers.proofs.Laws.{refused_from_10}
-use Rattle.section.specs.declared.ids.MaybePid.TheVariants as maybe
+use Rattle.std.specs.Prelude.{Some}
 use Rattle.eit_pids.specs.Rows.{any_without}
 use Rattle.eit_state.specs.State.{Store, store, whole_of, counters_full}
 use Rattle.eit_state.specs.declared.Eit.{Eit}
@@ -80,7 +80,7 @@ each_calls n w heads slots cells tops units row h (g ∷ gs) b =
     let s : Store = l.store in
     rw (← input_said g.input b.0.input, ← pid_said g.pid b.0.pid)
     (one_then w row gs (n + (5 + length g.section)) l.told s
-    (pushed_counts (store (eit_of w) heads slots cells tops units) g.input (maybe.Some g.pid) g.section)
+    (pushed_counts (store (eit_of w) heads slots cells tops units) g.input (Some g.pid) g.section)
     (each_calls (n + (5 + length g.section)) (words_after w s.eit) s.heads s.slots s.cells s.schedule_heads s.units row refl gs b.1))
 
 -- ---- the call

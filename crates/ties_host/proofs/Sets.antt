@@ -14,9 +14,9 @@ use Rattle.rules_sets.specs.Cells.{call_tells, call_acts}
 use Rattle.without_pid.specs.Pids.{without_pid}
 use Rattle.store.specs.Store.{Store, store, asked, empty_sets, settings_fit, whole_of}
 use Rattle.store.specs.declared.Sets.{Sets}
-use Rattle.arrivals.specs.declared.SetArrival.{SetArrival}
-use Rattle.arrivals.specs.declared.SetArrival.TheVariants as arrival
-use Rattle.section.specs.declared.ids.MaybePid.{MaybePid}
+use Rattle.std.specs.Prelude.{Option, Result, Ok, Err}
+use Rattle.rows.specs.declared.Entry.{Entry}
+use Rattle.answers.specs.declared.Refusal.{Refusal}
 use Rattle.sets_plan.specs.Plan.{plan_of}
 use Rattle.sets_plan.specs.declared.Plan.{Plan}
 use Rattle.sets_plan.specs.declared.Plan.TheVariants as plan
@@ -51,12 +51,12 @@ carried_counts s bytes (plan.Conflict i) = refl
 carried_counts s bytes (plan.Repeat i) = refl
 carried_counts s bytes (plan.Keep k) = refl
 
-arrived_counts : (s : Store) (bytes : List ℕ) (a : SetArrival) → (pushed_as s bytes a).store.sets ≡ counted s.sets (pushed_as s bytes a).store.sets
+arrived_counts : (s : Store) (bytes : List ℕ) (a : Result Entry Refusal) → (pushed_as s bytes a).store.sets ≡ counted s.sets (pushed_as s bytes a).store.sets
 unfolding whole_pushed
-arrived_counts s bytes (arrival.Refused r) = refl
-arrived_counts s bytes (arrival.Arrived e) = carried_counts s bytes (plan_of s e bytes)
+arrived_counts s bytes (Err r) = refl
+arrived_counts s bytes (Ok e) = carried_counts s bytes (plan_of s e bytes)
 
-pub pushed_counts : (s : Store) (input : ℕ) (pid : MaybePid) (bytes : List ℕ) → (pushed_of s input pid bytes).store.sets ≡ counted s.sets (pushed_of s input pid bytes).store.sets
+pub pushed_counts : (s : Store) (input : ℕ) (pid : Option ℕ) (bytes : List ℕ) → (pushed_of s input pid bytes).store.sets ≡ counted s.sets (pushed_of s input pid bytes).store.sets
 unfolding pushed_of
 pushed_counts s input pid bytes = arrived_counts s bytes (admitted s input pid bytes)
 

@@ -15,8 +15,7 @@ use Rattle.answers.specs.declared.Refusal.TheVariants as refusal
 use Rattle.section.specs.Facts.{Bytes as OfBytes}
 use Rattle.section.specs.Ids.{origin_of}
 use Rattle.section.specs.Judged.{rule_of, judged_of}
-use Rattle.section.specs.declared.ids.MaybePid.{MaybePid}
-use Rattle.section.specs.declared.ids.MaybePid.TheVariants as maybe
+use Rattle.std.specs.Prelude.{Option, Some, None}
 use Rattle.section.specs.declared.header.Parts.{Parts}
 use Rattle.section.specs.declared.header.Judged.{Judged}
 use Rattle.section.specs.declared.header.Judged.TheVariants.{Short, Mismatch, Sound}
@@ -57,25 +56,25 @@ use Rattle.ties_log_kept.proofs.Offers.{sound_said, short_said, mismatch_said, r
 
 -- ---- a push
 
-number_in : MaybePid → ℕ
-number_in maybe.None = 0
-number_in (maybe.Some v) = v
+number_in : Option ℕ → ℕ
+number_in None = 0
+number_in (Some v) = v
 
 module _ (g : Given) where
-  same_number : {w : Handed} → (a : AsGiven g.input (maybe.Some g.pid) g.section w) → g.pid ≡ a.number
+  same_number : {w : Handed} → (a : AsGiven g.input (Some g.pid) g.section w) → g.pid ≡ a.number
   unfolding number_in
-  same_number a = ap (λ (p : MaybePid). number_in p) a.with_pid
+  same_number a = ap (λ (p : Option ℕ). number_in p) a.with_pid
 
   -- the maker's record of a set that went out
-  set_shows : (w : Handed) → AsGiven g.input (maybe.Some g.pid) g.section w → set_noted g (handed w) ≡ set_record_of g.input (maybe.Some g.pid) g.section
+  set_shows : (w : Handed) → AsGiven g.input (Some g.pid) g.section w → set_noted g (handed w) ≡ set_record_of g.input (Some g.pid) g.section
   unfolding set_noted set_entry
   set_shows w a =
       let n : g.pid ≡ a.number = same_number a in
       let p : g.pid < 8192 = let h = a.is_pid in omega (arith, n, h) in
-      let t : (is_source g.input (maybe.Some g.pid) && leb 12 (length g.section)) ≡ true =
+      let t : (is_source g.input (Some g.pid) && leb 12 (length g.section)) ≡ true =
       true_and (true_and (lt-ltb g.input 16 a.is_input) (lt-ltb g.pid 8192 p)) (le-leb 12 (length g.section) a.read.long) in
-      entry_shows (cond (is_source g.input (maybe.Some g.pid) && leb 12 (length g.section)) (set_record_of g.input (maybe.Some g.pid) g.section) [])
-      ∙ ap (λ (b : Bool). cond b (set_record_of g.input (maybe.Some g.pid) g.section) []) t
+      entry_shows (cond (is_source g.input (Some g.pid) && leb 12 (length g.section)) (set_record_of g.input (Some g.pid) g.section) [])
+      ∙ ap (λ (b : Bool). cond b (set_record_of g.input (Some g.pid) g.section) []) t
 
   module _ (o : Settings) (h : o.pids ≡ true) (c : Store) (z : SetsReached c) (b : OfBytes g.section) where
     told_noted : (t : settle.Told) → (pushes c g).told ≡ t → set_noted g t ≡ records.log_of (set_records o.pids (answer_told t))
@@ -83,10 +82,10 @@ module _ (g : Given) where
     told_noted done e = refl
     told_noted nothing e = refl
     told_noted (handed w) e =
-        let a = goes_out_as_given c g.input (maybe.Some g.pid) g.section w e in
+        let a = goes_out_as_given c g.input (Some g.pid) g.section w e in
         let n : ◌≡◌ {A = Origin} (record { input = g.input; pid = a.number }) (record { input = g.input; pid = g.pid }) = λ i. record { input = g.input; pid = sym (same_number a) i } in
         let r = subst (λ (x : Origin). AsRead x g.section w) n a.read in
-        set_shows w a ∙ sym (append-nil (set_record_of g.input (maybe.Some g.pid) g.section))
+        set_shows w a ∙ sym (append-nil (set_record_of g.input (Some g.pid) g.section))
         ∙ ap records.log_of (line_given g.section w (record { input = g.input; pid = g.pid }) r) ∙ ap (λ (p : Bool). records.log_of (set_records p (answer_told (handed w)))) (sym h)
     told_noted (refused r) e = refl
 
@@ -95,15 +94,15 @@ module _ (g : Given) where
       unfolding tells reads pushes
       set_noted_lem =
           told_noted (pushes c g).told refl
-          ∙ ap (λ x. records.log_of (set_records o.pids x)) (tells_seen c z (section g.input (maybe.Some g.pid) g.section) b ∙ ap (call_tells (seen c)) (given_as o h g hp hi))
+          ∙ ap (λ x. records.log_of (set_records o.pids x)) (tells_seen c z (section g.input (Some g.pid) g.section) b ∙ ap (call_tells (seen c)) (given_as o h g hp hi))
 
       push_shown : seen (pushes c g).store ≡ call_acts (seen c) (pushed o g)
       unfolding acts reads pushes
-      push_shown = acts_seen c z (section g.input (maybe.Some g.pid) g.section) b ∙ ap (call_acts (seen c)) (given_as o h g hp hi)
+      push_shown = acts_seen c z (section g.input (Some g.pid) g.section) b ∙ ap (call_acts (seen c)) (given_as o h g hp hi)
 
       push_reached : SetsReached (pushes c g).store
       unfolding acts pushes
-      push_reached = acts_reached c z (section g.input (maybe.Some g.pid) g.section) b
+      push_reached = acts_reached c z (section g.input (Some g.pid) g.section) b
 
 -- ---- a section
 

@@ -32,7 +32,7 @@ use Rattle.log_entries.specs.Entries.{failed_kind}
 use Rattle.log_entries.proofs.Entries.{entry_shows}
 use Rattle.log_makers.specs.Makers as makers
 use Rattle.log_makers.specs.Makers.{room_for, has_parts, parts_in, offer_record, is_origin, noted_of}
-use Rattle.log_makers.specs.declared.Found.TheVariants as found
+use Rattle.std.specs.Prelude.{Some}
 use Rattle.ties_log_kept.specs.Kept.{offer_noted}
 
 -- ---- which answer was said
@@ -103,9 +103,9 @@ module _ (rule : ChangeRule) (s : Bytes) (p : Parts) where
       go true h = let z : ◌≡◌ {A = ℕ} 0 1 = cc in absurd (omega arith)
       go false h = form_room (form_of s) h
 
-  parts_in_lem : judged_of rule s ≡ Sound p → parts_in rule s ≡ found.Are p
+  parts_in_lem : judged_of rule s ≡ Sound p → parts_in rule s ≡ Some p
   unfolding parts_in
-  parts_in_lem e = rw (has_parts_lem e) (ap found.Are (sym (judged_parts rule s p e)))
+  parts_in_lem e = rw (has_parts_lem e) (ap Some (sym (judged_parts rule s p e)))
 
 -- ---- what is noted
 

@@ -7,7 +7,7 @@ use Prim.Native.Nat.{ℕ}
 use lib.Dec.{ltb, eqb}
 use Rattle.section.specs.Header.{header_of, current_next_of}
 use Rattle.section.specs.Judged.{collected_of}
-use Rattle.section.specs.declared.ids.MaybePid.TheVariants as maybe
+use Rattle.std.specs.Prelude.{Some}
 use Rattle.rows.specs.declared.Origin.{Origin}
 use Rattle.arrivals.specs.Arrivals.{bit_of}
 use Rattle.sets_settle.specs.Settle.{Handed, handed}
@@ -28,7 +28,7 @@ bit_shown n b e = ap (λ (m : ℕ). not (eqb m 0)) e ∙ go b
 
 module _ (bytes : Bytes) (w : Handed) (from : Origin) (a : AsRead from bytes w) where
   -- with its PID
-  pub line_given : set_record_of from.input (maybe.Some from.pid) bytes ∷ [] ≡ set_records true (answer_told (handed w))
+  pub line_given : set_record_of from.input (Some from.pid) bytes ∷ [] ≡ set_records true (answer_told (handed w))
   unfolding set_records answer_told set_line key_shown set_record header_of
   line_given =
       let i = sym a.same_input in
@@ -53,6 +53,6 @@ module _ (bytes : Bytes) (w : Handed) (from : Origin) (a : AsRead from bytes w) 
       λ k. (6 ∷ i k ∷ t k ∷ two (x k) ++ (cond (c k) 1 0 ∷ v k ∷ l k ∷ [])) ∷ []
 
 -- what the collector is given, where input and PID are ones
-pub given_as : (o : Settings) → o.pids ≡ true → (g : Given) → ltb g.pid 8192 ≡ true → ltb g.input 16 ≡ true → read_section g.input (maybe.Some g.pid) g.section ≡ pushed o g
+pub given_as : (o : Settings) → o.pids ≡ true → (g : Given) → ltb g.pid 8192 ≡ true → ltb g.input 16 ≡ true → read_section g.input (Some g.pid) g.section ≡ pushed o g
 unfolding read_section pushed
 given_as o h g p i = rw (p, i, h) refl

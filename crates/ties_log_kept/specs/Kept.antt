@@ -1,9 +1,8 @@
 -- The log that a live monitor keeps (docs/RULES.md, "Logs"): after each offer it appends what the maker gives of the answer; it gives every section answered 1 or
 -- 2, with its PID, to one set collector, which is never cleared, and where a set goes out it appends what the maker gives of it.
 -- Assumes nothing.
-use Rattle.std.specs.Prelude.{ℕ, List, [], ◌∷◌, ◌++◌, true, cond, take}
+use Rattle.std.specs.Prelude.{ℕ, List, [], ◌∷◌, ◌++◌, true, cond, take, Some}
 use Rattle.section.specs.Judged.{rule_of}
-use Rattle.section.specs.declared.ids.MaybePid.TheVariants as maybe
 use Rattle.gate_state.specs.State.{is_sound}
 use Rattle.gate_state.specs.declared.Answer.{Answer}
 use Rattle.gate_state.specs.declared.Settings.{Settings as GateSettings}
@@ -14,7 +13,7 @@ use Rattle.rules_logs.specs.Records.{Bytes}
 use Rattle.rules_logs.specs.Sections.{Given}
 use Rattle.rules_log_run.specs.Run.{Settings}
 use Rattle.log_entries.specs.declared.Entry.{Entry}
-use Rattle.log_makers.specs.Makers.{noted_of, set_entry}
+use Rattle.log_makers.specs.Makers.{noted_of, entry_in, set_entry}
 
 -- the bytes of an entry
 abbrev pub entry_bytes : Entry → Bytes
@@ -24,15 +23,15 @@ entry_bytes e = take e.length e.bytes
 unfoldable pub set_noted : Given → Told → Bytes
 set_noted g done = []
 set_noted g nothing = []
-set_noted g (handed w) = entry_bytes (set_entry g.input (maybe.Some g.pid) g.section)
+set_noted g (handed w) = entry_bytes (set_entry g.input (Some g.pid) g.section)
 set_noted g (refused r) = []
 
 -- after an offer
 unfoldable pub offer_noted : Settings → Answer → Given → Bytes
-offer_noted o a g = entry_bytes (noted_of a (rule_of o.rule) g.input g.pid g.section).entry
+offer_noted o a g = entry_bytes (entry_in (noted_of a (rule_of o.rule) g.input g.pid g.section))
 
 unfoldable pub pushes : Store → Given → SetsAfter
-pushes c g = pushed_of c g.input (maybe.Some g.pid) g.section
+pushes c g = pushed_of c g.input (Some g.pid) g.section
 
 -- what is appended for a section that the gate answered so, c being the collector
 unfoldable pub appended : Settings → Store → Answer → Given → Bytes

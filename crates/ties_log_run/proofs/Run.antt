@@ -11,6 +11,7 @@ use native.Mathlib.Omega.{arith}
 use borrow.Author.Tests.{lt-ltb, ltb-true, ltb-false, leb-true, eqb-false, not-true}
 use lib.Dec.{ltb, leb}
 use lib.ListN.{length, replicate, length-replicate}
+use Rattle.answers.specs.Answers.{Outcome}
 use Rattle.laws.specs.Runs.{answers, Never}
 use Rattle.laws.proofs.Tests.{and_true, none≢some}
 use Rattle.section.specs.Facts.{Bytes as OfBytes}
@@ -34,7 +35,7 @@ use Rattle.rules_log_run.specs.Run.{Kept, opened_over, opened, entry_of, records
 use Rattle.log_state.specs.State.{Lent, lent, sets_in, run_of, take_no, ruling_by, ruling_of, can_open}
 use Rattle.log_state.specs.State as state
 use Rattle.log_state.specs.declared.Settings.{Settings as Asked}
-use Rattle.answers.specs.declared.Outcome.TheVariants as outcome
+use Rattle.std.specs.Prelude.{Ok, Err}
 use Rattle.answers.specs.declared.Refusal.TheVariants as refusal
 use Rattle.log_run.specs.Store.{Taking, ruled, taking, taken_of}
 use Rattle.log_entries.proofs.Entries.{entry_shows}
@@ -112,12 +113,12 @@ bytes_joined (g ∷ gs) s =
 -- ---- an opened run
 
 -- 7 is answered where so much is lent, and such are the settings
-pub done_opens : (a : Asked) (keys changes heads slots cells : List ℕ) → (state.opened_of a (length keys) (length changes) (length heads) (length slots) (length cells)).answer ≡ outcome.Done
+pub done_opens : (a : Asked) (keys changes heads slots cells : List ℕ) → (state.opened_of a (length keys) (length changes) (length heads) (length slots) (length cells)).answer ≡ Ok tt
     → Opens a keys changes heads slots cells
 unfolding state.opened_of
 done_opens a keys changes heads slots cells e = go (state.is_without a.pids) (can_open a (length keys) (length changes) (length heads) (length slots) (length cells)) e
   where
-    go : (w b : Bool) → cond w (outcome.Refused refusal.NoPid) (cond b outcome.Done (outcome.Refused refusal.TooLittle)) ≡ outcome.Done → b ≡ true
+    go : (w b : Bool) → ◌≡◌ {A = Outcome} (cond w (Err refusal.NoPid) (cond b (Ok tt) (Err refusal.TooLittle))) (Ok tt) → b ≡ true
     go true b q = let z : ◌≡◌ {A = ℕ} 0 1 = cc in absurd (omega arith)
     go false true q = refl
     go false false q = let z : ◌≡◌ {A = ℕ} 0 1 = cc in absurd (omega arith)

@@ -15,8 +15,9 @@ use Rattle.section.specs.Facts.{Bytes as OfBytes}
 use Rattle.section.specs.Ids.{origin_of}
 use Rattle.section.specs.Judged.{rule_of, judged_of, collected_of}
 use Rattle.section.proofs.Facts.{judged_parts, judged_change}
-use Rattle.section.specs.declared.header.Collected.{Collected}
-use Rattle.section.specs.declared.header.Collected.TheVariants.{Malformed, ShortForm, BadNumber, BadCrc, Good}
+use Rattle.std.specs.Prelude.{Result, Ok, Err}
+use Rattle.section.specs.declared.header.Header.{Header}
+use Rattle.answers.specs.declared.Refusal.{Refusal}
 use Rattle.section.specs.declared.header.Parts.{Parts}
 use Rattle.section.specs.declared.header.Judged.{Judged}
 use Rattle.section.specs.declared.header.Judged.TheVariants.{Short, Mismatch, Sound}
@@ -68,13 +69,11 @@ goes_counting s h l = rw (ne_eqb s.evictions 18446744073709551615 (λ e. omega (
 -- ---- a section into the collector
 
 -- 11 is asked before what the section is read as
-ended_as : (s : Shown) (bytes : Bytes) (from : Origin) (c : Collected) → ended s (reads_as from bytes c) ≡ (at_end s.sets.evicted || at_end s.clock)
+ended_as : (s : Shown) (bytes : Bytes) (from : Origin) (c : Result Header Refusal) → ended s (reads_as from bytes c) ≡ (at_end s.sets.evicted || at_end s.clock)
 unfolding ended reads_as
-ended_as s bytes from Malformed = refl
-ended_as s bytes from ShortForm = refl
-ended_as s bytes from BadNumber = refl
-ended_as s bytes from BadCrc = refl
-ended_as s bytes from (Good h) = refl
+ended_as s bytes from (Err refusal.ShortForm) = refl
+ended_as s bytes from (Err r) = refl
+ended_as s bytes from (Ok h) = refl
 
 module _ (s : Store) (z : Standing s) (f : WholeStore s) (more : s.sets.evictions < 18446744073709551615) (runs : s.sets.clock < 18446744073709551615) (from : Words) (bytes : Bytes) (b : OfBytes bytes) where
   abbrev call' : Call
@@ -115,12 +114,10 @@ module _ (s : Store) (z : Standing s) (f : WholeStore s) (more : s.sets.eviction
   unfolding gathered_of
   gathered_whole = go (collected_of bytes) refl
     where
-      go : (c : Collected) → collected_of bytes ≡ c → WholeStore (pushed_as s bytes (set_read from c)).store
-      go Malformed q = f
-      go ShortForm q = f
-      go BadNumber q = f
-      go BadCrc q = f
-      go (Good h) q = whole_stays s (row_of_header (set_key from h) h) bytes ready (entry_taken bytes h (set_key from h) q (b 7))
+      go : (c : Result Header Refusal) → collected_of bytes ≡ c → WholeStore (pushed_as s bytes (set_read from c)).store
+      go (Err refusal.ShortForm) q = f
+      go (Err r) q = f
+      go (Ok h) q = whole_stays s (row_of_header (set_key from h) h) bytes ready (entry_taken bytes h (set_key from h) q (b 7))
 
 -- ---- the record of a set
 

@@ -23,8 +23,10 @@ use Rattle.log_state.specs.declared.Settings.{Settings}
 use Rattle.log_sections.specs.Steps.{takes, left_by, Memory, over, memory_in, opens}
 use Rattle.log_check.specs.Check.{check_no, checked_of}
 use Rattle.log_measure.specs.Measure.{fitted_in}
-use Rattle.log_write.specs.Write.{write_no, told, refused_by, write_as, log_over, measured_in, as_writer, ran_twice, written_by, written_of}
-use Rattle.log_write.specs.declared.WriteAnswer.TheVariants as answer
+use Rattle.log_write.specs.Write.{write_no, length_told, refused_by, write_as, log_over, measured_in, as_writer, ran_twice, written_by, written_of}
+use Rattle.std.specs.Prelude.{Ok}
+use Rattle.log_prepare.specs.declared.PrepareError.TheVariants as prepare
+use Rattle.log_write.specs.declared.WriteError.TheVariants as error
 use Rattle.ties_log_run.specs.Run.{settings_of}
 use Rattle.ties_log_run.proofs.Run.{opened_taken}
 use Rattle.ties_log_run.proofs.Again.{Usable, usable_opened, usable_fewer, usable_next, usable_opens}
@@ -56,7 +58,7 @@ as_with a t = ap (λ (b : Bool). cond b a (bare a)) t
 
 -- THE THEOREM: any setting but `with` is 41 of a whole list, and all is as before
 pub writer_refuses : (a : Settings) → is_with a.pids ≡ false → (list room : Bytes) (gs : List Given) → sections_in list ≡ sections gs → (m : Memory)
-    → written_of a list room m ≡ write_as (refused_by answer.NoPid) room m
+    → written_of a list room m ≡ write_as (refused_by (error.Run prepare.NoPid)) room m
 unfolding written_of
 writer_refuses a t list room gs w m = ap (λ (b : Bool). written_by (cond b a (bare a)) room m (sections_in list)) t ∙ ap (written_by (bare a) room m) w
 
@@ -82,8 +84,8 @@ module _ (a : Settings) (list : Bytes) (b : OfBytes list) (n : length list < 2 ^
         usable_opens a 0 (fitted_in (length room) (over (run_of a) m) gs) (fitted_usable a gs (listed_takable list b gs w) (length room) (over (run_of a) m) u)
 
     written_as : written_of a list room m
-        ≡ cond (ltb (length room) (length (log_of (settings_of a) gs))) (write_as (refused_by answer.NoRoom) room after)
-        (write_as (told answer.Done (length (log_of (settings_of a) gs))) (sets room 0 (log_of (settings_of a) gs)) (memory_in (left_by (over (run_of a) after) gs)))
+        ≡ cond (ltb (length room) (length (log_of (settings_of a) gs))) (write_as (refused_by error.NoRoom) room after)
+        (write_as (Ok (length (log_of (settings_of a) gs))) (sets room 0 (log_of (settings_of a) gs)) (memory_in (left_by (over (run_of a) after) gs)))
     unfolding written_of ran_twice
     written_as =
         ap (λ (s : Settings). written_by s room m (sections_in list)) (as_with a t)
@@ -92,17 +94,17 @@ module _ (a : Settings) (list : Bytes) (b : OfBytes list) (n : length list < 2 ^
     no_room : length room < length (log_of (settings_of a) gs) → Refuses room (written_of a list room m)
     no_room l = subst (Refuses room) (sym (written_as ∙ pick)) (record { answer = refl; kept = refl })
       where
-        pick : cond (ltb (length room) (length (log_of (settings_of a) gs))) (write_as (refused_by answer.NoRoom) room after)
-            (write_as (told answer.Done (length (log_of (settings_of a) gs))) (sets room 0 (log_of (settings_of a) gs)) (memory_in (left_by (over (run_of a) after) gs)))
-            ≡ write_as (refused_by answer.NoRoom) room after
+        pick : cond (ltb (length room) (length (log_of (settings_of a) gs))) (write_as (refused_by error.NoRoom) room after)
+            (write_as (Ok (length (log_of (settings_of a) gs))) (sets room 0 (log_of (settings_of a) gs)) (memory_in (left_by (over (run_of a) after) gs)))
+            ≡ write_as (refused_by error.NoRoom) room after
         pick = rw (lt-ltb (length room) (length (log_of (settings_of a) gs)) l) refl
 
     fits_room : length (log_of (settings_of a) gs) ≤ length room → Holds (log_of (settings_of a) gs) room (written_of a list room m)
     fits_room l = subst (Holds log room) (sym (written_as ∙ pick)) (record { answer = refl; told = refl; first = ap (take (length log)) eq ∙ take_at log (drop (length log) room) (length log) refl; rest = ap (drop (length log)) eq ∙ drop_at log (drop (length log) room) (length log) refl })
       where
-        pick : cond (ltb (length room) (length (log_of (settings_of a) gs))) (write_as (refused_by answer.NoRoom) room after)
-            (write_as (told answer.Done (length (log_of (settings_of a) gs))) (sets room 0 (log_of (settings_of a) gs)) (memory_in (left_by (over (run_of a) after) gs)))
-            ≡ write_as (told answer.Done (length (log_of (settings_of a) gs))) (sets room 0 (log_of (settings_of a) gs)) (memory_in (left_by (over (run_of a) after) gs))
+        pick : cond (ltb (length room) (length (log_of (settings_of a) gs))) (write_as (refused_by error.NoRoom) room after)
+            (write_as (Ok (length (log_of (settings_of a) gs))) (sets room 0 (log_of (settings_of a) gs)) (memory_in (left_by (over (run_of a) after) gs)))
+            ≡ write_as (Ok (length (log_of (settings_of a) gs))) (sets room 0 (log_of (settings_of a) gs)) (memory_in (left_by (over (run_of a) after) gs))
         pick = rw (le-ltb (length room) (length (log_of (settings_of a) gs)) l) refl
 
         zeroed : 0 + length (log_of (settings_of a) gs) ≡ length (log_of (settings_of a) gs)
@@ -112,15 +114,15 @@ module _ (a : Settings) (list : Bytes) (b : OfBytes list) (n : length list < 2 ^
         eq = sets-eq (log_of (settings_of a) gs) room 0 (omega arith) ∙ ap (λ (k : ℕ). log_of (settings_of a) gs ++ drop k room) zeroed
 
     -- THE THEOREM: 44 exactly where the log is longer than the room
-    pub room_exactly : (write_no (written_of a list room m).written.answer ≡ 44 → length room < length (log_of (settings_of a) gs)) × (length room < length (log_of (settings_of a) gs) → Refuses room (written_of a list room m))
+    pub room_exactly : (write_no (written_of a list room m).written ≡ 44 → length room < length (log_of (settings_of a) gs)) × (length room < length (log_of (settings_of a) gs) → Refuses room (written_of a list room m))
     room_exactly = (λ e. go (ltb (length room) (length (log_of (settings_of a) gs))) refl e, no_room)
       where
-        go : (t : Bool) → ltb (length room) (length (log_of (settings_of a) gs)) ≡ t → write_no (written_of a list room m).written.answer ≡ 44 → length room < length (log_of (settings_of a) gs)
+        go : (t : Bool) → ltb (length room) (length (log_of (settings_of a) gs)) ≡ t → write_no (written_of a list room m).written ≡ 44 → length room < length (log_of (settings_of a) gs)
         go true q e = ltb-true (length room) (length (log_of (settings_of a) gs)) q
         go false q e = absurd (eqb-false 7 44 refl (sym (fits_room (ltb-false (length room) (length (log_of (settings_of a) gs)) q)).answer ∙ e))
 
     -- THE THEOREM: 7 where there is room, and then the room holds the log
-    pub written_holds : write_no (written_of a list room m).written.answer ≡ 7 → Holds (log_of (settings_of a) gs) room (written_of a list room m)
+    pub written_holds : write_no (written_of a list room m).written ≡ 7 → Holds (log_of (settings_of a) gs) room (written_of a list room m)
     written_holds e = go (ltb (length room) (length (log_of (settings_of a) gs))) refl
       where
         go : (t : Bool) → ltb (length room) (length (log_of (settings_of a) gs)) ≡ t → Holds (log_of (settings_of a) gs) room (written_of a list room m)
@@ -135,27 +137,27 @@ record Whole (a : Settings) (list : Bytes) (m : Memory) : Type 0 where
   with : is_with a.pids ≡ true
   enough : opens a m ≡ true
 
-seven_whole : (a : Settings) (list room : Bytes) (m : Memory) → write_no (written_of a list room m).written.answer ≡ 7 → Whole a list m
+seven_whole : (a : Settings) (list room : Bytes) (m : Memory) → write_no (written_of a list room m).written ≡ 7 → Whole a list m
 unfolding written_of
 seven_whole a list room m e = go (is_with a.pids) refl (sections_in list) refl e
   where
-    go : (b : Bool) → is_with a.pids ≡ b → (l : Listed) → sections_in list ≡ l → write_no (written_by (cond b a (bare a)) room m l).written.answer ≡ 7 → Whole a list m
+    go : (b : Bool) → is_with a.pids ≡ b → (l : Listed) → sections_in list ≡ l → write_no (written_by (cond b a (bare a)) room m l).written ≡ 7 → Whole a list m
     go b t too_long q e = absurd (eqb-false 42 7 refl e)
     go b t cut q e = absurd (eqb-false 10 7 refl e)
     go false t (sections gs) q e = absurd (eqb-false 41 7 refl e)
     go true t (sections gs) q e = at (is_without a.pids) (opens a m) refl e
       where
         at : (u v : Bool) → opens a m ≡ v
-            → write_no (cond u (write_as (refused_by answer.NoPid) room m) (cond v (ran_twice (run_of a) room m gs) (write_as (refused_by answer.TooLittle) room m))).written.answer ≡ 7 → Whole a list m
+            → write_no (cond u (write_as (refused_by (error.Run prepare.NoPid)) room m) (cond v (ran_twice (run_of a) room m gs) (write_as (refused_by (error.Run prepare.TooLittle)) room m))).written ≡ 7 → Whole a list m
         at true v h e = absurd (eqb-false 41 7 refl e)
         at false true h e = record { gs = gs; whole = q; with = t; enough = h }
         at false false h e = absurd (eqb-false 13 7 refl e)
 
 -- THE THEOREM: what was written passes the check with the same settings and sections, over any memory that is enough
-pub written_passes : (a : Settings) (list : Bytes) → OfBytes list → length list < 2 ^ 64 → (room : Bytes) (m : Memory) → write_no (written_of a list room m).written.answer ≡ 7
+pub written_passes : (a : Settings) (list : Bytes) → OfBytes list → length list < 2 ^ 64 → (room : Bytes) (m : Memory) → write_no (written_of a list room m).written ≡ 7
     → (m' : Memory) → opens a m' ≡ true
-    → check_no (checked_of a list (take (written_of a list room m).written.length (written_of a list room m).room) m').checked.answer ≡ 8
+    → check_no (checked_of a list (take (length_told (written_of a list room m).written) (written_of a list room m).room) m').checked ≡ 8
 written_passes a list b n room m e m' h =
     let w = seven_whole a list room m e in
     let k = written_holds a list b n w.gs w.whole room m w.enough w.with e in
-    (yes_exactly a list b n w.gs w.whole m' h (take (written_of a list room m).written.length (written_of a list room m).room)).1 k.first
+    (yes_exactly a list b n w.gs w.whole m' h (take (length_told (written_of a list room m).written) (written_of a list room m).room)).1 k.first

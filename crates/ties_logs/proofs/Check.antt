@@ -25,8 +25,9 @@ use Rattle.log_state.specs.declared.Pids.TheVariants as pids
 use Rattle.log_state.specs.declared.Settings.{Settings}
 use Rattle.log_sections.specs.Steps.{takes, records_by, Memory, over, opens}
 use Rattle.log_check.specs.Check.{check_no, refused_by, answered, check_as, checked_by, checked_of}
-use Rattle.log_check.specs.declared.CheckAnswer.TheVariants as answer
-use Rattle.log_check.specs.declared.Checked.{Checked}
+use Rattle.std.specs.Prelude.{Result}
+use Rattle.log_prepare.specs.declared.PrepareError.TheVariants as prepare
+use Rattle.log_check.specs.declared.CheckError.{CheckError}
 use Rattle.ties_log_run.specs.Run.{leaves, gives, entries_by, settings_of}
 use Rattle.ties_log_run.proofs.Run.{run_records, opened_taken}
 use Rattle.ties_logs.specs.Wrong.{FirstWrong}
@@ -56,7 +57,7 @@ module _ (a : Settings) (list : Bytes) (b : OfBytes list) (n : length list < 2 ^
     unfolding checked_of
     checked_says = rw (w, h, opened_taken a m.keys m.changes m.heads m.slots m.cells h) (ap (λ (es : List Bytes). answered (verdict 0 log es)) run_expects)
 
-    yes_says : (v : Verdict) → check_no (answered v).answer ≡ 8 → v ≡ yes
+    yes_says : (v : Verdict) → check_no (answered v) ≡ 8 → v ≡ yes
     yes_says yes e = refl
     yes_says (unknown p) e = absurd (eqb-false 38 8 refl e)
     yes_says (cut_off p) e = absurd (eqb-false 39 8 refl e)
@@ -65,12 +66,12 @@ module _ (a : Settings) (list : Bytes) (b : OfBytes list) (n : length list < 2 ^
     yes_says (differs p) e = absurd (eqb-false 40 8 refl e)
 
     -- THE THEOREM: 8 exactly to the log of the sections
-    pub yes_exactly : (check_no (checked_of a list log m).checked.answer ≡ 8 → log ≡ log_of (settings_of a) gs) × (log ≡ log_of (settings_of a) gs → check_no (checked_of a list log m).checked.answer ≡ 8)
+    pub yes_exactly : (check_no (checked_of a list log m).checked ≡ 8 → log ≡ log_of (settings_of a) gs) × (log ≡ log_of (settings_of a) gs → check_no (checked_of a list log m).checked ≡ 8)
     unfolding log_of
     yes_exactly =
         let y = said.yes_exactly log (records_of (settings_of a) gs) (all_records (settings_of a) gs) in (
-          λ e. y.0 (yes_says says (sym (ap (λ (c : Checked). check_no c.answer) checked_says) ∙ e)),
-          λ e. ap (λ (c : Checked). check_no c.answer) checked_says ∙ ap (λ (v : Verdict). check_no (answered v).answer) (y.1 e),
+          λ e. y.0 (yes_says says (sym (ap check_no checked_says) ∙ e)),
+          λ e. ap check_no checked_says ∙ ap (λ (v : Verdict). check_no (answered v)) (y.1 e),
         )
 
     -- THE THEOREM: the answer is what is to be said of the log beside the records of the rules, and nothing else is to be said of it; where that is not yes, it is
@@ -96,6 +97,6 @@ with_never_6 a e gs = writer_never_6 (settings_of a) (ap is_with e) gs
 
 -- `without` of a whole list is 41, and all is as before
 pub without_refused : (a : Settings) → a.pids ≡ pids.Without → (list log : Bytes) (gs : List Given) → sections_in list ≡ sections gs → (m : Memory)
-    → checked_of a list log m ≡ check_as (refused_by answer.NoPid) m
+    → checked_of a list log m ≡ check_as (refused_by prepare.NoPid) m
 unfolding checked_of
 without_refused a e list log gs w m = let f : is_without a.pids ≡ true = ap is_without e in ap (checked_by a log m) w ∙ rw f refl

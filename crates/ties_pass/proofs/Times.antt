@@ -10,8 +10,8 @@ use Rattle.answers.specs.Answers.{refusal_no}
 use Rattle.demux_state.specs.State.{plain, finished}
 use Rattle.demux_packets.specs.declared.Plan.{Plan}
 use Rattle.demux_packets.specs.declared.Plan.TheVariants.{Malformed, Nothing, Unwatched, NoBuffer, Read}
-use Rattle.demux_judge.specs.declared.Verdict.{Verdict}
-use Rattle.demux_judge.specs.declared.Verdict.TheVariants.{Refused, Goes}
+use Rattle.demux_judge.specs.Verdicts.{Verdict}
+use Rattle.std.specs.Prelude.{Err, Ok}
 use Rattle.demux_store.specs.Carried.{StoreOf, LeftOf, planned_by}
 use Rattle.demux_store.specs.Store as bare
 use Rattle.demux_indexed_store.specs.Carried as kept
@@ -59,12 +59,12 @@ pass_feeds k s input packets = each_fed bare.verdict_in bare.fed silent k s inpu
     silent s input packet = go (bare.verdict_in s input packet)
       where
         go : (v : Verdict) → is_passed v ≡ true → (bare.judged_in s input packet v).answer ≡ finished 0
-        go (Refused r) h = absurd (true≢false (sym h))
-        go (Goes Malformed) h = absurd (true≢false (sym h))
-        go (Goes Nothing) h = refl
-        go (Goes (Unwatched pid)) h = refl
-        go (Goes NoBuffer) h = absurd (true≢false (sym h))
-        go (Goes (Read r)) h = absurd (true≢false (sym h))
+        go (Err r) h = absurd (true≢false (sym h))
+        go (Ok Malformed) h = absurd (true≢false (sym h))
+        go (Ok Nothing) h = refl
+        go (Ok (Unwatched pid)) h = refl
+        go (Ok NoBuffer) h = absurd (true≢false (sym h))
+        go (Ok (Read r)) h = absurd (true≢false (sym h))
 
 -- over the gate with an index
 pub indexed_pass_feeds : (k : ℕ) (s : kept.Store) (input : ℕ) (packets : List ℕ) → Fed indexed.fed k s input packets (over_by.passing k s input packets)
@@ -75,9 +75,9 @@ indexed_pass_feeds k s input packets = each_fed indexed.verdict_in indexed.fed s
     silent s input packet = go (indexed.verdict_in s input packet)
       where
         go : (v : Verdict) → is_passed v ≡ true → (indexed.judged_in s input packet v).answer ≡ finished 0
-        go (Refused r) h = absurd (true≢false (sym h))
-        go (Goes Malformed) h = absurd (true≢false (sym h))
-        go (Goes Nothing) h = refl
-        go (Goes (Unwatched pid)) h = refl
-        go (Goes NoBuffer) h = absurd (true≢false (sym h))
-        go (Goes (Read r)) h = absurd (true≢false (sym h))
+        go (Err r) h = absurd (true≢false (sym h))
+        go (Ok Malformed) h = absurd (true≢false (sym h))
+        go (Ok Nothing) h = refl
+        go (Ok (Unwatched pid)) h = refl
+        go (Ok NoBuffer) h = absurd (true≢false (sym h))
+        go (Ok (Read r)) h = absurd (true≢false (sym h))

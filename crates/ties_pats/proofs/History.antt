@@ -18,7 +18,7 @@ use Rattle.answers.specs.declared.Refusal.TheVariants.{BadNumber}
 use Rattle.section.specs.Facts.{Bytes}
 use Rattle.section.specs.Header.{byte_at, current_next_of, header_of, long_form, section_length, last_section_number, section_number, stored_crc, worked_crc}
 use Rattle.section.specs.Judged.{malformed, collected_long, collected_of}
-use Rattle.section.specs.declared.header.Collected.TheVariants as collected
+use Rattle.std.specs.Prelude.{Ok, Err}
 use Rattle.pat.specs.Pat.{readable}
 use Rattle.watched.specs.Store.{all_pids, filled, followed_of}
 use Rattle.watched.specs.View.{InStep}
@@ -163,7 +163,7 @@ offer_few s x h = subst (λ (b : Bool). Few (admit 1 s x b).answer) (sym (le-leb
 
 -- a PAT with the right CRC, on an input: 16, or what its header says
 pub read_pat_lem : (input : ℕ) (section : List ℕ) → input < 16 → enters section ≡ true → worked_crc section ≡ stored_crc section
-    → (length section ≤ 1024) × (read_pat input section ≡ reads_as (record { input = input; pid = 0 }) section (cond (ltb (last_section_number section) (section_number section)) collected.BadNumber (collected.Good (header_of section))))
+    → (length section ≤ 1024) × (read_pat input section ≡ reads_as (record { input = input; pid = 0 }) section (cond (ltb (last_section_number section) (section_number section)) (Err BadNumber) (Ok (header_of section))))
 unfolding read_section collected_of malformed collected_long enters
 read_pat_lem input section i h e =
     let a = and_true (readable section && current_next_of section) (leb (length section) 1024) h in
@@ -185,7 +185,7 @@ few_answers s input section i h e =
     subst (λ (c : Call). Few (tells pat_settings s c)) (sym p.1) (go p.0 (ltb (last_section_number section) (section_number section)))
   where
     go : length section ≤ 1024 → (b : Bool)
-        → Few (tells pat_settings s (reads_as (record { input = input; pid = 0 }) section (cond b collected.BadNumber (collected.Good (header_of section)))))
+        → Few (tells pat_settings s (reads_as (record { input = input; pid = 0 }) section (cond b (Err BadNumber) (Ok (header_of section)))))
     go l true = bad_number
     go l false = offer_few s _ l
 

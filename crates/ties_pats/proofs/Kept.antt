@@ -17,8 +17,9 @@ use Rattle.answers.specs.declared.Refusal.TheVariants as refusal
 use Rattle.section.specs.Facts.{Bytes as AllBytes}
 use Rattle.section.specs.Judged.{collected_of}
 use Rattle.section.specs.Header.{header_of}
-use Rattle.section.specs.declared.header.Collected.{Collected}
-use Rattle.section.specs.declared.header.Collected.TheVariants as collected
+use Rattle.std.specs.Prelude.{Result, Ok, Err}
+use Rattle.section.specs.declared.header.Header.{Header}
+use Rattle.answers.specs.declared.Refusal.{Refusal}
 use Rattle.section.proofs.Facts.{takes}
 use Rattle.rules_shared.specs.Same.{Bytes}
 use Rattle.rules_shared.specs.Slots.{present}
@@ -158,12 +159,10 @@ module _ (Came : Bytes → Type 0) where
   unfolding read_section reads_as header_of
   reads_say input section b p c = pick (ltb input 16)
     where
-      say : (d : Collected) → collected_of section ≡ d → CallSays (reads_as (record { input = input; pid = 0 }) section d)
-      say collected.Malformed q = tt
-      say collected.ShortForm q = tt
-      say collected.BadNumber q = tt
-      say collected.BadCrc q = tt
-      say (collected.Good h) q =
+      say : (d : Result Header Refusal) → collected_of section ≡ d → CallSays (reads_as (record { input = input; pid = 0 }) section d)
+      say (Err refusal.ShortForm) q = tt
+      say (Err r) q = tt
+      say (Ok h) q =
           let t = takes section h (collected_of section) refl q in
           let e = t.header in
           rw e (record {

@@ -16,7 +16,8 @@ use Rattle.laws.proofs.Tests.{and_true}
 use Rattle.answers.specs.declared.Refusal.TheVariants.{NoCell, TooLong}
 use Rattle.answers.specs.Answers.{refusal_no}
 use Rattle.section.specs.Facts.{Bytes}
-use Rattle.section.specs.declared.ids.MaybePid.TheVariants as maybe
+use Rattle.std.specs.Prelude.{Some, Result, Ok, Err}
+use Rattle.answers.specs.declared.Refusal.{Refusal}
 use Rattle.pat.specs.Pat.{readable, set_n, with_programs}
 use Rattle.pat.proofs.Laws.{length_programs, has_programs}
 use Rattle.watched.specs.Store.{followed_of, no_pids}
@@ -30,8 +31,6 @@ use Rattle.rows.specs.declared.Room.{Room}
 use Rattle.store.specs.Store.{Store, store, risen_sets, WholeStore}
 use Rattle.store.proofs.Whole.{means_whole}
 use Rattle.arrivals.specs.Arrivals.{set_arrival, SetTaken}
-use Rattle.arrivals.specs.declared.SetArrival.{SetArrival}
-use Rattle.arrivals.specs.declared.SetArrival.TheVariants as arrival
 use Rattle.arrivals.proofs.Facts.{set_taken}
 use Rattle.rules_shared.specs.Refusals as refusals
 use Rattle.rules_sets.specs.Rules.{Whole, Answer, cleared, nothing, handout, refused, barred}
@@ -180,44 +179,44 @@ module _ (r : Record) (o : PatsReady r) (np : without_pid (pat_store r).heads (p
   then = entered_in r input section
 
   abbrev turn : SetsAfter
-  turn = pushed_of (pat_store r) input (maybe.Some 0) section
+  turn = pushed_of (pat_store r) input (Some 0) section
 
   free : barred (answer_told turn.told) ≡ false
   unfolding pushed_of admitted answer_told barred refusals.barred whole_pushed
-  free = rw (means_whole (pat_store r) o.ready.whole, ne_eqb (pat_store r).sets.evictions 18446744073709551615 o.ready.counts, ne_eqb (pat_store r).sets.clock 18446744073709551615 o.ready.runs, np) (go (set_arrival input (maybe.Some 0) section) refl)
+  free = rw (means_whole (pat_store r) o.ready.whole, ne_eqb (pat_store r).sets.evictions 18446744073709551615 o.ready.counts, ne_eqb (pat_store r).sets.clock 18446744073709551615 o.ready.runs, np) (go (set_arrival input (Some 0) section) refl)
     where
-      go : (a : SetArrival) → set_arrival input (maybe.Some 0) section ≡ a → barred (answer_told (pushed_as (pat_store r) section a).told) ≡ false
-      go (arrival.Refused x) q = set_refused_by section (λ x. refusals.barred x ≡ false) refl refl refl refl refl refl refl input (maybe.Some 0) x q
-      go (arrival.Arrived e) q =
-          let t : SetTaken section (arrival.Arrived e) = subst (SetTaken section) q (set_taken section (b 7) input (maybe.Some 0)) in
+      go : (a : Result Entry Refusal) → set_arrival input (Some 0) section ≡ a → barred (answer_told (pushed_as (pat_store r) section a).told) ≡ false
+      go (Err x) q = set_refused_by section (λ x. refusals.barred x ≡ false) refl refl refl refl refl refl refl input (Some 0) x q
+      go (Ok e) q =
+          let t : SetTaken section (Ok e) = subst (SetTaken section) q (set_taken section (b 7) input (Some 0)) in
           planned_free (pat_store r) e section (never_21 (pat_store r) o.ready.whole refl e t.numbered section refl)
 
   rises : turn.store.sets.clock ≡ clock_after (answer_told turn.told) (pat_store r).sets.clock
   unfolding pushed_of admitted answer_told whole_pushed
   rises =
       rw (means_whole (pat_store r) o.ready.whole, ne_eqb (pat_store r).sets.evictions 18446744073709551615 o.ready.counts, ne_eqb (pat_store r).sets.clock 18446744073709551615 o.ready.runs, np)
-      (go (set_arrival input (maybe.Some 0) section) refl)
+      (go (set_arrival input (Some 0) section) refl)
     where
-      go : (a : SetArrival) → set_arrival input (maybe.Some 0) section ≡ a
+      go : (a : Result Entry Refusal) → set_arrival input (Some 0) section ≡ a
           → (pushed_as (pat_store r) section a).store.sets.clock ≡ clock_after (answer_told (pushed_as (pat_store r) section a).told) (pat_store r).sets.clock
-      go (arrival.Refused x) q = rw (set_refused_by section (λ x. eqb (refusal_no x) 22 ≡ false) refl refl refl refl refl refl refl input (maybe.Some 0) x q) refl
-      go (arrival.Arrived e) q = planned_ticks (pat_store r) e section (omega arith)
+      go (Err x) q = rw (set_refused_by section (λ x. eqb (refusal_no x) 22 ≡ false) refl refl refl refl refl refl refl input (Some 0) x q) refl
+      go (Ok e) q = planned_ticks (pat_store r) e section (omega arith)
 
   -- 10, 11 and 41 have been asked
-  read_as_lem : (a : SetArrival) → set_arrival input (maybe.Some 0) section ≡ a → turn ≡ pushed_as (pat_store r) section a
+  read_as_lem : (a : Result Entry Refusal) → set_arrival input (Some 0) section ≡ a → turn ≡ pushed_as (pat_store r) section a
   unfolding pushed_of admitted
   read_as_lem a q = rw (means_whole (pat_store r) o.ready.whole, ne_eqb (pat_store r).sets.evictions 18446744073709551615 o.ready.counts, ne_eqb (pat_store r).sets.clock 18446744073709551615 o.ready.runs, np, q)
 
   did : enters section ≡ true → Did r then turn
   unfolding entered_in
-  did h = rw h (go (set_arrival input (maybe.Some 0) section) refl)
+  did h = rw h (go (set_arrival input (Some 0) section) refl)
     where
-      go : (a : SetArrival) → set_arrival input (maybe.Some 0) section ≡ a → Did r (entered_as r section a) turn
-      go (arrival.Refused x) q = let l = o.words in rw (read_as_lem (arrival.Refused x) q) (record { left = refl; words = r.words; long = omega arith; same = refl; followed = refl })
-      go (arrival.Arrived e) q =
+      go : (a : Result Entry Refusal) → set_arrival input (Some 0) section ≡ a → Did r (entered_as r section a) turn
+      go (Err x) q = let l = o.words in rw (read_as_lem (Err x) q) (record { left = refl; words = r.words; long = omega arith; same = refl; followed = refl })
+      go (Ok e) q =
           let l = o.words in
-          let a : Arrives section e = record { input = input; read = q; taken = subst (SetTaken section) q (set_taken section (b 7) input (maybe.Some 0)) } in
-          rw (pushed_as_lem (pat_store r) o.ready np input (maybe.Some 0) section e q) (record {
+          let a : Arrives section e = record { input = input; read = q; taken = subst (SetTaken section) q (set_taken section (b 7) input (Some 0)) } in
+          rw (pushed_as_lem (pat_store r) o.ready np input (Some 0) section e q) (record {
             left = then_store r o section e a;
             words = with_store r.words (whole_pushed (pat_store r) e section).store;
             long = rw (long_with r o section e a) (omega arith);
@@ -282,7 +281,7 @@ module _ (Came : List ℕ → Type 0) (r : Record) (st : Stands Came r) (more : 
   np = st.reached.pids
 
   abbrev call : sets.Call
-  call = sets.offer input (maybe.Some 0) section
+  call = sets.offer input (Some 0) section
 
   abbrev before : Pats
   before = shown r

@@ -1,7 +1,6 @@
 -- PATs in several sections, without memory (docs/RULES.md, "Watched PIDs" and "Collectors"; ISO/IEC 13818-1, 2.4.4.3): the sections of a PAT are
 -- collected as a set, and only a complete one replaces N.
-use Rattle.std.specs.Prelude.{ℕ, ◌+◌, List, [], ◌∷◌, Bool, false, cond, ◌&&◌, ◌||◌, eqb}
-use Rattle.section.specs.declared.ids.MaybePid.TheVariants as maybe
+use Rattle.std.specs.Prelude.{ℕ, ◌+◌, List, [], ◌∷◌, Bool, false, cond, ◌&&◌, ◌||◌, eqb, Some}
 use Rattle.answers.specs.Answers.{refusal_no}
 use Rattle.pat.specs.Pat.{set_n}
 use Rattle.rules_shared.specs.Cells.{Settings}
@@ -43,7 +42,7 @@ clock_after (refused r) c = cond (eqb (refusal_no r) 22) (c + 1) c
 
 -- the section as the set collector reads it, on PID 0
 abbrev pub read_pat : (input : ℕ) → List ℕ → Call
-read_pat input section = read_section input (maybe.Some 0) section
+read_pat input section = read_section input (Some 0) section
 
 unfoldable pub entered : Pats → (input : ℕ) → List ℕ → Pats
 entered p input section =

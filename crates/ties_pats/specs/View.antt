@@ -1,10 +1,9 @@
 -- What a record that follows complete PATs stands for, its enterings one after another, and what a complete PAT is.
 -- Assumes nothing.
-use Rattle.std.specs.Prelude.{ℕ, suc, ◌≤◌, ◌<◌, ◌≡◌, ◌≢◌, true, false, cond, List, [], ◌∷◌, length, get_or}
+use Rattle.std.specs.Prelude.{ℕ, suc, ◌≤◌, ◌<◌, ◌≡◌, ◌≢◌, true, false, cond, List, [], ◌∷◌, length, get_or, Some}
 use Rattle.laws.specs.Bits.{has_bit}
 use Rattle.section.specs.Facts.{Bytes}
 use Rattle.section.specs.Header.{extension_of, version_of, section_number, last_section_number, stored_crc, worked_crc}
-use Rattle.section.specs.declared.ids.MaybePid.TheVariants as maybe
 use Rattle.pat.specs.Pat.{set_n}
 use Rattle.watched.specs.Store.{followed_of}
 use Rattle.watched.specs.Rules.{Watch, followed_by}
@@ -47,7 +46,7 @@ taking p x = entered p x.input x.section
 
 -- what the PAT store tells of a section
 abbrev pub tells_of : Record → Sent → Answer
-tells_of r x = ties.tells (pat_store r) (sets.offer x.input (maybe.Some 0) x.section)
+tells_of r x = ties.tells (pat_store r) (sets.offer x.input (Some 0) x.section)
 
 -- sections are bytes
 abbrev pub OfBytes : List Sent → Type 0

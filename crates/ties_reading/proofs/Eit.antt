@@ -11,18 +11,16 @@ use borrow.Author.Tests.{lt-ltb}
 use Rattle.laws.proofs.Tests.{and_true}
 use Rattle.laws.specs.Runs.{store_after}
 use Rattle.answers.specs.declared.Refusal.{Refusal}
-use Rattle.answers.specs.declared.Reply.TheVariants.{No}
 use Rattle.rules_shared.specs.Same.{Bytes}
 use Rattle.rules_eit.specs.Schedules.{WholeOf}
 use Rattle.rules_eit.specs.Rules as rules
 use Rattle.rules_eit.specs.Rules.{Answer, handout}
 use Rattle.rules_eit.specs.Cells.{call_tells}
-use Rattle.section.specs.declared.ids.MaybePid.{MaybePid}
+use Rattle.std.specs.Prelude.{Option, Result, Ok, Err}
+use Rattle.arrivals.specs.declared.Arrival.{Arrival}
 use Rattle.cells.specs.Cells.{kept}
 use Rattle.rows.specs.Rows.{row_slots}
 use Rattle.rows.proofs.Whole.{rows_get}
-use Rattle.arrivals.specs.declared.EitArrival.{EitArrival}
-use Rattle.arrivals.specs.declared.EitArrival.TheVariants as arrival
 use Rattle.readers.specs.Next.{filled_slots}
 use Rattle.readers.specs.declared.Next.{Next}
 use Rattle.reading.specs.Reading.{asks, Reads}
@@ -51,10 +49,10 @@ asked_of_row s w n row r from = rw (w, n, lt-ltb row s.eit.sets.used r) refl
 
 -- so what is read are its filled slots' bytes in order, each once, and then no: 10 and 41 never occur in the reading
 pub reads_row : (s : Store) → whole_of s ≡ true → any_without s.eit s.heads s.schedule_heads ≡ false → (row : ℕ) → row < s.eit.sets.used
-    → Reads (next_of s row) s.cells 0 (map (kept s.cells s.eit.sets.size) (filled_slots (row_slots s.heads s.slots row))) No
+    → Reads (next_of s row) s.cells 0 (map (kept s.cells s.eit.sets.size) (filled_slots (row_slots s.heads s.slots row))) (Ok false)
 reads_row s w n row r =
     let f = whole_store s w in
-    subst (λ (f : ℕ → Next). Reads f s.cells 0 (map (kept s.cells s.eit.sets.size) (filled_slots (row_slots s.heads s.slots row))) No)
+    subst (λ (f : ℕ → Next). Reads f s.cells 0 (map (kept s.cells s.eit.sets.size) (filled_slots (row_slots s.heads s.slots row))) (Ok false))
     (λ i from. sym (asked_of_row s w n row r from) i)
     (reads_all s.eit.sets.count s.eit.sets.size s.cells (row_slots s.heads s.slots row)
     (rows_get s.heads s.slots s.eit.sets.count s.eit.sets.size s.eit.sets.used row f.sets.rows r) f.sets.cells_long)
@@ -100,42 +98,42 @@ step_set (answer.Set i) t h o e =
 step_set (answer.Schedule k) t h o e = absurd (apart (a_schedule (schedule_out t k)) (a_set h) refl refl (λ z. absurd (omega (arith, z))) e)
 step_set (answer.Refused r) t h o e = absurd (apart (refused r) (a_set h) refl refl (λ z. absurd (omega (arith, z))) e)
 
-pub told_set : (s : Store) → whole_of s ≡ true → (input : ℕ) (pid : MaybePid) (bytes : Bytes) (h : SetOut) → (pushed_of s input pid bytes).told ≡ a_set h → SetTold h (pushed_of s input pid bytes).store
+pub told_set : (s : Store) → whole_of s ≡ true → (input : ℕ) (pid : Option ℕ) (bytes : Bytes) (h : SetOut) → (pushed_of s input pid bytes).told ≡ a_set h → SetTold h (pushed_of s input pid bytes).store
 unfolding pushed_of kind_of_lem
 told_set s w input pid bytes h e = go (admitted s input pid bytes) e
   where
-    go : (v : EitArrival) → (pushed_as s bytes v).told ≡ a_set h → SetTold h (pushed_as s bytes v).store
-    go (arrival.Refused r) e = absurd (apart (refused r) (a_set h) refl refl (λ z. absurd (omega (arith, z))) e)
-    go (arrival.Arrived a) e = step_set (pushed_whole s bytes a).answer (pushed_whole s bytes a).store h (told_row s (whole_store s w) bytes a) e
+    go : (v : Result Arrival Refusal) → (pushed_as s bytes v).told ≡ a_set h → SetTold h (pushed_as s bytes v).store
+    go (Err r) e = absurd (apart (refused r) (a_set h) refl refl (λ z. absurd (omega (arith, z))) e)
+    go (Ok a) e = step_set (pushed_whole s bytes a).answer (pushed_whole s bytes a).store h (told_row s (whole_store s w) bytes a) e
 
 -- ---- after an answer 5
 
 -- the store that a push leaves is whole
-pub push_whole : (s : Store) → Reached s → whole_of s ≡ true → (input : ℕ) (pid : MaybePid) (bytes : Bytes) → ((i : ℕ) → get_or bytes i 0 < 256) → whole_of (pushed_of s input pid bytes).store ≡ true
+pub push_whole : (s : Store) → Reached s → whole_of s ≡ true → (input : ℕ) (pid : Option ℕ) (bytes : Bytes) → ((i : ℕ) → get_or bytes i 0 < 256) → whole_of (pushed_of s input pid bytes).store ≡ true
 unfolding acts
 push_whole s z w input pid bytes o = stays_whole s z w (section input pid bytes) o
 
 -- and each of its sets and schedules has a PID
-pub push_pids : (s : Store) → Reached s → (input : ℕ) (pid : MaybePid) (bytes : Bytes) → ((i : ℕ) → get_or bytes i 0 < 256)
+pub push_pids : (s : Store) → Reached s → (input : ℕ) (pid : Option ℕ) (bytes : Bytes) → ((i : ℕ) → get_or bytes i 0 < 256)
     → any_without (pushed_of s input pid bytes).store.eit (pushed_of s input pid bytes).store.heads (pushed_of s input pid bytes).store.schedule_heads ≡ false
 unfolding acts
 push_pids s z input pid bytes o = each_has_pid (pushed_of s input pid bytes).store (acts_reached s z (section input pid bytes) o)
 
 -- What a host reads out of the row that it was told of, asking from 0 on, are the sections that were handed out, byte for byte; then the answer is no
-pub read_handed : (s : Store) → Reached s → whole_of s ≡ true → (input : ℕ) (pid : MaybePid) (bytes : Bytes) → ((i : ℕ) → get_or bytes i 0 < 256) → (h : SetOut) → (pushed_of s input pid bytes).told ≡ a_set h
-    → Reads (next_of (pushed_of s input pid bytes).store h.row) (pushed_of s input pid bytes).store.cells 0 h.sections No
+pub read_handed : (s : Store) → Reached s → whole_of s ≡ true → (input : ℕ) (pid : Option ℕ) (bytes : Bytes) → ((i : ℕ) → get_or bytes i 0 < 256) → (h : SetOut) → (pushed_of s input pid bytes).told ≡ a_set h
+    → Reads (next_of (pushed_of s input pid bytes).store h.row) (pushed_of s input pid bytes).store.cells 0 h.sections (Ok false)
 unfolding set_out_lem
 read_handed s z w input pid bytes o h e =
     let t : Store = (pushed_of s input pid bytes).store in
     let x = told_set s w input pid bytes h e in
     let d : h.sections ≡ map (kept t.cells t.eit.sets.size) (filled_slots (row_slots t.heads t.slots h.row)) = ap (λ (y : SetOut). y.sections) x.set in
-    subst (λ (l : List Bytes). Reads (next_of t h.row) t.cells 0 l No) (sym d)
+    subst (λ (l : List Bytes). Reads (next_of t h.row) t.cells 0 l (Ok false)) (sym d)
     (reads_row t (push_whole s z w input pid bytes o) (push_pids s z input pid bytes o) h.row x.used)
 
 -- .. in every history from an opening on
-pub read_in_every_history : (s : Store) → Opened s → (calls : List Given) → EachFitting calls → (input : ℕ) (pid : MaybePid) (bytes : Bytes) → ((i : ℕ) → get_or bytes i 0 < 256) → (h : SetOut)
+pub read_in_every_history : (s : Store) → Opened s → (calls : List Given) → EachFitting calls → (input : ℕ) (pid : Option ℕ) (bytes : Bytes) → ((i : ℕ) → get_or bytes i 0 < 256) → (h : SetOut)
     → (pushed_of (store_after acts s calls) input pid bytes).told ≡ a_set h
-    → Reads (next_of (pushed_of (store_after acts s calls) input pid bytes).store h.row) (pushed_of (store_after acts s calls) input pid bytes).store.cells 0 h.sections No
+    → Reads (next_of (pushed_of (store_after acts s calls) input pid bytes).store h.row) (pushed_of (store_after acts s calls) input pid bytes).store.cells 0 h.sections (Ok false)
 read_in_every_history s o calls f =
     let w = always_whole calls f s (opened_reached s o) (opened_whole s o) in
     read_handed (store_after acts s calls) w.0 w.1
@@ -150,10 +148,10 @@ sections_in (rules.schedule g) l = l
 sections_in (rules.refused r) l = l
 
 -- where the rules hand out a set, a set is told, and what a host reads out of its row are the rules' sections
-pub read_as_ruled : (s : Store) → Opened s → (calls : List Given) → EachFitting calls → (input : ℕ) (pid : MaybePid) (bytes : Bytes) → ((i : ℕ) → get_or bytes i 0 < 256) → (w : WholeOf Bytes)
+pub read_as_ruled : (s : Store) → Opened s → (calls : List Given) → EachFitting calls → (input : ℕ) (pid : Option ℕ) (bytes : Bytes) → ((i : ℕ) → get_or bytes i 0 < 256) → (w : WholeOf Bytes)
     → call_tells (seen (store_after acts s calls)) (reads (section input pid bytes)) ≡ handout w
     → (h : SetOut) × ((pushed_of (store_after acts s calls) input pid bytes).told ≡ a_set h)
-    × Reads (next_of (pushed_of (store_after acts s calls) input pid bytes).store h.row) (pushed_of (store_after acts s calls) input pid bytes).store.cells 0 w.sections No
+    × Reads (next_of (pushed_of (store_after acts s calls) input pid bytes).store h.row) (pushed_of (store_after acts s calls) input pid bytes).store.cells 0 w.sections (Ok false)
 unfolding tells answer_told
 read_as_ruled s o calls f input pid bytes b w e =
     let q = always_whole calls f s (opened_reached s o) (opened_whole s o) in
@@ -164,11 +162,11 @@ read_as_ruled s o calls f input pid bytes b w e =
     then = (pushed_of (store_after acts s calls) input pid bytes).store
 
     go : (x : Told) → (pushed_of (store_after acts s calls) input pid bytes).told ≡ x → answer_told x ≡ handout w
-        → (h : SetOut) × ((pushed_of (store_after acts s calls) input pid bytes).told ≡ a_set h) × Reads (next_of then h.row) then.cells 0 w.sections No
+        → (h : SetOut) × ((pushed_of (store_after acts s calls) input pid bytes).told ≡ a_set h) × Reads (next_of then h.row) then.cells 0 w.sections (Ok false)
     go done p k = let z : ◌≡◌ {A = ℕ} 0 1 = cc in absurd (omega arith)
     go nothing p k = let z : ◌≡◌ {A = ℕ} 0 1 = cc in absurd (omega arith)
     go (a_set h) p k =
         let d : h.sections ≡ w.sections = ap (λ (a : Answer). sections_in a w.sections) k in
-        (h, p, subst (λ (l : List Bytes). Reads (next_of then h.row) then.cells 0 l No) d (read_in_every_history s o calls f input pid bytes b h p))
+        (h, p, subst (λ (l : List Bytes). Reads (next_of then h.row) then.cells 0 l (Ok false)) d (read_in_every_history s o calls f input pid bytes b h p))
     go (a_schedule g) p k = let z : ◌≡◌ {A = ℕ} 0 1 = cc in absurd (omega arith)
     go (refused r) p k = let z : ◌≡◌ {A = ℕ} 0 1 = cc in absurd (omega arith)

@@ -13,9 +13,8 @@ use borrow.Author.Tests.{ltb-true}
 use Rattle.laws.specs.Runs.{At, store_after}
 use Rattle.answers.specs.declared.Refusal.{Refusal}
 use Rattle.answers.specs.declared.Refusal.TheVariants as refusal
-use Rattle.answers.specs.declared.Reply.{Reply}
-use Rattle.answers.specs.declared.Reply.TheVariants.{Yes, No, Refused}
-use Rattle.section.specs.declared.ids.MaybePid.{MaybePid}
+use Rattle.answers.specs.Answers.{Reply}
+use Rattle.std.specs.Prelude.{Option, Ok, Err}
 use Rattle.cells.specs.Cells.{all_whole}
 use Rattle.rows.specs.Rows.{row_slots}
 use Rattle.rows.proofs.Whole.{rows_get}
@@ -48,7 +47,7 @@ use Rattle.ties_reading.proofs.Schedules as of_schedules
 -- ---- any rows
 
 -- where the first answer is not yes, nothing is read, and nothing is handed out
-none_read : (ask : ℕ → Next) (cells : List ℕ) (size : ℕ) (a : Reply) → ask 0 ≡ no_section a → a ≢ Yes → {parts : List (List ℕ)} {last : Reply} → Reads ask cells 0 parts last
+none_read : (ask : ℕ → Next) (cells : List ℕ) (size : ℕ) (a : Reply) → ask 0 ≡ no_section a → a ≢ (Ok true) → {parts : List (List ℕ)} {last : Reply} → Reads ask cells 0 parts last
     → HandsOut size [] (begun cells) parts
 none_read ask cells size a e n (ends m) = none_handed size (begun cells)
 none_read ask cells size a e n (goes_on y r) = absurd (n (sym (ap (λ (x : Next). x.answer) e) ∙ y))
@@ -59,7 +58,7 @@ same_read : (ask : ℕ → Next) (count size : ℕ) (cells slots : List ℕ) →
 same_read ask count size cells slots e small whole room {parts = parts} {last = last} r =
     reader_hands size slots small count cells whole room [] (subst (λ (f : ℕ → Next). Reads f cells 0 parts last) (λ i from. e from i) r)
 
-refused≢yes : (r : Refusal) → Refused r ≢ Yes
+refused≢yes : (r : Refusal) → Err r ≢ (Ok true)
 refused≢yes r e = let z : ◌≡◌ {A = ℕ} 0 1 = cc in omega arith
 
 -- ---- a set
@@ -77,15 +76,15 @@ set_reader s row {parts = parts} {last = last} r = go (sets_store.whole_of s) re
         (same_read (sets.next_of s row) s.sets.count s.sets.size s.cells (row_slots s.heads s.slots row) (λ from. rw (e, n, h) refl) w.size_high
         (rows_get s.heads s.slots s.sets.count s.sets.size s.sets.used row w.rows (ltb-true row s.sets.used h)) w.cells_long r)
     go true e false n false h =
-        subst (λ (l : List ℕ). HandsOut s.sets.size l (begun s.cells) parts) (sym (rw (e, n, h) refl)) (none_read (sets.next_of s row) s.cells s.sets.size No (rw (e, n, h) refl) no≢yes r)
+        subst (λ (l : List ℕ). HandsOut s.sets.size l (begun s.cells) parts) (sym (rw (e, n, h) refl)) (none_read (sets.next_of s row) s.cells s.sets.size (Ok false) (rw (e, n, h) refl) no≢yes r)
     go true e true n c h =
         subst (λ (l : List ℕ). HandsOut s.sets.size l (begun s.cells) parts) (sym (rw (e, n) refl))
-        (none_read (sets.next_of s row) s.cells s.sets.size (Refused refusal.NoPid) (rw (e, n) refl) (refused≢yes refusal.NoPid) r)
+        (none_read (sets.next_of s row) s.cells s.sets.size (Err refusal.NoPid) (rw (e, n) refl) (refused≢yes refusal.NoPid) r)
     go false e m n c h =
-        subst (λ (l : List ℕ). HandsOut s.sets.size l (begun s.cells) parts) (sym (rw e refl)) (none_read (sets.next_of s row) s.cells s.sets.size (Refused refusal.NotWhole) (rw e refl) (refused≢yes refusal.NotWhole) r)
+        subst (λ (l : List ℕ). HandsOut s.sets.size l (begun s.cells) parts) (sym (rw e refl)) (none_read (sets.next_of s row) s.cells s.sets.size (Err refusal.NotWhole) (rw e refl) (refused≢yes refusal.NotWhole) r)
 
 -- after an answer 5, in every history from an opening on
-pub set_handed : (s : sets_store.Store) → set_history.OpenedStore s → (calls : List set_history.Call) → set_history.AllBytes calls → (input : ℕ) (pid : MaybePid) (bytes : List ℕ) → get_or bytes 7 0 < 256 → (h : settle.Handed)
+pub set_handed : (s : sets_store.Store) → set_history.OpenedStore s → (calls : List set_history.Call) → set_history.AllBytes calls → (input : ℕ) (pid : Option ℕ) (bytes : List ℕ) → get_or bytes 7 0 < 256 → (h : settle.Handed)
     → (sets.pushed_of (set_history.after_all s calls) input pid bytes).told ≡ settle.handed h
     → HandsOut (sets.pushed_of (set_history.after_all s calls) input pid bytes).store.sets.size (set_slots (sets.pushed_of (set_history.after_all s calls) input pid bytes).store h.row)
     (begun (sets.pushed_of (set_history.after_all s calls) input pid bytes).store.cells) h.sections
@@ -106,15 +105,15 @@ eit_reader s row {parts = parts} {last = last} r = go (eit_store.whole_of s) ref
         (same_read (eit.next_of s row) s.eit.sets.count s.eit.sets.size s.cells (row_slots s.heads s.slots row) (λ from. rw (e, n, h) refl) w.size_high
         (rows_get s.heads s.slots s.eit.sets.count s.eit.sets.size s.eit.sets.used row w.rows (ltb-true row s.eit.sets.used h)) w.cells_long r)
     go true e false n false h =
-        subst (λ (l : List ℕ). HandsOut s.eit.sets.size l (begun s.cells) parts) (sym (rw (e, n, h) refl)) (none_read (eit.next_of s row) s.cells s.eit.sets.size No (rw (e, n, h) refl) no≢yes r)
+        subst (λ (l : List ℕ). HandsOut s.eit.sets.size l (begun s.cells) parts) (sym (rw (e, n, h) refl)) (none_read (eit.next_of s row) s.cells s.eit.sets.size (Ok false) (rw (e, n, h) refl) no≢yes r)
     go true e true n c h =
         subst (λ (l : List ℕ). HandsOut s.eit.sets.size l (begun s.cells) parts) (sym (rw (e, n) refl))
-        (none_read (eit.next_of s row) s.cells s.eit.sets.size (Refused refusal.NoPid) (rw (e, n) refl) (refused≢yes refusal.NoPid) r)
+        (none_read (eit.next_of s row) s.cells s.eit.sets.size (Err refusal.NoPid) (rw (e, n) refl) (refused≢yes refusal.NoPid) r)
     go false e m n c h =
-        subst (λ (l : List ℕ). HandsOut s.eit.sets.size l (begun s.cells) parts) (sym (rw e refl)) (none_read (eit.next_of s row) s.cells s.eit.sets.size (Refused refusal.NotWhole) (rw e refl) (refused≢yes refusal.NotWhole) r)
+        subst (λ (l : List ℕ). HandsOut s.eit.sets.size l (begun s.cells) parts) (sym (rw e refl)) (none_read (eit.next_of s row) s.cells s.eit.sets.size (Err refusal.NotWhole) (rw e refl) (refused≢yes refusal.NotWhole) r)
 
 -- after an answer 5, in every history from an opening on
-pub eit_handed : (s : eit_store.Store) → Opened s → (calls : List Given) → EachFitting calls → (input : ℕ) (pid : MaybePid) (bytes : List ℕ) → ((i : ℕ) → get_or bytes i 0 < 256) → (h : eit.SetOut)
+pub eit_handed : (s : eit_store.Store) → Opened s → (calls : List Given) → EachFitting calls → (input : ℕ) (pid : Option ℕ) (bytes : List ℕ) → ((i : ℕ) → get_or bytes i 0 < 256) → (h : eit.SetOut)
     → (eit.pushed_of (store_after acts s calls) input pid bytes).told ≡ eit.a_set h
     → HandsOut (eit.pushed_of (store_after acts s calls) input pid bytes).store.eit.sets.size (eit_slots (eit.pushed_of (store_after acts s calls) input pid bytes).store h.row)
     (begun (eit.pushed_of (store_after acts s calls) input pid bytes).store.cells) h.sections
@@ -131,7 +130,7 @@ table_reader s row table {parts = parts} {last = last} r =
     Handed : Type 0
     Handed = HandsOut s.eit.sets.size (table_slots s row table) (begun s.cells) parts
 
-    none : (a : Reply) → a ≢ Yes → table_slots s row table ≡ [] → eit.next_in_of s row table 0 ≡ no_section a → Handed
+    none : (a : Reply) → a ≢ (Ok true) → table_slots s row table ≡ [] → eit.next_in_of s row table 0 ≡ no_section a → Handed
     none a n q e = subst (λ (l : List ℕ). HandsOut s.eit.sets.size l (begun s.cells) parts) (sym q) (none_read (eit.next_in_of s row table) s.cells s.eit.sets.size a e n r)
 
     go : (b : Bool) → eit_store.whole_of s ≡ b → (m : Bool) → any_without s.eit s.heads s.schedule_heads ≡ m → (c : Bool) → ltb row s.eit.schedules ≡ c → (d : Bool) → ltb table (tables_of s.schedule_heads row) ≡ d
@@ -142,18 +141,18 @@ table_reader s row table {parts = parts} {last = last} r =
         subst (λ (l : List ℕ). HandsOut s.eit.sets.size l (begun s.cells) parts) (sym q)
         (same_read (eit.next_in_of s row table) s.eit.sets.count s.eit.sets.size s.cells (unit_slots s.units (row * 16 + table)) (λ from. rw (e, m, h, g, k) refl) w.size_high
         (of_schedules.table_whole s e row table (ltb-true row s.eit.schedules h) (ltb-true table (tables_of s.schedule_heads row) g) k) w.cells_long r)
-    go true e false m true h true g false k = none No no≢yes (rw (e, m, h, g, k) refl) (rw (e, m, h, g, k) refl)
-    go true e false m true h false g p k = none No no≢yes (rw (e, m, h, g) refl) (rw (e, m, h, g) refl)
-    go true e false m false h d g p k = none No no≢yes (rw (e, m, h) refl) (rw (e, m, h) refl)
-    go true e true m c h d g p k = none (Refused refusal.NoPid) (refused≢yes refusal.NoPid) (rw (e, m) refl) (rw (e, m) refl)
-    go false e l m c h d g p k = none (Refused refusal.NotWhole) (refused≢yes refusal.NotWhole) (rw e refl) (rw e refl)
+    go true e false m true h true g false k = none (Ok false) no≢yes (rw (e, m, h, g, k) refl) (rw (e, m, h, g, k) refl)
+    go true e false m true h false g p k = none (Ok false) no≢yes (rw (e, m, h, g) refl) (rw (e, m, h, g) refl)
+    go true e false m false h d g p k = none (Ok false) no≢yes (rw (e, m, h) refl) (rw (e, m, h) refl)
+    go true e true m c h d g p k = none (Err refusal.NoPid) (refused≢yes refusal.NoPid) (rw (e, m) refl) (rw (e, m) refl)
+    go false e l m c h d g p k = none (Err refusal.NotWhole) (refused≢yes refusal.NotWhole) (rw e refl) (rw e refl)
 
 -- after an answer 6, in every history from an opening on: of table j the sections of the j-th table that was handed out; past the last one nothing
 pub record HandsSchedule (t : eit_store.Store) (g : eit.ScheduleOut) : Type 0 where
   pub tables : (j : ℕ) (x : eit.TableOut) → At g.tables j x → HandsOut t.eit.sets.size (table_slots t g.row j) (begun t.cells) x.sections
   pub past : (j : ℕ) → length g.tables ≤ j → HandsOut t.eit.sets.size (table_slots t g.row j) (begun t.cells) []
 
-pub schedule_handed : (s : eit_store.Store) → Opened s → (calls : List Given) → EachFitting calls → (input : ℕ) (pid : MaybePid) (bytes : List ℕ) → ((i : ℕ) → get_or bytes i 0 < 256) → (g : eit.ScheduleOut)
+pub schedule_handed : (s : eit_store.Store) → Opened s → (calls : List Given) → EachFitting calls → (input : ℕ) (pid : Option ℕ) (bytes : List ℕ) → ((i : ℕ) → get_or bytes i 0 < 256) → (g : eit.ScheduleOut)
     → (eit.pushed_of (store_after acts s calls) input pid bytes).told ≡ eit.a_schedule g → HandsSchedule (eit.pushed_of (store_after acts s calls) input pid bytes).store g
 schedule_handed s o calls f input pid bytes b g e =
     let t : eit_store.Store = (eit.pushed_of (store_after acts s calls) input pid bytes).store in

@@ -11,17 +11,16 @@ use mathlib.Core.Bool.{Bool, true, false, cond}
 use lib.ListN.{length, get_or, get_elem?}
 use borrow.Author.Tests.{lt-ltb, le-ltb}
 use Rattle.laws.specs.Runs.{At, store_after}
-use Rattle.answers.specs.declared.Reply.TheVariants.{No}
 use Rattle.rules_shared.specs.Same.{Bytes}
 use Rattle.rules_eit.specs.Keys.{ScheduleKey}
 use Rattle.rules_eit.specs.Schedules.{WholeOf, GuideOf, table_of}
 use Rattle.rules_eit.specs.Rules as rules
 use Rattle.rules_eit.specs.Rules.{Answer, schedule}
 use Rattle.rules_eit.specs.Cells.{call_tells}
-use Rattle.section.specs.declared.ids.MaybePid.{MaybePid}
+use Rattle.std.specs.Prelude.{Option, Result, Ok, Err}
+use Rattle.arrivals.specs.declared.Arrival.{Arrival}
+use Rattle.answers.specs.declared.Refusal.{Refusal}
 use Rattle.cells.specs.Cells.{all_whole, kept}
-use Rattle.arrivals.specs.declared.EitArrival.{EitArrival}
-use Rattle.arrivals.specs.declared.EitArrival.TheVariants as arrival
 use Rattle.units.specs.Units.{is_present, unit_slots, unit_whole, all_present, first_table}
 use Rattle.schedules.specs.Schedules.{tables_of}
 use Rattle.readers.specs.Next.{filled_slots}
@@ -61,15 +60,15 @@ module _ (s : Store) (w : whole_of s ≡ true) (row table : ℕ) (r : row < s.ei
 
   -- so what is read are its filled slots' bytes in order, each once, and then no: 10 and 41 never occur in the reading
   pub reads_table : any_without s.eit s.heads s.schedule_heads ≡ false
-      → Reads (next_in_of s row table) s.cells 0 (map (kept s.cells s.eit.sets.size) (filled_slots (unit_slots s.units (row * 16 + table)))) No
+      → Reads (next_in_of s row table) s.cells 0 (map (kept s.cells s.eit.sets.size) (filled_slots (unit_slots s.units (row * 16 + table)))) (Ok false)
   reads_table n =
       let f = whole_store s w in
-      subst (λ (f : ℕ → Next). Reads f s.cells 0 (map (kept s.cells s.eit.sets.size) (filled_slots (unit_slots s.units (row * 16 + table)))) No)
+      subst (λ (f : ℕ → Next). Reads f s.cells 0 (map (kept s.cells s.eit.sets.size) (filled_slots (unit_slots s.units (row * 16 + table)))) (Ok false))
       (λ i from. sym (asked_of_table n from) i)
       (reads_all s.eit.sets.count s.eit.sets.size s.cells (unit_slots s.units (row * 16 + table)) table_whole f.sets.cells_long)
 
 -- past its last table there is nothing
-pub reads_past : (s : Store) → whole_of s ≡ true → any_without s.eit s.heads s.schedule_heads ≡ false → (row table : ℕ) → row < s.eit.schedules → tables_of s.schedule_heads row ≤ table → Reads (next_in_of s row table) s.cells 0 [] No
+pub reads_past : (s : Store) → whole_of s ≡ true → any_without s.eit s.heads s.schedule_heads ≡ false → (row table : ℕ) → row < s.eit.schedules → tables_of s.schedule_heads row ≤ table → Reads (next_in_of s row table) s.cells 0 [] (Ok false)
 unfolding next_in_of
 reads_past s w n row table r j =
     reads_none (next_in_of s row table) s.cells 0 (rw (w, n, lt-ltb row s.eit.schedules r, le-ltb table (tables_of s.schedule_heads row) j) refl)
@@ -96,13 +95,13 @@ step_schedule (answer.Schedule k) t g o e =
     }
 step_schedule (answer.Refused r) t g o e = absurd (apart (refused r) (a_schedule g) refl refl (λ z. absurd (omega (arith, z))) e)
 
-pub told_schedule : (s : Store) → whole_of s ≡ true → (input : ℕ) (pid : MaybePid) (bytes : Bytes) (g : ScheduleOut) → (pushed_of s input pid bytes).told ≡ a_schedule g → ScheduleTold g (pushed_of s input pid bytes).store
+pub told_schedule : (s : Store) → whole_of s ≡ true → (input : ℕ) (pid : Option ℕ) (bytes : Bytes) (g : ScheduleOut) → (pushed_of s input pid bytes).told ≡ a_schedule g → ScheduleTold g (pushed_of s input pid bytes).store
 unfolding pushed_of kind_of_lem
 told_schedule s w input pid bytes g e = go (admitted s input pid bytes) e
   where
-    go : (v : EitArrival) → (pushed_as s bytes v).told ≡ a_schedule g → ScheduleTold g (pushed_as s bytes v).store
-    go (arrival.Refused r) e = absurd (apart (refused r) (a_schedule g) refl refl (λ z. absurd (omega (arith, z))) e)
-    go (arrival.Arrived a) e = step_schedule (pushed_whole s bytes a).answer (pushed_whole s bytes a).store g (told_row s (whole_store s w) bytes a) e
+    go : (v : Result Arrival Refusal) → (pushed_as s bytes v).told ≡ a_schedule g → ScheduleTold g (pushed_as s bytes v).store
+    go (Err r) e = absurd (apart (refused r) (a_schedule g) refl refl (λ z. absurd (omega (arith, z))) e)
+    go (Ok a) e = step_schedule (pushed_whole s bytes a).answer (pushed_whole s bytes a).store g (told_row s (whole_store s w) bytes a) e
 
 -- the tables of a schedule, by their number
 table_at : (s : Store) (u n j : ℕ) (x : TableOut) → At (tables_out s u n) j x → (j < n) × (x ≡ table_out s (u + j))
@@ -124,10 +123,10 @@ tables_count s u (suc n) = ap suc (tables_count s (suc u) n)
 -- What a host reads out of a schedule that is told of, asking each of its tables from 0 on: of table j the sections of the j-th table that was handed
 -- out, byte for byte; past the last one nothing. Then the answer is no
 pub record ReadsSchedule (t : Store) (g : ScheduleOut) : Type 0 where
-  pub tables : (j : ℕ) (x : TableOut) → At g.tables j x → Reads (next_in_of t g.row j) t.cells 0 x.sections No
-  pub past : (j : ℕ) → length g.tables ≤ j → Reads (next_in_of t g.row j) t.cells 0 [] No
+  pub tables : (j : ℕ) (x : TableOut) → At g.tables j x → Reads (next_in_of t g.row j) t.cells 0 x.sections (Ok false)
+  pub past : (j : ℕ) → length g.tables ≤ j → Reads (next_in_of t g.row j) t.cells 0 [] (Ok false)
 
-pub read_handed : (s : Store) → Reached s → whole_of s ≡ true → (input : ℕ) (pid : MaybePid) (bytes : Bytes) → ((i : ℕ) → get_or bytes i 0 < 256) → (g : ScheduleOut) → (pushed_of s input pid bytes).told ≡ a_schedule g
+pub read_handed : (s : Store) → Reached s → whole_of s ≡ true → (input : ℕ) (pid : Option ℕ) (bytes : Bytes) → ((i : ℕ) → get_or bytes i 0 < 256) → (g : ScheduleOut) → (pushed_of s input pid bytes).told ≡ a_schedule g
     → ReadsSchedule (pushed_of s input pid bytes).store g
 unfolding schedule_out table_out
 read_handed s z w input pid bytes o g e = record { tables = one; past = none }
@@ -150,20 +149,20 @@ read_handed s z w input pid bytes o g e = record { tables = one; past = none }
     are : g.tables ≡ tables_out (pushed_of s input pid bytes).store (g.row * 16) n
     are = ap (λ (x : ScheduleOut). x.tables) told.schedule
 
-    one : (j : ℕ) (x : TableOut) → At g.tables j x → Reads (next_in_of t g.row j) t.cells 0 x.sections No
+    one : (j : ℕ) (x : TableOut) → At g.tables j x → Reads (next_in_of t g.row j) t.cells 0 x.sections (Ok false)
     one j x h =
         let q = table_at t (g.row * 16) n j x (subst (λ (l : List TableOut). At l j x) are h) in
         let d : x.sections ≡ map (kept t.cells t.eit.sets.size) (filled_slots (unit_slots t.units (g.row * 16 + j))) = ap (λ (y : TableOut). y.sections) q.1 in
-        subst (λ (l : List Bytes). Reads (next_in_of t g.row j) t.cells 0 l No) (sym d)
+        subst (λ (l : List Bytes). Reads (next_in_of t g.row j) t.cells 0 l (Ok false)) (sym d)
         (reads_table t whole g.row j told.used q.0 (present_get t.units (g.row * 16) n j told.there q.0) pids)
 
-    none : (j : ℕ) → length g.tables ≤ j → Reads (next_in_of t g.row j) t.cells 0 [] No
+    none : (j : ℕ) → length g.tables ≤ j → Reads (next_in_of t g.row j) t.cells 0 [] (Ok false)
     none j h =
         let c : length g.tables ≡ n = ap length are ∙ tables_count t (g.row * 16) n in
         reads_past t whole pids g.row j told.used (omega (arith, c, h))
 
 -- .. in every history from an opening on
-pub read_in_every_history : (s : Store) → Opened s → (calls : List Given) → EachFitting calls → (input : ℕ) (pid : MaybePid) (bytes : Bytes) → ((i : ℕ) → get_or bytes i 0 < 256) → (g : ScheduleOut)
+pub read_in_every_history : (s : Store) → Opened s → (calls : List Given) → EachFitting calls → (input : ℕ) (pid : Option ℕ) (bytes : Bytes) → ((i : ℕ) → get_or bytes i 0 < 256) → (g : ScheduleOut)
     → (pushed_of (store_after acts s calls) input pid bytes).told ≡ a_schedule g → ReadsSchedule (pushed_of (store_after acts s calls) input pid bytes).store g
 read_in_every_history s o calls f =
     let w = always_whole calls f s (opened_reached s o) (opened_whole s o) in
@@ -193,11 +192,11 @@ tables_in (rules.refused r) l = l
 
 -- what a host reads out of the schedule in a row, table by table, are the sections of the rules' tables
 pub record ReadsGuide (t : Store) (row : ℕ) (w : GuideOf Bytes) : Type 0 where
-  pub tables : (j : ℕ) (y : WholeOf Bytes) → At w.tables j y → Reads (next_in_of t row j) t.cells 0 y.sections No
-  pub past : (j : ℕ) → length w.tables ≤ j → Reads (next_in_of t row j) t.cells 0 [] No
+  pub tables : (j : ℕ) (y : WholeOf Bytes) → At w.tables j y → Reads (next_in_of t row j) t.cells 0 y.sections (Ok false)
+  pub past : (j : ℕ) → length w.tables ≤ j → Reads (next_in_of t row j) t.cells 0 [] (Ok false)
 
 -- where the rules hand out a schedule, a schedule is told, and what a host reads out of its row are the sections of the rules' tables
-pub read_as_ruled : (s : Store) → Opened s → (calls : List Given) → EachFitting calls → (input : ℕ) (pid : MaybePid) (bytes : Bytes) → ((i : ℕ) → get_or bytes i 0 < 256) → (w : GuideOf Bytes)
+pub read_as_ruled : (s : Store) → Opened s → (calls : List Given) → EachFitting calls → (input : ℕ) (pid : Option ℕ) (bytes : Bytes) → ((i : ℕ) → get_or bytes i 0 < 256) → (w : GuideOf Bytes)
     → call_tells (seen (store_after acts s calls)) (reads (section input pid bytes)) ≡ schedule w
     → (g : ScheduleOut) × ((pushed_of (store_after acts s calls) input pid bytes).told ≡ a_schedule g) × ReadsGuide (pushed_of (store_after acts s calls) input pid bytes).store g.row w
 unfolding tells answer_told
@@ -228,12 +227,12 @@ read_as_ruled s o calls f input pid bytes b w e =
         r : ReadsSchedule then g
         r = read_in_every_history s o calls f input pid bytes b g p
 
-        one : (j : ℕ) (y : WholeOf Bytes) → At w.tables j y → Reads (next_in_of then g.row j) then.cells 0 y.sections No
+        one : (j : ℕ) (y : WholeOf Bytes) → At w.tables j y → Reads (next_in_of then g.row j) then.cells 0 y.sections (Ok false)
         one j y h =
             let x = table_shown l first g.tables j y (subst (λ (m : List (WholeOf Bytes)). At m j y) (sym are) h) in
-            subst (λ (m : List Bytes). Reads (next_in_of then g.row j) then.cells 0 m No) x.2 (r.tables j x.0 x.1)
+            subst (λ (m : List Bytes). Reads (next_in_of then g.row j) then.cells 0 m (Ok false)) x.2 (r.tables j x.0 x.1)
 
-        none : (j : ℕ) → length w.tables ≤ j → Reads (next_in_of then g.row j) then.cells 0 [] No
+        none : (j : ℕ) → length w.tables ≤ j → Reads (next_in_of then g.row j) then.cells 0 [] (Ok false)
         none j h =
             let c : length g.tables ≡ length w.tables = sym (tables_shown_lem l first g.tables) ∙ ap length are in
             r.past j (omega (arith, c, h))

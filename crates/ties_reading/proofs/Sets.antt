@@ -10,8 +10,9 @@ use lib.Dec.{eqb}
 use borrow.Author.Tests.{lt-ltb}
 use Rattle.laws.proofs.Tests.{and_true}
 use Rattle.answers.specs.declared.Refusal.TheVariants.{NotWhole, CounterFull, NoPid}
-use Rattle.answers.specs.declared.Reply.TheVariants.{No}
-use Rattle.section.specs.declared.ids.MaybePid.{MaybePid}
+use Rattle.std.specs.Prelude.{Option, Result, Ok, Err}
+use Rattle.rows.specs.declared.Entry.{Entry}
+use Rattle.answers.specs.declared.Refusal.{Refusal}
 use Rattle.cells.specs.Cells.{all_filled, kept}
 use Rattle.rows.specs.Rows.{touched, row_slots, mark_of, with_mark}
 use Rattle.rows.proofs.Words.{put_not}
@@ -21,8 +22,6 @@ use Rattle.without_pid.specs.Pids.{without_pid}
 use Rattle.store.specs.Store.{Store, store, risen_sets, counters_full, whole_of, WholeStore}
 use Rattle.store.proofs.Whole.{means_whole}
 use Rattle.arrivals.specs.Arrivals.{set_arrival}
-use Rattle.arrivals.specs.declared.SetArrival.{SetArrival}
-use Rattle.arrivals.specs.declared.SetArrival.TheVariants as arrival
 use Rattle.readers.specs.Next.{filled_slots}
 use Rattle.readers.specs.declared.Next.{Next}
 use Rattle.reading.specs.Reading.{asks, Reads}
@@ -50,9 +49,9 @@ asked_of_row s w n row r from = rw (means_whole s w, n, lt-ltb row s.sets.used r
 
 -- so what is read are its filled slots' bytes in order, each once, and then no: 10 and 41 never occur in the reading
 pub reads_row : (s : Store) → WholeStore s → without_pid s.heads s.sets.used ≡ false → (row : ℕ) → row < s.sets.used
-    → Reads (next_of s row) s.cells 0 (map (kept s.cells s.sets.size) (filled_slots (row_slots s.heads s.slots row))) No
+    → Reads (next_of s row) s.cells 0 (map (kept s.cells s.sets.size) (filled_slots (row_slots s.heads s.slots row))) (Ok false)
 reads_row s w n row r =
-    subst (λ (f : ℕ → Next). Reads f s.cells 0 (map (kept s.cells s.sets.size) (filled_slots (row_slots s.heads s.slots row))) No)
+    subst (λ (f : ℕ → Next). Reads f s.cells 0 (map (kept s.cells s.sets.size) (filled_slots (row_slots s.heads s.slots row))) (Ok false))
     (λ i from. sym (asked_of_row s w n row r from) i)
     (reads_all s.sets.count s.sets.size s.cells (row_slots s.heads s.slots row)
     (rows_get s.heads s.slots s.sets.count s.sets.size s.sets.used row w.rows r) w.cells_long)
@@ -113,16 +112,16 @@ carried_out s bytes (plan.Conflict i) h o e = absurd (not_handed (carried s byte
 carried_out s bytes (plan.Repeat i) h o e = settled_out s i h o.row e
 carried_out s bytes (plan.Keep k) h o e = settled_out (kept_in s bytes k) k.room.row h o.room.row e
 
-pub pushed_out : (s : Store) (input : ℕ) (pid : MaybePid) (bytes : List ℕ) (h : Handed) → get_or bytes 7 0 < 256 → (pushed_of s input pid bytes).told ≡ handed h → HandedOut h (pushed_of s input pid bytes).store
+pub pushed_out : (s : Store) (input : ℕ) (pid : Option ℕ) (bytes : List ℕ) (h : Handed) → get_or bytes 7 0 < 256 → (pushed_of s input pid bytes).told ≡ handed h → HandedOut h (pushed_of s input pid bytes).store
 unfolding pushed_of whole_pushed no_number
 pushed_out s input pid bytes h b e = go (admitted s input pid bytes) (admitted_ok s bytes input pid b) e
   where
-    go : (a : SetArrival) → AdmittedOk s bytes a → (pushed_as s bytes a).told ≡ handed h → HandedOut h (pushed_as s bytes a).store
-    go (arrival.Refused r) o e = absurd (not_handed (refused r) h refl e)
-    go (arrival.Arrived x) o e = carried_out s bytes (plan_of s x bytes) h (plan_ok s o.0 x bytes o.1) e
+    go : (a : Result Entry Refusal) → AdmittedOk s bytes a → (pushed_as s bytes a).told ≡ handed h → HandedOut h (pushed_as s bytes a).store
+    go (Err r) o e = absurd (not_handed (refused r) h refl e)
+    go (Ok x) o e = carried_out s bytes (plan_of s x bytes) h (plan_ok s o.0 x bytes o.1) e
 
 -- a push that hands a set out met PIDs alone, and leaves PIDs alone
-out_pids : (s : Store) (input : ℕ) (pid : MaybePid) (bytes : List ℕ) (h : Handed) → get_or bytes 7 0 < 256 → (pushed_of s input pid bytes).told ≡ handed h
+out_pids : (s : Store) (input : ℕ) (pid : Option ℕ) (bytes : List ℕ) (h : Handed) → get_or bytes 7 0 < 256 → (pushed_of s input pid bytes).told ≡ handed h
     → without_pid (pushed_of s input pid bytes).store.heads (pushed_of s input pid bytes).store.sets.used ≡ false
 unfolding pushed_of admitted no_number
 out_pids s input pid bytes h b e =
@@ -130,7 +129,7 @@ out_pids s input pid bytes h b e =
     (push_pids s input pid bytes b (has_pids s (go (whole_of s) (counters_full s.sets) (without_pid s.heads s.sets.used) refl e)))
   where
     go : (w t n : Bool) → without_pid s.heads s.sets.used ≡ n
-        → (pushed_as s bytes (cond w (cond t (arrival.Refused CounterFull) (cond n (arrival.Refused NoPid) (set_arrival input pid bytes))) (arrival.Refused NotWhole))).told ≡ handed h
+        → (pushed_as s bytes (cond w (cond t (Err CounterFull) (cond n (Err NoPid) (set_arrival input pid bytes))) (Err NotWhole))).told ≡ handed h
         → without_pid s.heads s.sets.used ≡ false
     go w t false q e = q
     go false t true q e = absurd (not_handed (refused NotWhole) h refl e)
@@ -140,19 +139,19 @@ out_pids s input pid bytes h b e =
 -- ---- after an answer 5
 
 -- What a host reads out of the row that it was told of, asking from 0 on, are the sections that were handed out, byte for byte; then the answer is no
-pub read_handed : (s : Store) → WholeStore s → (input : ℕ) (pid : MaybePid) (bytes : List ℕ) → get_or bytes 7 0 < 256 → (h : Handed) → (pushed_of s input pid bytes).told ≡ handed h
-    → Reads (next_of (pushed_of s input pid bytes).store h.row) (pushed_of s input pid bytes).store.cells 0 h.sections No
+pub read_handed : (s : Store) → WholeStore s → (input : ℕ) (pid : Option ℕ) (bytes : List ℕ) → get_or bytes 7 0 < 256 → (h : Handed) → (pushed_of s input pid bytes).told ≡ handed h
+    → Reads (next_of (pushed_of s input pid bytes).store h.row) (pushed_of s input pid bytes).store.cells 0 h.sections (Ok false)
 unfolding set_in
 read_handed s w input pid bytes b h e =
     let t : Store = (pushed_of s input pid bytes).store in
     let o = pushed_out s input pid bytes h b e in
     let d : h.sections ≡ map (kept t.cells t.sets.size) (row_slots t.heads t.slots h.row) = ap (λ (x : Handed). x.sections) o.set in
     let f = all_filled_lem (row_slots t.heads t.slots h.row) o.full in
-    subst (λ (l : List (List ℕ)). Reads (next_of t h.row) t.cells 0 l No) (ap (map (kept t.cells t.sets.size)) f ∙ sym d)
+    subst (λ (l : List (List ℕ)). Reads (next_of t h.row) t.cells 0 l (Ok false)) (ap (map (kept t.cells t.sets.size)) f ∙ sym d)
     (reads_row t (push_stays s input pid bytes b w) (out_pids s input pid bytes h b e) h.row o.used)
 
 -- .. in every history from an opening on
-pub read_in_every_history : (s : Store) → OpenedStore s → (calls : List Call) → AllBytes calls → (input : ℕ) (pid : MaybePid) (bytes : List ℕ) → get_or bytes 7 0 < 256 → (h : Handed)
+pub read_in_every_history : (s : Store) → OpenedStore s → (calls : List Call) → AllBytes calls → (input : ℕ) (pid : Option ℕ) (bytes : List ℕ) → get_or bytes 7 0 < 256 → (h : Handed)
     → (pushed_of (after_all s calls) input pid bytes).told ≡ handed h
-    → Reads (next_of (pushed_of (after_all s calls) input pid bytes).store h.row) (pushed_of (after_all s calls) input pid bytes).store.cells 0 h.sections No
+    → Reads (next_of (pushed_of (after_all s calls) input pid bytes).store h.row) (pushed_of (after_all s calls) input pid bytes).store.cells 0 h.sections (Ok false)
 read_in_every_history s o calls a = read_handed (after_all s calls) (stays s calls a (opened_whole s o))

@@ -23,13 +23,12 @@ use Rattle.rules_shared.proofs.Slots.{free_slot}
 use Rattle.rules_sets.specs.Rules.{same_key, SetOf, Section, part_of, clear, refuse, offer, met_row, Key as SetKey}
 use Rattle.rules_sets.specs.Cells.{on_answer, taken, store_whole, ended, shows, rest, room_for, place_of, carry, push_in, admit_in, good, guarded, call}
 use Rattle.rules_sets.proofs.Keys.{same_key_true_lem}
+use Rattle.section.proofs.Refused.{collect_refused_by}
 use Rattle.section.specs.Ids.{origin_of}
 use Rattle.section.specs.Judged.{collected_of}
-use Rattle.section.specs.declared.header.Collected.{Collected}
-use Rattle.section.specs.declared.header.Collected.TheVariants.{Malformed, ShortForm, BadNumber, BadCrc, Good}
-use Rattle.section.specs.declared.ids.MaybePid.{MaybePid}
-use Rattle.section.specs.declared.ids.MaybePid.TheVariants as maybe
-use Rattle.section.specs.declared.ids.OriginMade.TheVariants as made
+use Rattle.std.specs.Prelude.{Option as StdOption, Some, None, Result, Ok, Err}
+use Rattle.section.specs.declared.header.Header.{Header}
+use Rattle.answers.specs.declared.Refusal.{Refusal}
 use Rattle.section.specs.Facts.{Bytes as AllBytes}
 use Rattle.cells.specs.Cells.{kept_length, filled, slot_whole, all_whole, kept}
 use Rattle.rows.specs.declared.Origin.{Origin as Words}
@@ -48,7 +47,6 @@ use Rattle.rows.proofs.Whole.{rows_get}
 use Rattle.ticks.proofs.Cells.{cells_length, bytes_kept, same_bytes_lem}
 use Rattle.answers.specs.declared.Refusal.TheVariants as refusal
 use Rattle.arrivals.specs.Arrivals.{Numbered, Taken, made_words, set_key, entry_of, set_read, set_judged, set_arrival}
-use Rattle.arrivals.specs.declared.SetArrival.TheVariants as arrival
 use Rattle.sets.proofs.Arrived.{entry_taken}
 use Rattle.store.specs.Store.{Store, store, whole_of, counters_full, Whole, empty_sets}
 use Rattle.store.proofs.Whole.{whole_means, long, evictions_go_on, clock_goes_on}
@@ -304,36 +302,33 @@ module _ (s : Store) (z : Standing s) where
             rw (le-leb (length bytes) s.sets.size l) (limited l s.sets.limit refl)
 
     -- 14 to 17
-    pub judged_tied : AllBytes bytes → (p : Words) (c : Collected) → collected_of bytes ≡ c → Tied (pushed_as s bytes (set_read p c)) (good (seen s) (reads_as (plain_shown p) bytes c))
+    pub judged_tied : AllBytes bytes → (p : Words) (c : Result Header Refusal) → collected_of bytes ≡ c → Tied (pushed_as s bytes (set_read p c)) (good (seen s) (reads_as (plain_shown p) bytes c))
     unfolding whole_pushed reads_as good shows on_answer answer_told seen
-    judged_tied o p Malformed q = record { told = refl; shown = refl; reached = z }
-    judged_tied o p ShortForm q = record { told = refl; shown = refl; reached = z }
-    judged_tied o p BadNumber q = record { told = refl; shown = refl; reached = z }
-    judged_tied o p BadCrc q = record { told = refl; shown = refl; reached = z }
-    judged_tied o p (Good h) q =
+    judged_tied o p (Err r) q =
+        collect_refused_by (λ w. Tied (pushed_as s bytes (set_read p (Err w))) (good (seen s) (reads_as (plain_shown p) bytes (Err w))))
+        (record { told = refl; shown = refl; reached = z }) (record { told = refl; shown = refl; reached = z }) (record { told = refl; shown = refl; reached = z }) (record { told = refl; shown = refl; reached = z }) bytes r q
+    judged_tied o p (Ok h) q =
         rw (← (written_shown p h.table_id h.extension h.current_next))
         (plan_tied (entry_of (set_key p h) h) (entry_taken bytes h (set_key p h) q (o 7)) (written_reads p h.table_id h.extension h.current_next))
 
     -- 41, then 12
-    pid_tied : AllBytes bytes → (input : ℕ) (pid : MaybePid) → Tied (pushed_as s bytes (set_arrival input pid bytes)) (good (seen s) (read_section input pid bytes))
+    pid_tied : AllBytes bytes → (input : ℕ) (pid : StdOption ℕ) → Tied (pushed_as s bytes (set_arrival input pid bytes)) (good (seen s) (read_section input pid bytes))
     unfolding set_arrival read_section good shows on_answer answer_told seen
-    pid_tied o input maybe.None = record { told = refl; shown = refl; reached = z }
-    pid_tied o input (maybe.Some v) = go (ltb v 8192) (ltb input 16) refl
+    pid_tied o input None = record { told = refl; shown = refl; reached = z }
+    pid_tied o input (Some v) = go (ltb v 8192) (ltb input 16) refl
       where
-        go : (b c : Bool) → ltb v 8192 ≡ b → Tied (pushed_as s bytes (set_judged (made_words (cond b (cond c (made.One (origin_of input v)) made.BadInput) made.BadPid)) bytes))
+        go : (b c : Bool) → ltb v 8192 ≡ b → Tied (pushed_as s bytes (set_judged (made_words (cond b (cond c (Ok (origin_of input v)) (Err refusal.BadInput)) (Err refusal.BadPid))) bytes))
             (good (seen s) (cond b (cond c (reads_as (record { input = input; pid = v }) bytes (collected_of bytes)) (refuse refusal.BadInput)) (refuse refusal.BadPid)))
         go true true q = judged_tied o (record { input = input; pid = v }) (collected_of bytes) refl
         go true false q = record { told = refl; shown = refl; reached = z }
         go false c q = record { told = refl; shown = refl; reached = z }
 
   -- 11 comes before what the section is read as
-  ended_as : (bytes : Bytes) (from : Origin) (c : Collected) → ended (seen s) (reads_as from bytes c) ≡ (at_end s.sets.evictions || at_end s.sets.clock)
+  ended_as : (bytes : Bytes) (from : Origin) (c : Result Header Refusal) → ended (seen s) (reads_as from bytes c) ≡ (at_end s.sets.evictions || at_end s.sets.clock)
   unfolding ended reads_as seen
-  ended_as bytes from Malformed = refl
-  ended_as bytes from ShortForm = refl
-  ended_as bytes from BadNumber = refl
-  ended_as bytes from BadCrc = refl
-  ended_as bytes from (Good h) = refl
+  ended_as bytes from (Err refusal.ShortForm) = refl
+  ended_as bytes from (Err r) = refl
+  ended_as bytes from (Ok h) = refl
 
   ended_on : (bytes : Bytes) (from : Origin) → ended (seen s) (read_on from bytes) ≡ (at_end s.sets.evictions || at_end s.sets.clock)
   unfolding ended seen
@@ -343,10 +338,10 @@ module _ (s : Store) (z : Standing s) where
       go true = ended_as bytes from (collected_of bytes)
       go false = refl
 
-  ended_read : (input : ℕ) (pid : MaybePid) (bytes : Bytes) → ended (seen s) (read_section input pid bytes) ≡ (at_end s.sets.evictions || at_end s.sets.clock)
+  ended_read : (input : ℕ) (pid : StdOption ℕ) (bytes : Bytes) → ended (seen s) (read_section input pid bytes) ≡ (at_end s.sets.evictions || at_end s.sets.clock)
   unfolding read_section ended seen
-  ended_read input maybe.None bytes = refl
-  ended_read input (maybe.Some v) bytes = go (ltb v 8192)
+  ended_read input None bytes = refl
+  ended_read input (Some v) bytes = go (ltb v 8192)
     where
       go : (b : Bool) → ended (seen s) (cond b (read_on (record { input = input; pid = v }) bytes) (refuse refusal.BadPid)) ≡ (at_end s.sets.evictions || at_end s.sets.clock)
       go true = ended_on bytes (record { input = input; pid = v })
@@ -357,13 +352,13 @@ module _ (s : Store) (z : Reached s) where
   y = standing s z
 
   -- 10, 11, then 41: no row of a store that comes from opening is without a PID
-  push_tied : (input : ℕ) (pid : MaybePid) (bytes : Bytes) → AllBytes bytes → Tied (pushed_of s input pid bytes) (call (seen s) (read_section input pid bytes))
+  push_tied : (input : ℕ) (pid : StdOption ℕ) (bytes : Bytes) → AllBytes bytes → Tied (pushed_of s input pid bytes) (call (seen s) (read_section input pid bytes))
   unfolding pushed_of admitted call guarded answer_told
   push_tied input pid bytes o =
       rw (whole_seen s y, ended_read s y input pid bytes, ended_seen s y, z.pids) (go (whole_of s) (counters_full s.sets) refl refl)
     where
       go : (w t : Bool) → whole_of s ≡ w → counters_full s.sets ≡ t
-          → Tied (pushed_as s bytes (cond w (cond t (arrival.Refused refusal.CounterFull) (set_arrival input pid bytes)) (arrival.Refused refusal.NotWhole))) (guarded w t (seen s) (read_section input pid bytes))
+          → Tied (pushed_as s bytes (cond w (cond t (Err refusal.CounterFull) (set_arrival input pid bytes)) (Err refusal.NotWhole))) (guarded w t (seen s) (read_section input pid bytes))
       go false t p q = record { told = refl; shown = refl; reached = y }
       go true true p q = record { told = refl; shown = refl; reached = y }
       go true false p q =

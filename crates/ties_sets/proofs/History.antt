@@ -23,9 +23,9 @@ use Rattle.rules_sets.proofs.Cells.{obeys_rules}
 use Rattle.rules_sets.proofs.Whole.{never_10}
 use Rattle.rules_sets.proofs.Exact.{NeedsCell, only_then_21, then_21}
 use Rattle.section.specs.Judged.{collected_of}
-use Rattle.section.specs.declared.header.Collected.{Collected}
-use Rattle.section.specs.declared.header.Collected.TheVariants.{Malformed, ShortForm, BadNumber, BadCrc, Good}
-use Rattle.section.specs.declared.ids.MaybePid.TheVariants as maybe
+use Rattle.std.specs.Prelude.{Some, None, Result, Ok, Err}
+use Rattle.section.specs.declared.header.Header.{Header}
+use Rattle.answers.specs.declared.Refusal.TheVariants as refusal
 use Rattle.ticks.proofs.Touch.{stands_none, seen_none}
 use Rattle.ticks.proofs.Cells.{cells_length}
 use Rattle.rules_sets.proofs.Keys.{same_key_true_lem}
@@ -74,13 +74,11 @@ opened_seen s o =
 
 -- ---- a call as it can come
 
-come_as : (from : Origin) (bytes : Bytes) (c : Collected) → collected_of bytes ≡ c → CanCome (reads_as from bytes c)
+come_as : (from : Origin) (bytes : Bytes) (c : Result Header Refusal) → collected_of bytes ≡ c → CanCome (reads_as from bytes c)
 unfolding reads_as refusals.of_section
-come_as from bytes Malformed e = refl
-come_as from bytes ShortForm e = refl
-come_as from bytes BadNumber e = refl
-come_as from bytes BadCrc e = refl
-come_as from bytes (Good h) e = (takes bytes h (collected_of bytes) refl e).room
+come_as from bytes (Err refusal.ShortForm) e = refl
+come_as from bytes (Err r) e = refl
+come_as from bytes (Ok h) e = (takes bytes h (collected_of bytes) refl e).room
 
 come_on : (from : Origin) (bytes : Bytes) → CanCome (read_on from bytes)
 unfolding refusals.of_section
@@ -93,8 +91,8 @@ come_on from bytes = pick (ltb from.input 16)
 pub can_come : (i : Given) → CanCome (reads i)
 unfolding reads read_section refusals.of_section
 can_come clears = tt
-can_come (section input maybe.None bytes) = refl
-can_come (section input (maybe.Some p) bytes) = pick (ltb p 8192)
+can_come (section input None bytes) = refl
+can_come (section input (Some p) bytes) = pick (ltb p 8192)
   where
     pick : (b : Bool) → CanCome (cond b (read_on (record { input = input; pid = p }) bytes) (refuse BadPid))
     pick true = come_on (record { input = input; pid = p }) bytes

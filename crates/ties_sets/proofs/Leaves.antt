@@ -16,7 +16,7 @@ use Rattle.rows.specs.Rows.{slots_at, slot_count, row_slots, last_of, tick_of}
 use Rattle.ticks.specs.Order.{rows_seen}
 use Rattle.ticks.proofs.Ticks.{order_none, none_order}
 use Rattle.rows.proofs.Words.{slot_at, length_slots}
-use Rattle.section.specs.declared.ids.MaybePid.{MaybePid}
+use Rattle.std.specs.Prelude.{Option}
 use Rattle.answers.specs.declared.Refusal.TheVariants.{Conflict}
 use Rattle.store.specs.Store.{Store}
 use Rattle.sets_settle.specs.Settle.{Told, done, nothing, handed, refused}
@@ -47,7 +47,7 @@ conflict_told nothing e = let z : ◌≡◌ {A = ℕ} 0 1 = cc in absurd (omega 
 conflict_told (handed w) e = let z : ◌≡◌ {A = ℕ} 0 1 = cc in absurd (omega arith)
 conflict_told (refused r) e = let z : r ≡ Conflict = cc in ap refused z
 
-pub conflict_memory : (s : Store) (input : ℕ) (pid : MaybePid) (bytes : Bytes) → tells s (section input pid bytes) ≡ conflict → AsBefore s bytes (acts s (section input pid bytes))
+pub conflict_memory : (s : Store) (input : ℕ) (pid : Option ℕ) (bytes : Bytes) → tells s (section input pid bytes) ≡ conflict → AsBefore s bytes (acts s (section input pid bytes))
 unfolding tells acts
 conflict_memory s input pid bytes h = conflict_keeps s input pid bytes (conflict_told (pushed_of s input pid bytes).told h)
 

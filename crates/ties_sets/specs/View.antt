@@ -1,16 +1,14 @@
 -- What the memory of the set collector shows, in the words of the rules; and its calls as the rules have them.
 -- Assumes nothing.
-use Rattle.std.specs.Prelude.{ℕ, ◌≤◌, ◌≡◌, true, false, cond, not, List, eqb, ltb, length}
+use Rattle.std.specs.Prelude.{ℕ, ◌≤◌, ◌≡◌, true, false, cond, not, List, eqb, ltb, length, Option, Some, None, Result, Ok, Err}
 use Rattle.answers.specs.declared.Refusal.TheVariants as refusal
 use Rattle.rules_shared.specs.Same.{Bytes, Origin}
 use Rattle.rules_shared.specs.Cells.{Settings, Held}
 use Rattle.rules_sets.specs.Rules.{Key as SetKey, SetOf, Call, clear, refuse, offer, Answer, cleared, nothing, handout, refused}
 use Rattle.rules_sets.specs.Cells.{Store as Shown}
 use Rattle.section.specs.Judged.{collected_of}
-use Rattle.section.specs.declared.header.Collected.{Collected}
-use Rattle.section.specs.declared.header.Collected.TheVariants.{Malformed, ShortForm, BadNumber, BadCrc, Good}
-use Rattle.section.specs.declared.ids.MaybePid.{MaybePid}
-use Rattle.section.specs.declared.ids.MaybePid.TheVariants as maybe
+use Rattle.section.specs.declared.header.Header.{Header}
+use Rattle.answers.specs.declared.Refusal.{Refusal}
 use Rattle.rows.specs.declared.Key.{Key}
 use Rattle.rows.specs.Rows.{row_slots, last_of, mark_of, version_of}
 use Rattle.ticks.specs.Order.{order_seen, Stands}
@@ -65,13 +63,13 @@ seen s = record {
 
 -- ---- calls and answers
 
--- 14 to 17, or what the section says
-unfoldable pub reads_as : Origin → Bytes → Collected → Call
-reads_as from bytes Malformed = refuse refusal.Malformed
-reads_as from bytes ShortForm = refuse refusal.ShortForm
-reads_as from bytes BadNumber = refuse refusal.BadNumber
-reads_as from bytes BadCrc = refuse refusal.BadCrc
-reads_as from bytes (Good h) = offer (record {
+-- 15 to 17; or 14, the one other refusal of this reading; or what the section says
+unfoldable pub reads_as : Origin → Bytes → Result Header Refusal → Call
+reads_as from bytes (Err refusal.ShortForm) = refuse refusal.ShortForm
+reads_as from bytes (Err refusal.BadNumber) = refuse refusal.BadNumber
+reads_as from bytes (Err refusal.BadCrc) = refuse refusal.BadCrc
+reads_as from bytes (Err r) = refuse refusal.Malformed
+reads_as from bytes (Ok h) = offer (record {
   key = record { from = from; table_id_of = h.table_id; extension = h.extension; current_next_of = h.current_next };
   version = h.version;
   number = h.number;
@@ -84,9 +82,9 @@ abbrev pub read_on : Origin → Bytes → Call
 read_on from bytes = cond (ltb from.input 16) (reads_as from bytes (collected_of bytes)) (refuse refusal.BadInput)
 
 -- 41 without a PID, then 12: a PID of 8192 or more
-unfoldable pub read_section : (input : ℕ) → MaybePid → Bytes → Call
-read_section input maybe.None bytes = refuse refusal.NoPid
-read_section input (maybe.Some p) bytes = cond (ltb p 8192) (read_on (record { input = input; pid = p }) bytes) (refuse refusal.BadPid)
+unfoldable pub read_section : (input : ℕ) → Option ℕ → Bytes → Call
+read_section input None bytes = refuse refusal.NoPid
+read_section input (Some p) bytes = cond (ltb p 8192) (read_on (record { input = input; pid = p }) bytes) (refuse refusal.BadPid)
 
 unfoldable pub reads : Given → Call
 reads clears = clear

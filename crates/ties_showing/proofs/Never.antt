@@ -30,14 +30,11 @@ use Rattle.rules_eit.proofs.Checked.{copy_ok}
 use Rattle.section.specs.Header.{byte_at}
 use Rattle.section.specs.Judged.{collected_of}
 use Rattle.section.specs.declared.header.Header.{Header}
-use Rattle.section.specs.declared.header.Collected.{Collected}
-use Rattle.section.specs.declared.header.Collected.TheVariants as collected
-use Rattle.section.specs.declared.ids.MaybePid.TheVariants as maybe_pid
+use Rattle.std.specs.Prelude.{Some, None, Result, Ok, Err}
+use Rattle.answers.specs.declared.Refusal.{Refusal}
+use Rattle.eit_section.specs.declared.Eit.{Eit}
 use Rattle.eit_section.specs.Eit.{eit_of}
 use Rattle.eit_section.specs.Eit.{kind_of as kind_read}
-use Rattle.eit_section.specs.declared.MaybeKind.TheVariants as maybe
-use Rattle.eit_section.specs.declared.Reading.{Reading}
-use Rattle.eit_section.specs.declared.Reading.TheVariants as reading
 use Rattle.cells.specs.Cells.{kept_length, cell_number, filled, kept, slot_whole, all_whole}
 use Rattle.rows.specs.Rows.{key_at, row_slots, tick_of}
 use Rattle.rows.proofs.Whole.{rows_get}
@@ -70,10 +67,9 @@ use Rattle.ties_showing.proofs.Kept.{ok_in, Sound, GoodCall, opened_sound, alway
 
 -- ---- a section that is read as an EIT
 
-is_good : Reading → Bool
-is_good reading.NotEit = false
-is_good reading.Broken = false
-is_good (reading.Good f) = true
+is_good : Result Eit Refusal → Bool
+is_good (Err r) = false
+is_good (Ok f) = true
 
 reads_good : Bytes → Bool
 reads_good bytes = is_good (eit_of bytes)
@@ -87,24 +83,22 @@ ends_read (past_loop s p) = true
 
 -- ---- every section that is offered and of an EIT's table_id reads so
 
-no_kind : (s : List ℕ) (r : Reading) → Read-as s r → r ≡ reading.NotEit → kind_read (byte_at s 0) ≡ maybe.None
+no_kind : (s : List ℕ) (r : Result Eit Refusal) → Read-as s r → r ≡ Err refusal.NotEit → kind_read (byte_at s 0) ≡ None
 no_kind s r (not_eit e) q = e
 no_kind s r broken q = absurd (let z : ◌≡◌ {A = ℕ} 0 1 = cc in omega arith)
 no_kind s r (good x e) q = absurd (let z : ◌≡◌ {A = ℕ} 0 1 = cc in omega arith)
 
-eit_good : (from : Origin) (bytes : Bytes) (h : Header) → collected_of bytes ≡ collected.Good h → (r : Reading) → eit_of bytes ≡ r → GoodCall reads_good (reads_eit from bytes h r)
+eit_good : (from : Origin) (bytes : Bytes) (h : Header) → collected_of bytes ≡ Ok h → (r : Result Eit Refusal) → eit_of bytes ≡ r → GoodCall reads_good (reads_eit from bytes h r)
 unfolding reads_eit section_of reads_good is_good
-eit_good from bytes h e reading.NotEit q = λ kind k. absurd (none≢some (not_kind bytes h e (no_kind bytes (eit_of bytes) (read_as_lem bytes) q)) k)
-eit_good from bytes h e reading.Broken q = tt
-eit_good from bytes h e (reading.Good f) q = λ kind k. ap is_good q
+eit_good from bytes h e (Err refusal.NotEit) q = λ kind k. absurd (none≢some (not_kind bytes h e (no_kind bytes (eit_of bytes) (read_as_lem bytes) q)) k)
+eit_good from bytes h e (Err r) q = tt
+eit_good from bytes h e (Ok f) q = λ kind k. ap is_good q
 
-read_good : (from : Origin) (bytes : Bytes) (c : Collected) → collected_of bytes ≡ c → GoodCall reads_good (reads_as from bytes c)
+read_good : (from : Origin) (bytes : Bytes) (c : Result Header Refusal) → collected_of bytes ≡ c → GoodCall reads_good (reads_as from bytes c)
 unfolding reads_as
-read_good from bytes collected.Malformed e = tt
-read_good from bytes collected.ShortForm e = tt
-read_good from bytes collected.BadNumber e = tt
-read_good from bytes collected.BadCrc e = tt
-read_good from bytes (collected.Good h) e = eit_good from bytes h e (eit_of bytes) refl
+read_good from bytes (Err refusal.ShortForm) e = tt
+read_good from bytes (Err r) e = tt
+read_good from bytes (Ok h) e = eit_good from bytes h e (eit_of bytes) refl
 
 on_good : (from : Origin) (bytes : Bytes) → GoodCall reads_good (read_on from bytes)
 on_good from bytes = pick (ltb from.input 16)
@@ -117,8 +111,8 @@ reads_good_lem : (i : Given) → GoodCall reads_good (reads i)
 unfolding reads read_section
 reads_good_lem clears = tt
 reads_good_lem (drops f) = tt
-reads_good_lem (section input maybe_pid.None bytes) = tt
-reads_good_lem (section input (maybe_pid.Some p) bytes) = pick (ltb p 8192)
+reads_good_lem (section input None bytes) = tt
+reads_good_lem (section input (Some p) bytes) = pick (ltb p 8192)
   where
     pick : (b : Bool) → GoodCall reads_good (cond b (read_on (record { input = input; pid = p }) bytes) (refuse refusal.BadPid refl))
     pick true = on_good (record { input = input; pid = p }) bytes
@@ -150,11 +144,11 @@ ends_good number start (walks.past at) = refl
 ends_good number start (walks.entry at header f) = ends_good number start f
 ends_good number start (walks.descriptor at tag size f) = ends_good number start f
 
-by_good : (bytes : List ℕ) (start size number : ℕ) (x : Reading) → is_good x ≡ true → ends_read (show_by bytes start size number x).end ≡ true
+by_good : (bytes : List ℕ) (start size number : ℕ) (x : Result Eit Refusal) → is_good x ≡ true → ends_read (show_by bytes start size number x).end ≡ true
 unfolding is_good good_show
-by_good bytes start size number reading.NotEit h = h
-by_good bytes start size number reading.Broken h = h
-by_good bytes start size number (reading.Good f) h = ends_good number start _
+by_good bytes start size number (Err refusal.NotEit) h = h
+by_good bytes start size number (Err r) h = h
+by_good bytes start size number (Ok f) h = ends_good number start _
 
 section_good : (bytes : List ℕ) (start size number : ℕ) → reads_good (take size (drop start bytes)) ≡ true → ends_read (section_show bytes start size number).end ≡ true
 unfolding section_show reads_good

@@ -1,11 +1,9 @@
 -- Day numbers, second counts and calendar dates (EN 300 468, 5.2.4: start_time has a modified Julian day in 16 bits and six BCD digits in 24, duration six BCD
 -- digits; Annex C: the date of a modified Julian day).
-use Rattle.std.specs.Prelude.{ℕ, ◌+◌, ◌*◌, ◌-◌, ◌/◌, ◌%◌, Bool, cond, ◌&&◌, leb, ltb}
+use Rattle.std.specs.Prelude.{ℕ, ◌+◌, ◌*◌, ◌-◌, ◌/◌, ◌%◌, Bool, cond, ◌&&◌, leb, ltb, Option, Some, None}
 use Rattle.times.specs.declared.Day.{Day}
-use Rattle.times.specs.declared.Time.{Time}
-use Rattle.times.specs.declared.Time.TheVariants.{At, Undefined}
-use Rattle.times.specs.declared.Date.{Date}
-use Rattle.times.specs.declared.Date.TheVariants.{On, Before}
+use Rattle.times.specs.declared.Seconds.{Seconds}
+use Rattle.times.specs.declared.Calendar.{Calendar}
 
 -- both digits of a byte, its upper and its lower four bits, are 0 to 9
 abbrev pub is_bcd : ℕ → Bool
@@ -16,8 +14,8 @@ abbrev pub bcd_of : ℕ → ℕ
 bcd_of b = b / 16 * 10 + b % 16
 
 -- HH MM SS; a digit above 9 makes the time undefined
-unfoldable pub time_of : (hours minutes seconds : ℕ) → Time
-time_of hours minutes seconds = cond ((is_bcd hours && is_bcd minutes) && is_bcd seconds) (At (record { 0 = bcd_of hours * 3600 + bcd_of minutes * 60 + bcd_of seconds })) Undefined
+unfoldable pub time_of : (hours minutes seconds : ℕ) → Option Seconds
+time_of hours minutes seconds = cond ((is_bcd hours && is_bcd minutes) && is_bcd seconds) (Some (record { 0 = bcd_of hours * 3600 + bcd_of minutes * 60 + bcd_of seconds })) None
 
 -- 16 bits, high byte first
 abbrev pub day_of : (high low : ℕ) → Day
@@ -47,6 +45,6 @@ abbrev pub carry_of : (mjd : ℕ) → ℕ
 carry_of mjd = carry_for (months_of mjd)
 
 -- "Y = Y' + K; M = M' - 1 - K × 12", from 1900 March 1 (day 15,079) on
-unfoldable pub date_of : (mjd : ℕ) → Date
+unfoldable pub date_of : (mjd : ℕ) → Option Calendar
 date_of mjd =
-    cond (ltb mjd 15079) Before (On (record { year = 1900 + years_of mjd + carry_of mjd; month = months_of mjd - 1 - 12 * carry_of mjd; day = day_in_month mjd }))
+    cond (ltb mjd 15079) None (Some (record { year = 1900 + years_of mjd + carry_of mjd; month = months_of mjd - 1 - 12 * carry_of mjd; day = day_in_month mjd }))

@@ -12,25 +12,11 @@ pub struct Day(pub u16);
 #[derive(Clone, Copy)]
 pub struct Seconds(pub u32);
 
-// What six BCD digits say; one digit above 9 and they say nothing.
-#[derive(Clone, Copy)]
-pub enum Time {
-    At(Seconds),
-    Undefined,
-}
-
 #[derive(Clone, Copy)]
 pub struct Calendar {
     pub year: u16,
     pub month: u8,
     pub day: u8,
-}
-
-// The date of a day; a day before 1900-03-01, the first of Annex C's formulas, has none.
-#[derive(Clone, Copy)]
-pub enum Date {
-    On(Calendar),
-    Before,
 }
 
 // Whether both digits of a byte are 0 to 9.
@@ -48,13 +34,13 @@ fn bcd(b: u8) -> u32
 }
 
 // Hours, minutes and seconds in six BCD digits. They are counted as they stand, 24:00:00 and 12:60:60 too: only a digit above 9 makes a time undefined.
-pub fn time_of(hours: u8, minutes: u8, seconds: u8) -> Time
+pub fn time_of(hours: u8, minutes: u8, seconds: u8) -> Option<Seconds>
     ensures { result ≡ time_of hours minutes seconds }
 {
     if is_bcd(hours) & is_bcd(minutes) & is_bcd(seconds) {
-        Time::At(Seconds(bcd(hours) * 3600 + bcd(minutes) * 60 + bcd(seconds)))
+        Some(Seconds(bcd(hours) * 3600 + bcd(minutes) * 60 + bcd(seconds)))
     } else {
-        Time::Undefined
+        None
     }
 }
 
@@ -72,20 +58,20 @@ fn carry(months: u32) -> u32
     if 14 <= months { 1 } else { 0 }
 }
 
-// The calendar date of a day, by Annex C in whole numbers; the names are the annex's.
-pub fn date_of(day: Day) -> Date
+// The calendar date of a day, by Annex C in whole numbers; the names are the annex's. A day before 1900-03-01, the first of the annex's formulas, has none.
+pub fn date_of(day: Day) -> Option<Calendar>
     ensures { result ≡ date_of day.0 }
 {
     let mjd = day.0 as u32;
     if mjd < 15079 {
-        return Date::Before;
+        return None;
     }
     let y = (100 * mjd - 1507820) / 36525;
     let days = y * 36525 / 100;
     let m = (10000 * mjd - 149561000 - 10000 * days) / 306001;
     let d = mjd - 14956 - days - m * 306001 / 10000;
     let k = carry(m);
-    Date::On(Calendar {
+    Some(Calendar {
         year: (1900 + y + k) as u16,
         month: (m - 1 - 12 * k) as u8,
         day: d as u8,

@@ -1,5 +1,5 @@
 -- Whole parts of a payload at once: what `gather` does with bytes that leave a section lacking, that complete it, or that begin one.
--- With `comes-to-end` and `one-section` (Gather.antt) these are all that code needs which copies blocks and not bytes.
+-- With `comes_to_end` and `one_section` (Gather.antt) these are all that code needs which copies blocks and not bytes.
 -- Assumes nothing.
 use mathlib.Core.Path.{◌≡◌, refl, sym, ap, ◌∙◌}
 use mathlib.Core.Bool.{Bool, true, false, cond}

@@ -2,17 +2,18 @@
 -- Assumes nothing.
 use mathlib.Core.Path.{◌≡◌, refl, sym, ap, ◌∙◌}
 use mathlib.Core.List.{List}
-use mathlib.Core.Bool.{Bool, true, false, cond, not, ◌&&◌, ◌||◌, and_assoc, and-true}
-use Prim.Native.Nat.{ℕ, zero, suc, ◌+◌, ◌-◌, ◌*◌, ◌/◌, ◌%◌, ◌≤◌, ◌<◌, min}
+use mathlib.Core.Bool.{Bool, true, false, cond, not, ◌&&◌, and_assoc, and-true}
+use Prim.Native.Nat.{ℕ, ◌+◌, ◌-◌, ◌*◌, ◌%◌, ◌≤◌, ◌<◌}
 use native.Mathlib.Omega.{arith}
 use mir.Val.{Fits}
 use mir.Syntax.{w32}
 use native.Mathlib.Nat.{lt_of_le_of_lt}
 use borrow.Author.Tests.{eq-eqb, ne_eqb, lt-ltb, le-ltb, eqb-true}
-use lib.Dec.{eqb, ltb, lit<}
-use lib.ListN.{length, take, drop, get_or, set, length-drop, length-set}
+use lib.Dec.{eqb, lit<}
+use lib.ListN.{length, take, drop, get_or, length-drop}
 use lib.Seq.{paste, length-take-le}
-use Rattle.laws.proofs.Lists.{paste_end}
+use borrow.Rule.Slice.PartMut.{put_mid}
+use Rattle.std.proofs.lemmas.Slice.{put_mid-paste}
 use Rattle.laws.proofs.Tests.{and_true as and_true_both}
 use Rattle.cells.specs.Cells.{slot_whole, all_whole, marked_all}
 use Rattle.cells.proofs.Laws.{one_slot}
@@ -64,14 +65,6 @@ module _ (units : List ℕ) (count size base n j : ℕ) (ok : Bool) (q : units_w
   unfolding units_whole
   units_end p = let z : j ≡ 0 = omega arith in sym (q ∙ rw z (and-true ok))
 
--- ---- the first table_id
-
-pub first_actual : (kind : ℕ) → kind ≡ 2 → (80 ≡ first_table kind) × (80 ≤ 96)
-first_actual kind e = (rw (eq-eqb kind 2 e), omega arith)
-
-pub first_other : (kind : ℕ) → (kind ≡ 2 → ⊥) → (96 ≡ first_table kind) × (96 ≤ 96)
-first_other kind e = (rw (ne_eqb kind 2 e), omega arith)
-
 pub unit_marked : (units : List ℕ) (u : ℕ) (part m m' : List ℕ) (b : Bool) → b ≡ is_present units u → b ≡ true → part ≡ unit_slots units u → m' ≡ marked_all part m → m' ≡ marked_unit units u m
 unit_marked units u part m m' b e t p q = rw (← e, t, ← p) q
 
@@ -108,13 +101,12 @@ pub without_end : (base n j : ℕ) (u₀ u : List ℕ) → j ≤ 0 → without_u
 unfolding without_units
 without_end base n j u₀ u p q = let z : j ≡ 0 = omega arith in sym (q ∙ rw z)
 
-pub slots_end : (h₀ h words : List ℕ) (at k : ℕ) → h ≡ paste h₀ at words k → length words ≤ k → k ≤ length words → h ≡ paste h₀ at words (length words)
-slots_end h₀ h words at k e a b = paste_end h₀ h at words k (length words) e (omega arith)
-
-pub set_put : (heads slots : List ℕ) (i u v m : ℕ) (part units units' units'' : List ℕ) → v ≡ version_of heads i → part ≡ row_slots heads slots i → m ≡ length part - 1
-    → units' ≡ paste units (u * 288 + 32) part (length part) → units'' ≡ with_words u (v % 4294967296) m units' → units'' ≡ with_set heads slots i u units
+pub set_put : (heads slots : List ℕ) (i u v m : ℕ) (part put units units' : List ℕ) → v ≡ version_of heads i → part ≡ row_slots heads slots i → m ≡ length part - 1 → put ≡ part
+    → units' ≡ with_words u (v % 4294967296) m (put_mid (u * 288 + 32) (u * 288 + 32 + length part - (u * 288 + 32)) units put) → units' ≡ with_set heads slots i u units
 unfolding with_set
-set_put heads slots i u v m part units units' units'' e p z q f = rw (← p, ← e, ← z, ← q) f
+set_put heads slots i u v m part put units units' e p z h f =
+    let q : put_mid (u * 288 + 32) (u * 288 + 32 + length part - (u * 288 + 32)) units put ≡ paste units (u * 288 + 32) part (length part) = put_mid-paste _ _ _ _ part (length part) h (omega arith) refl in
+    rw (← p, ← e, ← z, ← q) f
 
 -- ---- refill
 
@@ -155,9 +147,6 @@ module _ (heads slots : List ℕ) (used : ℕ) (key : Key) (own base n j : ℕ) 
 
 pub there : (units : List ℕ) (u w : ℕ) → w ≡ word_of units u 0 → not (eqb w 0) ≡ is_present units u
 there units u w e = rw e
-
-pub words_put : (u v l : ℕ) (a b c d : List ℕ) → b ≡ with_word u 0 1 a → c ≡ with_word u 1 v b → d ≡ with_word u 2 l c → d ≡ with_words u v l a
-words_put u v l a b c d p q r = rw (← p, ← q) r
 
 part_length : (heads slots part : List ℕ) (i : ℕ) → i * 288 + 288 ≤ length slots → part ≡ row_slots heads slots i → (0 < length part) × (length part ≤ 256)
 unfolding row_slots

@@ -1,6 +1,6 @@
 -- The copies of complete sets that schedules are made of: units of 288 words. Word 0 is not 0 where the copy is present, 1 its version, 2 its
 -- last_section_number; from 32 on its slots. Unit u of all is for table u % 16 of schedule u / 16. For every content of the lent slices.
-use Rattle.std.specs.Prelude.{ℕ, zero, suc, ◌+◌, ◌-◌, ◌%◌, List, Bool, true, false, cond, not, ◌&&◌, ◌||◌, length, get_or, take, drop, set, eqb, ltb}
+use Rattle.std.specs.Prelude.{ℕ, zero, suc, ◌+◌, ◌-◌, ◌%◌, List, Bool, true, false, cond, not, ◌&&◌, ◌||◌, length, take, drop, eqb, ltb}
 use Rattle.std.proofs.Math.Seq.{paste}
 use Rattle.cells.specs.Cells.{all_whole, some_names, marked_all}
 use Rattle.rows.specs.Rows.{row_of, row_slots, slots_at, slot_count, version_of}

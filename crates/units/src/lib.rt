@@ -73,10 +73,8 @@ pub fn units_whole(units: &[u32], count: u16, size: u16, base: usize, n: usize) 
     ensures { result ≡ units_whole units.now count size base n }
 {
     let mut ok = true;
-    let mut j = n;
-    while j > 0 {
-        j -= 1;
-        ok = ok & unit_whole(units, count, size, base + j);
+    for j in (0..n).rev() {
+        ok &= unit_whole(units, count, size, base + j);
     }
     ok
 }
@@ -96,9 +94,7 @@ pub fn mark_units(map: &mut [u64; 1024], units: &[u32], base: usize, n: usize)
     requires { (base + n) * 288 ≤ length units.now }
     ensures { map.new ≡ marked_units units.now base n map.old }
 {
-    let mut j = n;
-    while j > 0 {
-        j -= 1;
+    for j in (0..n).rev() {
         mark_unit(map, units, base + j);
     }
 }
@@ -111,10 +107,8 @@ pub fn all_present(units: &[u32], base: usize, n: usize) -> bool
     ensures { result ≡ all_present units.now base n }
 {
     let mut ok = true;
-    let mut j = n;
-    while j > 0 {
-        j -= 1;
-        ok = ok & is_present(units, base + j);
+    for j in (0..n).rev() {
+        ok &= is_present(units, base + j);
     }
     ok
 }
@@ -124,22 +118,8 @@ pub fn empty_units(units: &mut [u32], base: usize, n: usize)
     requires { (base + n) * 288 ≤ length units.old }
     ensures { units.new ≡ without_units base n units.old }
 {
-    let mut j = n;
-    while j > 0 {
-        j -= 1;
+    for j in (0..n).rev() {
         segments::put_word(units, base + j, PRESENT, 0);
-    }
-}
-
-// The slots' words go in at `at`.
-fn put_slots(units: &mut [u32], at: usize, part: &[u32])
-    requires { at + length part.now ≤ length units.old }
-    ensures { units.new ≡ paste units.old at part.now (length part.now) }
-{
-    let mut k = 0;
-    while k < part.len() {
-        units[at + k] = part[k];
-        k += 1;
     }
 }
 
@@ -160,7 +140,8 @@ pub fn put_set(units: &mut [u32], heads: &[u64], slots: &[u32], i: usize, u: usi
 {
     let version = (rows::version(heads, i) % 4294967296) as u32;
     let part = rows::row_slots(heads, slots, i);
-    put_slots(units, u * rows::ROW_WORDS + rows::SEGMENT_WORDS, part);
+    let at = u * rows::ROW_WORDS + rows::SEGMENT_WORDS;
+    units[at..at + part.len()].copy_from_slice(part);
     put_unit_words(units, u, version, (part.len() - 1) as u32);
 }
 
@@ -185,15 +166,7 @@ fn table_of_kind(kind: u64, j: usize) -> u64
 pub fn with_table(key: Key, table_id: u64) -> Key
     ensures { result ≡ with_table key table_id }
 {
-    let from = key.from;
-    Key {
-        from,
-        table_id,
-        extension: key.extension,
-        current_next: key.current_next,
-        transport_stream_id: key.transport_stream_id,
-        original_network_id: key.original_network_id,
-    }
+    Key { table_id, ..key }
 }
 
 // Row i, where it is in use and complete, is put in as unit u.
@@ -245,9 +218,7 @@ pub fn refill(
     requires { ((base + n) * 288 ≤ length units.old) × (used * 12 ≤ length heads.now) × (used * 288 ≤ length slots.now) × (n ≤ 16) }
     ensures { units.new ≡ refilled heads.now slots.now used key own base n units.old }
 {
-    let mut j = n;
-    while j > 0 {
-        j -= 1;
+    for j in (0..n).rev() {
         put_table(units, heads, slots, used, key, own, base, j);
     }
 }

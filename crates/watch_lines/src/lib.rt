@@ -10,22 +10,18 @@ use offers::Failure;
 use std::io;
 use std::io::Write;
 
-// Where a record says that its section came from, neither number judged yet, and whether its line names the input.
+// Where a record says that its section came from, neither number judged yet. A record that names no input is on input 0, and its line names none.
 #[derive(Clone, Copy)]
 pub struct Place {
-    pub named: bool,
-    pub input: u8,
+    pub input: Option<u8>,
     pub pid: u16,
 }
 
-// The input in decimal and a space, where it is named.
-fn put_input(line: &mut [u8], at: usize, named: bool, input: u8) -> usize
+// The input in decimal and a space.
+fn put_input(line: &mut [u8], at: usize, input: u8) -> usize
     requires { at + 4 ≤ length line.old }
     ensures { result ≤ at + 4 }
 {
-    if !named {
-        return at;
-    }
     let end = text::put_dec(line, at, input as u64);
     text::put(line, end, b" ")
 }
@@ -35,7 +31,10 @@ fn put_place(line: &mut [u8], at: usize, place: Place) -> usize
     requires { at + 8 ≤ length line.old }
     ensures { result ≤ at + 8 }
 {
-    let end = put_input(line, at, place.named, place.input);
+    let end = match place.input {
+        Some(input) => put_input(line, at, input),
+        None => at,
+    };
     text::put_hex4(line, end, place.pid)
 }
 

@@ -1,9 +1,8 @@
 -- What the parts' loops keep, and the three sets put together from what was written.
 -- Assumes nothing.
 use mathlib.Core.Path.{◌≡◌, refl, sym, ap, ◌∙◌}
-use mathlib.Core.Logic.{⊎_elim}
-use mathlib.Core.Bool.{Bool, true, false, cond, not, ◌&&◌, and_assoc, and-true}
-use Prim.Native.Nat.{ℕ, zero, suc, ◌+◌, ◌-◌, ◌/◌, ◌≤◌, ◌<◌}
+use mathlib.Core.Bool.{Bool, true, false, cond, not, ◌&&◌}
+use Prim.Native.Nat.{ℕ, zero, suc, ◌+◌, ◌/◌, ◌≤◌, ◌<◌}
 use native.Mathlib.Nat.{zero-add}
 use native.Mathlib.Numerals.{add-one}
 use native.Mathlib.Omega.{arith}
@@ -11,36 +10,31 @@ use mathlib.Core.List.{List, [], ◌∷◌, ◌++◌, append_assoc}
 use lib.ListN.{length, get_or, drop, set, length-drop, length-append, take-append-drop, drop_of_length-le}
 use lib.Seq.{paste, drop-cons, drop-drop, get_or-drop, get_or-take, length-take-le}
 use lib.Dec.{ltb}
+use Rattle.std.specs.List.{list_all}
 use lib.Bits.{bit_or}
 use borrow.Author.Tests.{lt-ltb, le-ltb, le-leb, lt-leb, ltb-true, not-true, not-false}
 use Rattle.laws.specs.Bits.{has_bit, add_bit, add_bits, without, union, less}
 use Rattle.laws.proofs.Bits.{length_add_bits, add_bits_append, has_first}
-use Rattle.laws.proofs.Tests.{and_true as both_true, lt_or_le}
+use Rattle.laws.proofs.Tests.{and_true as both_true}
 use Rattle.laws.proofs.Lists.{paste_turn, paste_past, paste_part, length_zip, get_d_zip}
-use Rattle.section.proofs.Facts.{made_one, made_none}
+use Rattle.section.proofs.Facts.{made_one, made_refused}
 use Rattle.section.specs.Ids.{known_pids, pid_made}
 use Rattle.section.specs.declared.ids.Pid.{Pid}
-use Rattle.section.specs.declared.ids.Made.{Made}
-use Rattle.section.specs.declared.ids.Made.TheVariants.{One, TooLarge}
-use Rattle.answers.specs.Answers.{reply_no}
+use Rattle.std.specs.Prelude.{Result, Ok, Err}
+use Rattle.answers.specs.declared.Refusal.{Refusal}
+use Rattle.answers.specs.Answers.{reply_no, Reply}
 use Rattle.answers.specs.declared.Refusal.TheVariants.{NotWhole, BadPid, TooLittle}
-use Rattle.answers.specs.declared.Outcome.TheVariants as outcome
-use Rattle.answers.specs.declared.Reply.{Reply}
-use Rattle.answers.specs.declared.Reply.TheVariants as reply
-use Rattle.watched.specs.Store.{all_pids, watched_of, protected_of, followed_of, laid, no_pids, protected_pids, filled, dropped_by, renewed_word, renewed, following, opening_by, opened, asked, reply_of}
+use Rattle.watched.specs.Store.{all_pids, watched_of, protected_of, followed_of, laid, no_pids, protected_pids, filled, dropped_by, renewed_word, renewed, following, opening_by, opened, asked}
 
 -- ---- PIDs one by one
 
+-- the test of each, as std has it
+pub all_below : (xs : List ℕ) → list_all (λ (p : ℕ). ltb p 8192) xs ≡ all_pids xs
+unfolding all_pids
+all_below [] = refl
+all_below (x ∷ xs) = ap (λ (b : Bool). ltb x 8192 && b) (all_below xs)
+
 module _ (xs : List ℕ) (i : ℕ) where
-  -- a turn of the loop that judges them, and its end
-  pub judge_turn : (good : Bool) → i < length xs → (good && all_pids (drop i xs)) ≡ ((good && ltb (get_or xs i 0) 8192) && all_pids (drop (i + 1) xs))
-  unfolding all_pids
-  judge_turn good h = rw (drop-cons xs i 0 h, add-one i) (sym (and_assoc good (ltb (get_or xs i 0) 8192) (all_pids (drop (suc i) xs))))
-
-  pub judge_end : (good : Bool) → length xs ≤ i → (good && all_pids (drop i xs)) ≡ good
-  unfolding all_pids
-  judge_end good h = rw (drop_of_length-le xs h) (and-true good)
-
   -- a turn of the loop that adds them, and its end
   pub add_turn : (w : List ℕ) → i < length xs → add_bits w (drop i xs) ≡ add_bits (add_bit w (get_or xs i 0)) (drop (i + 1) xs)
   unfolding add_bits
@@ -184,41 +178,41 @@ fill_opened words on extra s n h es en =
 -- ---- the ways out of opening and of the question
 
 module _ (words : List ℕ) (on : Bool) (extra : List ℕ) (b : Bool) (e : b ≡ all_pids extra) where
-  pub open_bad : not b ≡ true → opening_by (outcome.Refused BadPid) words ≡ opened words on extra
+  pub open_bad : not b ≡ true → opening_by (Err BadPid) words ≡ opened words on extra
   unfolding opened
   open_bad h = rw (← e, not-true b h)
 
-  pub open_little : not b ≡ false → length words < 384 → opening_by (outcome.Refused TooLittle) words ≡ opened words on extra
+  pub open_little : not b ≡ false → length words < 384 → opening_by (Err TooLittle) words ≡ opened words on extra
   unfolding opened
   open_little h l = rw (← e, not-false b h, lt-leb 384 (length words) l)
 
-  pub open_good : (w : List ℕ) → not b ≡ false → 384 ≤ length words → w ≡ filled words on extra → opening_by outcome.Done w ≡ opened words on extra
+  pub open_good : (w : List ℕ) → not b ≡ false → 384 ≤ length words → w ≡ filled words on extra → opening_by (Ok tt) w ≡ opened words on extra
   unfolding opened
   open_good w h l f = rw (← e, not-false b h, le-leb 384 (length words) l, f)
 
   pub open_judged : not b ≡ false → all_pids extra ≡ true
   open_judged h = sym e ∙ not-false b h
 
-pub ask_short : (words : List ℕ) (pid : ℕ) → length words < 384 → reply_no (reply.Refused NotWhole) ≡ asked words pid
+pub ask_short : (words : List ℕ) (pid : ℕ) → length words < 384 → reply_no (Err NotWhole) ≡ asked words pid
 unfolding asked
 ask_short words pid h = rw (lt-leb 384 (length words) h)
 
-module _ (words : List ℕ) (pid : ℕ) (m : Made) (h : 384 ≤ length words) (e : m ≡ pid_made pid) where
-  pub ask_bad : m ≡ TooLarge → reply_no (reply.Refused BadPid) ≡ asked words pid
+module _ (words : List ℕ) (pid : ℕ) (m : Result Pid Refusal) (h : 384 ≤ length words) (e : m ≡ pid_made pid) where
+  pub ask_bad : (r : Refusal) → m ≡ Err r → reply_no (Err r) ≡ asked words pid
   unfolding asked
-  ask_bad f = rw (le-leb 384 (length words) h, le-ltb pid 8192 (made_none pid m e f))
+  ask_bad r f = let n = made_refused pid m e r f in rw (le-leb 384 (length words) h, le-ltb pid 8192 n.1, n.0)
 
-  module _ (p : Pid) (f : m ≡ One p) where
+  module _ (p : Pid) (f : m ≡ Ok p) where
     pub ask_room : p.0 / 64 < length words
     ask_room = let g = made_one pid m e p f in omega arith
 
-    pub ask_has : (b : Bool) (a : Reply) → b ≡ has_bit words p.0 → a ≡ reply_of b → reply_no a ≡ asked words pid
+    pub ask_has : (b : Bool) → b ≡ has_bit words p.0 → reply_no (Ok b) ≡ asked words pid
     unfolding asked
-    ask_has b a eb ea =
+    ask_has b eb =
         let g = made_one pid m e p f in
         let s : has_bit (watched_of words) pid ≡ b = has_first words 128 pid (omega arith) ∙ rw (← g.0) (sym eb) in
-        rw (ea, le-leb 384 (length words) h, lt-ltb pid 8192 g.1, s) (number b)
+        rw (le-leb 384 (length words) h, lt-ltb pid 8192 g.1, s) (number b)
       where
-        number : (b : Bool) → reply_no (reply_of b) ≡ cond b 8 9
+        number : (b : Bool) → reply_no (Ok b) ≡ cond b 8 9
         number true = refl
         number false = refl

@@ -16,7 +16,7 @@ use Rattle.laws.proofs.Bits.{among, InRoom, has_all, has_none, has_union, has_le
 use Rattle.laws.proofs.Tests.{and_true, lt_or_le}
 use Rattle.section.specs.Ids.{known_pids}
 use Rattle.watched.specs.Store.{watched_of, protected_of, followed_of, laid, no_pids, all_pids, protected_pids, filled, dropped_by, renewed, following}
-use Rattle.watched.specs.Rules.{Watch, stays_watched, followed_by}
+use Rattle.watched.specs.Rules.{stays_watched, followed_by}
 use Rattle.watched.specs.View.{watch_in, InStep}
 use Rattle.watched.proofs.Laws.{length_watched, length_protected, length_followed, length_union, length_dropped, length_less, length_renewed, length_protecting, known_good}
 

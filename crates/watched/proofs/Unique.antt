@@ -4,9 +4,7 @@ use mathlib.Core.Path.{◌≡◌, sym, ap, ◌∙◌}
 use mathlib.Core.Bool.{Bool}
 use Prim.Native.Nat.{ℕ}
 use mathlib.Core.List.{List}
-use Rattle.answers.specs.Answers.{reply_no}
-use Rattle.answers.specs.declared.Outcome.{Outcome}
-use Rattle.answers.specs.declared.Reply.{Reply}
+use Rattle.answers.specs.Answers.{reply_no, Outcome, Reply}
 use Rattle.answers.proofs.Laws.{outcome_apart, reply_apart}
 use Rattle.watched.specs.Store.{Opening, opening_by, opened, asked}
 

@@ -4,10 +4,7 @@ use Rattle.std.specs.Prelude.{ℕ, List, [], ◌∷◌, ◌++◌, Bool, true, co
 use Rattle.std.specs.Int.Bits.{bit_or}
 use Rattle.laws.specs.Bits.{has_bit, add_bits, union, without, less}
 use Rattle.section.specs.Ids.{known_pids}
-use Rattle.answers.specs.Answers.{outcome_no}
-use Rattle.answers.specs.declared.Outcome.{Outcome}
-use Rattle.answers.specs.declared.Reply.{Reply}
-use Rattle.answers.specs.declared.Reply.TheVariants.{Yes, No}
+use Rattle.answers.specs.Answers.{outcome_no, Outcome}
 
 -- the sets in the words
 abbrev pub watched_of : List ℕ → List ℕ
@@ -61,10 +58,6 @@ opened words well_known extra =
 -- the question: 10, then 12, then 8 or 9
 unfoldable pub asked : List ℕ → ℕ → ℕ
 asked words pid = cond (leb 384 (length words)) (cond (ltb pid 8192) (cond (has_bit (watched_of words) pid) 8 9) 12) 10
-
--- yes where the PID is watched
-abbrev pub reply_of : Bool → Reply
-reply_of watched = cond watched Yes No
 
 -- following n drops what was followed and is neither in n nor protected
 abbrev pub dropped_by : List ℕ → List ℕ → List ℕ

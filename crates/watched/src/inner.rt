@@ -11,13 +11,7 @@ use section::ids::Pid;
 pub fn pids_good(extra: &[u16]) -> bool
     ensures { result ≡ all_pids extra.now }
 {
-    let mut good = true;
-    let mut i = 0;
-    while i < extra.len() {
-        good = good & (extra[i] < 8192);
-        i += 1;
-    }
-    good
+    extra.iter().all(|pid| *pid < 8192)
 }
 
 // Writes the three sets of a watch that was opened.
@@ -76,10 +70,8 @@ fn add_all(set: &mut [u64; 128], pids: &[u16])
     requires { all_pids pids.now ≡ true }
     ensures { set.new ≡ add_bits set.old pids.now }
 {
-    let mut i = 0;
-    while i < pids.len() {
-        section::pids::add(set, Pid(pids[i]));
-        i += 1;
+    for pid in pids {
+        section::pids::add(set, Pid(*pid));
     }
 }
 
@@ -89,11 +81,7 @@ fn put(words: &mut [u64], at: usize, set: &[u64])
     requires set_len { length set.now ≡ 128 }
     ensures { words.new ≡ paste words.old at set.now 128 }
 {
-    let mut i = 0;
-    while i < 128 {
-        words[at + i] = set[i];
-        i += 1;
-    }
+    words[at..at + 128].copy_from_slice(set);
 }
 
 // Renews the watch for following n; the protected and the followed PIDs stay as they are.
@@ -102,10 +90,8 @@ fn renew(words: &mut [u64], n: &[u64])
     requires n_len { length n.now ≡ 128 }
     ensures { words.new ≡ paste words.old 0 (renewed words.old n.now) 128 }
 {
-    let mut i = 0;
-    while i < 128 {
+    for i in 0..128 {
         words[i] = renewed_word(words[i], words[128 + i], words[256 + i], n[i]);
-        i += 1;
     }
 }
 

@@ -5,10 +5,10 @@
 
 ghost use Rattle.std.specs.Prelude.{◌≡◌};
 ghost use Rattle.answers.specs.Answers.{reply_no};
-ghost use Rattle.watched.specs.Store.{reply_of, opening_by, opened, asked};
+ghost use Rattle.watched.specs.Store.{opening_by, opened, asked};
 
 use answers::{Outcome, Refusal, Reply};
-use section::ids::{Made, Pid};
+use section::ids::Pid;
 
 pub mod inner;
 
@@ -21,13 +21,13 @@ pub fn open(words: &mut [u64], well_known: bool, extra: &[u16]) -> Outcome
     ensures { opening_by result words.new ≡ opened words.old well_known extra.now }
 {
     if !inner::pids_good(extra) {
-        return Outcome::Refused(Refusal::BadPid);
+        return Err(Refusal::BadPid);
     }
     if words.len() < WORDS {
-        return Outcome::Refused(Refusal::TooLittle);
+        return Err(Refusal::TooLittle);
     }
     inner::fill(words, well_known, extra);
-    Outcome::Done
+    Ok(())
 }
 
 // Whether a PID is watched.
@@ -35,17 +35,8 @@ pub fn ask(words: &[u64], pid: u16) -> Reply
     ensures { reply_no result ≡ asked words.now pid }
 {
     if words.len() < WORDS {
-        return Reply::Refused(Refusal::NotWhole);
+        return Err(Refusal::NotWhole);
     }
-    match Pid::make(pid) {
-        Made::TooLarge => Reply::Refused(Refusal::BadPid),
-        Made::One(p) => reply(section::pids::has(words, p)),
-    }
-}
-
-// Yes where the PID is watched.
-fn reply(watched: bool) -> Reply
-    ensures { result ≡ reply_of watched }
-{
-    if watched { Reply::Yes } else { Reply::No }
+    let p = Pid::make(pid)?;
+    Ok(section::pids::has(words, p))
 }

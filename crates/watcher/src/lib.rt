@@ -3,157 +3,72 @@
 // 512 keys; sixteen watch records opened alike, of which `watch` uses the first. One record is held at a time, so standard input may be of any length.
 #![tactic(auto)]
 
-ghost use Rattle.std.specs.Prelude.{◌≡◌, ◌≤◌, ◌<◌, IfOk, length};
-ghost use Rattle.records.specs.Next as records;
-ghost use Rattle.watcher.specs.Read.{Within, IsInput, InWatches};
+ghost use Rattle.std.specs.Prelude.{◌≡◌, ◌≤◌, ◌<◌, IfOk, IfSome, length};
+ghost use Rattle.records.specs.Next.{Within};
 
-use answers::{Refusal, Reply};
+use answers::Refusal;
 use counters::Counters;
 use gate_state::{Gate, Settings};
-use records::{InputRead, Next};
-use section::bytes::wide;
-use section::ids::{Origin, OriginMade};
+use records::Next;
+use section::bytes::{wide, word};
+use section::ids::Origin;
 use std::io;
 use std::io::{Read, Write};
 use watch_lines::Place;
 
-// The gate and its counters between two records, and whether there may be another.
-#[derive(Clone, Copy)]
-struct Between {
-    more: bool,
-    gate: Gate,
-    counters: Counters,
-}
-
-// What reading found: a record's input and the length of the rest, the end of standard input, or an end inside a record.
-#[derive(Clone, Copy)]
-enum Came {
-    Record(u8, usize),
-    End,
-    Cut,
-}
-
-// Which of the sixteen watch records is that of a place, or what is wrong with the place.
-#[derive(Clone, Copy)]
-enum Found {
-    At(usize),
-    Refused(Refusal),
-}
-
-// What the watch says of a place: its PID is watched, by which of the sixteen records; it is not; or the place is none.
-#[derive(Clone, Copy)]
-enum Asked {
-    Watched(usize),
-    Unwatched,
-    Refused(Refusal),
-}
-
-fn leave(more: bool, gate: Gate, counters: Counters) -> Between {
-    Between {
-        more: more,
-        gate: gate,
-        counters: counters,
-    }
-}
-
-fn on_input(input: u8, next: Next) -> Came
-    requires { records.Within next }
-    ensures { Within result }
-{
-    match next {
-        Next::Record(n) => Came::Record(input, n),
-        Next::End => Came::End,
-        Next::Cut => Came::Cut,
-    }
-}
-
 // The rest of a record whose input was read: it may not end here.
-fn inside(rest: Came) -> Came
+fn inside(rest: Next) -> Next
     requires { Within rest }
     ensures { Within result }
 {
     match rest {
-        Came::Record(input, n) => Came::Record(input, n),
-        Came::End => Came::Cut,
-        Came::Cut => Came::Cut,
+        Next::End => Next::Cut,
+        _ => rest,
     }
 }
 
-// Reads a record, of which all but the input comes to the start of buf. One without an input is on input 0.
-fn read(stdin: &mut impl Read, inputs: bool, buf: &mut [u8]) -> io::Result<Came>
+// Reads a record, of which all but the input comes to the start of buf.
+fn read(stdin: &mut impl Read, inputs: bool, buf: &mut [u8]) -> io::Result<(Option<u8>, Next)>
     requires { 4100 ≡ length buf.old }
-    ensures { IfOk result Within }
+    ensures { IfOk result (λ came. Within came.1) }
 {
     if !inputs {
-        return Ok(on_input(0, records::read_record(stdin, buf)?));
+        return Ok((None, records::read_record(stdin, buf)?));
     }
-    match records::read_input(stdin)? {
-        InputRead::One(input) => Ok(inside(on_input(input, records::read_record(stdin, buf)?))),
-        InputRead::End => Ok(Came::End),
+    let input = records::read_input(stdin)?;
+    if input.is_none() {
+        return Ok((None, Next::End));
     }
+    Ok((input, inside(records::read_record(stdin, buf)?)))
 }
 
-// 12, then 37, whatever the watch of a record says.
-fn find(place: Place) -> Found
-    ensures { IsInput result }
+fn input_of(place: Place) -> u8 {
+    place.input.unwrap_or(0)
+}
+
+// Which of the sixteen watch records is that of a place; 12, then 37, whatever the watch of a record says.
+fn find(place: Place) -> Result<usize, Refusal>
+    ensures { IfOk result (λ i. i ≤ 15) }
 {
-    match Origin::make(place.input, place.pid) {
-        OriginMade::One(from) => Found::At(wide(from.input.0)),
-        OriginMade::BadPid => Found::Refused(Refusal::BadPid),
-        OriginMade::BadInput => Found::Refused(Refusal::BadInput),
-    }
+    let from = Origin::make(input_of(place), place.pid)?;
+    Ok(wide(from.input.0))
 }
 
-fn wide16(x: u8) -> u16
-    ensures { (result ≡ x) × (result < 256) }
-{
-    x as u16
-}
-
-fn place_of(inputs: bool, input: u8, buf: &[u8]) -> Place
-    requires { 2 ≤ length buf.now }
-{
-    Place {
-        named: inputs,
-        input: input,
-        pid: wide16(buf[0]) * 256 + wide16(buf[1]),
-    }
-}
-
-// What the watch of a place's input says of its PID.
-fn ask(watches: &[u64], place: Place) -> Asked
+// What the watch of a place's input says of its PID: which of the sixteen records watches it, `None` where it is not watched.
+fn ask(watches: &[u64], place: Place) -> Result<Option<usize>, Refusal>
     requires { 6368 ≡ length watches.now }
-    ensures { InWatches result }
+    ensures { IfOk result (λ watched. IfSome watched (λ i. i ≤ 15)) }
 {
-    match find(place) {
-        Found::At(i) => ask_on(watches, i, place.pid),
-        Found::Refused(refusal) => Asked::Refused(refusal),
-    }
+    let i = find(place)?;
+    let watched = watched::ask(&watches[i * 398..i * 398 + 398], place.pid)?;
+    Ok(watched.then_some(i))
 }
 
-fn ask_on(watches: &[u64], i: usize, pid: u16) -> Asked
-    requires { (6368 ≡ length watches.now) × (i ≤ 15) }
-    ensures { InWatches result }
-{
-    told(i, watched::ask(&watches[i * 398..i * 398 + 398], pid))
-}
-
-fn told(i: usize, reply: Reply) -> Asked
-    requires { i ≤ 15 }
-    ensures { InWatches result }
-{
-    match reply {
-        Reply::Yes => Asked::Watched(i),
-        Reply::No => Asked::Unwatched,
-        Reply::Refused(refusal) => Asked::Refused(refusal),
-    }
-}
-
-// A section on a watched PID goes to the gate with the record of its input, the i-th of the sixteen.
+// A section on a watched PID goes to the gate with the record of its input, the i-th of the sixteen. Whether there may be another record.
 fn offer(
     stdout: &mut impl Write,
-    gate: Gate,
-    counters: Counters,
+    gate: &mut Gate,
+    counters: &mut Counters,
     keys: &mut [u64; 512],
     changes: &mut [u64; 512],
     watches: &mut [u64],
@@ -162,48 +77,51 @@ fn offer(
     i: usize,
     place: Place,
     section: &[u8],
-) -> io::Result<Between>
+) -> io::Result<bool>
     requires value { (6368 ≡ length watches.old) × (4608 ≡ length slots.old) × (4194304 ≡ length cells.old) × (i ≤ 15) }
     requires in_bounds { (3 ≤ length section.now) × (length section.now ≤ 4098) }
 {
     let offered = gate_pats::offer(
-        gate,
-        counters,
+        *gate,
+        *counters,
         keys,
         changes,
         &mut watches[i * 398..i * 398 + 398],
         &mut slots[i * 288..i * 288 + 288],
         &mut cells[i * 262_144..i * 262_144 + 262_144],
-        place.input,
+        input_of(place),
         place.pid,
         section,
     );
     let answer = offered.answer;
-    let then = offered.gate;
-    let counted = offered.counters;
-    let more = watch_lines::say_answer(stdout, answer, place, section)?;
-    Ok(leave(more, then, counted))
+    *gate = offered.gate;
+    *counters = offered.counters;
+    watch_lines::say_answer(stdout, answer, place, section)
 }
 
 // One record, of which all but the input is the first n bytes of buf, by what the watch says.
 fn judge(
     stdout: &mut impl Write,
-    gate: Gate,
-    counters: Counters,
+    gate: &mut Gate,
+    counters: &mut Counters,
     keys: &mut [u64; 512],
     changes: &mut [u64; 512],
     watches: &mut [u64],
     slots: &mut [u32],
     cells: &mut [u8],
-    place: Place,
+    input: Option<u8>,
     buf: &[u8],
     n: usize,
-) -> io::Result<Between>
+) -> io::Result<bool>
     requires value { (6368 ≡ length watches.old) × (4608 ≡ length slots.old) × (4194304 ≡ length cells.old) }
     requires le_n { (5 ≤ n) × (n ≤ 4100) × (4100 ≡ length buf.now) }
 {
+    let place = Place {
+        input,
+        pid: word(buf, 0),
+    };
     match ask(watches, place) {
-        Asked::Watched(i) => offer(
+        Ok(Some(i)) => offer(
             stdout,
             gate,
             counters,
@@ -216,43 +134,11 @@ fn judge(
             place,
             &buf[2..n],
         ),
-        Asked::Unwatched => {
+        Ok(None) => {
             watch_lines::say_place(stdout, b"unwatched ", place)?;
-            Ok(leave(true, gate, counters))
+            Ok(true)
         }
-        Asked::Refused(refusal) => {
-            let more = watch_lines::say_refusal(stdout, refusal, place)?;
-            Ok(leave(more, gate, counters))
-        }
-    }
-}
-
-// Reads a record into the buffer and judges it.
-fn turn(
-    stdin: &mut impl Read,
-    stdout: &mut impl Write,
-    inputs: bool,
-    gate: Gate,
-    counters: Counters,
-    keys: &mut [u64; 512],
-    changes: &mut [u64; 512],
-    watches: &mut [u64; 6368],
-    slots: &mut [u32; 4608],
-    cells: &mut [u8; 4_194_304],
-    buf: &mut [u8; 4100],
-) -> io::Result<Between> {
-    match read(stdin, inputs, buf)? {
-        Came::Record(input, n) => {
-            let from = place_of(inputs, input, buf);
-            judge(
-                stdout, gate, counters, keys, changes, watches, slots, cells, from, buf, n,
-            )
-        }
-        Came::End => Ok(leave(false, gate, counters)),
-        Came::Cut => {
-            stdout.write_all(b"cut\n")?;
-            Ok(leave(false, gate, counters))
-        }
+        Err(refusal) => watch_lines::say_refusal(stdout, refusal, place),
     }
 }
 
@@ -261,7 +147,8 @@ fn open_watch(settings: Settings, watches: &mut [u64], slots: &[u32], cells: &[u
     requires { (6368 ≡ length watches.old) × (4608 ≡ length slots.now) × (4194304 ≡ length cells.now) × (i ≤ 15) }
 {
     let none = [0u16; 1];
-    gate_pats::open_record(
+    // Enough is lent, and no PID is asked for: it is not refused.
+    let _ = gate_pats::open_record(
         settings,
         &none[0..0],
         &mut watches[i * 398..i * 398 + 398],
@@ -274,14 +161,12 @@ fn open_watch(settings: Settings, watches: &mut [u64], slots: &[u32], cells: &[u
 fn open_watches(settings: Settings, watches: &mut [u64], slots: &[u32], cells: &[u8])
     requires { (6368 ≡ length watches.old) × (4608 ≡ length slots.now) × (4194304 ≡ length cells.now) }
 {
-    let mut i = 0;
-    while i < 16 {
+    for i in 0..16 {
         open_watch(settings, watches, slots, cells, i);
-        i += 1;
     }
 }
 
-// A proved loop has to end, and nothing says that standard input does: the turns are counted down from a number that no run uses up.
+// A proved loop has to end, and nothing says that standard input does: the turns are counted, up to a number that no run uses up.
 fn all(
     stdin: &mut impl Read,
     stdout: &mut impl Write,
@@ -300,16 +185,32 @@ fn all(
     open_watches(settings, watches, slots, cells);
     let mut gate = opened.gate;
     let mut counters = opened.counters;
-    let mut more = true;
-    let mut turns = u64::MAX;
-    while more & (turns > 0) {
-        let t = turn(
-            stdin, stdout, inputs, gate, counters, keys, changes, watches, slots, cells, buf,
-        )?;
-        gate = t.gate;
-        counters = t.counters;
-        more = t.more;
-        turns -= 1;
+    for _ in 0..u64::MAX {
+        match read(stdin, inputs, buf)? {
+            (input, Next::Record(n)) => {
+                let more = judge(
+                    stdout,
+                    &mut gate,
+                    &mut counters,
+                    keys,
+                    changes,
+                    watches,
+                    slots,
+                    cells,
+                    input,
+                    buf,
+                    n,
+                )?;
+                if !more {
+                    break;
+                }
+            }
+            (_, Next::End) => break,
+            (_, Next::Cut) => {
+                stdout.write_all(b"cut\n")?;
+                break;
+            }
+        }
     }
     watch_lines::say_totals(stdout, counters)
 }

@@ -35,19 +35,14 @@ pub fn look(heads: &[u64], slots: &[u32], count: u16, size: u16, used: usize) ->
 {
     let mut whole = true;
     let mut without = false;
-    let mut i = used;
-    while i > 0 {
-        i -= 1;
+    for i in (0..used).rev() {
         if is_plain(heads, slots, count, size, i) {
             continue;
         }
-        whole = whole & rows::row_whole(heads, slots, count, size, i);
-        without = without | (heads[i * rows::HEAD_WORDS] == Origin::NO_PID);
+        whole &= rows::row_whole(heads, slots, count, size, i);
+        without |= heads[i * rows::HEAD_WORDS] == Origin::NO_PID;
     }
-    Looked {
-        whole: whole,
-        without: without,
-    }
+    Looked { whole, without }
 }
 
 // The second alone. It gathers and does not stop early: a store that has such a row is the exception.
@@ -56,10 +51,8 @@ pub fn any_without_pid(heads: &[u64], used: usize) -> bool
     ensures { result ≡ without_pid heads.now used }
 {
     let mut found = false;
-    let mut i = 0;
-    while i < used {
-        found = found | (heads[i * rows::HEAD_WORDS] == Origin::NO_PID);
-        i += 1;
+    for i in 0..used {
+        found |= heads[i * rows::HEAD_WORDS] == Origin::NO_PID;
     }
     found
 }

@@ -4,92 +4,40 @@
 
 ghost use Rattle.std.specs.Prelude.{◌≡◌, ◌≤◌, length};
 
-use answers::Outcome;
 use log_entries::Entry;
-use log_reader::{END, LONGEST};
 use log_state::{Run, Settings};
 use std::io;
 use std::io::{Read, Write};
 use std::rt::Files;
 
-// What a run over the list is for: to measure the log, or to write it.
+// Why a run over the list stopped before its end.
 #[derive(Clone, Copy)]
-struct Purpose {
-    writes: bool,
-    room: u64,
-}
-
-// The run between two sections, and how many bytes there is room for yet.
-#[derive(Clone, Copy)]
-struct Between {
-    more: bool,
-    room: u64,
-    run: Run,
-}
-
-// What a run over the whole list came to.
-#[derive(Clone, Copy)]
-enum Ended {
-    Whole,
+enum Stop {
     NoRoom,
     Changed,
     TooLittle,
 }
 
-// ---- the records of a section
-
-// Writes the first n bytes, and answers whether there are as many.
-fn put_part(stdout: &mut impl Write, bytes: &[u8], n: usize) -> io::Result<bool> {
-    if bytes.len() < n {
-        return Ok(false);
-    }
-    stdout.write_all(&bytes[0..n])?;
-    Ok(true)
-}
-
-fn put(stdout: &mut impl Write, entry: Entry) -> io::Result<bool> {
+// Writes the records of a section into the room that is left: the room behind them, `None` where there is too little.
+fn put(out: &mut impl Write, room: u64, entry: Entry) -> io::Result<Option<u64>> {
     let bytes = entry.bytes;
-    let n = entry.length;
-    put_part(stdout, &bytes, n)
-}
-
-// Takes the room that the records need, and writes them where that is what the run is for; whether all went well.
-fn place_entry(
-    stdout: &mut impl Write,
-    purpose: Purpose,
-    entry: Entry,
-    run: Run,
-) -> io::Result<Between> {
-    let n = entry.length as u64;
-    if purpose.room < n {
-        return Ok(Between {
-            more: false,
-            room: 0,
-            run,
-        });
-    }
-    let left = purpose.room - n;
-    if purpose.writes {
-        return Ok(Between {
-            more: put(stdout, entry)?,
-            room: left,
-            run,
-        });
-    }
-    Ok(Between {
-        more: true,
-        room: left,
-        run,
-    })
+    let Some(left) = room.checked_sub(entry.length as u64) else {
+        return Ok(None);
+    };
+    let Some(records) = bytes.get(0..entry.length) else {
+        return Ok(None);
+    };
+    out.write_all(records)?;
+    Ok(Some(left))
 }
 
 // ---- the run
 
 // A section of the list, n bytes with the five before it.
 fn turn(
-    stdout: &mut impl Write,
-    purpose: Purpose,
-    run: Run,
+    out: &mut impl Write,
+    room: u64,
+    run: &mut Run,
     keys: &mut [u64; 65536],
     changes: &mut [u64; 65536],
     heads: &mut [u64; 3072],
@@ -97,29 +45,20 @@ fn turn(
     cells: &mut [u8; 1048576],
     list: &[u8],
     n: usize,
-) -> io::Result<Between>
+) -> io::Result<Option<u64>>
     requires { (5 ≤ n) × (n ≤ 4103) × (4103 ≡ length list.now) }
 {
-    let taken = log_feed::take(run, keys, changes, heads, slots, cells, list, n);
+    let taken = log_feed::take(*run, keys, changes, heads, slots, cells, list, n);
     let entry = taken.entry;
-    let then = taken.run;
-    place_entry(stdout, purpose, entry, then)
-}
-
-// The list ends, or has changed since it was judged.
-fn end_of(n: usize) -> Ended {
-    if n == END {
-        Ended::Whole
-    } else {
-        Ended::Changed
-    }
+    *run = taken.run;
+    put(out, room, entry)
 }
 
 // A proved loop has to end, and nothing says that an input does: the turns are counted, up to a number that no run uses up.
 fn walk(
     file: &mut impl Read,
-    stdout: &mut impl Write,
-    purpose: Purpose,
+    out: &mut impl Write,
+    room: u64,
     opened: Run,
     keys: &mut [u64; 65536],
     changes: &mut [u64; 65536],
@@ -127,59 +66,47 @@ fn walk(
     slots: &mut [u32; 73728],
     cells: &mut [u8; 1048576],
     list: &mut [u8; 4103],
-) -> io::Result<Ended> {
-    let writes = purpose.writes;
+) -> io::Result<Result<(), Stop>> {
     let mut run = opened;
-    let mut room = purpose.room;
+    let mut left = room;
     for _ in 0..u64::MAX {
-        let n = log_reader::read_section(file, list)?;
-        if n < 5 {
-            return Ok(end_of(n));
+        match log_reader::read_section(file, list)? {
+            Ok(Some(n)) => {
+                let behind = turn(
+                    out, left, &mut run, keys, changes, heads, slots, cells, list, n,
+                )?;
+                match behind {
+                    Some(room) => left = room,
+                    None => return Ok(Err(Stop::NoRoom)),
+                }
+            }
+            Ok(None) => return Ok(Ok(())),
+            Err(_) => return Ok(Err(Stop::Changed)),
         }
-        if LONGEST < n {
-            return Ok(end_of(n));
-        }
-        let t = turn(
-            stdout,
-            Purpose { writes, room },
-            run,
-            keys,
-            changes,
-            heads,
-            slots,
-            cells,
-            list,
-            n,
-        )?;
-        if !t.more {
-            return Ok(Ended::NoRoom);
-        }
-        run = t.run;
-        room = t.room;
     }
-    Ok(Ended::Changed)
+    Ok(Err(Stop::Changed))
 }
 
 fn run(
     settings: Settings,
     file: &mut impl Read,
-    stdout: &mut impl Write,
-    purpose: Purpose,
+    out: &mut impl Write,
+    room: u64,
     keys: &mut [u64; 65536],
     changes: &mut [u64; 65536],
     heads: &mut [u64; 3072],
     slots: &mut [u32; 73728],
     cells: &mut [u8; 1048576],
     list: &mut [u8; 4103],
-) -> io::Result<Ended> {
+) -> io::Result<Result<(), Stop>> {
     let opened = log_state::open(settings, keys, changes, heads, slots, cells);
     let answer = opened.answer;
     let begun = opened.run;
     match answer {
-        Outcome::Done => walk(
-            file, stdout, purpose, begun, keys, changes, heads, slots, cells, list,
+        Ok(()) => walk(
+            file, out, room, begun, keys, changes, heads, slots, cells, list,
         ),
-        Outcome::Refused(_) => Ok(Ended::TooLittle),
+        Err(_) => Ok(Err(Stop::TooLittle)),
     }
 }
 
@@ -187,10 +114,10 @@ fn run(
 fn run_over(
     settings: Settings,
     file: &mut impl Read,
-    stdout: &mut impl Write,
-    purpose: Purpose,
+    out: &mut impl Write,
+    room: u64,
     list: &mut [u8; 4103],
-) -> io::Result<Ended> {
+) -> io::Result<Result<(), Stop>> {
     let mut keys = log_feed::keys();
     let mut changes = log_feed::keys();
     let mut heads = log_feed::heads();
@@ -199,8 +126,8 @@ fn run_over(
     run(
         settings,
         file,
-        stdout,
-        purpose,
+        out,
+        room,
         &mut keys,
         &mut changes,
         &mut heads,
@@ -210,38 +137,17 @@ fn run_over(
     )
 }
 
-// One reading of the list from its start.
-fn read_list(
-    rt: &impl Files,
-    stdout: &mut impl Write,
-    settings: Settings,
-    path: &[u8],
-    purpose: Purpose,
-    list: &mut [u8; 4103],
-) -> io::Result<Ended> {
-    match log_feed::open(rt, stdout, path)? {
-        Some(mut file) => run_over(settings, &mut file, stdout, purpose, list),
-        None => Ok(Ended::Whole),
+// Says what stopped a run.
+fn say_stop(stdout: &mut impl Write, stop: Stop) -> io::Result<()> {
+    match stop {
+        Stop::NoRoom => entry_lines::say(stdout, b"44 no-room\n"),
+        Stop::Changed => log_feed::say_changed(stdout),
+        Stop::TooLittle => log_feed::say_too_little(stdout),
     }
 }
 
-// Whether the list was run to its end; says what stopped it where it was not.
-fn went(stdout: &mut impl Write, e: Ended, writes: bool) -> io::Result<bool> {
-    match e {
-        Ended::Whole => return Ok(true),
-        Ended::NoRoom => {
-            if !writes {
-                entry_lines::say(stdout, b"44 no-room\n")?;
-            }
-        }
-        Ended::Changed => log_feed::say_changed(stdout)?,
-        Ended::TooLittle => log_feed::say_too_little(stdout)?,
-    }
-    Ok(false)
-}
-
-// A log that is longer than the room is not begun: it is measured first.
-fn measured(
+// Whether the log has the room: a longer one is not begun, so it is measured first, by a run that writes into nothing.
+fn has_room(
     rt: &impl Files,
     stdout: &mut impl Write,
     settings: Settings,
@@ -249,12 +155,16 @@ fn measured(
     room: u64,
     list: &mut [u8; 4103],
 ) -> io::Result<bool> {
-    let purpose = Purpose {
-        writes: false,
-        room,
+    let Some(mut file) = log_feed::open(rt, stdout, path)? else {
+        return Ok(true);
     };
-    let e = read_list(rt, stdout, settings, path, purpose, list)?;
-    went(stdout, e, false)
+    match run_over(settings, &mut file, &mut io::sink(), room, list)? {
+        Ok(()) => Ok(true),
+        Err(stop) => {
+            say_stop(stdout, stop)?;
+            Ok(false)
+        }
+    }
 }
 
 fn write(
@@ -264,22 +174,22 @@ fn write(
     path: &[u8],
     list: &mut [u8; 4103],
 ) -> io::Result<()> {
-    let purpose = Purpose {
-        writes: true,
-        room: u64::MAX,
+    let Some(mut file) = log_feed::open(rt, stdout, path)? else {
+        return Ok(());
     };
-    let e = read_list(rt, stdout, settings, path, purpose, list)?;
-    went(stdout, e, true)?;
-    Ok(())
+    match run_over(settings, &mut file, stdout, u64::MAX, list)? {
+        Ok(()) | Err(Stop::NoRoom) => Ok(()),
+        Err(stop) => say_stop(stdout, stop),
+    }
 }
 
+// A room of `None` has no limit.
 fn write_within(
     rt: &impl Files,
     stdout: &mut impl Write,
     settings: Settings,
     path: &[u8],
-    limited: bool,
-    room: u64,
+    room: Option<u64>,
 ) -> io::Result<()> {
     let mut list = log_feed::section();
     let pids = settings.pids;
@@ -289,8 +199,8 @@ fn write_within(
     if !pids.is_with() {
         return log_feed::say_no_pid(stdout);
     }
-    if limited {
-        if !measured(rt, stdout, settings, path, room, &mut list)? {
+    if let Some(room) = room {
+        if !has_room(rt, stdout, settings, path, room, &mut list)? {
             return Ok(());
         }
     }
@@ -298,10 +208,10 @@ fn write_within(
 }
 
 // SECTIONS is the ninth word.
-fn write_path(rt: &HostRuntime, settings: Settings, limited: bool, room: u64) -> io::Result<()> {
+fn write_path(rt: &HostRuntime, settings: Settings, room: Option<u64>) -> io::Result<()> {
     let mut path = [0u8; 4096];
     let n = program_input::arg(rt, 9, &mut path);
-    write_within(rt, &mut rt.stdout(), settings, &path[0..n], limited, room)
+    write_within(rt, &mut rt.stdout(), settings, &path[0..n], room)
 }
 
 fn usage(rt: &HostRuntime) -> io::Result<()> {
@@ -313,14 +223,12 @@ fn usage(rt: &HostRuntime) -> io::Result<()> {
 
 // ROOM is the eighth word: a number, or - for no limit.
 fn with_room(rt: &HostRuntime, settings: Settings) -> io::Result<()> {
-    if log_words::is_word(rt, 8, b"-") {
-        return write_path(rt, settings, false, 0);
+    if program_input::is_word(rt, 8, b"-") {
+        return write_path(rt, settings, None);
     }
-    let room = log_words::number_at(rt, 8);
-    if room.good {
-        write_path(rt, settings, true, room.value)
-    } else {
-        usage(rt)
+    match program_input::number_at(rt, 8) {
+        Some(room) => write_path(rt, settings, Some(room)),
+        None => usage(rt),
     }
 }
 
@@ -328,11 +236,8 @@ fn main(rt: HostRuntime) -> io::Result<()> {
     if program_input::arg_count(&rt) != 10 {
         return usage(&rt);
     }
-    let words = log_words::settings(&rt);
-    let settings = words.settings;
-    if words.good {
-        with_room(&rt, settings)
-    } else {
-        usage(&rt)
+    match log_words::settings(&rt) {
+        Some(settings) => with_room(&rt, settings),
+        None => usage(&rt),
     }
 }

@@ -3,7 +3,7 @@ use mathlib.Core.Path.{◌≡◌}
 use Prim.Native.Nat.{◌≤◌, ◌-◌}
 use native.Mathlib.Omega.{arith}
 use borrow.Author.Rules.{rules}
-use Rattle.laws.proofs.Search.{first_hit, first_miss, first_end}
+use Rattle.laws.proofs.Search.{first_hit, first_miss, first_none}
 use Rattle.alignment.proofs.seek.Goals as goal
 
 pub loop-j-init : goal.loop-j-init
@@ -16,4 +16,4 @@ pub loop-j-preserved : goal.loop-j-preserved
 loop-j-preserved c = (search rules, search first_miss)
 
 pub returns : goal.returns
-returns c = search first_end
+returns c = search first_none

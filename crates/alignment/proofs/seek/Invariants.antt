@@ -6,6 +6,3 @@ use Rattle.alignment.proofs.seek.Given as goal
 
 abbrev pub invariant-loop-j : goal.invariant-loop-j
 invariant-loop-j l = (l.j ≤ l.end) × (first_from (sync_at l.window) l.end 0 ≡ first_from (sync_at l.window) (l.end - l.j) l.j)
-
-abbrev pub decreases-loop-j : goal.decreases-loop-j
-decreases-loop-j l = l.end - l.j

@@ -1,9 +1,6 @@
-use Rattle.std.proofs.Common.{◌≡◌, ◌-◌, ◌≤◌, ◌&&◌, length, drop, refl, arith, rules}
+use Rattle.std.proofs.Common.{◌≡◌, ◌≤◌, ◌&&◌, length, drop}
 use Rattle.cells.specs.Cells.{all_whole}
 use Rattle.cells.proofs.all_whole.Given as goal
 
-abbrev pub invariant-loop-j : goal.invariant-loop-j
-invariant-loop-j l = (l.j ≤ length l.slots) × (all_whole l.count l.size l.slots ≡ (l.ok && all_whole l.count l.size (drop l.j l.slots)))
-
-abbrev pub decreases-loop-j : goal.decreases-loop-j
-decreases-loop-j l = length l.slots - l.j
+abbrev pub invariant-loop-w : goal.invariant-loop-w
+invariant-loop-w l = (l.w-index ≤ length l.slots) × (all_whole l.count l.size l.slots ≡ (l.ok && all_whole l.count l.size (drop l.w-index l.slots)))

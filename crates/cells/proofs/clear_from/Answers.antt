@@ -1,5 +1,5 @@
-use Rattle.std.proofs.Common.{◌≡◌, ℕ, ◌-◌, ◌≤◌, not, refl, arith, rules}
-use Rattle.laws.proofs.Search.{first_hit, first_miss, first_end}
+use Rattle.std.proofs.Common.{refl, arith, rules}
+use Rattle.laws.proofs.Search.{first_hit, first_miss, first_none}
 use Rattle.cells.proofs.clear_from.Goals as goal
 
 pub loop-c-init : goal.loop-c-init
@@ -12,4 +12,4 @@ pub loop-c-preserved : goal.loop-c-preserved
 loop-c-preserved c = (search rules, search first_miss)
 
 pub returns : goal.returns
-returns c = search first_end
+returns c = search first_none

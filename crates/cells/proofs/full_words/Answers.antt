@@ -1,6 +1,6 @@
-use Rattle.std.proofs.Common.{◌≡◌, ℕ, ◌-◌, ◌≤◌, get_or, arith, rules}
+use Rattle.std.proofs.Common.{arith, rules}
 use native.Mathlib.Nat.{sub-zero}
-use Rattle.laws.proofs.Search.{first_hit, first_miss, first_end}
+use Rattle.laws.proofs.Search.{first_hit, first_miss, first_none}
 use Rattle.cells.proofs.full_words.Goals as goal
 
 pub loop-k-init : goal.loop-k-init
@@ -13,4 +13,4 @@ pub loop-k-preserved : goal.loop-k-preserved
 loop-k-preserved c = (search rules, search first_miss)
 
 pub returns : goal.returns
-returns c = search first_end
+returns c = search first_none

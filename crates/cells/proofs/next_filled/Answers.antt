@@ -1,5 +1,5 @@
-use Rattle.std.proofs.Common.{◌≡◌, ℕ, ◌-◌, ◌≤◌, length, get_or, refl, arith, rules}
-use Rattle.laws.proofs.Search.{first_hit, first_miss, first_end}
+use Rattle.std.proofs.Common.{refl, arith, rules}
+use Rattle.laws.proofs.Search.{first_hit, first_miss, first_none}
 use Rattle.cells.proofs.next_filled.Goals as goal
 
 pub loop-j-init : goal.loop-j-init
@@ -12,4 +12,4 @@ pub loop-j-preserved : goal.loop-j-preserved
 loop-j-preserved c = (search rules, search first_miss)
 
 pub returns : goal.returns
-returns c = search first_end
+returns c = search first_none

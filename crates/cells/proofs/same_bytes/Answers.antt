@@ -1,4 +1,4 @@
-use Rattle.std.proofs.Common.{◌≡◌, ◌-◌, ◌≤◌, ◌&&◌, eqb, length, drop, refl, arith, rules}
+use Rattle.std.proofs.Common.{refl, arith, rules}
 use Rattle.cells.proofs.Laws.{lengths_differ, gather_turn, gather_end}
 use Rattle.cells.proofs.same_bytes.Goals as goal
 

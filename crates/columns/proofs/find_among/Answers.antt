@@ -1,8 +1,8 @@
-use mathlib.Core.Path.{◌≡◌, refl}
-use Prim.Native.Nat.{ℕ, ◌+◌, ◌≤◌, ◌-◌}
+use mathlib.Core.Path.{refl}
+use Prim.Native.Nat.{◌+◌}
 use native.Mathlib.Omega.{arith}
 use borrow.Author.Rules.{rules}
-use Rattle.laws.proofs.Search.{first_hit, first_miss, first_end}
+use Rattle.laws.proofs.Search.{first_hit, first_miss, first_none}
 use Rattle.columns.proofs.Ways.{tells_fewer}
 use Rattle.columns.proofs.find_among.Goals as goal
 
@@ -19,4 +19,4 @@ pub loop-i-preserved : goal.loop-i-preserved
 loop-i-preserved c = (search rules, search first_miss)
 
 pub returns : goal.returns
-returns c = search first_end
+returns c = search first_none

@@ -6,6 +6,3 @@ use Rattle.counts_lines.proofs.put_numbers.Given as goal
 
 abbrev pub invariant-loop-k : goal.invariant-loop-k
 invariant-loop-k l = (l.k ≤ length l.numbers) × (length l.line ≡ length l.initial.line) × (l.to ≤ l.at + 21 * l.k) × Left l.initial.line l.at l.numbers l.line l.to l.k
-
-abbrev pub decreases-loop-k : goal.decreases-loop-k
-decreases-loop-k l = length l.numbers - l.k

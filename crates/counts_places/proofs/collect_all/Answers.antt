@@ -10,9 +10,6 @@ loop-k-init c = (omega arith, refl, refl, refl, refl, refl, refl, refl, refl, st
 pub collect_at-held-requires : goal.collect_at-held-requires
 collect_at-held-requires c = omega arith
 
-pub overflow_add-k : goal.overflow_add-k
-overflow_add-k c = omega (arith, c.loop-k-test.true, c.ranges.count.fits)
-
 pub loop-k-preserved : goal.loop-k-preserved
 loop-k-preserved c = let a = c.args in
     let l = c.loop-k in

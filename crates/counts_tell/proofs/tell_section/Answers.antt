@@ -5,5 +5,5 @@ use Rattle.counts_tell.proofs.tell_section.Goals as goal
 pub returns-in-None : goal.returns-in-None
 returns-in-None g c = search no_clock
 
-pub returns-in-At : goal.returns-in-At
-returns-in-At g c = told_clock c.args.last c.args.interval c.args.section.now c.read.result c.read.ensures c.in-At.stamp c.tell_time.result c.in-At.is c.tell_time.ensures
+pub returns-in-Some : goal.returns-in-Some
+returns-in-Some g c = told_clock c.args.last c.args.interval c.args.section.now c.read.result c.read.ensures c.in-Some.stamp c.tell_time.result c.in-Some.is c.tell_time.ensures

@@ -1,5 +1,5 @@
 use mathlib.Core.Path.{◌≡◌, refl, sym, ap, ◌∙◌}
-use Prim.Native.Nat.{ℕ, suc, ◌+◌, ◌-◌, ◌/◌, ◌%◌, ◌^◌, ◌≤◌}
+use Prim.Native.Nat.{ℕ, suc, ◌+◌, ◌-◌, ◌/◌, ◌%◌, ◌^◌}
 use native.Mathlib.Nat.{mod-lt, zero-lt-suc, div-one}
 use native.Mathlib.Omega.{arith}
 use lib.Pow.{shr-shr}
@@ -15,17 +15,11 @@ pub loop-k-init : goal.loop-k-init
 unfolding bits_in
 loop-k-init c = (omega arith, refl)
 
-pub overflow_sub-k : goal.overflow_sub-k
-overflow_sub-k c = omega arith
-
 pub overflow_shr-w : goal.overflow_shr-w
 overflow_shr-w c = omega arith
 
 pub bit_in-x-requires : goal.bit_in-x-requires
 bit_in-x-requires c = mod-lt _ (zero-lt-suc 1)
-
-pub loop-k-smaller : goal.loop-k-smaller
-loop-k-smaller c = omega arith
 
 pub loop-k-preserved : goal.loop-k-preserved
 loop-k-preserved c = let k = c.loop-k.k in

@@ -1,30 +1,21 @@
-use mathlib.Core.Path.{◌≡◌, refl, ap, ◌∙◌}
-use Prim.Native.Nat.{ℕ, ◌-◌, ◌≤◌}
+use mathlib.Core.Path.{refl, ap, ◌∙◌}
+use Prim.Native.Nat.{ℕ}
 use native.Mathlib.Omega.{arith}
-use lib.ListN.{length, get_or, take}
-use Rattle.crc.specs.Crc.{byte_in, crc_from, crc_of}
+use lib.ListN.{get_or}
+use Rattle.crc.specs.Crc.{byte_in, crc_from, start}
 use Rattle.crc.proofs.Messages.{turn, all}
 use Rattle.crc.proofs.crc_bitwise.Goals as goal
 
-pub loop-i-init : goal.loop-i-init
+pub loop-v-init : goal.loop-v-init
 unfolding crc_from
-loop-i-init c = (omega arith, refl)
+loop-v-init c = (omega arith, refl)
 
-pub bounds-s-i : goal.bounds-s-i
-bounds-s-i c = omega arith
-
-pub overflow_add-i : goal.overflow_add-i
-overflow_add-i c = omega arith
-
-pub loop-i-smaller : goal.loop-i-smaller
-loop-i-smaller c = omega arith
-
-pub loop-i-preserved : goal.loop-i-preserved
-loop-i-preserved c = let s = c.args.s.now in
-    let i = c.loop-i.i in (
+pub loop-v-preserved : goal.loop-v-preserved
+loop-v-preserved c = let s = c.args.s.now in
+    let i = c.loop-v.v-index in (
       omega arith,
-      c.byte_in_bits-r.ensures ∙ ap (λ (r : ℕ). byte_in r (get_or s i 0)) c.loop-i.invariant.1 ∙ turn s i (omega arith),
+      c.byte_in_bits-r.ensures ∙ ap (λ (r : ℕ). byte_in r (get_or s i 0)) c.loop-v.invariant.1 ∙ turn start s i (omega arith),
     )
 
 pub returns : goal.returns
-returns c = c.loop-i.invariant.1 ∙ all c.args.s.now c.loop-i.i (omega arith)
+returns c = c.loop-v.invariant.1 ∙ all c.args.s.now c.loop-v.v-index (omega arith)

@@ -1,44 +1,26 @@
 use mathlib.Core.Path.{◌≡◌, ap, ◌∙◌}
-use Prim.Native.Nat.{ℕ, ◌+◌, ◌-◌, ◌*◌, ◌/◌, ◌%◌, ◌≤◌, ◌<◌}
 use native.Mathlib.Omega.{arith}
-use lib.ListN.{length, get_or, take}
-use Rattle.crc.specs.Crc.{crc_of, stored_at}
-use Rattle.crc.proofs.Messages.{turn8}
+use lib.ListN.{length, length-append}
+use Rattle.std.proofs.Common.{rules}
+use Rattle.std.specs.Slice.Iter.{chunks_exact_rest}
+use Rattle.crc.proofs.Messages.{group8, group_end, group_bytes, rest_bytes}
 use Rattle.crc.proofs.eights.Goals as goal
 
-pub loop-i-init : goal.loop-i-init
-loop-i-init c = c.requires
+pub loop-group-init : goal.loop-group-init
+loop-group-init c = (search rules, search rules, search rules, λ k. search rules)
 
-pub overflow_sub-s : goal.overflow_sub-s
-overflow_sub-s c = omega arith
-
-pub stored-requires : goal.stored-requires
-stored-requires c = omega arith
-
-pub overflow_add-i : goal.overflow_add-i
-overflow_add-i c = omega arith
-
-pub stored-requires-in-loop-i : goal.stored-requires-in-loop-i
-stored-requires-in-loop-i c = omega arith
-
-pub overflow_add-i-in-loop-i : goal.overflow_add-i-in-loop-i
-overflow_add-i-in-loop-i c = omega arith
-
-pub loop-i-smaller : goal.loop-i-smaller
-loop-i-smaller c = omega arith
-
-pub loop-i-preserved : goal.loop-i-preserved
-loop-i-preserved c = let s = c.args.s.now in
-    let i = c.loop-i.i in
-    let w : c.stored.result ≡ stored_at s i = c.stored.ensures in
-    let v : c.stored-in-loop-i.result ≡ stored_at s (i + 4) = c.stored-in-loop-i.ensures in
-    let bytes : (k : ℕ) → get_or s k 0 < 256 = λ k. omega (arith, c.shared_slice_known-1.given k) in (
-      omega arith,
-      omega arith,
-      c.eight_in-x.ensures ∙ rw (c.loop-i.invariant.2, w, v) (turn8 s i (omega arith) bytes),
+pub loop-group-preserved : goal.loop-group-preserved
+loop-group-preserved c = let l = c.loop-group in
+    let h = c.in-Some.ensures.steps in
+    let b = l.invariant.3 in
+    let n : length c.in-Some.group.now ≡ 8 = h.1.1 ∙ l.invariant.0 in (
+      search rules,
+      omega (arith, ap length h.1.0, length-append c.in-Some.group.now (chunks_exact_rest c.next.new.self), n, l.invariant.1),
+      group8 l.x c.in-Some.group.now (chunks_exact_rest c.next.new.self) (chunks_exact_rest l.group-iterator) _ _ (group_bytes c.in-Some.group.now (chunks_exact_rest c.next.new.self) (chunks_exact_rest l.group-iterator) h.1.0 b) h.1.0 l.invariant.2 n c.eight_in-x.ensures c.stored.ensures c.stored-in-loop-group.ensures,
+      rest_bytes c.in-Some.group.now (chunks_exact_rest c.next.new.self) (chunks_exact_rest l.group-iterator) h.1.0 b,
     )
 
 pub returns : goal.returns
-returns c = let s = c.args.s.now in
-    let e : c.loop-i.i ≡ length s / 8 * 8 = omega arith in
-    c.loop-i.invariant.2 ∙ ap (λ (i : ℕ). crc_of (take i s)) e
+returns c = let l = c.loop-group in
+    let h = c.in-None.ensures.steps.1.0 in
+    group_end l.x _ (chunks_exact_rest l.group-iterator) 8 l.invariant.1 (omega (arith, h, l.invariant.0)) l.invariant.2

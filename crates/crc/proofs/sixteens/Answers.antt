@@ -1,56 +1,26 @@
-use mathlib.Core.Path.{◌≡◌, refl, ap, ◌∙◌}
-use Prim.Native.Nat.{ℕ, ◌+◌, ◌-◌, ◌*◌, ◌/◌, ◌%◌, ◌≤◌, ◌<◌}
+use mathlib.Core.Path.{◌≡◌, ap, ◌∙◌}
 use native.Mathlib.Omega.{arith}
-use lib.ListN.{length, get_or, take}
-use Rattle.crc.specs.Crc.{crc_from, crc_of}
-use Rattle.crc.proofs.Messages.{taken16}
+use lib.ListN.{length, length-append}
+use Rattle.std.proofs.Common.{rules}
+use Rattle.std.specs.Slice.Iter.{chunks_exact_rest}
+use Rattle.crc.proofs.Messages.{group16, group_end, group_bytes, rest_bytes}
 use Rattle.crc.proofs.sixteens.Goals as goal
 
-pub loop-i-init : goal.loop-i-init
-unfolding crc_from
-loop-i-init c = (omega arith, refl, refl)
+pub loop-group-init : goal.loop-group-init
+loop-group-init c = (search rules, search rules, search rules, λ k. search rules)
 
-pub overflow_sub-s : goal.overflow_sub-s
-overflow_sub-s c = omega arith
-
-pub stored-requires : goal.stored-requires
-stored-requires c = omega arith
-
-pub overflow_add-i : goal.overflow_add-i
-overflow_add-i c = omega arith
-
-pub stored-requires-in-loop-i : goal.stored-requires-in-loop-i
-stored-requires-in-loop-i c = omega arith
-
-pub overflow_add-i-in-loop-i : goal.overflow_add-i-in-loop-i
-overflow_add-i-in-loop-i c = omega arith
-
-pub stored-requires-in-loop-i-2 : goal.stored-requires-in-loop-i-2
-stored-requires-in-loop-i-2 c = omega arith
-
-pub overflow_add-i-in-loop-i-2 : goal.overflow_add-i-in-loop-i-2
-overflow_add-i-in-loop-i-2 c = omega arith
-
-pub stored-requires-in-loop-i-3 : goal.stored-requires-in-loop-i-3
-stored-requires-in-loop-i-3 c = omega arith
-
-pub overflow_add-i-in-loop-i-3 : goal.overflow_add-i-in-loop-i-3
-overflow_add-i-in-loop-i-3 c = omega arith
-
-pub loop-i-smaller : goal.loop-i-smaller
-loop-i-smaller c = omega arith
-
-pub loop-i-preserved : goal.loop-i-preserved
-loop-i-preserved c = let s = c.args.s.now in
-    let i = c.loop-i.i in
-    let bytes : (k : ℕ) → get_or s k 0 < 256 = λ k. omega (arith, c.shared_slice_known-1.given k) in (
-      omega arith,
-      omega arith,
-      taken16 s i (omega arith) bytes c.sixteen_in-r.ensures c.loop-i.invariant.2 c.stored.ensures
-          c.stored-in-loop-i.ensures c.stored-in-loop-i-2.ensures c.stored-in-loop-i-3.ensures,
+pub loop-group-preserved : goal.loop-group-preserved
+loop-group-preserved c = let l = c.loop-group in
+    let h = c.in-Some.ensures.steps in
+    let b = l.invariant.3 in
+    let n : length c.in-Some.group.now ≡ 16 = h.1.1 ∙ l.invariant.0 in (
+      search rules,
+      omega (arith, ap length h.1.0, length-append c.in-Some.group.now (chunks_exact_rest c.next.new.self), n, l.invariant.1),
+      group16 l.x c.in-Some.group.now (chunks_exact_rest c.next.new.self) (chunks_exact_rest l.group-iterator) _ _ (group_bytes c.in-Some.group.now (chunks_exact_rest c.next.new.self) (chunks_exact_rest l.group-iterator) h.1.0 b) h.1.0 l.invariant.2 n c.sixteen_in-x.ensures c.stored.ensures c.stored-in-loop-group.ensures c.stored-in-loop-group-2.ensures c.stored-in-loop-group-3.ensures,
+      rest_bytes c.in-Some.group.now (chunks_exact_rest c.next.new.self) (chunks_exact_rest l.group-iterator) h.1.0 b,
     )
 
 pub returns : goal.returns
-returns c = let s = c.args.s.now in
-    let e : c.loop-i.i ≡ length s / 16 * 16 = omega arith in
-    c.loop-i.invariant.2 ∙ ap (λ (i : ℕ). crc_of (take i s)) e
+returns c = let l = c.loop-group in
+    let h = c.in-None.ensures.steps.1.0 in
+    group_end l.x _ (chunks_exact_rest l.group-iterator) 16 l.invariant.1 (omega (arith, h, l.invariant.0)) l.invariant.2

@@ -1,12 +1,11 @@
--- `crc::sixteens` meets its contract. The invariant: r is the register after the first i bytes, which are whole groups of sixteen. Assumes nothing.
-use mathlib.Core.Path.{◌≡◌, refl, ap, ◌∙◌}
-use Prim.Native.Nat.{ℕ, ◌+◌, ◌-◌, ◌*◌, ◌/◌, ◌%◌, ◌≤◌, ◌<◌}
-use lib.ListN.{length, get_or, take}
-use Rattle.crc.specs.Crc.{crc_from, crc_of}
+-- What is left are whole groups of bytes, which go into the register x.
+use mathlib.Core.Path.{◌≡◌}
+use Prim.Native.Nat.{ℕ, ◌%◌, ◌<◌}
+use lib.ListN.{length, get_or}
+use Rattle.std.specs.Slice.Iter.{chunks_exact_rest, chunks_exact_size}
+use Rattle.crc.specs.Crc.{crc_from}
 use Rattle.crc.proofs.sixteens.Given as goal
 
-abbrev pub invariant-loop-i : goal.invariant-loop-i
-invariant-loop-i l = (l.i ≤ length l.s) × (l.i % 16 ≡ 0) × (l.r ≡ crc_of (take l.i l.s))
-
-abbrev pub decreases-loop-i : goal.decreases-loop-i
-decreases-loop-i l = length l.s - l.i
+abbrev pub invariant-loop-group : goal.invariant-loop-group
+invariant-loop-group l = (chunks_exact_size l.group-iterator ≡ 16) × (length (chunks_exact_rest l.group-iterator) % 16 ≡ 0) × (crc_from l.x (chunks_exact_rest l.group-iterator) ≡ crc_from l.r l.s)
+    × ((k : ℕ) → get_or (chunks_exact_rest l.group-iterator) k 0 < 256)

@@ -30,9 +30,6 @@ turn-now-requires c = let a = c.args in
     let o = held_by l.now l.keys l.changes (index_of l.buckets l.links) (record_of l.words l.pat_slots l.pat_cells) l.pids l.places in
     turn_may a.count l.k o c.loop-k-test.true l.invariant.2 (omega (arith, n.pids_long, c.requires.long)) (omega (arith, n.places_long, c.requires.listed))
 
-pub overflow_add-k : goal.overflow_add-k
-overflow_add-k c = omega (arith, c.loop-k-test.true, c.ranges.count)
-
 pub loop-k-preserved : goal.loop-k-preserved
 loop-k-preserved c = let a = c.args in
     let l = c.loop-k in

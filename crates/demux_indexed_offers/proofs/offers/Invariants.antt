@@ -12,6 +12,3 @@ invariant-loop-k l = (l.k ≤ l.count) × Lengths l.initial.keys l.initial.chang
     × SteadyBy (l.count - l.k) (kept_by l.now.gate l.now.counters l.keys l.changes (index_of l.buckets l.links) (record_of l.words l.pat_slots l.pat_cells))
     × (offers_from l.packet l.buffers l.input l.pid (l.count - l.k) l.k (held_by l.now l.keys l.changes (index_of l.buckets l.links) (record_of l.words l.pat_slots l.pat_cells) l.pids l.places)
     ≡ offers_from l.packet l.buffers l.input l.pid l.count 0 (held_by l.initial.now l.initial.keys l.initial.changes (index_of l.initial.buckets l.initial.links) (record_of l.initial.words l.initial.pat_slots l.initial.pat_cells) l.initial.pids l.initial.places))
-
-abbrev pub decreases-loop-k : goal.decreases-loop-k
-decreases-loop-k l = l.count - l.k

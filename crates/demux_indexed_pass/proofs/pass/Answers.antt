@@ -11,15 +11,15 @@ pub pass-requires : goal.pass-requires
 pass-requires c = let a = c.args in
     let j = c.judge in
     can_pass_by a.gate a.counters (length a.keys.now) (length a.changes.now) (length a.buckets.now) (length a.links.now) (record_of a.words.now a.pat_slots.now a.pat_cells.now) (length a.buffers.now) a.input
-    (length a.places.now) a.streams a.pids.now _ c.in-Goes.field-0 j.result j.ensures c.in-Goes.is
+    (length a.places.now) a.streams a.pids.now _ c.in-Ok.field-0 j.result j.ensures c.in-Ok.is
 
-pub returns-in-Refused : goal.returns-in-Refused
-returns-in-Refused c = let a = c.args in
+pub returns-in-Err : goal.returns-in-Err
+returns-in-Err c = let a = c.args in
     let j = c.judge in
-    pass_none (length a.packets.now / 188) (store_of (kept_by a.gate a.counters a.keys.now a.changes.now (index_of a.buckets.now a.links.now) (record_of a.words.now a.pat_slots.now a.pat_cells.now)) a.streams a.pids.now a.buffers.now a.places.now) a.input _ a.packets.now j.result c.in-Refused.field-0 j.ensures c.in-Refused.is
+    pass_none (length a.packets.now / 188) (store_of (kept_by a.gate a.counters a.keys.now a.changes.now (index_of a.buckets.now a.links.now) (record_of a.words.now a.pat_slots.now a.pat_cells.now)) a.streams a.pids.now a.buffers.now a.places.now) a.input _ a.packets.now j.result c.in-Err.field-0 j.ensures c.in-Err.is
 
-pub returns-in-Goes : goal.returns-in-Goes
-returns-in-Goes c = let a = c.args in
+pub returns-in-Ok : goal.returns-in-Ok
+returns-in-Ok c = let a = c.args in
     let j = c.judge in
     let r = c.pass in
-    pass_some (kept_by a.gate a.counters a.keys.now a.changes.now (index_of a.buckets.now a.links.now) (record_of a.words.now a.pat_slots.now a.pat_cells.now)) a.streams a.pids.now a.buffers.now a.places.now a.input _ a.packets.now j.result c.in-Goes.field-0 r.result r.new.pids j.ensures c.in-Goes.is r.ensures
+    pass_some (kept_by a.gate a.counters a.keys.now a.changes.now (index_of a.buckets.now a.links.now) (record_of a.words.now a.pat_slots.now a.pat_cells.now)) a.streams a.pids.now a.buffers.now a.places.now a.input _ a.packets.now j.result c.in-Ok.field-0 r.result r.new.pids j.ensures c.in-Ok.is r.ensures

@@ -1,5 +1,3 @@
-use mathlib.Core.Path.{◌≡◌}
-use Prim.Native.Nat.{◌-◌, ◌≤◌, min}
 use borrow.Author.Rules.{rules}
 use Rattle.differences.proofs.Places.{same_byte, place_found, place_ends}
 use Rattle.differences.proofs.first_place.Goals as goal

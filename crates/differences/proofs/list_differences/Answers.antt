@@ -1,8 +1,6 @@
-use mathlib.Core.Path.{◌≡◌}
-use Prim.Native.Nat.{◌+◌, ◌-◌}
 use native.Mathlib.Omega.{arith}
 use borrow.Author.Rules.{rules}
-use Rattle.differences.proofs.Listing.{Listing, listing_starts, rank_low, moves, first_fits, second_fits, listing_turn, listing_count, listing_words}
+use Rattle.differences.proofs.Listing.{listing_starts, rank_low, moves, first_fits, second_fits, listing_turn, listing_count, listing_words}
 use Rattle.differences.proofs.list_differences.Goals as goal
 
 pub loop-i-init : goal.loop-i-init

@@ -1,7 +1,7 @@
 use mathlib.Core.Path.{◌≡◌}
 use Prim.Native.Nat.{◌+◌, ◌-◌}
 use lib.ListN.{length}
-use Rattle.differences.proofs.Listing.{Listing, listing_starts, rank_low, moves, first_fits, second_fits, listing_turn, listing_count, listing_words}
+use Rattle.differences.proofs.Listing.{Listing}
 use Rattle.differences.proofs.list_differences.Given as goal
 
 abbrev pub invariant-loop-i : goal.invariant-loop-i

@@ -1,9 +1,7 @@
 use mathlib.Core.Path.{◌∙◌, refl}
 use lib.ListN.{replicate}
-use mathlib.Core.Path.{◌≡◌}
-use Prim.Native.Nat.{◌-◌, ◌≤◌}
 use borrow.Author.Rules.{rules}
-use Rattle.differences.proofs.Tabling.{Side, side_starts, side_leads, side_turn, words_to, tabling_starts, tabling_turn, tabling_ends}
+use Rattle.differences.proofs.Tabling.{side_starts, side_leads, side_turn, tabling_starts, tabling_turn, tabling_ends}
 use Rattle.differences.proofs.table_words.Goals as goal
 
 pub loop-t-init : goal.loop-t-init

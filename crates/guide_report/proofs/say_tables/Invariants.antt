@@ -3,6 +3,3 @@ use Rattle.guide_report.proofs.say_tables.Given as goal
 
 abbrev pub invariant-loop-t : goal.invariant-loop-t
 invariant-loop-t g l = (l.k ≤ l.n) × (l.t ≤ 16)
-
-abbrev pub decreases-loop-t : goal.decreases-loop-t
-decreases-loop-t g l = 16 - l.t

@@ -1,10 +1,8 @@
 use mathlib.Core.Bool.{true}
 use Rattle.laid.proofs.Ways.{size_twelve, run_parts}
-use mathlib.Core.Path.{◌≡◌}
-use Prim.Native.Nat.{◌+◌, ◌-◌, ◌≤◌}
 use native.Mathlib.Omega.{arith}
 use borrow.Author.Rules.{rules}
-use Rattle.laid.proofs.Ways.{run_from, run_none, run_starts, run_broken, run_apart, run_turn, run_fits, run_least, run_ends}
+use Rattle.laid.proofs.Ways.{run_none, run_starts, run_broken, run_apart, run_turn, run_fits, run_least, run_ends}
 use mathlib.Core.Path.{ap}
 use mathlib.Core.Bool.{not}
 use Rattle.laid.proofs.joined.Goals as goal

@@ -2,7 +2,7 @@ use mathlib.Core.Path.{◌≡◌}
 use Prim.Native.Nat.{◌+◌, ◌-◌, ◌≤◌}
 use lib.ListN.{length}
 use Rattle.laid.specs.Laid.{joined}
-use Rattle.laid.proofs.Ways.{run_from, run_none, run_starts, run_broken, run_apart, run_turn, run_fits, run_least, run_ends}
+use Rattle.laid.proofs.Ways.{run_from}
 use Rattle.laid.proofs.joined.Given as goal
 
 abbrev pub invariant-loop-at : goal.invariant-loop-at

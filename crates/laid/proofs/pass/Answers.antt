@@ -1,6 +1,5 @@
-use Prim.Native.Nat.{◌-◌}
 use native.Mathlib.Omega.{arith}
-use Rattle.laid.proofs.Walks.{Passes, passes_starts, passes_found, passes_turn, passes_ends, end_past}
+use Rattle.laid.proofs.Walks.{passes_starts, passes_found, passes_turn, passes_ends, end_past}
 use Rattle.laid.proofs.pass.Goals as goal
 
 pub loop-at-init : goal.loop-at-init

@@ -1,6 +1,6 @@
 use Prim.Native.Nat.{◌-◌}
 use lib.ListN.{length}
-use Rattle.laid.proofs.Walks.{Passes, passes_starts, passes_found, passes_turn, passes_ends, end_past}
+use Rattle.laid.proofs.Walks.{Passes}
 use Rattle.laid.proofs.pass.Given as goal
 
 abbrev pub invariant-loop-at : goal.invariant-loop-at

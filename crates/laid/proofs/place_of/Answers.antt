@@ -1,7 +1,6 @@
 use Rattle.laid.proofs.Walks.{room_here}
-use Prim.Native.Nat.{◌-◌}
 use native.Mathlib.Omega.{arith}
-use Rattle.laid.proofs.Walks.{Seeks, seeks_starts, seeks_found, seeks_turn, seeks_ends, end_past}
+use Rattle.laid.proofs.Walks.{seeks_starts, seeks_found, seeks_turn, seeks_ends, end_past}
 use Rattle.laid.proofs.place_of.Goals as goal
 
 pub loop-at-init : goal.loop-at-init

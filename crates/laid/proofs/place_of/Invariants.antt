@@ -1,6 +1,6 @@
 use Prim.Native.Nat.{◌-◌}
 use lib.ListN.{length}
-use Rattle.laid.proofs.Walks.{Seeks, seeks_starts, seeks_found, seeks_turn, seeks_ends, end_past}
+use Rattle.laid.proofs.Walks.{Seeks}
 use Rattle.laid.proofs.place_of.Given as goal
 
 abbrev pub invariant-loop-at : goal.invariant-loop-at

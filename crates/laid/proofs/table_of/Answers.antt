@@ -1,4 +1,4 @@
-use Rattle.laid.proofs.Tables.{schedule_starts, part_ordered, part_fits, part_of_table}
+use Rattle.laid.proofs.Tables.{schedule_starts, part_of_table}
 use Rattle.laid.proofs.table_of.Goals as goal
 
 pub pass-start-requires : goal.pass-start-requires

@@ -1,75 +1,34 @@
-use Rattle.log_check.proofs.Laws.{On, starts_on, step_entry, turn_on, turn_stops, walked_end}
-use mathlib.Core.Path.{refl, ◌∙◌}
-use Prim.Native.Nat.{◌-◌}
-use native.Mathlib.Omega.{arith}
-use Rattle.log_state.specs.State.{lent}
-use mathlib.Core.Path.{ap}
-use mathlib.Core.Bool.{not}
+use mathlib.Core.Path.{◌∙◌}
+use Rattle.std.proofs.lemmas.Result.{err_from_is_err_and}
+use Rattle.log_list.proofs.Laws.{gave_place, gave_none}
+use Rattle.log_check.proofs.Laws.{step_entry, turn_on, turn_stops, walked_end}
 use Rattle.log_check.proofs.walk.Goals as goal
 
-pub loop-place-init : goal.loop-place-init
-loop-place-init c = let a = c.args in (
-  c.requires,
-  record { keys = refl; changes = refl; heads = refl; slots = refl; cells = refl },
-  starts_on a.sections.now a.log.now (lent a.run a.keys.now a.changes.now a.heads.now a.slots.now a.cells.now),
-)
+pub beside-requires : goal.beside-requires
+beside-requires c = step_entry c.take_one-step.ensures
 
-pub take_one-step-requires : goal.take_one-step-requires
-take_one-step-requires c = record { whole_from = c.loop-place.invariant.0; place_in_bounds = c.loop-place-test.true }
-
-pub beside-seen-requires : goal.beside-seen-requires
-beside-seen-requires c = step_entry c.take_one-step.ensures
-
-pub shape_of-keys-then-not-passes : goal.shape_of-keys-then-not-passes
-shape_of-keys-then-not-passes c = c.take_one-step.auto.keys ∙ c.loop-place.invariant.1.keys
-
-pub shape_of-changes-then-not-passes : goal.shape_of-changes-then-not-passes
-shape_of-changes-then-not-passes c = c.take_one-step.auto.changes ∙ c.loop-place.invariant.1.changes
-
-pub shape_of-heads-then-not-passes : goal.shape_of-heads-then-not-passes
-shape_of-heads-then-not-passes c = c.take_one-step.auto.heads ∙ c.loop-place.invariant.1.heads
-
-pub shape_of-slots-then-not-passes : goal.shape_of-slots-then-not-passes
-shape_of-slots-then-not-passes c = c.take_one-step.auto.slots ∙ c.loop-place.invariant.1.slots
-
-pub shape_of-cells-then-not-passes : goal.shape_of-cells-then-not-passes
-shape_of-cells-then-not-passes c = c.take_one-step.auto.cells ∙ c.loop-place.invariant.1.cells
-
-pub returns-then-not-passes : goal.returns-then-not-passes
-returns-then-not-passes c = turn_stops c.take_one-step.ensures c.loop-place.invariant.2 c.beside-seen.ensures c.passes.ensures (ap not c.if-not-passes.true)
-
-pub loop-place-smaller : goal.loop-place-smaller
-loop-place-smaller c = let st = c.take_one-step.ensures in omega (arith, st.later, st.behind.within, c.loop-place-test.true)
+pub returns-in_err-at : goal.returns-in_err-at
+returns-in_err-at c = let i = c.loop-place.invariant in
+    let g = gave_place c.loop-place.place-iterator c.next.new.self i.2 c.in-Some.ensures.steps in
+    let p = err_from_is_err_and c.from_residual.result c.from_residual.ensures.1 in
+    rw (p.1, p.2) (turn_stops c.take_one-step.ensures g.0 i.4 c.beside.ensures c.in_err-at.was)
 
 pub loop-place-preserved : goal.loop-place-preserved
-loop-place-preserved c = let st = c.take_one-step.ensures in
-    let k = c.take_one-step.auto.keys in
-    let l = c.loop-place.invariant in (
-      st.behind,
+loop-place-preserved c = let i = c.loop-place.invariant in
+    let g = gave_place c.loop-place.place-iterator c.next.new.self i.2 c.in-Some.ensures.steps in
+    let k = c.take_one-step.auto in (
+      c.in-Some.ensures.goes.keeps,
+      tt,
+      g.2,
       record {
-        keys = c.take_one-step.auto.keys ∙ l.1.keys;
-        changes = c.take_one-step.auto.changes ∙ l.1.changes;
-        heads = c.take_one-step.auto.heads ∙ l.1.heads;
-        slots = c.take_one-step.auto.slots ∙ l.1.slots;
-        cells = c.take_one-step.auto.cells ∙ l.1.cells;
+        keys = k.keys ∙ i.3.keys;
+        changes = k.changes ∙ i.3.changes;
+        heads = k.heads ∙ i.3.heads;
+        slots = k.slots ∙ i.3.slots;
+        cells = k.cells ∙ i.3.cells;
       },
-      turn_on st l.2 c.beside-seen.ensures c.passes.ensures (ap not c.if-not-passes.false),
+      turn_on c.take_one-step.ensures g.0 i.4 c.beside.ensures c.in_ok-at.was g.1,
     )
 
-pub shape_of-keys : goal.shape_of-keys
-shape_of-keys c = c.loop-place.invariant.1.keys
-
-pub shape_of-changes : goal.shape_of-changes
-shape_of-changes c = c.loop-place.invariant.1.changes
-
-pub shape_of-heads : goal.shape_of-heads
-shape_of-heads c = c.loop-place.invariant.1.heads
-
-pub shape_of-slots : goal.shape_of-slots
-shape_of-slots c = c.loop-place.invariant.1.slots
-
-pub shape_of-cells : goal.shape_of-cells
-shape_of-cells c = c.loop-place.invariant.1.cells
-
 pub returns : goal.returns
-returns c = walked_end c.loop-place-test.false c.loop-place.invariant.2 c.finish.ensures
+returns c = let i = c.loop-place.invariant in walked_end (gave_none c.loop-place.place-iterator c.next.new.self i.2 c.in-None.ensures.steps) i.4 c.finish.ensures

@@ -1,36 +1,41 @@
-use Rattle.log_compare.specs.Compare.{is_none, passed, records_in, Laid}
-use borrow.Author.Rules.{rules}
+use mathlib.Core.Path.{ap, ◌∙◌}
 use native.Mathlib.Omega.{arith}
-use Prim.Native.Nat.{◌≤◌, ◌-◌}
-use mathlib.Core.Bool.{true}
-use mathlib.Core.Path.{◌≡◌}
-use Rattle.log_compare.proofs.Laws.{none_yet, none_wrong, turn_fits, turn_more, turn_laid, turn_stops, turn_on, turn_none, all_passed}
-use mathlib.Core.Path.{ap}
-use mathlib.Core.Bool.{not}
+use Rattle.std.proofs.lemmas.Result.{err_from_is_err_and}
+use Rattle.rules_logs.specs.Records.{record_size}
+use Rattle.log_compare.proofs.Laws.{first_some, first_none, turn_fits, turn_more, turn_laid, turn_stops, turn_on, all_passed}
 use Rattle.log_compare.proofs.compare.Goals as goal
 
-pub loop-done-init : goal.loop-done-init
-loop-done-init c = (omega arith, search none_wrong, c.requires, none_yet c.args.log.now c.args.expected.now c.args.place c.told-seen.ensures)
+pub split_at-requires : goal.split_at-requires
+split_at-requires c =
+    let x = c.loop-kind.rest.now in
+    let f = first_some x c.in-Some.ensures.value in
+    turn_fits c.args.log.now x c.loop-kind.invariant.0 f.0 (c.record_size.ensures ∙ ap record_size f.1)
 
-pub overflow_add-end : goal.overflow_add-end
-overflow_add-end c = let h = turn_fits c.args.log.now c.args.expected.now c.loop-done.done c.loop-done.invariant.2 c.loop-done-test.true c.record_size.ensures in omega (arith, h)
+pub returns-in_err-at : goal.returns-in_err-at
+returns-in_err-at c =
+    let x = c.loop-kind.rest.now in
+    let f = first_some x c.in-Some.ensures.value in
+    let p = err_from_is_err_and c.from_residual.result c.from_residual.ensures.1 in
+    rw (p.1, p.2) (turn_stops c.args.log.now x c.loop-kind.invariant.0 f.0 (c.record_size.ensures ∙ ap record_size f.1) c.loop-kind.at (rw (← c.split_at.ensures.front) c.compare_one.ensures) c.loop-kind.invariant.1 c.in_err-at.was)
 
-pub slice_bounds-compare_one-end : goal.slice_bounds-compare_one-end
-slice_bounds-compare_one-end c = let h = turn_fits c.args.log.now c.args.expected.now c.loop-done.done c.loop-done.invariant.2 c.loop-done-test.true c.record_size.ensures in search (rules, h)
+pub loop-kind-smaller : goal.loop-kind-smaller
+loop-kind-smaller c =
+    let x = c.loop-kind.rest.now in
+    let f = first_some x c.in-Some.ensures.value in
+    let m = turn_more c.args.log.now x c.loop-kind.invariant.0 f.0 (c.record_size.ensures ∙ ap record_size f.1) in
+    let b = c.split_at.ensures.back_len in omega (arith, m, b, f.0)
 
-pub returns-then-not-passes : goal.returns-then-not-passes
-returns-then-not-passes c = turn_stops c.args.log.now c.args.expected.now c.loop-done.done c.loop-done.invariant.2 c.loop-done-test.true c.record_size.ensures c.loop-done.seen.place c.compare_one-seen.ensures c.passes.ensures (passed c.args.log.now c.args.place (records_in c.args.expected.now)) c.loop-done.invariant.3 (ap not c.if-not-passes.true)
-
-pub loop-done-smaller : goal.loop-done-smaller
-loop-done-smaller c = let h = turn_more c.args.log.now c.args.expected.now c.loop-done.done c.loop-done.invariant.2 c.loop-done-test.true c.record_size.ensures in omega (arith, h, c.loop-done-test.true)
-
-pub loop-done-preserved : goal.loop-done-preserved
-loop-done-preserved c = (
-  turn_fits c.args.log.now c.args.expected.now c.loop-done.done c.loop-done.invariant.2 c.loop-done-test.true c.record_size.ensures,
-  turn_none c.args.log.now c.args.expected.now c.loop-done.done c.loop-done.invariant.2 c.loop-done-test.true c.record_size.ensures c.loop-done.seen.place c.compare_one-seen.ensures c.passes.ensures (ap not c.if-not-passes.false),
-  turn_laid c.args.log.now c.args.expected.now c.loop-done.done c.loop-done.invariant.2 c.loop-done-test.true c.record_size.ensures,
-  turn_on c.args.log.now c.args.expected.now c.loop-done.done c.loop-done.invariant.2 c.loop-done-test.true c.record_size.ensures c.loop-done.seen.place c.compare_one-seen.ensures c.passes.ensures (passed c.args.log.now c.args.place (records_in c.args.expected.now)) c.loop-done.invariant.3 (ap not c.if-not-passes.false),
-)
+pub loop-kind-preserved : goal.loop-kind-preserved
+loop-kind-preserved c =
+    let x = c.loop-kind.rest.now in
+    let f = first_some x c.in-Some.ensures.value in
+    let e = c.record_size.ensures ∙ ap record_size f.1 in
+    rw (c.split_at.ensures.back) (
+      turn_laid c.args.log.now x c.loop-kind.invariant.0 f.0 e,
+      turn_on c.args.log.now x c.loop-kind.invariant.0 f.0 e c.loop-kind.at (rw (← c.split_at.ensures.front) c.compare_one.ensures) c.loop-kind.invariant.1 c.in_ok-at.was,
+    )
 
 pub returns : goal.returns
-returns c = search all_passed
+returns c =
+    let f = first_none c.loop-kind.rest.now c.in_default.ensures.value in
+    all_passed c.args.log.now c.loop-kind.rest.now c.loop-kind.at f c.loop-kind.invariant.1

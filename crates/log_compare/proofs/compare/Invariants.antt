@@ -1,12 +1,10 @@
-use Rattle.log_compare.specs.Compare.{is_none, passed, records_in, Laid}
-use lib.ListN.{length, drop}
-use Prim.Native.Nat.{◌≤◌, ◌-◌}
-use mathlib.Core.Bool.{true}
+use Rattle.log_compare.specs.Compare.{passed, records_in, Laid}
+use lib.ListN.{length}
 use mathlib.Core.Path.{◌≡◌}
 use Rattle.log_compare.proofs.compare.Given as goal
 
-abbrev pub invariant-loop-done : goal.invariant-loop-done
-invariant-loop-done l = (l.done ≤ length l.expected) × (is_none l.seen.fault ≡ true) × Laid (drop l.done l.expected) × (passed l.log l.place (records_in l.expected) ≡ passed l.log l.seen.place (records_in (drop l.done l.expected)))
+abbrev pub invariant-loop-kind : goal.invariant-loop-kind
+invariant-loop-kind l = Laid l.rest × (passed l.log l.place (records_in l.expected) ≡ passed l.log l.at (records_in l.rest))
 
-abbrev pub decreases-loop-done : goal.decreases-loop-done
-decreases-loop-done l = length l.expected - l.done
+abbrev pub decreases-loop-kind : goal.decreases-loop-kind
+decreases-loop-kind l = length l.rest

@@ -1,40 +1,29 @@
-use Rattle.log_fill.proofs.Laws.{On, starts_on, turn_on, filled_end}
-use mathlib.Core.Path.{◌≡◌, refl, ◌∙◌}
-use Prim.Native.Nat.{◌-◌}
-use native.Mathlib.Omega.{arith}
-use Rattle.log_state.specs.State.{lent}
+use mathlib.Core.Path.{◌∙◌}
+use Rattle.log_list.proofs.Laws.{gave_place, gave_none}
 use Rattle.log_sections.proofs.Laws.{step_fits}
+use Rattle.log_fill.proofs.Laws.{turn_on, filled_end}
 use Rattle.log_fill.proofs.write_all.Goals as goal
 
-pub loop-place-init : goal.loop-place-init
-loop-place-init c = let a = c.args in (
-  c.requires,
-  record { keys = refl; changes = refl; heads = refl; slots = refl; cells = refl },
-  refl,
-  starts_on a.sections.now a.room.now (lent a.run a.keys.now a.changes.now a.heads.now a.slots.now a.cells.now),
-)
-
 pub put-at-requires : goal.put-at-requires
-put-at-requires c = record { at_in_bounds = c.loop-place.invariant.3.within; length_in_bounds = step_fits c.take_one-step.ensures }
-
-pub loop-place-smaller : goal.loop-place-smaller
-loop-place-smaller c = let st = c.take_one-step.ensures in omega (arith, st.later, st.behind.within, c.loop-place-test.true)
+put-at-requires c = record { at_in_bounds = c.loop-place.invariant.5.within; length_in_bounds = step_fits c.take_one-step.ensures }
 
 pub loop-place-preserved : goal.loop-place-preserved
-loop-place-preserved c = let st = c.take_one-step.ensures in
-    let k = c.take_one-step.auto.keys in
-    let l = c.loop-place.invariant in (
-      st.behind,
+loop-place-preserved c = let i = c.loop-place.invariant in
+    let g = gave_place c.loop-place.place-iterator c.next.new.self i.2 c.in-Some.ensures.steps in
+    let k = c.take_one-step.auto in (
+      c.in-Some.ensures.goes.keeps,
+      tt,
+      g.2,
       record {
-        keys = c.take_one-step.auto.keys ∙ l.1.keys;
-        changes = c.take_one-step.auto.changes ∙ l.1.changes;
-        heads = c.take_one-step.auto.heads ∙ l.1.heads;
-        slots = c.take_one-step.auto.slots ∙ l.1.slots;
-        cells = c.take_one-step.auto.cells ∙ l.1.cells;
+        keys = k.keys ∙ i.3.keys;
+        changes = k.changes ∙ i.3.changes;
+        heads = k.heads ∙ i.3.heads;
+        slots = k.slots ∙ i.3.slots;
+        cells = k.cells ∙ i.3.cells;
       },
-      c.put-at.auto.room ∙ l.2,
-      turn_on st l.3 c.put-at.ensures,
+      c.put-at.auto.room ∙ i.4,
+      turn_on g.0 c.take_one-step.ensures i.5 c.put-at.ensures g.1,
     )
 
 pub returns : goal.returns
-returns c = filled_end c.loop-place-test.false c.loop-place.invariant.3
+returns c = let i = c.loop-place.invariant in filled_end (gave_none c.loop-place.place-iterator c.next.new.self i.2 c.in-None.ensures.steps) i.5

@@ -1,32 +1,35 @@
 use native.Mathlib.Omega.{arith}
-use Prim.Native.Nat.{◌≤◌, ◌-◌}
-use mathlib.Core.Path.{◌≡◌, refl}
-use Rattle.log_list.proofs.Laws.{judged_end, judged_cut, judged_long, judged_on, judged_none, stands}
+use mathlib.Core.Path.{◌≡◌, refl, ap, ◌∙◌}
+use Rattle.std.proofs.Common.{Ok, Some, None}
+use Rattle.std.proofs.lemmas.Result.{err_from_is_err_and}
+use Rattle.log_list.proofs.Laws.{judged_end, judged_fault, judged_on, stands}
 use Rattle.log_list.proofs.judge.Goals as goal
 
-pub loop-at-init : goal.loop-at-init
-loop-at-init c = (omega arith, refl)
-
-pub returns-in-End : goal.returns-in-End
-returns-in-End c = search judged_end
-
-pub returns-in-Cut : goal.returns-in-Cut
-returns-in-Cut c = search judged_cut
-
-pub returns-in-TooLong : goal.returns-in-TooLong
-returns-in-TooLong c = search judged_long
+pub loop-p-init : goal.loop-p-init
+loop-p-init c = (omega arith, refl)
 
 pub overflow_add-at : goal.overflow_add-at
-overflow_add-at c = let s = stands c.args.list.now c.loop-at.at c.read_next-found.ensures c.in-Section.is in
-    omega (arith, s.within)
+overflow_add-at c =
+    let f : c.read_next.result ≡ Ok (Some c.in-Some.p) = c.in_ok-p.was ∙ ap Ok c.in-Some.is in
+    let s = stands c.args.list.now c.loop-p.at c.read_next.ensures f in omega (arith, s.within)
 
-pub loop-at-smaller : goal.loop-at-smaller
-loop-at-smaller c = let s = stands c.args.list.now c.loop-at.at c.read_next-found.ensures c.in-Section.is in
-    omega (arith, s.within, s.start, s.head)
+pub loop-p-smaller : goal.loop-p-smaller
+loop-p-smaller c =
+    let f : c.read_next.result ≡ Ok (Some c.in-Some.p) = c.in_ok-p.was ∙ ap Ok c.in-Some.is in
+    let s = stands c.args.list.now c.loop-p.at c.read_next.ensures f in omega (arith, s.within, s.start, s.head)
 
-pub loop-at-preserved : goal.loop-at-preserved
-loop-at-preserved c = let s = stands c.args.list.now c.loop-at.at c.read_next-found.ensures c.in-Section.is in
-    (s.within, judged_on c.args.list.now c.loop-at.at c.read_next-found.ensures c.in-Section.is c.loop-at.invariant.1)
+pub loop-p-preserved : goal.loop-p-preserved
+loop-p-preserved c =
+    let f : c.read_next.result ≡ Ok (Some c.in-Some.p) = c.in_ok-p.was ∙ ap Ok c.in-Some.is in
+    let s = stands c.args.list.now c.loop-p.at c.read_next.ensures f in
+    (s.within, judged_on c.args.list.now c.loop-p.at c.read_next.ensures f c.loop-p.invariant.1)
+
+pub returns-in_err-p : goal.returns-in_err-p
+returns-in_err-p c =
+    let p = err_from_is_err_and c.from_residual.result c.from_residual.ensures.1 in
+    rw (p.1, p.2) (judged_fault c.args.list.now c.loop-p.at c.read_next.ensures c.in_err-p.was c.loop-p.invariant.1)
 
 pub returns : goal.returns
-returns c = search judged_none
+returns c =
+    let f : c.read_next.result ≡ Ok None = c.in_ok-p.was ∙ ap Ok c.in_default.is in
+    judged_end c.args.list.now c.loop-p.at c.read_next.ensures f c.loop-p.invariant.1

@@ -1,55 +1,29 @@
-use Rattle.log_measure.proofs.Laws.{On, starts_on, turn_on, turn_stops, measured_end}
-use mathlib.Core.Path.{refl, ◌∙◌}
-use Prim.Native.Nat.{◌-◌}
-use native.Mathlib.Omega.{arith}
-use Rattle.log_state.specs.State.{lent}
+use mathlib.Core.Path.{◌∙◌}
+use Rattle.log_list.proofs.Laws.{gave_place, gave_none}
+use Rattle.log_measure.proofs.Laws.{turn_on, turn_stops, measured_end}
 use Rattle.log_measure.proofs.measure.Goals as goal
 
-pub loop-place-init : goal.loop-place-init
-loop-place-init c = let a = c.args in (
-  c.requires,
-  record { keys = refl; changes = refl; heads = refl; slots = refl; cells = refl },
-  starts_on a.sections.now a.room (lent a.run a.keys.now a.changes.now a.heads.now a.slots.now a.cells.now),
-)
-
-pub shape_of-keys-then-free-size : goal.shape_of-keys-then-free-size
-shape_of-keys-then-free-size c = c.take_one-step.auto.keys ∙ c.loop-place.invariant.1.keys
-
-pub shape_of-changes-then-free-size : goal.shape_of-changes-then-free-size
-shape_of-changes-then-free-size c = c.take_one-step.auto.changes ∙ c.loop-place.invariant.1.changes
-
-pub shape_of-heads-then-free-size : goal.shape_of-heads-then-free-size
-shape_of-heads-then-free-size c = c.take_one-step.auto.heads ∙ c.loop-place.invariant.1.heads
-
-pub shape_of-slots-then-free-size : goal.shape_of-slots-then-free-size
-shape_of-slots-then-free-size c = c.take_one-step.auto.slots ∙ c.loop-place.invariant.1.slots
-
-pub shape_of-cells-then-free-size : goal.shape_of-cells-then-free-size
-shape_of-cells-then-free-size c = c.take_one-step.auto.cells ∙ c.loop-place.invariant.1.cells
-
 pub returns-then-free-size : goal.returns-then-free-size
-returns-then-free-size c = turn_stops c.take_one-step.ensures c.loop-place.invariant.2 c.if-free-size.true
-
-pub loop-place-smaller : goal.loop-place-smaller
-loop-place-smaller c = let st = c.take_one-step.ensures in omega (arith, st.later, st.behind.within, c.loop-place-test.true)
+returns-then-free-size c = let i = c.loop-place.invariant in
+    let g = gave_place c.loop-place.place-iterator c.next.new.self i.2 c.in-Some.ensures.steps in
+    turn_stops g.0 c.take_one-step.ensures i.4 c.if-free-size.true
 
 pub loop-place-preserved : goal.loop-place-preserved
-loop-place-preserved c = let st = c.take_one-step.ensures in
-    let k = c.take_one-step.auto.keys in
-    let l = c.loop-place.invariant in (
-      st.behind,
+loop-place-preserved c = let i = c.loop-place.invariant in
+    let g = gave_place c.loop-place.place-iterator c.next.new.self i.2 c.in-Some.ensures.steps in
+    let k = c.take_one-step.auto in (
+      c.in-Some.ensures.goes.keeps,
+      tt,
+      g.2,
       record {
-        keys = c.take_one-step.auto.keys ∙ l.1.keys;
-        changes = c.take_one-step.auto.changes ∙ l.1.changes;
-        heads = c.take_one-step.auto.heads ∙ l.1.heads;
-        slots = c.take_one-step.auto.slots ∙ l.1.slots;
-        cells = c.take_one-step.auto.cells ∙ l.1.cells;
+        keys = k.keys ∙ i.3.keys;
+        changes = k.changes ∙ i.3.changes;
+        heads = k.heads ∙ i.3.heads;
+        slots = k.slots ∙ i.3.slots;
+        cells = k.cells ∙ i.3.cells;
       },
-      turn_on st l.2 c.if-free-size.false,
+      turn_on g.0 c.take_one-step.ensures i.4 g.1 c.if-free-size.false,
     )
 
-pub overflow_sub-result : goal.overflow_sub-result
-overflow_sub-result c = c.loop-place.invariant.2.within
-
 pub returns : goal.returns
-returns c = measured_end c.loop-place-test.false c.loop-place.invariant.2
+returns c = let i = c.loop-place.invariant in measured_end (gave_none c.loop-place.place-iterator c.next.new.self i.2 c.in-None.ensures.steps) i.4

@@ -4,8 +4,8 @@ use Rattle.log_prepare.proofs.ready.Goals as goal
 pub returns-then-is_without : goal.returns-then-is_without
 returns-then-is_without c = search is_without_lem
 
-pub returns-in-Done : goal.returns-in-Done
-returns-in-Done c = search is_ready
+pub returns-in-Ok : goal.returns-in-Ok
+returns-in-Ok c = search is_ready
 
-pub returns-in-Refused : goal.returns-in-Refused
-returns-in-Refused c = search is_little
+pub returns-in-Err : goal.returns-in-Err
+returns-in-Err c = search is_little

@@ -1,30 +1,21 @@
-use mathlib.Core.Path.{◌≡◌, refl, sym, ◌∙◌}
-use Prim.Native.Nat.{◌≤◌, ◌-◌}
+use mathlib.Core.Path.{◌∙◌}
 use native.Mathlib.Omega.{arith}
+use Rattle.std.proofs.Common.{rules}
+use Rattle.std.specs.Slice.Iter.{chunks_exact_rest}
 use Rattle.pat.proofs.Laws.{turn_group, turn_end}
 use Rattle.pat.proofs.add_groups.Goals as goal
 
-pub loop-i-init : goal.loop-i-init
-loop-i-init c = (omega arith, refl)
+pub loop-group-init : goal.loop-group-init
+loop-group-init c = (search rules, search rules)
 
-pub overflow_sub-s : goal.overflow_sub-s
-overflow_sub-s c = omega arith
-
-pub add_group-requires : goal.add_group-requires
-add_group-requires c = omega arith
-
-pub overflow_add-i : goal.overflow_add-i
-overflow_add-i c = omega arith
-
-pub loop-i-smaller : goal.loop-i-smaller
-loop-i-smaller c = omega arith
-
-pub loop-i-preserved : goal.loop-i-preserved
-loop-i-preserved c = let l = c.loop-i in
-    let s = c.args.s.now in
-    (omega arith, rw c.add_group.ensures (sym (turn_group s l.n l.i (omega arith)) ∙ l.invariant.1))
+pub loop-group-preserved : goal.loop-group-preserved
+loop-group-preserved c = let l = c.loop-group in
+    let h = c.in-Some.ensures.steps in (
+      search rules,
+      turn_group c.in-Some.group.now (chunks_exact_rest l.group-iterator) (chunks_exact_rest c.next.new.self) l.n c.add_group.new.n _ h.1.0 (h.1.1 ∙ l.invariant.0) c.add_group.ensures l.invariant.1,
+    )
 
 pub returns : goal.returns
-returns c = let l = c.loop-i in
-    let s = c.args.s.now in
-    sym (turn_end s l.n l.i (omega arith)) ∙ l.invariant.1
+returns c = let l = c.loop-group in
+    let h = c.in-None.ensures.steps.1.0 in
+    turn_end (chunks_exact_rest l.group-iterator) l.n _ (omega (arith, h, l.invariant.0)) l.invariant.1

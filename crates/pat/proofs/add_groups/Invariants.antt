@@ -1,13 +1,9 @@
--- `pat::add_groups` meets its contract. The loop's invariant: the groups from byte i on give what all give. Assumes nothing.
-use mathlib.Core.Path.{◌≡◌, refl, sym, ◌∙◌}
-use Prim.Native.Nat.{◌≤◌, ◌-◌}
-use lib.ListN.{length, drop}
+-- The groups that are left give what all give.
+use mathlib.Core.Path.{◌≡◌}
+use Rattle.std.specs.Slice.Iter.{chunks_exact_rest, chunks_exact_size}
 use Rattle.laws.specs.Bits.{add_bits}
 use Rattle.pat.specs.Pat.{program_pids}
 use Rattle.pat.proofs.add_groups.Given as goal
 
-abbrev pub invariant-loop-i : goal.invariant-loop-i
-invariant-loop-i l = (l.i ≤ length l.s) × (add_bits l.n (program_pids (drop l.i l.s)) ≡ add_bits l.initial.n (program_pids l.s))
-
-abbrev pub decreases-loop-i : goal.decreases-loop-i
-decreases-loop-i l = length l.s - l.i
+abbrev pub invariant-loop-group : goal.invariant-loop-group
+invariant-loop-group l = (chunks_exact_size l.group-iterator ≡ 4) × (add_bits l.n (program_pids (chunks_exact_rest l.group-iterator)) ≡ add_bits l.initial.n (program_pids l.s))

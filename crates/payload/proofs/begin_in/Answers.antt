@@ -1,5 +1,4 @@
-use Rattle.payload.proofs.Laws.{Going, going_first, going_over, going_stuffing, going_cut, place_there, going_turn}
-use Prim.Native.Nat.{◌-◌}
+use Rattle.payload.proofs.Laws.{going_first, going_over, going_stuffing, going_cut, place_there, going_turn}
 use Rattle.payload.proofs.begin_in.Goals as goal
 
 pub loop-at-init : goal.loop-at-init

@@ -1,4 +1,4 @@
-use Rattle.payload.proofs.Laws.{Going, going_first, going_over, going_stuffing, going_cut, place_there, going_turn}
+use Rattle.payload.proofs.Laws.{Going}
 use Prim.Native.Nat.{◌-◌}
 use lib.ListN.{length}
 use Rattle.payload.proofs.begin_in.Given as goal

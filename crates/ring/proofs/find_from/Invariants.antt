@@ -6,6 +6,3 @@ use Rattle.ring.proofs.find_from.Given as goal
 
 abbrev pub invariant-loop-i : goal.invariant-loop-i
 invariant-loop-i l = (l.i ≤ l.used) × (l.from + row_of (drop l.from (take l.used l.keys)) l.key ≡ l.i + row_of (drop l.i (take l.used l.keys)) l.key)
-
-abbrev pub decreases-loop-i : goal.decreases-loop-i
-decreases-loop-i l = l.used - l.i

@@ -1,15 +1,16 @@
-use Prim.Native.Nat.{◌≤◌}
-use mathlib.Core.Path.{◌≡◌, refl}
+use mathlib.Core.Path.{◌≡◌, sym, ◌∙◌}
+use Prim.Native.Nat.{◌-◌}
 use native.Mathlib.Omega.{arith}
-use borrow.Author.Rules.{rules}
-use Rattle.ring_index.proofs.Laws.{clear_turn, clear_end}
+use lib.ListN.{replicate}
+use Rattle.std.proofs.Common.{rules}
+use Rattle.std.proofs.lemmas.List.{length-replicate}
+use Rattle.std.proofs.lemmas.Slice.{put_mid-paste}
+use Rattle.ring_index.proofs.Laws.{cleared_part}
 use Rattle.ring_index.proofs.clear.Goals as goal
 
-pub loop-n-init : goal.loop-n-init
-loop-n-init c = (omega arith, (refl, refl))
-
-pub loop-n-preserved : goal.loop-n-preserved
-loop-n-preserved c = (omega arith, (search rules, search clear_turn))
-
 pub returns : goal.returns
-returns c = search clear_end
+returns c = let n = c.args.room in
+    let l = c.args.buckets.now in
+    let z : n - 0 ≡ n = omega arith in
+    let e : c.fill.new.self ≡ replicate (n - 0) 0 = search rules in
+    put_mid-paste 0 (n - 0) l c.fill.new.self (replicate n 0) n (rw z at e) (sym z) (sym (length-replicate n 0)) ∙ cleared_part n l c.requires

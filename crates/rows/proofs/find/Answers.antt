@@ -1,8 +1,6 @@
-use mathlib.Core.Path.{◌≡◌}
-use Prim.Native.Nat.{ℕ, ◌≤◌, ◌-◌}
 use native.Mathlib.Nat.{sub-zero}
 use native.Mathlib.Omega.{arith}
-use Rattle.laws.proofs.Search.{first_hit, first_miss, first_end}
+use Rattle.laws.proofs.Search.{first_hit, first_miss, first_none}
 use borrow.Author.Rules.{rules}
 use Rattle.rows.proofs.find.Goals as goal
 
@@ -16,4 +14,4 @@ pub loop-i-preserved : goal.loop-i-preserved
 loop-i-preserved c = (search rules, search first_miss)
 
 pub returns : goal.returns
-returns c = search first_end
+returns c = search first_none

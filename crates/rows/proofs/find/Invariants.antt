@@ -6,6 +6,3 @@ use Rattle.rows.proofs.find.Given as goal
 
 abbrev pub invariant-loop-i : goal.invariant-loop-i
 invariant-loop-i l = (l.i ≤ l.used) × (row_of l.heads l.key l.used ≡ first_from (λ (k : ℕ). same_key (key_at l.heads k) l.key) (l.used - l.i) l.i)
-
-abbrev pub decreases-loop-i : goal.decreases-loop-i
-decreases-loop-i l = l.used - l.i

@@ -1,5 +1,3 @@
-use mathlib.Core.Path.{◌≡◌}
-use Prim.Native.Nat.{◌≤◌, ◌-◌}
 use native.Mathlib.Omega.{arith}
 use Rattle.rows.proofs.Loops.{oldest_start, oldest_turn, elder_within, oldest_end}
 use borrow.Author.Rules.{rules}

@@ -1,6 +1,5 @@
 use native.Mathlib.Omega.{arith}
-use mathlib.Core.Path.{◌≡◌, refl}
-use Prim.Native.Nat.{◌≤◌}
+use mathlib.Core.Path.{refl}
 use Rattle.schedules.proofs.Laws.{all_marks_turn, all_marks_end}
 use borrow.Author.Rules.{rules}
 use Rattle.schedules.proofs.mark_schedules.Goals as goal

@@ -1,10 +1,7 @@
-use mathlib.Core.Path.{◌≡◌, refl}
+use mathlib.Core.Path.{◌≡◌}
 use Prim.Native.Nat.{◌≤◌}
 use Rattle.schedules.specs.Schedules.{marked_schedules}
 use Rattle.schedules.proofs.mark_schedules.Given as goal
 
 abbrev pub invariant-loop-k : goal.invariant-loop-k
 invariant-loop-k l = (l.k ≤ l.n) × (marked_schedules l.heads l.units l.n l.initial.map ≡ marked_schedules l.heads l.units l.k l.map)
-
-abbrev pub decreases-loop-k : goal.decreases-loop-k
-decreases-loop-k l = l.k

@@ -1,7 +1,5 @@
 use native.Mathlib.Omega.{arith}
-use mathlib.Core.Path.{◌≡◌, refl}
-use mathlib.Core.Bool.{◌&&◌}
-use Prim.Native.Nat.{◌≤◌}
+use mathlib.Core.Path.{refl}
 use Rattle.schedules.proofs.Laws.{schedules_turn, schedules_end}
 use borrow.Author.Rules.{rules}
 use Rattle.schedules.proofs.schedules_whole.Goals as goal

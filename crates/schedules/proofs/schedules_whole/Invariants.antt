@@ -1,4 +1,4 @@
-use mathlib.Core.Path.{◌≡◌, refl}
+use mathlib.Core.Path.{◌≡◌}
 use mathlib.Core.Bool.{◌&&◌}
 use Prim.Native.Nat.{◌≤◌}
 use Rattle.schedules.specs.Schedules.{schedules_whole}
@@ -6,6 +6,3 @@ use Rattle.schedules.proofs.schedules_whole.Given as goal
 
 abbrev pub invariant-loop-k : goal.invariant-loop-k
 invariant-loop-k l = (l.k ≤ l.n) × (schedules_whole l.heads l.units l.count l.size l.n ≡ (l.ok && schedules_whole l.heads l.units l.count l.size l.k))
-
-abbrev pub decreases-loop-k : goal.decreases-loop-k
-decreases-loop-k l = l.k

@@ -1,6 +1,3 @@
-use mathlib.Core.Path.{◌≡◌, refl}
-use mathlib.Core.Bool.{◌&&◌}
-use Prim.Native.Nat.{◌+◌, ◌/◌, ◌≤◌}
 use Rattle.segments.proofs.Laws.{segments_turn, segments_holds, segments_end}
 use borrow.Author.Rules.{rules}
 use Rattle.segments.proofs.segments_complete.Goals as goal

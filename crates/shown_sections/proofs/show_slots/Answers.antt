@@ -1,9 +1,8 @@
 use borrow.Author.Tests.{not-true, not-false}
 use borrow.Author.Rules.{rules}
 use native.Mathlib.Omega.{arith}
-use mathlib.Core.Path.{◌≡◌, refl, sym, ◌∙◌}
-use Prim.Native.Nat.{◌+◌, ◌-◌, ◌*◌, ◌≤◌}
-use Rattle.shown_sections.proofs.Ways.{laid_from, slots_on, slots_stop, slots_end, slots_begin}
+use mathlib.Core.Path.{refl, sym, ◌∙◌}
+use Rattle.shown_sections.proofs.Ways.{slots_on, slots_stop, slots_end, slots_begin}
 use mathlib.Core.Path.{ap}
 use mathlib.Core.Bool.{not}
 use Rattle.shown_sections.proofs.show_slots.Goals as goal

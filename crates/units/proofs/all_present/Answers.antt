@@ -1,7 +1,5 @@
 use native.Mathlib.Omega.{arith}
-use mathlib.Core.Path.{◌≡◌, refl}
-use mathlib.Core.Bool.{◌&&◌}
-use Prim.Native.Nat.{◌≤◌}
+use mathlib.Core.Path.{refl}
 use Rattle.units.proofs.Laws.{present_turn, present_end}
 use borrow.Author.Rules.{rules}
 use Rattle.units.proofs.all_present.Goals as goal

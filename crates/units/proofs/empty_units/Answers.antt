@@ -1,6 +1,5 @@
 use native.Mathlib.Omega.{arith}
-use mathlib.Core.Path.{◌≡◌, refl}
-use Prim.Native.Nat.{◌≤◌}
+use mathlib.Core.Path.{refl}
 use Rattle.units.proofs.Laws.{without_turn, without_end}
 use borrow.Author.Rules.{rules}
 use Rattle.units.proofs.empty_units.Goals as goal

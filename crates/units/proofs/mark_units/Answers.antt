@@ -1,6 +1,5 @@
 use native.Mathlib.Omega.{arith}
-use mathlib.Core.Path.{◌≡◌, refl}
-use Prim.Native.Nat.{◌≤◌}
+use mathlib.Core.Path.{refl}
 use Rattle.units.proofs.Laws.{marks_turn, marks_end}
 use borrow.Author.Rules.{rules}
 use Rattle.units.proofs.mark_units.Goals as goal

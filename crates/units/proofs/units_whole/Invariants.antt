@@ -1,4 +1,4 @@
-use mathlib.Core.Path.{◌≡◌, refl}
+use mathlib.Core.Path.{◌≡◌}
 use mathlib.Core.Bool.{◌&&◌}
 use Prim.Native.Nat.{◌≤◌}
 use Rattle.units.specs.Units.{units_whole}
@@ -6,6 +6,3 @@ use Rattle.units.proofs.units_whole.Given as goal
 
 abbrev pub invariant-loop-j : goal.invariant-loop-j
 invariant-loop-j l = (l.j ≤ l.n) × (units_whole l.units l.count l.size l.base l.n ≡ (l.ok && units_whole l.units l.count l.size l.base l.j))
-
-abbrev pub decreases-loop-j : goal.decreases-loop-j
-decreases-loop-j l = l.j

@@ -1,5 +1,4 @@
-use mathlib.Core.Path.{◌≡◌, sym}
-use Prim.Native.Nat.{◌-◌, ◌≤◌}
+use mathlib.Core.Path.{sym}
 use native.Mathlib.Omega.{arith}
 use Rattle.without_pid.proofs.Rows.{none_yet, next_row, at_end_lem}
 use Rattle.without_pid.proofs.any_without_pid.Goals as goal

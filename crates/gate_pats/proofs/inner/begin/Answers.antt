@@ -4,8 +4,8 @@ use Rattle.gate_pats.proofs.inner.begin.Goals as goal
 pub begin-requires : goal.begin-requires
 begin-requires c = search begin_room
 
-pub returns-then-by_tables-number : goal.returns-then-by_tables-number
-returns-then-by_tables-number c = search begun_yes
+pub returns-then-by_tables-is_ok : goal.returns-then-by_tables-is_ok
+returns-then-by_tables-is_ok c = search begun_yes
 
-pub returns-else-by_tables-number : goal.returns-else-by_tables-number
-returns-else-by_tables-number c = search begun_no
+pub returns-else-by_tables-is_ok : goal.returns-else-by_tables-is_ok
+returns-else-by_tables-is_ok c = search begun_no

@@ -6,6 +6,3 @@ use Rattle.streams.proofs.inner.give_back.Given as goal
 
 abbrev pub invariant-loop-k : goal.invariant-loop-k
 invariant-loop-k l = (l.k ≤ 128) × (length l.pids ≡ length l.initial.pids) × (given_back (left_of l.before l.after) (l.k * 64) l.pids ≡ given_back (left_of l.before l.after) 8192 l.initial.pids)
-
-abbrev pub decreases-loop-k : goal.decreases-loop-k
-decreases-loop-k l = l.k

@@ -6,6 +6,3 @@ use Rattle.streams.proofs.inner.give_word.Given as goal
 
 abbrev pub invariant-loop-n : goal.invariant-loop-n
 invariant-loop-n l = (l.n ≤ 64) × (length l.pids ≡ length l.initial.pids) × (word_back l.left l.k l.n l.pids ≡ word_back l.left l.k 64 l.initial.pids)
-
-abbrev pub decreases-loop-n : goal.decreases-loop-n
-decreases-loop-n l = l.n

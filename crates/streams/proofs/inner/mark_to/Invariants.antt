@@ -5,6 +5,3 @@ use Rattle.streams.proofs.inner.mark_to.Given as goal
 
 abbrev pub invariant-loop-n : goal.invariant-loop-n
 invariant-loop-n l = (l.n ≤ l.to) × (marked_to l.pids l.count l.n l.map ≡ marked_to l.pids l.count l.to l.initial.map)
-
-abbrev pub decreases-loop-n : goal.decreases-loop-n
-decreases-loop-n l = l.n

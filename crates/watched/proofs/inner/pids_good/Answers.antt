@@ -1,18 +1,12 @@
-use mathlib.Core.Path.{◌≡◌, refl, sym, ◌∙◌}
-use mathlib.Core.Bool.{◌&&◌}
-use Prim.Native.Nat.{◌≤◌, ◌-◌}
-use native.Mathlib.Omega.{arith}
-use Rattle.watched.proofs.Laws.{judge_turn, judge_end}
+use mathlib.Core.Path.{◌∙◌}
+use Prim.Native.Nat.{ℕ}
+use lib.Dec.{ltb}
+use borrow.Author.Rules.{rules}
+use borrow.Author.Tests.{tests}
+use Rattle.std.proofs.lemmas.Iterator.{YieldsList-from_slice}
+use Rattle.std.proofs.lemmas.Iterator.Search.{all_from_yields_List}
+use Rattle.watched.proofs.Laws.{all_below}
 use Rattle.watched.proofs.inner.pids_good.Goals as goal
 
-pub loop-i-init : goal.loop-i-init
-loop-i-init c = (omega arith, refl)
-
-pub loop-i-preserved : goal.loop-i-preserved
-loop-i-preserved c = let l = c.loop-i in
-    let xs = c.args.extra.now in
-    (omega arith, sym (judge_turn xs l.i l.good c.loop-i-test.true) ∙ l.invariant.1)
-
 pub returns : goal.returns
-returns c = let l = c.loop-i in
-    sym (judge_end c.args.extra.now l.i l.good (omega arith)) ∙ l.invariant.1
+returns c = all_from_yields_List (λ (p : ℕ). ltb p 8192) _ _ _ c.all.ensures.ran (YieldsList-from_slice c.args.extra.now c.iter.ensures.rest) (λ x b q k. search (rules, tests)) ∙ all_below c.args.extra.now

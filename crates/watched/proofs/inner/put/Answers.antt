@@ -1,17 +1,8 @@
-use mathlib.Core.Path.{◌≡◌, refl}
-use Prim.Native.Nat.{◌≤◌, ◌-◌}
+use Prim.Native.Nat.{◌+◌, ◌-◌}
+use mathlib.Core.Path.{sym}
 use native.Mathlib.Omega.{arith}
-use lib.ListN.{length, length-set}
-use lib.Seq.{paste, paste-zero}
-use Rattle.laws.proofs.Lists.{paste_turn, paste_end}
+use Rattle.std.proofs.lemmas.Slice.{put_mid-paste}
 use Rattle.watched.proofs.inner.put.Goals as goal
 
-pub loop-i-init : goal.loop-i-init
-loop-i-init c = (omega arith, refl, paste-zero c.args.words.now c.args.at c.args.set.now)
-
-pub loop-i-preserved : goal.loop-i-preserved
-loop-i-preserved c = let l = c.loop-i in
-    (omega arith, simp length-set l.invariant.1, paste_turn c.args.words.now l.words c.args.at c.args.set.now l.i 0 l.invariant.2 (omega arith) (omega arith))
-
 pub returns : goal.returns
-returns c = let l = c.loop-i in paste_end c.args.words.now l.words c.args.at c.args.set.now l.i 128 l.invariant.2 (omega arith)
+returns c = let a = c.args in put_mid-paste a.at (a.at + 128 - a.at) a.words.now c.copy_from_slice.new.self a.set.now 128 c.copy_from_slice.ensures.after (omega arith) (sym c.requires.set_len)

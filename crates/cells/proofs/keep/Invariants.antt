@@ -1,9 +1,0 @@
-use Rattle.std.proofs.Common.{◌≡◌, ◌-◌, ◌≤◌, length, refl, arith, rules}
-use lib.Seq.{paste, paste-zero}
-use Rattle.cells.proofs.keep.Given as goal
-
-abbrev pub invariant-loop-j : goal.invariant-loop-j
-invariant-loop-j l = (l.j ≤ length l.bytes) × (length l.cells ≡ length l.initial.cells) × (l.cells ≡ paste l.initial.cells l.at l.bytes l.j)
-
-abbrev pub decreases-loop-j : goal.decreases-loop-j
-decreases-loop-j l = length l.bytes - l.j
