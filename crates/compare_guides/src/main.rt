@@ -120,12 +120,17 @@ fn usage(stdout: &mut impl Write) -> io::Result<()> {
     )
 }
 
-fn say_unread(stdout: &mut impl Write, why: Unread, which: &[u8]) -> io::Result<()> {
+// One write: a reader of the output never sees half a line.
+fn say_unread(
+    stdout: &mut impl Write,
+    why: Unread,
+    unreadable: &[u8],
+    too_long: &[u8],
+) -> io::Result<()> {
     match why {
-        Unread::Unreadable => say(stdout, b"unreadable ")?,
-        Unread::TooLong => say(stdout, b"too long ")?,
+        Unread::Unreadable => say(stdout, unreadable),
+        Unread::TooLong => say(stdout, too_long),
     }
-    say(stdout, which)
 }
 
 fn run(
@@ -143,11 +148,11 @@ fn run(
     };
     let n = match read_file(rt, 2, first)? {
         Ok(n) => n,
-        Err(why) => return say_unread(stdout, why, b"first\n"),
+        Err(why) => return say_unread(stdout, why, b"unreadable first\n", b"too long first\n"),
     };
     let m = match read_file(rt, 3, second)? {
         Ok(m) => m,
-        Err(why) => return say_unread(stdout, why, b"second\n"),
+        Err(why) => return say_unread(stdout, why, b"unreadable second\n", b"too long second\n"),
     };
     compare_files(
         stdout,

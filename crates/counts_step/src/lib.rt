@@ -9,6 +9,7 @@ ghost use Rattle.counts_step.specs.Step.{no_buffer_counted};
 use alignment::Next;
 use counters::Counters;
 use counts_collect::Collectors;
+use counts_times::Last;
 use demux_state::Answer;
 use gate_state::Gate;
 use std::io;
@@ -23,7 +24,7 @@ pub struct Held {
     pub counters: Counters,
     pub streams: Streams,
     pub collectors: Collectors,
-    pub last: Option<u64>,
+    pub last: Last,
 }
 
 // What a turn leaves.
@@ -70,7 +71,7 @@ fn tell<'a>(
     count: usize,
     packet: &'a [u8],
     buffers: &'a [u8],
-) -> io::Result<Option<u64>>
+) -> io::Result<Last>
     requires { (count * 6 ≤ length places.now) × (188 ≡ length packet.now) }
 {
     let last = held.last;

@@ -5,6 +5,7 @@ ghost use Rattle.std.specs.Prelude.{◌≡◌, ◌+◌, ◌*◌, ◌≤◌, ◌<
 ghost use Rattle.counts_tell.specs.Told.{last_told, last_read};
 
 use clocks::Stamp;
+use counts_times::Last;
 use std::io;
 use std::io::Write;
 
@@ -40,11 +41,11 @@ pub fn say_end(stdout: &mut impl Write, numbers: &[u64; 21]) -> io::Result<()> {
 // A time that the stream tells: a line where one is due. What is left is the time of the last line.
 fn tell_time(
     stdout: &mut impl Write,
-    last: Option<u64>,
+    last: Last,
     interval: u64,
     numbers: &[u64; 21],
     stamp: Stamp,
-) -> io::Result<Option<u64>>
+) -> io::Result<Last>
     ensures { IfOk result (λ then. then ≡ last_told last interval stamp) }
 {
     let second = counts_times::moment(stamp);
@@ -58,11 +59,11 @@ fn tell_time(
 // A section that was emitted.
 fn tell_section(
     stdout: &mut impl Write,
-    last: Option<u64>,
+    last: Last,
     interval: u64,
     numbers: &[u64; 21],
     section: &[u8],
-) -> io::Result<Option<u64>>
+) -> io::Result<Last>
     ensures { IfOk result (λ then. then ≡ last_read last interval section.now) }
 {
     match clocks::read(section) {
@@ -74,14 +75,14 @@ fn tell_section(
 // That of place k, where it was emitted.
 fn tell_at<'a>(
     stdout: &mut impl Write,
-    last: Option<u64>,
+    last: Last,
     interval: u64,
     numbers: &[u64; 21],
     places: &[u64],
     k: usize,
     packet: &'a [u8],
     buffers: &'a [u8],
-) -> io::Result<Option<u64>>
+) -> io::Result<Last>
     requires { k * 6 + 5 < length places.now }
 {
     if places[k * 6] == EMITTED {
@@ -100,14 +101,14 @@ fn tell_at<'a>(
 // Those of the first `count` places.
 pub fn tell<'a>(
     stdout: &mut impl Write,
-    last: Option<u64>,
+    last: Last,
     interval: u64,
     numbers: &[u64; 21],
     places: &[u64],
     count: usize,
     packet: &'a [u8],
     buffers: &'a [u8],
-) -> io::Result<Option<u64>>
+) -> io::Result<Last>
     requires { count * 6 ≤ length places.now }
 {
     let mut then = last;

@@ -6,6 +6,7 @@ use Rattle.std.specs.Prelude.{ℕ, ◌+◌, ◌*◌, ◌-◌, Bool, cond, true, 
 use Rattle.times.specs.Times.{time_of}
 use Rattle.times.specs.declared.Seconds.{Seconds}
 use Rattle.clocks.specs.declared.Stamp.{Stamp}
+use Rattle.counts_times.specs.declared.Last.{Last}
 
 abbrev pub in_seconds : Option Seconds → ℕ
 in_seconds (Some s) = s.0
@@ -17,12 +18,11 @@ seconds_at hours minutes seconds = in_seconds (time_of hours minutes seconds)
 abbrev pub moment_of : Stamp → ℕ
 moment_of s = s.day * 86400 + seconds_at s.hours s.minutes s.seconds
 
-abbrev pub no_line : Option ℕ
-no_line = None
+abbrev pub no_line : Last
+no_line = record { any = false; at = 0 }
 
-abbrev pub last_at : (second : ℕ) → Option ℕ
-last_at second = Some second
+abbrev pub last_at : (second : ℕ) → Last
+last_at second = record { any = true; at = second }
 
-abbrev pub is_due : Option ℕ → (second interval : ℕ) → Bool
-is_due None second interval = true
-is_due (Some at) second interval = cond (ltb second at) true (leb interval (second - at))
+abbrev pub is_due : Last → (second interval : ℕ) → Bool
+is_due last second interval = cond last.any (cond (ltb second last.at) true (leb interval (second - last.at))) true

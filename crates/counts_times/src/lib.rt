@@ -7,17 +7,27 @@ ghost use Rattle.counts_times.specs.Due.{seconds_at, moment_of, no_line, last_at
 
 use clocks::Stamp;
 
-// The second of the last line that a time had: no line yet.
-pub fn none() -> Option<u64>
-    ensures { result ≡ no_line }
-{
-    None
+// The second of the last line that a time had, where there was one.
+#[derive(Clone, Copy)]
+pub struct Last {
+    pub any: bool,
+    pub at: u64,
 }
 
-pub fn at(second: u64) -> Option<u64>
+// No line yet.
+pub fn none() -> Last
+    ensures { result ≡ no_line }
+{
+    Last { any: false, at: 0 }
+}
+
+pub fn at(second: u64) -> Last
     ensures { result ≡ last_at second }
 {
-    Some(second)
+    Last {
+        any: true,
+        at: second,
+    }
 }
 
 // The seconds of a day that six digits tell; 0 where one is above 9.
@@ -38,14 +48,14 @@ pub fn moment(stamp: Stamp) -> u64
 }
 
 // Whether a line is due at a second.
-pub fn is_due(last: Option<u64>, second: u64, interval: u64) -> bool
+pub fn is_due(last: Last, second: u64, interval: u64) -> bool
     ensures { result ≡ is_due last second interval }
 {
-    let Some(at) = last else {
-        return true;
-    };
-    if second < at {
-        return true;
+    if last.any {
+        if second < last.at {
+            return true;
+        }
+        return interval <= second - last.at;
     }
-    interval <= second - at
+    true
 }

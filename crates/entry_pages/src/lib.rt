@@ -1,7 +1,7 @@
 // The entries of sets and schedules that go out, printed page by page, and the sections that are refused: what `events` and `tables` share.
 #![tactic(auto)]
 
-ghost use Rattle.std.specs.Prelude.{◌≡◌, ◌≤◌, ◌<◌, length, ◌+◌, min};
+ghost use Rattle.std.specs.Prelude.{◌≡◌, ◌≤◌, ◌<◌, length, ◌+◌, min, IfErr};
 
 use answers::Refusal;
 use entry_lines::heads;
@@ -10,9 +10,9 @@ use std::io;
 use std::io::Write;
 
 // The entries of a page, and the pages that the largest set takes: 256 sections of at most 2,040 entries.
-const PAGE: usize = 2048;
+pub const PAGE: usize = 2048;
 
-const PAGES: usize = 256;
+pub const PAGES: usize = 256;
 
 // What listing a page told: how many entries there are in all, the answer's number, and where the listing ended early.
 #[derive(Clone, Copy)]
@@ -85,7 +85,7 @@ fn say_entry(
 }
 
 // The first n entries of the list.
-fn say_page(
+pub fn say_page(
     stdout: &mut impl Write,
     list: &[u32],
     n: usize,
@@ -93,15 +93,18 @@ fn say_page(
     totals: &mut Totals,
 ) -> io::Result<()>
     requires { (length list.now ≡ 24576) × (n ≤ 2048) }
+    ensures { IfErr result (λ e. totals.new ≡ totals.old) }
 {
+    let mut told = *totals;
     for words in list[..n * entry_words::WORDS].chunks_exact(entry_words::WORDS) {
-        say_entry(stdout, words, cells, totals)?;
+        say_entry(stdout, words, cells, &mut told)?;
     }
+    *totals = told;
     Ok(())
 }
 
 // How many entries of `count` stand on the page that passes over `skip`.
-fn on_page(count: usize, skip: usize) -> usize
+pub fn on_page(count: usize, skip: usize) -> usize
     ensures { result ≤ 2048 }
 {
     if count <= skip {
@@ -114,7 +117,7 @@ fn on_page(count: usize, skip: usize) -> usize
 }
 
 // The line of a listing that ended early: any answer but 8 and 9.
-fn say_end(stdout: &mut impl Write, page: Page) -> io::Result<()> {
+pub fn say_end(stdout: &mut impl Write, page: Page) -> io::Result<()> {
     if 9 < page.answer {
         heads::say_broken(stdout, page.answer, page.section, page.place)?;
     }
@@ -152,6 +155,7 @@ pub fn tell_refused(
     totals: &mut Totals,
 ) -> io::Result<()>
     requires { 3 ≤ length section.now }
+    ensures { IfErr result (λ e. totals.new ≡ totals.old) }
 {
     match refusal {
         Refusal::ShortForm | Refusal::NotEit => {

@@ -1,7 +1,7 @@
 // The events of sets and schedules that go out, printed page by page.
 #![tactic(auto)]
 
-ghost use Rattle.std.specs.Prelude.{◌≡◌, ◌*◌, ◌≤◌, ◌<◌, length};
+ghost use Rattle.std.specs.Prelude.{◌≡◌, ◌*◌, ◌≤◌, ◌<◌, length, IfErr};
 
 use eit_state::{Eit, PushAnswer};
 use entry_lines::heads::Totals;
@@ -71,7 +71,7 @@ fn say_table(
 }
 
 // The events of the set in a row that went out.
-fn tell_set(
+pub fn tell_set(
     stdout: &mut impl Write,
     eit: Eit,
     heads: &[u64],
@@ -84,9 +84,11 @@ fn tell_set(
     totals: &mut Totals,
 ) -> io::Result<()>
     requires { length list.old ≡ 24576 }
+    ensures { IfErr result (λ e. totals.new ≡ totals.old) }
 {
     say_set(stdout, heads, row)?;
-    entry_pages::say_pages(stdout, list, cells, totals, |skip, list| {
+    let mut told = *totals;
+    entry_pages::say_pages(stdout, list, cells, &mut told, |skip, list| {
         page_of(showing::events_of_set(
             eit,
             heads,
@@ -99,12 +101,13 @@ fn tell_set(
             list,
         ))
     })?;
-    count(&mut totals.sets);
+    count(&mut told.sets);
+    *totals = told;
     Ok(())
 }
 
 // The events of the schedule in a row that went out, table by table.
-fn tell_schedule(
+pub fn tell_schedule(
     stdout: &mut impl Write,
     eit: Eit,
     heads: &[u64],
@@ -117,12 +120,14 @@ fn tell_schedule(
     totals: &mut Totals,
 ) -> io::Result<()>
     requires { length list.old ≡ 24576 }
+    ensures { IfErr result (λ e. totals.new ≡ totals.old) }
 {
     let tables = say_schedule(stdout, schedule_heads, row)?;
-    count(&mut totals.schedules);
+    let mut told = *totals;
+    count(&mut told.schedules);
     for table in 0..tables {
         say_table(stdout, schedule_heads, units, row, table)?;
-        entry_pages::say_pages(stdout, list, cells, totals, |skip, list| {
+        entry_pages::say_pages(stdout, list, cells, &mut told, |skip, list| {
             page_of(showing::events_of_table(
                 eit,
                 heads,
@@ -137,10 +142,11 @@ fn tell_schedule(
             ))
         })?;
     }
+    *totals = told;
     Ok(())
 }
 
-// What a section led to.
+// What a section led to. Where that cannot be written, the totals are as before.
 pub fn tell(
     stdout: &mut impl Write,
     answer: PushAnswer,
@@ -156,6 +162,7 @@ pub fn tell(
     totals: &mut Totals,
 ) -> io::Result<()>
     requires { (length list.old ≡ 24576) × (3 ≤ length section.now) }
+    ensures { IfErr result (λ e. totals.new ≡ totals.old) }
 {
     match answer {
         PushAnswer::Nothing => Ok(()),

@@ -81,12 +81,17 @@ none_yet most watched packets pids =
     ap (λ (k : ℕ). more_by 0 (passed_from k watched packets pids)) z ∙ (λ i. passed (n i) p.pids)
 
 module _ (most n : ℕ) (watched packets pids : List ℕ) (all : Passed) (q : more_by n (passed_from (most - n) watched (drop (n * 188) packets) pids) ≡ all) where
-  pub at_end_lem : most ≤ n → n ≤ most → passed most pids ≡ all
+  pub at_end_lem : most ≤ n → passed n pids ≡ all
   unfolding passed_from
-  at_end_lem h k =
+  at_end_lem h =
       let z : most - n ≡ 0 = omega arith in
-      let y : most ≡ n + 0 = omega arith in
+      let y : n ≡ n + 0 = omega arith in
       (λ i. passed (y i) pids) ∙ sym (ap (λ (k : ℕ). more_by n (passed_from k watched (drop (n * 188) packets) pids)) z) ∙ q
+
+  pub at_the_most : most ≤ n → n ≤ most → passed most pids ≡ all
+  at_the_most h k =
+      let y : most ≡ n = omega arith in
+      (λ i. passed (y i) pids) ∙ at_end_lem h
 
   abbrev part : List ℕ
   part = take (n * 188 + 188 - n * 188) (drop (n * 188) packets)

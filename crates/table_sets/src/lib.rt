@@ -1,7 +1,7 @@
 // The entries of networks, bouquets and services that go out, printed page by page.
 #![tactic(auto)]
 
-ghost use Rattle.std.specs.Prelude.{◌≡◌, ◌≤◌, length};
+ghost use Rattle.std.specs.Prelude.{◌≡◌, ◌≤◌, length, IfErr};
 
 use entry_lines::heads::Totals;
 use entry_pages::{Page, count};
@@ -91,15 +91,20 @@ fn tell_set(
     totals: &mut Totals,
 ) -> io::Result<()>
     requires { length list.old ≡ 24576 }
+    ensures { IfErr result (λ e. totals.new ≡ totals.old) }
 {
-    count(&mut totals.sets);
-    match asked_reader(asked, heads, row) {
-        Some(table) => say_set(stdout, table, sets, heads, slots, cells, row, list, totals),
-        None => Ok(()),
+    let mut told = *totals;
+    count(&mut told.sets);
+    if let Some(table) = asked_reader(asked, heads, row) {
+        say_set(
+            stdout, table, sets, heads, slots, cells, row, list, &mut told,
+        )?;
     }
+    *totals = told;
+    Ok(())
 }
 
-// What a section led to.
+// What a section led to. Where that cannot be written, the totals are as before.
 pub fn tell(
     stdout: &mut impl Write,
     answer: PushAnswer,
@@ -114,6 +119,7 @@ pub fn tell(
     totals: &mut Totals,
 ) -> io::Result<()>
     requires { (length list.old ≡ 24576) × (3 ≤ length section.now) }
+    ensures { IfErr result (λ e. totals.new ≡ totals.old) }
 {
     match answer {
         PushAnswer::Nothing => Ok(()),

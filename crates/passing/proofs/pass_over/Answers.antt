@@ -2,7 +2,7 @@ use mathlib.Core.Path.{◌≡◌, refl}
 use Prim.Native.Nat.{◌≤◌, ◌-◌, ◌*◌}
 use native.Mathlib.Omega.{arith}
 use borrow.Author.Rules.{rules}
-use Rattle.passing.proofs.Laws.{none_yet, at_end_lem, stops, goes_on_lem}
+use Rattle.passing.proofs.Laws.{none_yet, at_the_most, stops, goes_on_lem}
 use Rattle.passing.proofs.pass_over.Goals as goal
 
 pub loop-n-init : goal.loop-n-init
@@ -15,4 +15,4 @@ pub loop-n-preserved : goal.loop-n-preserved
 loop-n-preserved c = (search rules, search rules, search goes_on_lem)
 
 pub returns : goal.returns
-returns c = search at_end_lem
+returns c = search at_the_most
