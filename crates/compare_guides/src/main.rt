@@ -120,7 +120,7 @@ fn usage(stdout: &mut impl Write) -> io::Result<()> {
     )
 }
 
-// One write: a reader of the output never sees half a line.
+// The whole line in one write.
 fn say_unread(
     stdout: &mut impl Write,
     why: Unread,

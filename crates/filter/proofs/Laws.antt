@@ -4,11 +4,11 @@ use mathlib.Core.Path.{◌≡◌, sym, ap, ◌∙◌}
 use mathlib.Core.List.{List}
 use mathlib.Core.Bool.{Bool, true, false, ◌&&◌}
 use Prim.Native.Nat.{ℕ, suc, ◌+◌, ◌-◌, ◌*◌, ◌≤◌, ◌<◌}
-use native.Mathlib.Nat.{suc-mul, mul-le-mul_right}
+use native.Mathlib.Nat.{mul-le-mul_right}
 use native.Mathlib.Omega.{arith}
-use lib.ListN.{length, get_or, take, drop, set, length-drop}
-use lib.Seq.{paste, get_or-take, get_or-drop, length-take-le}
-use Rattle.laws.proofs.Lists.{paste_past, paste_turn, paste_end}
+use lib.ListN.{length, take, drop, length-drop}
+use lib.Seq.{take-take, length-take-le}
+use Rattle.std.specs.List.{copy_within}
 use Rattle.rows.specs.declared.Key.{Key}
 use Rattle.rows.specs.Rows.{key_at}
 use Rattle.filter.specs.declared.Fields.{Fields}
@@ -26,7 +26,7 @@ pub all_match : (o : Of) (f : Fields) (k : Key) (kind : ℕ) (p q r s t u : Bool
 unfolding matches
 all_match o f k kind p q r s t u a b c d e g h = rw (← b, ← a, ← c, ← d, ← e, ← g, ← h)
 
--- ---- words are moved
+-- ---- a row leaves
 
 -- the words that are moved
 abbrev pub part : (from n : ℕ) → List ℕ → List ℕ
@@ -35,43 +35,16 @@ part from n xs = take n (drop from xs)
 pub part_long : (from n : ℕ) (xs : List ℕ) → from + n ≤ length xs → length (part from n xs) ≡ n
 part_long from n xs h = length-take-le n (drop from xs) (rw (length-drop from xs) (omega arith))
 
--- a word that is not moved yet is as it was
-still : (xs₀ : List ℕ) (to from n k : ℕ) → to ≤ from → from + n ≤ length xs₀ → k < n → get_or (paste xs₀ to (part from n xs₀) k) (from + k) 0 ≡ get_or (part from n xs₀) k 0
-still xs₀ to from n k h l m =
-    let e : length (part from n xs₀) ≡ n = part_long from n xs₀ l in
-    paste_past xs₀ to (part from n xs₀) k (from + k) 0 (omega arith) (omega arith) (omega arith)
-    ∙ sym (get_or-take n (drop from xs₀) k 0 m ∙ get_or-drop from xs₀ k 0)
+copied : (xs : List ℕ) (to from n : ℕ) → copy_within xs from (from + n) to ≡ moved_to to from n xs
+copied xs to from n = let e : from + n - from ≡ n = omega arith in rw (e, take-take n n (drop from xs) (omega arith))
 
-pub move_turn : (xs₀ xs : List ℕ) (to from n k : ℕ) → xs ≡ paste xs₀ to (part from n xs₀) k → to ≤ from → from + n ≤ length xs₀ → k < n
-    → set xs (to + k) (get_or xs (from + k) 0) ≡ paste xs₀ to (part from n xs₀) (k + 1)
-move_turn xs₀ xs to from n k q h l m =
-    let e : length (part from n xs₀) ≡ n = part_long from n xs₀ l in
-    let v : get_or xs (from + k) 0 ≡ get_or (part from n xs₀) k 0 = ap (λ (x : List ℕ). get_or x (from + k) 0) q ∙ still xs₀ to from n k h l m in
-    ap (set xs (to + k)) v ∙ paste_turn xs₀ xs to (part from n xs₀) k 0 q (omega arith) (omega arith)
-
-pub move_end : (xs₀ xs : List ℕ) (to from n k : ℕ) → xs ≡ paste xs₀ to (part from n xs₀) k → n ≤ k → k ≤ n → xs ≡ moved_to to from n xs₀
-move_end xs₀ xs to from n k q a b = paste_end xs₀ xs to (part from n xs₀) k n q (omega arith)
-
--- ---- a row leaves
-
-pub head_removed : (used i : ℕ) (h h' : List ℕ) → h' ≡ moved_to (i * 12) ((used - 1) * 12) 12 h → h' ≡ removed_heads used i h
+pub head_removed : (used i : ℕ) (h h' : List ℕ) → h' ≡ copy_within h ((used - 1) * 12) ((used - 1) * 12 + 12) (i * 12) → h' ≡ removed_heads used i h
 unfolding removed_heads
-head_removed used i h h' e = e
+head_removed used i h h' e = e ∙ copied h (i * 12) ((used - 1) * 12) 12
 
-pub words_removed : (used i n : ℕ) (o : Of) (w w' : List ℕ) → n ≡ width_of o → w' ≡ moved_to (i * n) ((used - 1) * n) n w → w' ≡ removed_words o used i w
+pub words_removed : (used i n : ℕ) (o : Of) (w w' : List ℕ) → n ≡ width_of o → w' ≡ copy_within w ((used - 1) * n) ((used - 1) * n + n) (i * n) → w' ≡ removed_words o used i w
 unfolding removed_words
-words_removed used i n o w w' t e = rw (← t) e
-
--- where the words are
-module _ (o : Of) (used i n : ℕ) (ws : List ℕ) (t : n ≡ width_of o) (h : i < used) (l : used * width_of o ≤ length ws) where
-  pub last_there : (used - 1) * n + n ≤ length ws
-  last_there =
-      let s : suc (used - 1) ≡ used = omega arith in
-      let e : (used - 1) * n + n ≡ used * width_of o = sym (suc-mul (used - 1) n) ∙ ap (λ (k : ℕ). k * n) s ∙ ap (λ (k : ℕ). used * k) t in
-      omega arith
-
-  pub row_first : i * n ≤ (used - 1) * n
-  row_first = mul-le-mul_right n (omega arith)
+words_removed used i n o w w' t e = rw (← t) (e ∙ copied w (i * n) ((used - 1) * n) n)
 
 -- ---- a row, and all rows in use
 

@@ -115,34 +115,13 @@ fn width(of: Of) -> usize
     }
 }
 
-// The 12 words from `from` on go in at `to`, which is not behind them. By a loop: the library's call would have the archive ask for memmove, which it needs
-// nowhere else.
-fn move_head(heads: &mut [u64], to: usize, from: usize)
-    requires { (to ≤ from) × (from + 12 ≤ length heads.old) }
-    ensures { heads.new ≡ moved_to to from 12 heads.old }
-{
-    for k in 0..rows::HEAD_WORDS {
-        heads[to + k] = heads[from + k];
-    }
-}
-
-// The same for the n words of a row.
-fn move_words(words: &mut [u32], to: usize, from: usize, n: usize)
-    requires { (to ≤ from) × (from + n ≤ length words.old) }
-    ensures { words.new ≡ moved_to to from n words.old }
-{
-    for k in 0..n {
-        words[to + k] = words[from + k];
-    }
-}
-
 // The head of row i leaves: the last row in use takes its place.
 fn remove_head(heads: &mut [u64], used: usize, i: usize)
     requires { (i < used) × (used * 12 ≤ length heads.old) }
     ensures { heads.new ≡ removed_heads used i heads.old }
 {
-    let last = used - 1;
-    move_head(heads, i * rows::HEAD_WORDS, last * rows::HEAD_WORDS);
+    let last = (used - 1) * rows::HEAD_WORDS;
+    heads.copy_within(last..last + rows::HEAD_WORDS, i * rows::HEAD_WORDS);
 }
 
 // So the words of row i.
@@ -151,8 +130,8 @@ fn remove_words(of: Of, words: &mut [u32], used: usize, i: usize)
     ensures { words.new ≡ removed_words of used i words.old }
 {
     let w = width(of);
-    let last = used - 1;
-    move_words(words, i * w, last * w, w);
+    let last = (used - 1) * w;
+    words.copy_within(last..last + w, i * w);
 }
 
 // ---- all rows in use

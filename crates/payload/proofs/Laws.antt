@@ -5,11 +5,10 @@ use mathlib.Core.Logic.{◌≢◌}
 use mathlib.Core.Bool.{Bool, true, false}
 use mathlib.Core.List.{List, [], ◌∷◌, ◌++◌, append-nil}
 use Prim.Native.Nat.{ℕ, suc, ◌+◌, ◌-◌, ◌*◌, ◌≤◌, ◌<◌}
-use native.Mathlib.Numerals.{add-one}
 use native.Mathlib.Omega.{arith}
 use lib.Dec.{eqb}
 use lib.ListN.{length, take, drop, get_or, set, length-append, length-drop, length-set, drop_of_length-le, get_or-append, take-append-drop}
-use lib.Seq.{paste, paste-suc, length-take-le, drop-cons, drop-drop, get_or-drop, get_or-take, get_or-append-add, take_at, take_all}
+use lib.Seq.{paste, length-take-le, drop-cons, drop-drop, get_or-drop, get_or-take, get_or-append-add, take_at, take_all}
 use borrow.Author.Tests.{lt-ltb, le-ltb, le-leb, lt-leb, eq-eqb, ne_eqb}
 use Rattle.laws.proofs.Lists.{rest_part, get_d_ix}
 use Rattle.transport.specs.Rules.{Bytes, Read, lacking, read, found, gather}
@@ -76,36 +75,13 @@ front_already buffer first size h e =
     let q : length (take size buffer) ≡ size = length-take-le size buffer (omega arith) in
     rw (e, q) (sym (take-append-drop size buffer))
 
--- a turn of the loop that moves: what is read lies before what was written, or on it
-pub move_turn : (d buffer : Bytes) (first size j : ℕ) → buffer ≡ paste d 0 (drop first d) j → first + size ≤ length d → j < size → set buffer j (get_or buffer (first + j) 0) ≡ paste d 0 (drop first d) (j + 1)
-move_turn d buffer first size j e h l = rw (e, read_same) (turn)
-  where
-    s : Bytes
-    s = drop first d
-
-    ls : length s ≡ length d - first
-    ls = length-drop first d
-
-    read_same : get_or (paste d 0 s j) (first + j) 0 ≡ get_or s j 0
-    read_same =
-        let p : length (take j s) ≡ j = length-take-le j s (omega (arith, ls)) in
-        let q : j + first ≡ first + j = omega arith in
-        let z : 0 + j ≡ j = omega arith in
-        rw (z, ← q) (get_d_ix (take j s ++ drop j d) 0 (ap (λ (n : ℕ). n + first) (sym p)) ∙ get_or-append-add (take j s) (drop j d) first 0 ∙ get_or-drop j d first 0
-        ∙ get_d_ix d 0 q ∙ sym (get_or-drop first d j 0))
-
-    turn : set (paste d 0 s j) j (get_or s j 0) ≡ paste d 0 s (j + 1)
-    turn =
-        let z : 0 + j ≡ j = omega arith in
-        rw (add-one j) (ap (λ (n : ℕ). set (paste d 0 s j) n (get_or s j 0)) (sym z) ∙ paste-suc d 0 s j 0 (omega arith) (omega (arith, ls)))
-
-pub move_end : (d buffer : Bytes) (first size j : ℕ) → buffer ≡ paste d 0 (drop first d) j → first + size ≤ length d → size ≤ j → j ≤ size → buffer ≡ front (take size (drop first d)) d
+pub moved : (d : Bytes) (first size : ℕ) → first + size ≤ length d → paste d 0 (drop first d) (first + size - first) ≡ front (take size (drop first d)) d
 unfolding front
-move_end d buffer first size j e h l k =
-    let q : j ≡ size = omega arith in
+moved d first size h =
+    let n : first + size - first ≡ size = omega arith in
     let z : 0 + size ≡ size = omega arith in
     let p : length (take size (drop first d)) ≡ size = length-take-le size (drop first d) (omega (arith, length-drop first d)) in
-    rw (e, q, z, p) refl
+    rw (n, z, p) refl
 
 pub length_front : (w buffer : Bytes) → length w ≤ length buffer → length (front w buffer) ≡ length buffer
 unfolding front

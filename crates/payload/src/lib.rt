@@ -101,16 +101,13 @@ fn end_in(buffer: &[u8], first: usize, size: usize, part: &[u8]) -> usize
 
 // ---- the buffer
 
-// Moves bytes to the buffer's front. By a loop: the library's call would have the archive ask for memmove, which it needs nowhere else.
+// Moves bytes to the buffer's front.
 pub fn to_front(buffer: &mut [u8], first: usize, size: usize)
     requires { first + size ≤ length buffer.old }
     ensures { buffer.new ≡ front (take size (drop first buffer.old)) buffer.old }
 {
-    if first == 0 {
-        return;
-    }
-    for j in 0..size {
-        buffer[j] = buffer[first + j];
+    if first != 0 {
+        buffer.copy_within(first..first + size, 0);
     }
 }
 

@@ -12,8 +12,7 @@ use borrow.Author.Tests.{eq-eqb, ne_eqb, lt-ltb, le-ltb, eqb-true}
 use lib.Dec.{eqb, lit<}
 use lib.ListN.{length, take, drop, get_or, length-drop}
 use lib.Seq.{paste, length-take-le}
-use borrow.Rule.Slice.PartMut.{put_mid}
-use Rattle.std.proofs.lemmas.Slice.{put_mid-paste}
+use Rattle.laws.proofs.Lists.{paste_end}
 use Rattle.laws.proofs.Tests.{and_true as and_true_both}
 use Rattle.cells.specs.Cells.{slot_whole, all_whole, marked_all}
 use Rattle.cells.proofs.Laws.{one_slot}
@@ -101,12 +100,13 @@ pub without_end : (base n j : ℕ) (u₀ u : List ℕ) → j ≤ 0 → without_u
 unfolding without_units
 without_end base n j u₀ u p q = let z : j ≡ 0 = omega arith in sym (q ∙ rw z)
 
-pub set_put : (heads slots : List ℕ) (i u v m : ℕ) (part put units units' : List ℕ) → v ≡ version_of heads i → part ≡ row_slots heads slots i → m ≡ length part - 1 → put ≡ part
-    → units' ≡ with_words u (v % 4294967296) m (put_mid (u * 288 + 32) (u * 288 + 32 + length part - (u * 288 + 32)) units put) → units' ≡ with_set heads slots i u units
+pub slots_end : (h₀ h words : List ℕ) (at k : ℕ) → h ≡ paste h₀ at words k → length words ≤ k → k ≤ length words → h ≡ paste h₀ at words (length words)
+slots_end h₀ h words at k e a b = paste_end h₀ h at words k (length words) e (omega arith)
+
+pub set_put : (heads slots : List ℕ) (i u v m : ℕ) (part units units' units'' : List ℕ) → v ≡ version_of heads i → part ≡ row_slots heads slots i → m ≡ length part - 1
+    → units' ≡ paste units (u * 288 + 32) part (length part) → units'' ≡ with_words u (v % 4294967296) m units' → units'' ≡ with_set heads slots i u units
 unfolding with_set
-set_put heads slots i u v m part put units units' e p z h f =
-    let q : put_mid (u * 288 + 32) (u * 288 + 32 + length part - (u * 288 + 32)) units put ≡ paste units (u * 288 + 32) part (length part) = put_mid-paste _ _ _ _ part (length part) h (omega arith) refl in
-    rw (← p, ← e, ← z, ← q) f
+set_put heads slots i u v m part units units' units'' e p z q f = rw (← p, ← e, ← z, ← q) f
 
 -- ---- refill
 

@@ -123,6 +123,16 @@ pub fn empty_units(units: &mut [u32], base: usize, n: usize)
     }
 }
 
+// The slots' words go in at `at`. By a loop, as `cells::keep` says.
+fn put_slots(units: &mut [u32], at: usize, part: &[u32])
+    requires { at + length part.now ≤ length units.old }
+    ensures { units.new ≡ paste units.old at part.now (length part.now) }
+{
+    for k in 0..part.len() {
+        units[at + k] = part[k];
+    }
+}
+
 // Unit u is present, with that version and last_section_number.
 fn put_unit_words(units: &mut [u32], u: usize, version: u32, last: u32)
     requires { u * 288 + 288 ≤ length units.old }
@@ -140,8 +150,7 @@ pub fn put_set(units: &mut [u32], heads: &[u64], slots: &[u32], i: usize, u: usi
 {
     let version = (rows::version(heads, i) % 4294967296) as u32;
     let part = rows::row_slots(heads, slots, i);
-    let at = u * rows::ROW_WORDS + rows::SEGMENT_WORDS;
-    units[at..at + part.len()].copy_from_slice(part);
+    put_slots(units, u * rows::ROW_WORDS + rows::SEGMENT_WORDS, part);
     put_unit_words(units, u, version, (part.len() - 1) as u32);
 }
 

@@ -29,6 +29,8 @@ fn is_plain(heads: &[u64], slots: &[u32], count: u16, size: u16, i: usize) -> bo
 }
 
 // Both in one pass: every push makes it, and the time goes with the heads and slots that are read. It gathers and does not stop early.
+// It stays a function of its own: put into a whole push, its loop lacks registers and reads the stack in each turn (docs/PERFORMANCE.md, "After the look back").
+#[inline(never)]
 pub fn look(heads: &[u64], slots: &[u32], count: u16, size: u16, used: usize) -> Looked
     requires { (used * 12 ≤ length heads.now) × (used * 288 ≤ length slots.now) × (12 ≤ size) × (size ≤ 4096) }
     ensures { (result.whole ≡ rows_whole heads.now slots.now count size used) × (result.without ≡ without_pid heads.now used) }

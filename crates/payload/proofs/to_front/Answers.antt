@@ -1,18 +1,9 @@
-use Rattle.payload.proofs.Laws.{front_already, move_turn, move_end}
-use mathlib.Core.Path.{◌≡◌, refl}
-use Prim.Native.Nat.{◌≤◌, ◌-◌}
-use native.Mathlib.Omega.{arith}
-use borrow.Author.Rules.{rules}
+use mathlib.Core.Path.{◌∙◌}
+use Rattle.payload.proofs.Laws.{front_already, moved}
 use Rattle.payload.proofs.to_front.Goals as goal
 
-pub returns-then-first-eq0 : goal.returns-then-first-eq0
-returns-then-first-eq0 c = search front_already
+pub returns-then-first-ne0 : goal.returns-then-first-ne0
+returns-then-first-ne0 c = c.copy_within.ensures.after ∙ moved c.args.buffer.now c.args.first c.args.size c.requires
 
-pub loop-j-init : goal.loop-j-init
-loop-j-init c = (omega arith, refl, refl)
-
-pub loop-j-preserved : goal.loop-j-preserved
-loop-j-preserved c = (search rules, search rules, search move_turn)
-
-pub returns : goal.returns
-returns c = search move_end
+pub returns-else-first-ne0 : goal.returns-else-first-ne0
+returns-else-first-ne0 c = search front_already

@@ -1,8 +1,8 @@
 use Rattle.units.proofs.Laws.{set_put, some_slots, few_slots, room_for_slots}
 use Rattle.units.proofs.put_set.Goals as goal
 
-pub slice_bounds-copy_from_slice-end : goal.slice_bounds-copy_from_slice-end
-slice_bounds-copy_from_slice-end c = search room_for_slots
+pub put_slots-requires : goal.put_slots-requires
+put_slots-requires c = search room_for_slots
 
 pub overflow_sub-part : goal.overflow_sub-part
 overflow_sub-part c = search some_slots
