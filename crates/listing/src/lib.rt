@@ -35,6 +35,16 @@ fn count_at(s: &[u8], at: usize, header: usize) -> usize
     entry_words::count(&s[at..at + header])
 }
 
+// Twelve words go in at `at`. By a loop: for the library's copy_from_slice they stand on the stack first, at each entry of a listing once more.
+fn write(list: &mut [u32], at: usize, words: &[u32])
+    requires { (at + 12 ≤ length list.old) × (length words.now ≡ 12) }
+    ensures { list.new ≡ paste list.old at words.now 12 }
+{
+    for i in 0..entry_words::WORDS {
+        list[at + i] = words[i];
+    }
+}
+
 // Entry k goes into the list where it is not passed over and there is room for it.
 fn put(list: &mut [u32], skip: usize, k: usize, words: &[u32; 12])
     ensures { list.new ≡ put_in list.old skip k words.now }
@@ -44,8 +54,7 @@ fn put(list: &mut [u32], skip: usize, k: usize, words: &[u32; 12])
     }
     let row = k - skip;
     if row < list.len() / entry_words::WORDS {
-        let at = row * entry_words::WORDS;
-        list[at..at + entry_words::WORDS].copy_from_slice(words);
+        write(list, row * entry_words::WORDS, words);
     }
 }
 
